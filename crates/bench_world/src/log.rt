@@ -1,9 +1,12 @@
 ghost use Rattle.std.specs.Prelude.{◌≡◌, ◌<◌, ◌≤◌, ◌^◌, ◌+◌, ◌++◌, ◌∷◌, [], length, take, IfOk, OnOk, OnErr};
 ghost use Rattle.bench_world.specs.Publications.{numbered};
+ghost use Rattle.bench_world.specs.Holdings.{listed, counts_of};
+ghost use Rattle.svs_vector.specs.Vectors.{Covers};
 
 use crate::plain_entry::PlainEntry;
 use std::alloc::{AllocError, Global};
 use std::marker::Model;
+use svs_vector::Vector;
 
 /// A publication as its publisher keeps it.
 #[derive(Drop)]
@@ -81,4 +84,23 @@ impl Log {
         }
         Ok(())
     }
+}
+
+/// The first publications of each member, so many as its number in a vector says.
+pub(crate) fn list_all(
+    alloc: Global,
+    logs: &[Log],
+    counts: &Vector,
+) -> Result<Vec<PlainEntry>, AllocError>
+    requires width { length counts.now ≡ length logs.now }
+    requires few { length logs.now ≤ 16 }
+    requires covered { Covers (counts_of logs.now) counts.now }
+    ensures { IfOk result (λ entries. entries.items ≡ listed counts.now 0 logs.now) }
+{
+    let mut entries = Vec::new(alloc);
+    for (publisher, log) in logs.iter().enumerate() {
+        let publisher = publisher as u32;
+        log.list_into(&mut entries, publisher, counts.get(publisher))?;
+    }
+    Ok(entries)
 }

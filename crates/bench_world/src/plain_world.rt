@@ -1,8 +1,8 @@
 ghost use Rattle.std.specs.Prelude.{◌≡◌, ◌<◌, ◌+◌, ◌^◌, ◌-◌, ℕ, [], length, IfOk, OnOk, OnErr};
 ghost use Rattle.bench_world.specs.PlainModel.{opening, with_member, published, settled, newly_held, catalogue, join_of_all, log_of};
 
-use crate::holding::Holding;
-use crate::log::Log;
+use crate::holding::{Holding, empty_holdings, join_of, take_over_all};
+use crate::log::{Log, list_all};
 use crate::plain_entry::PlainEntry;
 use std::alloc::{AllocError, Global};
 use std::marker::Model;
@@ -53,7 +53,11 @@ impl PlainWorld {
         ensures unpublished_still { OnOk result (join_of_all self.new ≡ []) }
         ensures err { OnErr result (self.new ≡ self.old) }
     {
-        Err(AllocError)
+        let m = self.logs.len();
+        let holdings = empty_holdings(self.alloc, m + 1)?;
+        self.logs.push(Log::new(self.alloc))?;
+        self.holdings = holdings;
+        Ok(m as u32)
     }
 
     /// Publishes at a member, and gives the publication's number.
@@ -65,7 +69,14 @@ impl PlainWorld {
         ensures ok { OnOk result (self.new ≡ published m name.now content.now self.old) }
         ensures err { OnErr result (self.new ≡ self.old) }
     {
-        Err(AllocError)
+        let log = &mut self.logs[m as usize];
+        let seq = log.add(name, content)?;
+        let holding = &mut self.holdings[m as usize];
+        holding.known.raise(m, seq);
+        holding.records.raise(m, seq);
+        holding.segments.raise(m, seq);
+        self.sent = self.sent.saturating_add(1);
+        Ok(seq)
     }
 
     /// How many sync packets were sent. Above the condition the number stands still.
@@ -83,7 +94,10 @@ impl PlainWorld {
         ensures joined { OnOk result ((m : ℕ) → m < length self.new.publications → catalogue m self.new ≡ join_of_all self.new) }
         ensures err { OnErr result (self.new ≡ self.old) }
     {
-        Err(AllocError)
+        let all = join_of(self.alloc, &self.holdings)?;
+        let parts = take_over_all(&mut self.holdings, &all);
+        self.sent = self.sent.saturating_add(self.holdings.len() as u32);
+        Ok(parts)
     }
 
     /// The publications of which a member holds every part, in order of publisher and number.
@@ -91,6 +105,7 @@ impl PlainWorld {
         requires { m < length self.now.publications }
         ensures { IfOk result (λ entries. entries.items ≡ catalogue m self.now) }
     {
-        Err(AllocError)
+        let holding = &self.holdings[m as usize];
+        list_all(self.alloc, &self.logs, &holding.segments)
     }
 }

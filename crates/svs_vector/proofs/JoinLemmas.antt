@@ -1,5 +1,5 @@
 -- Joins and covering, place by place.
-use Rattle.std.proofs.Common.{◌≡◌, ◌↔◌, ℕ, suc, zero, ◌≤◌, ◌<◌, max, Bool, true, false, not, List, [], ◌∷◌, map, length, get_or, refl, sym, ap, ◌∙◌, subst, arith, IsFalse}
+use Rattle.std.proofs.Common.{◌≡◌, ◌↔◌, ℕ, suc, zero, ◌≤◌, ◌<◌, max, Bool, true, false, not, List, [], ◌∷◌, map, length, replicate, get_or, refl, sym, ap, ◌∙◌, subst, arith, IsFalse}
 use Rattle.std.specs.Prelude.{nat_le, slice_index}
 use Rattle.std.specs.List.{fold, Contains}
 use Rattle.std.proofs.lemmas.Bool.{and_parts, and_from, leb-true, le-leb}
@@ -105,7 +105,7 @@ covers_each [] w k h e = absurd (omega arith)
 covers_each (v ∷ ws) w zero h e = subst (λ (x : List ℕ). Covers (join v (join_all ws)) x) e (covers_first v (join_all ws))
 covers_each (v ∷ ws) w (suc k) h e = join_assoc v (join_all ws) w ∙ ap (join v) (covers_each ws w k (omega arith) e)
 
-covers_all : (u : List ℕ) (ws : List (List ℕ)) → ((w : List ℕ) → Contains ws w → Covers u w) → Covers u (join_all ws)
+pub covers_all : (u : List ℕ) (ws : List (List ℕ)) → ((w : List ℕ) → Contains ws w → Covers u w) → Covers u (join_all ws)
 unfolding join_all
 covers_all u [] each = join-[] u
 covers_all u (w ∷ ws) each = covers_least u w (join_all ws) (each w (0, omega arith, refl)) (covers_all u ws (λ x c. each x (suc c.0, (let l : c.0 < length ws = c.1 in omega arith), c.2)))
@@ -127,3 +127,26 @@ told_of_changes changed v w new told joined = (
   covered : (b : Bool) → not b ≡ false → b ≡ true
   covered true e = refl
   covered false e = absurd cc
+
+pub Covers-at : (v w : List ℕ) (p : ℕ) → Covers v w → slice_index w p ≤ slice_index v p
+Covers-at v w p h =
+    let e : slice_index (join v w) p ≡ max (slice_index v p) (slice_index w p) = join-at v w p in
+    let f : slice_index (join v w) p ≡ slice_index v p = ap (λ (x : List ℕ). slice_index x p) h in
+    omega (arith, e, f)
+
+pub covers_trans : (u v w : List ℕ) → Covers u v → Covers v w → Covers u w
+covers_trans u v w a b = ap (λ (x : List ℕ). join x w) (sym a) ∙ (join_assoc u v w ∙ (ap (join u) b ∙ a))
+
+-- a vector that is covered joins into what covers it
+pub join_covered : (v w : List ℕ) → Covers w v → join v w ≡ w
+join_covered v w h = join_comm v w ∙ h
+
+pub join_zeros : (n : ℕ) (w : List ℕ) → n ≤ length w → join (replicate n 0) w ≡ w
+unfolding join
+join_zeros zero w h = refl
+join_zeros (suc n) [] h = absurd (omega arith)
+join_zeros (suc n) (m ∷ w) h = let e : max 0 m ≡ m = omega arith in let t : join (replicate n 0) w ≡ w = join_zeros n w (omega arith) in cc
+
+pub covers_rest : (n m : ℕ) (v w : List ℕ) → Covers (n ∷ v) (m ∷ w) → Covers v w
+unfolding join
+covers_rest n m v w h = cc
