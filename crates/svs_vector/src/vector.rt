@@ -64,6 +64,7 @@ impl Vector {
     pub fn join(&mut self, other: &Vector) -> bool
         requires { length self.old ≡ length other.now }
         ensures joined { self.new ≡ join self.old other.now }
+        ensures width { length self.new ≡ length self.old }
         ensures changed { IsFalse result ↔ (self.new ≡ self.old) }
     {
         take_greater(&mut self.numbers, &other.numbers)
@@ -99,8 +100,8 @@ fn has_none_greater(numbers: &[u16], others: &[u16]) -> bool
     requires { length numbers.now ≡ length others.now }
     ensures { result ≡ covers numbers.now others.now }
 {
-    for (i, other) in others.iter().enumerate() {
-        if numbers[i] < *other {
+    for (i, told) in others.iter().enumerate() {
+        if numbers[i] < *told {
             return false;
         }
     }
