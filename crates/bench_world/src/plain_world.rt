@@ -33,8 +33,10 @@ impl Model for PlainWorld {
 
 impl PlainWorld {
     /// A group without members.
+    #[tactic(auto, unfolding(crate::specs::Publications::entries_from))]
     pub fn new(alloc: Global) -> PlainWorld
         ensures opening { result ≡ opening }
+        ensures unpublished { join_of_all result ≡ [] }
     {
         PlainWorld {
             alloc,
@@ -50,7 +52,7 @@ impl PlainWorld {
         requires unpublished { join_of_all self.old ≡ [] }
         ensures number { IfOk result (λ m. m ≡ length self.old.publications) }
         ensures ok { OnOk result (self.new ≡ with_member self.old) }
-        ensures unpublished_still { OnOk result (join_of_all self.new ≡ []) }
+        ensures unpublished { OnOk result (join_of_all self.new ≡ []) }
         ensures err { OnErr result (self.new ≡ self.old) }
     {
         let m = self.logs.len();

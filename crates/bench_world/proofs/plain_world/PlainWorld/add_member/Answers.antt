@@ -25,8 +25,8 @@ returns-clause-ok c =
     ∙ (ap (λ (xs : List Holding). model_of (c.self.inside.logs.items ++ [] ∷ []) xs c.self.inside.sent) hs
     ∙ (with_member_is c.self.inside.logs.items c.self.inside.holdings.items c.self.invariant unpublished c.self.inside.sent ∙ ap with_member c.self.view_is))
 
-pub returns-clause-unpublished_still : goal.returns-clause-unpublished_still
-returns-clause-unpublished_still c =
+pub returns-clause-unpublished : goal.returns-clause-unpublished
+returns-clause-unpublished c =
     let logs : c.push.new.self.items ≡ c.self.inside.logs.items ++ [] ∷ [] = grind (arith, common_steps) in
     let unpublished : entries c.self.inside.logs.items ≡ [] = ap join_of_all c.self.view_is ∙ c.requires.unpublished in
     ap entries logs ∙ still_unpublished c.self.inside.logs.items c.self.inside.holdings.items c.self.invariant unpublished
