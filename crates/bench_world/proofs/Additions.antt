@@ -1,12 +1,11 @@
 -- What one more member makes of a group in which nothing was published.
 use Rattle.std.proofs.Common.{◌≡◌, inl, inr, ℕ, suc, zero, ◌+◌, ◌≤◌, ◌<◌, List, [], ◌∷◌, ◌++◌, map, length, replicate, get_or, refl, sym, ap, ◌∙◌, subst, arith}
-use Rattle.std.proofs.lemmas.List.{length-map, length-append, length-replicate, get_or-replicate, replicate-append-replicate}
+use Rattle.std.proofs.lemmas.List.{length-map, length-append, length-replicate, get_or-replicate}
 use Rattle.std.specs.List.{filter, flat_map}
-use Rattle.svs_vector.specs.Vectors.{join, Covers}
 use Rattle.svs_vector.proofs.JoinLemmas.{Covers-at, join_comm, join_idem, join_zeros}
 use Rattle.bench_world.specs.declared.holding.Holding.{Holding}
-use Rattle.bench_world.specs.Publications.{Publication, Entry, Part, numbered, entries_from, entries, parts_of, all_parts}
-use Rattle.bench_world.specs.PlainModel.{PlainModel, with_member}
+use Rattle.bench_world.specs.Publications.{Publication, Entry, Part, numbered, entries_from, entries, parts_of}
+use Rattle.bench_world.specs.PlainModel.{with_member}
 use Rattle.bench_world.specs.Holdings.{nothing_held, held_parts, model_of, HasWidth, counts_of, IsSoundAt, IsSound, is_held}
 use Rattle.bench_world.proofs.HoldingLemmas.{width_nothing, replicate_more}
 use Rattle.bench_world.proofs.Sets.{In}

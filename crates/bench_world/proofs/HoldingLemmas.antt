@@ -1,12 +1,11 @@
 -- Joins of what members hold, and what they gain by them.
-use Rattle.std.proofs.Common.{◌≡◌, ℕ, suc, zero, ◌+◌, ◌-◌, ◌≤◌, ◌<◌, max, List, [], ◌∷◌, ◌++◌, map, length, replicate, take, drop, get_or, refl, sym, ap, ◌∙◌, subst, arith}
+use Rattle.std.proofs.Common.{◌≡◌, ℕ, suc, zero, ◌+◌, ◌≤◌, ◌<◌, List, [], ◌∷◌, ◌++◌, map, length, replicate, take, drop, get_or, refl, sym, ap, ◌∙◌, arith}
 use Rattle.std.proofs.lemmas.List.{length-replicate, replicate-append-replicate, get_or-drop, at_drop_more, at_drop_all}
 use Rattle.std.proofs.lemmas.List.Elements.{All-map}
 use Rattle.std.proofs.lemmas.List.Sums.{sum_by_more}
-use Rattle.std.specs.Prelude.{slice_index}
 use Rattle.std.specs.List.{All, fold, sum}
-use Rattle.svs_vector.specs.Vectors.{join, join_all, Covers}
-use Rattle.svs_vector.proofs.JoinLemmas.{fold_join, join_zeros, join_covered, length-join, Covers-at}
+use Rattle.svs_vector.specs.Vectors.{join, join_all}
+use Rattle.svs_vector.proofs.JoinLemmas.{fold_join, join_zeros, join_covered, length-join}
 use Rattle.bench_world.specs.declared.holding.Holding.{Holding}
 use Rattle.bench_world.specs.Publications.{Publication, numbered}
 use Rattle.bench_world.specs.Holdings.{nothing_held, join_holding, joined, HasWidth, CoversHolding, counts_of, listed}

@@ -1,5 +1,5 @@
 -- What a publication makes of a group.
-use Rattle.std.proofs.Common.{◌≡◌, ◌≢◌, ◌⊎◌, inl, inr, ℕ, suc, zero, ◌+◌, ◌≤◌, ◌<◌, max, Bool, true, false, cond, ◌||◌, List, [], ◌∷◌, ◌++◌, append_assoc, map, length, get_or, set, refl, sym, ap, ◌∙◌, subst, arith, get_or-set_other, get_or-set_same}
+use Rattle.std.proofs.Common.{◌≡◌, ◌≢◌, ◌⊎◌, inl, inr, ℕ, suc, zero, ◌+◌, ◌≤◌, ◌<◌, max, Bool, true, false, cond, ◌||◌, List, [], ◌∷◌, ◌++◌, map, length, get_or, set, refl, sym, ap, ◌∙◌, subst, arith, get_or-set_other, get_or-set_same}
 use Rattle.std.proofs.lemmas.Bool.{true≢false, cases_eq, cases_Bool, and_from, and_parts, eq-eqb, eqb-true, le-leb, lt-leb, or_right}
 use Rattle.std.proofs.lemmas.List.{length-map, length-append, length-set, append-nil, map-set}
 use Rattle.std.proofs.lemmas.List.Elements.{filter-append}
@@ -9,10 +9,10 @@ use Rattle.svs_vector.specs.Vectors.{join, Covers}
 use Rattle.svs_vector.proofs.JoinLemmas.{Covers-at, covers_trans, covers_rest, join_idem}
 use Rattle.bench_world.specs.declared.holding.Holding.{Holding}
 use Rattle.bench_world.specs.Publications.{Publication, Entry, Part, is_part_of, numbered, entries_from, entries, parts_of, all_parts}
-use Rattle.bench_world.specs.PlainModel.{PlainModel, holds, published, counted}
+use Rattle.bench_world.specs.PlainModel.{holds, published, counted}
 use Rattle.bench_world.specs.Holdings.{is_held, held_parts, model_of, HasWidth, counts_of, IsSoundAt, IsSound}
-use Rattle.bench_world.proofs.Sets.{In, in_at, in_append, append_left, append_right, from_flat_map, in_flat_map, holds-filter, filter_agree, map_agree}
-use Rattle.bench_world.proofs.Entries.{IsThere, part_is_there, record_part, segment_part, from_all_parts, record_in, segment_in, flat_append}
+use Rattle.bench_world.proofs.Sets.{In, in_at, in_append, append_left, append_right, holds-filter, filter_agree, map_agree}
+use Rattle.bench_world.proofs.Entries.{part_is_there, record_part, segment_part, from_all_parts, record_in, segment_in, flat_append}
 use Rattle.bench_world.proofs.Settles.{sound_in, map-at}
 
 -- ---- entries with one more

@@ -1,10 +1,10 @@
 -- What members hold, in numbers and in parts, and what a settle makes of it.
-use Rattle.std.proofs.Common.{◌≡◌, ◌⊎◌, inl, inr, ℕ, suc, zero, ◌+◌, ◌-◌, ◌≤◌, ◌<◌, max, Bool, true, false, cond, not, ◌&&◌, ◌||◌, List, [], ◌∷◌, map, length, replicate, get_or, refl, sym, ap, ◌∙◌, subst, arith}
-use Rattle.std.proofs.lemmas.Bool.{true≢false, leb-true, leb-false, le-leb, lt-leb, cases_Bool, and_from}
+use Rattle.std.proofs.Common.{◌≡◌, inl, inr, ℕ, suc, zero, ◌+◌, ◌≤◌, ◌<◌, max, Bool, true, false, cond, not, ◌&&◌, ◌||◌, List, [], ◌∷◌, map, length, replicate, get_or, refl, sym, ap, ◌∙◌, subst, arith}
+use Rattle.std.proofs.lemmas.Bool.{true≢false, leb-true, leb-false, le-leb, lt-leb}
 use Rattle.std.proofs.lemmas.List.{length-map, length-replicate, get_or-replicate}
 use Rattle.std.proofs.lemmas.List.Sums.{sum_by-cons}
 use Rattle.std.specs.Prelude.{nat_le, ◌==◌}
-use Rattle.std.specs.List.{filter, list_any, list_all, sum, sum_by}
+use Rattle.std.specs.List.{filter, list_any, sum, sum_by}
 use Rattle.svs_vector.specs.Vectors.{join, join_all, Covers}
 use Rattle.svs_vector.proofs.JoinLemmas.{join-at, length-join, covers_rest, join-[], Covers-at, covers_trans, covers_least, covers_first, join_again, join_idem}
 use Rattle.bench_world.specs.declared.holding.Holding.{Holding}
@@ -336,7 +336,10 @@ catalogue_at logs hs sent m d sound l =
     ap (λ (parts : List Part). filter (is_complete parts) (entries logs)) (map-at (held_parts logs) hs m d [] l)
     ∙ catalogue_is logs (get_or hs m d) (sound.sound m d l).segments
 
-pub segments_published : (logs : List (List Publication)) (hs : List Holding) (m : ℕ) (d : Holding) → IsSound logs hs → m < length hs → Covers (counts_of logs) (get_or hs m d).segments
-segments_published logs hs m d sound l =
+-- a member's numbers are at most those of publications
+pub numbers_published : (logs : List (List Publication)) (hs : List Holding) (m : ℕ) (d : Holding) → IsSound logs hs → m < length hs →
+    Covers (counts_of logs) (get_or hs m d).known × Covers (counts_of logs) (get_or hs m d).records × Covers (counts_of logs) (get_or hs m d).segments
+numbers_published logs hs m d sound l =
     let s : IsSoundAt (counts_of logs) m (get_or hs m d) = sound.sound m d l in
-    covers_trans (counts_of logs) (get_or hs m d).known (get_or hs m d).segments s.known (covers_trans (get_or hs m d).known (get_or hs m d).records (get_or hs m d).segments s.records s.segments)
+    let records : Covers (counts_of logs) (get_or hs m d).records = covers_trans (counts_of logs) (get_or hs m d).known (get_or hs m d).records s.known s.records in
+    (s.known, records, covers_trans (counts_of logs) (get_or hs m d).records (get_or hs m d).segments records s.segments)

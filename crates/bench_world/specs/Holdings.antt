@@ -1,6 +1,6 @@
 -- How far members hold each other's publications, as numbers, and which parts that is.
 use Rattle.std.specs.Prelude.{◌≡◌, ℕ, ◌+◌, ◌-◌, ◌≤◌, Bool, List, map, length, replicate, slice_index, nat_le, ◌==◌, if◌then◌else◌, slice_index_or, ◌<◌, take, [], ◌∷◌, ◌++◌}
-use Rattle.std.specs.List.{All, filter, sum}
+use Rattle.std.specs.List.{filter, sum}
 use Rattle.svs_vector.specs.Vectors.{join, join_all, Covers}
 use Rattle.bench_world.specs.declared.holding.Holding.{Holding}
 use Rattle.bench_world.specs.Publications.{Publication, Entry, Part, numbered, all_parts}

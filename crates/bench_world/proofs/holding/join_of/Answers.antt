@@ -1,8 +1,8 @@
-use Rattle.std.proofs.Common.{◌≡◌, ◌+◌, ◌∙◌, ap, length, drop, sym, subst, arith, List}
+use Rattle.std.proofs.Common.{◌≡◌, ◌+◌, ◌∙◌, ap, length, drop, sym, subst}
 use Rattle.std.proofs.lemmas.List.{at_drop_more, at_drop_all}
 use Rattle.std.specs.List.{fold}
 use Rattle.bench_world.specs.declared.holding.Holding.{Holding}
-use Rattle.bench_world.specs.Holdings.{nothing_held, join_holding, HasWidth}
+use Rattle.bench_world.specs.Holdings.{join_holding, HasWidth}
 use Rattle.bench_world.proofs.HoldingLemmas.{width_join, fold_joined}
 use Rattle.bench_world.proofs.holding.join_of.Goals as goal
 

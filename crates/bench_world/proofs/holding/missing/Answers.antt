@@ -1,4 +1,4 @@
-use Rattle.std.proofs.Common.{◌≡◌, ◌+◌, ◌≤◌, ◌<◌, length, take, get_or, arith}
+use Rattle.std.proofs.Common.{◌≡◌, ◌+◌, ◌≤◌, take, get_or, arith}
 use Rattle.std.specs.List.{sum}
 use Rattle.svs_vector.proofs.JoinLemmas.{Covers-at}
 use Rattle.bench_world.proofs.HoldingLemmas.{sum_more}

@@ -1,4 +1,4 @@
-use Rattle.std.proofs.Common.{◌≡◌, ◌+◌, ◌∙◌, ap, length, get_or, set, take, drop, sym, subst, arith, List, ◌++◌, ◌∷◌, [], replicate}
+use Rattle.std.proofs.Common.{◌≡◌, ◌+◌, ◌∙◌, ap, length, get_or, take, drop, sym, subst, arith, List, ◌++◌, ◌∷◌, [], replicate}
 use Rattle.std.proofs.lemmas.List.{take_more_set}
 use Rattle.std.proofs.lemmas.List.Sums.{sum_by_more}
 use Rattle.std.proofs.lemmas.Grind.{common_steps, drop_more_same}

@@ -1,6 +1,5 @@
-use Rattle.std.proofs.Common.{◌≡◌, ◌+◌, ◌≤◌, ◌∙◌, ap, length, get_or, take, drop, sym, subst, arith, ℕ, List, ◌++◌, [], append_assoc}
+use Rattle.std.proofs.Common.{◌≡◌, ◌+◌, ◌≤◌, ◌∙◌, ap, length, get_or, take, drop, sym, arith, ℕ, List, ◌++◌, [], append_assoc}
 use Rattle.std.proofs.lemmas.List.{append-nil}
-use Rattle.std.proofs.lemmas.Grind.{common_steps}
 use Rattle.svs_vector.proofs.JoinLemmas.{Covers-at}
 use Rattle.bench_world.specs.Publications.{Publication, Entry, numbered}
 use Rattle.bench_world.specs.Holdings.{counts_of, listed}

@@ -1,4 +1,4 @@
-use Rattle.std.proofs.Common.{◌≡◌, ◌+◌, ◌<◌, ◌∙◌, ap, length, sym, subst, arith, List, [], ◌∷◌, ◌++◌, replicate, ℕ}
+use Rattle.std.proofs.Common.{◌≡◌, ◌+◌, ◌∙◌, ap, length, sym, subst, arith, List, [], ◌∷◌, ◌++◌, replicate}
 use Rattle.std.proofs.lemmas.Grind.{common_steps}
 use Rattle.bench_world.specs.declared.holding.Holding.{Holding}
 use Rattle.bench_world.specs.Publications.{Publication, entries}

@@ -1,7 +1,7 @@
-use Rattle.std.proofs.Common.{◌≡◌, ◌+◌, ◌<◌, ◌∙◌, ap, length, get_or, set, max, min, sym, subst, arith, List, [], ◌∷◌, ◌++◌, ℕ}
+use Rattle.std.proofs.Common.{◌≡◌, ◌+◌, ◌<◌, ◌∙◌, ap, length, get_or, set, sym, subst, arith, List, [], ◌∷◌, ◌++◌}
 use Rattle.bench_world.specs.declared.holding.Holding.{Holding}
 use Rattle.bench_world.specs.Publications.{Publication}
-use Rattle.bench_world.specs.PlainModel.{PlainModel, published, counted}
+use Rattle.bench_world.specs.PlainModel.{PlainModel, published}
 use Rattle.bench_world.specs.Holdings.{model_of, IsSound}
 use Rattle.bench_world.proofs.Publishes.{with_one, raised, raised_is, published_is, sound_published, at_any}
 use Rattle.bench_world.proofs.plain_world.PlainWorld.publish.Goals as goal

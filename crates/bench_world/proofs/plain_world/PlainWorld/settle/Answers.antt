@@ -1,9 +1,8 @@
-use Rattle.std.proofs.Common.{◌≡◌, ◌+◌, ◌≤◌, ◌<◌, ◌∙◌, ap, length, get_or, take, drop, min, sym, subst, arith, List, ◌++◌, replicate, ℕ}
+use Rattle.std.proofs.Common.{◌≡◌, ◌≤◌, ◌<◌, ◌∙◌, ap, length, get_or, take, drop, sym, subst, arith, List, ◌++◌, replicate}
 use Rattle.std.proofs.lemmas.Grind.{common_steps}
 use Rattle.std.specs.List.{sum_by}
 use Rattle.bench_world.specs.declared.holding.Holding.{Holding}
-use Rattle.bench_world.specs.Publications.{entries}
-use Rattle.bench_world.specs.PlainModel.{PlainModel, newly_held, settled, counted, catalogue}
+use Rattle.bench_world.specs.PlainModel.{newly_held, settled, counted, catalogue}
 use Rattle.bench_world.specs.Holdings.{HasWidth, CoversHolding, IsSound, joined, gain, model_of}
 use Rattle.bench_world.proofs.Sets.{in_at}
 use Rattle.bench_world.proofs.Settles.{width_all, width_each, narrow, all_covers, sound_settled, newly_held_is, settled_is, catalogue_settled}
