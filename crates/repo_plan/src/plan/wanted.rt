@@ -1,0 +1,121 @@
+ghost use Rattle.std.specs.Prelude.{◌≡◌, ◌<◌, ◌&&◌, true, false, take, slice_index, IfOk};
+ghost use Rattle.std.specs.List.{list_any, filter, flat_map};
+ghost use Rattle.repo_plan.specs.Parts.{pair_of};
+ghost use Rattle.repo_plan.specs.Plan.{knows, hides, is_asked, is_claim_of, is_unclaimed, unclaimed, first, is_after, parts_known, pairs_of};
+
+use super::Plan;
+use crate::part::Part;
+use crate::sorted;
+use std::alloc::{AllocError, Global};
+
+impl Plan {
+    /// The least wanted parts that no fetcher claims and that are greater than `after`, at most `most` of them.
+    pub fn wanted_after(
+        &self,
+        alloc: Global,
+        after: Option<Part>,
+        most: usize,
+    ) -> Result<Vec<Part>, AllocError>
+        ensures { IfOk result (λ v. v.items ≡ take most (filter (is_after after) (unclaimed self.now))) }
+    {
+        let mut parts = Vec::new(alloc);
+        let mut last = after;
+        while parts.len() < most {
+            let Some(part) = self.next_unclaimed(last) else {
+                return Ok(parts);
+            };
+            parts.push(part)?;
+            last = Some(part);
+        }
+        Ok(parts)
+    }
+
+    // The least wanted part that no fetcher claims and that is greater than `after`.
+    pub(super) fn next_unclaimed(&self, after: Option<Part>) -> Option<Part>
+        ensures { result ≡ first (filter (is_after after) (unclaimed self.now)) }
+    {
+        let start = after.map_or(0, |part| part.publisher as usize);
+        for p in start..self.known.len() {
+            let last = self.known[p];
+            if last > 0 {
+                let found = self.next_of_publisher(p as u32, last, after);
+                if found.is_some() {
+                    return found;
+                }
+            }
+        }
+        None
+    }
+
+    // The same among the publications of one publisher.
+    fn next_of_publisher(&self, publisher: u32, last: u16, after: Option<Part>) -> Option<Part>
+        requires { last ≡ slice_index self.now.known publisher }
+        ensures { result ≡ first (filter (λ t. is_after after t && is_unclaimed self.now t) (flat_map (parts_known self.now) (pairs_of publisher 1 last))) }
+    {
+        let start = match after {
+            Some(part) if part.publisher == publisher => part.seq.saturating_sub(1),
+            _ => 0,
+        };
+        for s in start..last {
+            let found = self.next_of_publication(publisher, s + 1, after);
+            if found.is_some() {
+                return found;
+            }
+        }
+        None
+    }
+
+    // The same among the parts of one publication.
+    fn next_of_publication(&self, publisher: u32, seq: u16, after: Option<Part>) -> Option<Part>
+        requires { knows self.now (publisher, seq) ≡ true }
+        ensures { result ≡ first (filter (λ t. is_after after t && is_unclaimed self.now t) (parts_known self.now (publisher, seq))) }
+    {
+        if sorted::contains(&self.hidden, &(publisher, seq)) {
+            return None;
+        }
+        let segments = self.segments(publisher, seq).unwrap_or(0);
+        for x in 0..u16::from(segments) + 1 {
+            let part = Part {
+                publisher,
+                seq,
+                part: x as u8,
+            };
+            if self.is_next(part, after) {
+                return Some(part);
+            }
+        }
+        None
+    }
+
+    // Whether a part that is asked for is greater than `after`, not held and claimed by no fetcher.
+    fn is_next(&self, part: Part, after: Option<Part>) -> bool
+        requires asked { is_asked self.now part ≡ true }
+        requires not_hidden { hides self.now (pair_of part) ≡ false }
+        ensures { result ≡ (is_after after part && is_unclaimed self.now part) }
+    {
+        is_behind(part, after) && !self.holds(part) && !is_claimed(&self.claims, part)
+    }
+}
+
+fn is_behind(part: Part, after: Option<Part>) -> bool
+    ensures { result ≡ is_after after part }
+{
+    match after {
+        Some(other) => other < part,
+        None => true,
+    }
+}
+
+// Whether a fetcher claims the part.
+fn is_claimed(claims: &[Option<Part>], part: Part) -> bool
+    ensures { result ≡ list_any (is_claim_of part) claims.now }
+{
+    for claim in claims {
+        if let Some(other) = claim {
+            if part.cmp(other).is_eq() {
+                return true;
+            }
+        }
+    }
+    false
+}
