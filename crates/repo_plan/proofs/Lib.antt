@@ -1,0 +1,4 @@
+pub mod Orders
+pub mod Search
+pub mod Sets
+pub mod Changes
