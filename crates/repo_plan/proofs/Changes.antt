@@ -1,6 +1,7 @@
 -- Each call keeps a plan sound.
 use Rattle.std.proofs.Common.{◌≡◌, ◌≢◌, ◌⊎◌, inl, inr, ℕ, suc, zero, ◌+◌, ◌-◌, ◌≤◌, ◌<◌, ◌^◌, max, Bool, true, false, cond, not, ◌&&◌, ◌||◌, List, [], ◌∷◌, length, get_or, set, refl, sym, ap, ◌∙◌, subst, arith, Option, Some, None}
 use Rattle.std.proofs.lemmas.Bool.{true≢false, and_parts, and_from, and_right, or_cases, or_right, or_left, or_parts, or_from, not-true, not_from_false, leb-true, le-leb, eqb-true, eqb-false, eq-eqb, cases_eq}
+use Rattle.std.proofs.lemmas.Bool.Decides.{nat_tests}
 use Rattle.std.proofs.lemmas.List.{length-set, get_or-set_other}
 use Rattle.std.specs.Prelude.{nat_le, ◌==◌, is_some, replicate}
 use Rattle.std.specs.List.{list_any, filter}
@@ -56,6 +57,13 @@ asked_kept old new t k h =
 
 held_kept : (old new : Holdings) (t : Part) → Keeps old new → IsHeldRightly old t → IsHeldRightly new t
 held_kept old new t k h = record { asked = asked_kept old new t k h.asked; with_record = k.held (record_of t) h.with_record }
+
+-- plans with the same lists are the same
+pub same_holdings : (a b : Holdings) → a.known ≡ b.known → a.held ≡ b.held → a.shapes ≡ b.shapes → a.claims ≡ b.claims → a.hidden ≡ b.hidden → a.attempts ≡ b.attempts → a ≡ b
+same_holdings a b k h s c x t = λ i. record { known = k i; held = h i; shapes = s i; claims = c i; hidden = x i; attempts = t i }
+
+pub sound_as : (a b : Holdings) → a.known ≡ b.known → a.held ≡ b.held → a.shapes ≡ b.shapes → a.claims ≡ b.claims → a.hidden ≡ b.hidden → a.attempts ≡ b.attempts → IsSound a → IsSound b
+sound_as a b k h s c x t sound = subst IsSound (same_holdings a b k h s c x t) sound
 
 -- ---- the start
 
@@ -304,10 +312,11 @@ sound_holds t shape p told can s = go (holds p t) refl where
 
 -- ---- a publication is hidden
 
-false_not : (b : Bool) → b ≡ false → not b ≡ true
-false_not b e = ap not e
+-- the test of two publications as a program makes it
+pub pair_test : (a b : Pair) → (a.0 == b.0 && a.1 == b.1) ≡ eq_by_cmp pair_cmp b a
+pair_test a b = grind (arith, nat_tests)
 
--- two answers of a pair's comparison
+-- one of two answers of a comparison gives the other
 pair_eq_sym : (a b : Pair) → eq_by_cmp pair_cmp a b ≡ false → eq_by_cmp pair_cmp b a ≡ false
 pair_eq_sym a b h = not_eq pair_cmp b a (λ e. true≢false (sym (eq_itself exact_pairs b) ∙ ap (λ (q : Pair). eq_by_cmp pair_cmp q b) (eq_same exact_pairs b a e) ∙ h))
 
@@ -380,24 +389,24 @@ sound_hides pair p free s = record {
 
 -- ---- attempts are counted
 
+pub sound_tried : (t : Part) (n : ℕ) (p : Holdings) → n ≢ 0 → IsSound p → IsSound (record p { attempts = with_value part_cmp t (attempts_of p t + n) p.attempts })
+sound_tried t n p ne s = record {
+  in_order = record { held = s.in_order.held; shapes = s.in_order.shapes; hidden = s.in_order.hidden; attempts = rises_with_value exact_parts t (attempts_of p t + n) p.attempts s.in_order.attempts };
+  publishers = s.publishers;
+  fetchers = s.fetchers;
+  held = λ u h. let r : IsHeldRightly p u = s.held u h in record { asked = r.asked; with_record = r.with_record };
+  shapes = s.shapes;
+  hidden = s.hidden;
+  tried = λ u m h. tried u m (eq_by_cmp part_cmp u t) (sym (value_of-with_value exact_parts t (attempts_of p t + n) p.attempts u) ∙ h);
+  claimed = s.claimed;
+  apart = s.apart;
+} where
+  tried : (u : Part) (m : ℕ) (b : Bool) → cond b (Some (attempts_of p t + n)) (value_of part_cmp p.attempts u) ≡ Some m → 0 < m
+  tried u m true h = let same : attempts_of p t + n ≡ m = cc in omega (arith, ne, same)
+  tried u m false h = s.tried u m h
+
 pub sound_attempts : (t : Part) (n : ℕ) (p : Holdings) → IsSound p → IsSound (with_attempts t n p)
 sound_attempts t n p s = go (n == 0) refl where
   go : (b : Bool) → (n == 0) ≡ b → IsSound (cond b p (record p { attempts = with_value part_cmp t (attempts_of p t + n) p.attempts }))
   go true e = s
-  go false e = record {
-    in_order = record { held = s.in_order.held; shapes = s.in_order.shapes; hidden = s.in_order.hidden; attempts = rises_with_value exact_parts t (attempts_of p t + n) p.attempts s.in_order.attempts };
-    publishers = s.publishers;
-    fetchers = s.fetchers;
-    held = λ u h. let r : IsHeldRightly p u = s.held u h in record { asked = r.asked; with_record = r.with_record };
-    shapes = s.shapes;
-    hidden = s.hidden;
-    tried = λ u m h. tried u m (eq_by_cmp part_cmp u t) (sym (value_of-with_value exact_parts t (attempts_of p t + n) p.attempts u) ∙ h);
-    claimed = s.claimed;
-    apart = s.apart;
-  } where
-    tried : (u : Part) (m : ℕ) (b : Bool) → cond b (Some (attempts_of p t + n)) (value_of part_cmp p.attempts u) ≡ Some m → 0 < m
-    tried u m true h =
-        let ne : n ≢ 0 = eqb-false n 0 e in
-        let same : attempts_of p t + n ≡ m = cc in
-        omega (arith, ne, same)
-    tried u m false h = s.tried u m h
+  go false e = sound_tried t n p (eqb-false n 0 e) s

@@ -2,3 +2,4 @@ pub mod Orders
 pub mod Search
 pub mod Sets
 pub mod Changes
+pub mod Known

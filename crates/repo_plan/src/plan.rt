@@ -166,6 +166,7 @@ impl Plan {
             return Ok(());
         }
         let tried = self.attempts(part) + n;
-        sorted::set_value(&mut self.attempts, part, tried)
+        sorted::set_value(&mut self.attempts, part, tried)?;
+        Ok(())
     }
 }
