@@ -12,6 +12,7 @@ use Rattle.repo_plan.specs.declared.part.Part.{Part}
 use Rattle.repo_plan.specs.SortedList.{Rises, keys, contains, insert_key, value_of, with_value}
 use Rattle.repo_plan.specs.Parts.{Pair, Shape, pair_cmp, part_cmp, pair_of, part_of, record_of}
 use Rattle.repo_plan.specs.Plan.{Holdings, opening, no_claims, knows, holds, hides, shape_of, attempts_of, claim_of, is_claim_of, is_claimed, is_claim_in, claims_part_in, can_be_asked, is_asked, is_wanted, is_unclaimed, unclaimed, known_parts, first, raises, with_shape, holds_too, with_claim, without_claims, is_in, hides_too, with_attempts}
+use Rattle.repo_plan.specs.Calls.{Call, Raise, Hold, Claim, Release, EndClaims, Hide, AddAttempts, after_claim, after, after_all, IsAllowed, AreAllowed, CallsKeepSound}
 use Rattle.repo_plan.specs.Sound.{IsInOrder, IsHeldRightly, IsSound, CanBeHeld}
 use Rattle.repo_plan.proofs.Orders.{exact_parts, exact_pairs, nat_itself, nat_same, equal_from_is_eq}
 use Rattle.repo_plan.proofs.Sets.{rises_insert, rises_filter, eq_same, eq_itself, contains-insert_key, contains-filter, rises_with_value, value_of-with_value, rises_keys_filter, value_of-filter}
@@ -228,7 +229,7 @@ at_zero t e = λ i. record { publisher = t.publisher; seq = t.seq; part = sym e 
 record_from : (t : Part) (n : Shape) (shape : Option Shape) → is_some shape ≡ (t.part == 0) → shape ≡ Some n → t.part ≡ 0
 record_from t n shape told e = eqb-true t.part 0 (sym told ∙ ap is_some e)
 
-abbrev with_part : Part → Option Shape → Holdings → Holdings
+abbrev pub with_part : Part → Option Shape → Holdings → Holdings
 with_part t shape p = record p { held = insert_key part_cmp t p.held; shapes = with_shape (pair_of t) shape p.shapes }
 
 module _ (p : Holdings) (t : Part) (s : IsSound p) (can : CanBeHeld p t) (fresh : holds p t ≡ false) where
@@ -410,3 +411,61 @@ sound_attempts t n p s = go (n == 0) refl where
   go : (b : Bool) → (n == 0) ≡ b → IsSound (cond b p (record p { attempts = with_value part_cmp t (attempts_of p t + n) p.attempts }))
   go true e = s
   go false e = sound_tried t n p (eqb-false n 0 e) s
+
+-- ---- a part that was claimed
+
+any_at : (t : Part) (claims : List (Option Part)) → list_any (is_claim_of t) claims ≡ true → (g : ℕ) × (get_or claims g None ≡ Some t)
+any_at t [] h = absurd (true≢false (sym h))
+any_at t (None ∷ xs) h = let r : (g : ℕ) × (get_or xs g None ≡ Some t) = any_at t xs h in (suc r.0, r.1)
+any_at t (Some u ∷ xs) h = elim (or_cases (eq_by_cmp part_cmp t u) _ h) [
+  | inl e ↦ (zero, ap (λ (v : Part). Some v) (sym (eq_same exact_parts t u e)))
+  | inr l ↦ let r : (g : ℕ) × (get_or xs g None ≡ Some t) = any_at t xs l in (suc r.0, r.1)
+]
+
+-- where its claim ends, nobody claims it
+pub released_free : (f : ℕ) (t : Part) (p : Holdings) → IsSound p → claim_of p f ≡ Some t → is_claimed (with_claim f None p) t ≡ false
+released_free f t p s e = Rattle.std.proofs.lemmas.Bool.false_from_ne_true _ (λ h.
+    let r : (g : ℕ) × (get_or (set p.claims (f - 1) None) g None ≡ Some t) = any_at t (set p.claims (f - 1) None) h in
+    elim (at_set p.claims (f - 1) r.0 None t r.1) [ inl a ↦ absurd cc | inr b ↦ b.0 (s.apart r.0 (f - 1) t b.1 e) ])
+
+pub released_can_be_held : (f : ℕ) (t : Part) (p : Holdings) → IsSound p → claim_of p f ≡ Some t → CanBeHeld (with_claim f None p) t
+released_can_be_held f t p s e =
+    let w : IsWanted p t = wanted_parts p t (s.claimed (f - 1) t e) in
+    record { asked = w.asked; not_hidden = w.not_hidden; not_claimed = released_free f t p s e }
+
+pub released_unclaimed : (f : ℕ) (t : Part) (p : Holdings) → IsSound p → claim_of p f ≡ Some t → is_unclaimed (with_claim f None p) t ≡ true
+released_unclaimed f t p s e = and_from (is_wanted p t) _ (s.claimed (f - 1) t e) (not_from_false (is_claimed (with_claim f None p) t) (released_free f t p s e))
+
+-- ---- lists of calls
+
+in_first : (q : Part → Bool) (xs : List Part) (t : Part) → first (filter q xs) ≡ Some t → q t ≡ true
+in_first q [] t h = absurd cc
+in_first q (x ∷ xs) t h = go (in_first q xs t) (q x) refl h where
+  go : (first (filter q xs) ≡ Some t → q t ≡ true) → (b : Bool) → q x ≡ b → first (cond b (x ∷ filter q xs) (filter q xs)) ≡ Some t → q t ≡ true
+  go r true e h = let same : x ≡ t = cc in subst (λ (y : Part). q y ≡ true) same e
+  go r false e h = r h
+
+pub sound_first : (f : ℕ) (p : Holdings) (claim : Option Part) → claim ≡ first (unclaimed p) → IsSound p → IsSound (with_claim f claim p)
+sound_first f p None e s = sound_release f p s
+sound_first f p (Some t) e s =
+    let both : (is_wanted p t ≡ true) × (not (is_claimed p t) ≡ true) = and_parts (is_wanted p t) _ (in_first (is_unclaimed p) (known_parts p) t (sym e)) in
+    sound_claim f t p both.0 (not-true (is_claimed p t) both.1) s
+
+sound_after : (call : Call) (p : Holdings) → IsAllowed p call → IsSound p → IsSound (after call p)
+sound_after (Raise publisher seq) p a s = sound_raises publisher seq p a.1 s
+sound_after (Hold t shape) p a s = sound_holds t shape p a.0 a.1 s
+sound_after (Claim f) p a s = go (claim_of p f) where
+  go : (claim : Option Part) → IsSound (after_claim claim f p)
+  go None = sound_first f p (first (unclaimed p)) refl s
+  go (Some t) = s
+sound_after (Release f) p a s = sound_release f p s
+sound_after EndClaims p a s = sound_end p s
+sound_after (Hide pair) p a s = sound_hides pair p a s
+sound_after (AddAttempts t n) p a s = sound_attempts t n p s
+
+sound_after_all : (calls : List Call) (p : Holdings) → AreAllowed p calls → IsSound p → IsSound (after_all calls p)
+sound_after_all [] p a s = s
+sound_after_all (call ∷ calls) p a s = sound_after_all calls (after call p) a.1 (sound_after call p a.0 s)
+
+pub calls_keep_sound : CallsKeepSound
+calls_keep_sound members calls a = sound_after_all calls (opening members) a (sound_opening members)

@@ -128,12 +128,12 @@ module _ (p : Holdings) where
     rises_numbers pair (first + 1) n,
   )
 
-  flat_append : (xs ys : List Pair) → flat_map (parts_known p) (xs ++ ys) ≡ flat_map (parts_known p) xs ++ flat_map (parts_known p) ys
+  pub flat_append : (xs ys : List Pair) → flat_map (parts_known p) (xs ++ ys) ≡ flat_map (parts_known p) xs ++ flat_map (parts_known p) ys
   flat_append [] ys = refl
   flat_append (x ∷ xs) ys = ap (λ (ts : List Part). parts_known p x ++ ts) (flat_append xs ys) ∙ simp append_assoc
 
   -- a part of one of the publications
-  in_pairs_known : (pairs : List Pair) (t : Part) → In t (flat_map (parts_known p) pairs) → In (pair_of t) pairs
+  pub in_pairs_known : (pairs : List Pair) (t : Part) → In t (flat_map (parts_known p) pairs) → In (pair_of t) pairs
   in_pairs_known pairs t i =
       let r : (pair : Pair) × (In pair pairs) × In t (parts_known p pair) = from_flat_map (parts_known p) pairs t i in
       subst (λ (q : Pair). In q pairs) (sym (from_parts_of r.0 (parts_told (shape_of p r.0)) t r.2).0) r.1

@@ -3,3 +3,4 @@ pub mod Search
 pub mod Sets
 pub mod Changes
 pub mod Known
+pub mod Scans
