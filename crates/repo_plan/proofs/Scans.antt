@@ -7,13 +7,14 @@ use Rattle.std.specs.declared.cmp.Ordering.{Ordering}
 use Rattle.std.specs.declared.cmp.Ordering.TheVariants.{Less, Equal, Greater}
 use Rattle.std.proofs.lemmas.Bool.{and_from, and_left, and_right, le-leb, cases_eq, cases_lt}
 use Rattle.std.proofs.lemmas.Bool.Decides.{nat_tests}
+use Rattle.std.proofs.lemmas.List.{at_drop_more, at_drop_all}
 use Rattle.repo_plan.specs.declared.part.Part.{Part}
 use Rattle.repo_plan.specs.SortedList.{IsBefore, Rises}
 use Rattle.repo_plan.specs.Parts.{Pair, Shape, part_cmp, pair_of, part_of, numbers_from, parts_of, parts_told}
 use Rattle.repo_plan.specs.Plan.{Holdings, knows, hides, holds, shape_of, is_asked, is_wanted, is_claimed, is_unclaimed, unclaimed, first, is_after, parts_known, pairs_of, pairs_from, known_parts}
-use Rattle.repo_plan.proofs.Orders.{exact_parts, less_back}
+use Rattle.repo_plan.proofs.Orders.{exact_parts, less_back, nat_itself}
 use Rattle.repo_plan.proofs.Sets.{In, in_append, each_before}
-use Rattle.repo_plan.proofs.Known.{from_parts_of, from_pairs_of, in_pairs_known, from_pairs, flat_append}
+use Rattle.repo_plan.proofs.Known.{from_parts_of, from_pairs_of, in_pairs_known, flat_append}
 
 -- ---- numbers
 
@@ -117,7 +118,7 @@ module _ (p : Holdings) (ok : Part → Bool) where
   no_pair publisher last k l = ap first_in (pairs_none publisher last k l)
 
   -- numbers up to k whose parts don't pass
-  pub skip_numbers : (publisher last k : ℕ) → ((t : Part) → t.publisher ≡ publisher → t.seq ≤ k → ok t ≡ false) → first_in (pairs_of publisher (k + 1) (last - k)) ≡ first_in (pairs_of publisher 1 last)
+  pub skip_numbers : (publisher last k : ℕ) → ((t : Part) → t.publisher ≡ publisher → 1 ≤ t.seq → t.seq ≤ k → ok t ≡ false) → first_in (pairs_of publisher (k + 1) (last - k)) ≡ first_in (pairs_of publisher 1 last)
   skip_numbers publisher last zero h = let e : 0 + 1 ≡ 1 = omega arith in let f : last - 0 ≡ last = omega arith in λ i. first_in (pairs_of publisher (e i) (f i))
   skip_numbers publisher last (suc k) h = elim (cases_lt k last) [
     | inl l ↦
@@ -126,9 +127,9 @@ module _ (p : Holdings) (ok : Part → Bool) where
         ap first_in (pairs_more publisher last k l) ∙ skip_front ok (parts_known p (publisher, k + 1)) _ (λ t i.
         let a : pair_of t ≡ (publisher, k + 1) = (from_parts_of (publisher, k + 1) (parts_told (shape_of p (publisher, k + 1))) t i).0 in
         let s : t.seq ≡ k + 1 = ap (λ (q : Pair). q.1) a in
-        h t (ap (λ (q : Pair). q.0) a) (omega (arith, s))) in
-        ap (λ (j : ℕ). first_in (pairs_of publisher (j + 1) (last - j))) here ∙ sym skip ∙ skip_numbers publisher last k (λ t a b. h t a (omega (arith, b)))
-    | inr m ↦ no_pair publisher last (suc k) (omega arith) ∙ sym (no_pair publisher last k m) ∙ skip_numbers publisher last k (λ t a b. h t a (omega (arith, b)))
+        h t (ap (λ (q : Pair). q.0) a) (omega (arith, s)) (omega (arith, s))) in
+        ap (λ (j : ℕ). first_in (pairs_of publisher (j + 1) (last - j))) here ∙ sym skip ∙ skip_numbers publisher last k (λ t a b d. h t a b (omega (arith, d)))
+    | inr m ↦ no_pair publisher last (suc k) (omega arith) ∙ sym (no_pair publisher last k m) ∙ skip_numbers publisher last k (λ t a b d. h t a b (omega (arith, d)))
   ]
 
   -- ---- publishers
@@ -155,6 +156,29 @@ module _ (p : Holdings) (ok : Part → Bool) where
       let a : (t.publisher ≡ publisher) × (1 ≤ t.seq) × (t.seq < 1 + v) = from_pairs_of publisher 1 v (pair_of t) (in_pairs_known p (pairs_of publisher 1 v) t i) in
       h t (omega (arith, a.0))))
 
+  pub skip_first : (k : ℕ) (lasts : List ℕ) → ((t : Part) → t.publisher < k → ok t ≡ false) → first_in (pairs_from k (drop k lasts)) ≡ first_in (pairs_from 0 lasts)
+  skip_first k lasts h =
+      let e : k ≡ 0 + k = omega arith in
+      ap (λ (q : ℕ). first_in (pairs_from q (drop k lasts))) e ∙ skip_publishers 0 k lasts (λ t l. h t (omega (arith, l)))
+
+  module _ (lasts : List ℕ) (publisher v : ℕ) (l : publisher < length lasts) (e : v ≡ get_or lasts publisher v) where
+    at_publisher : first_in (pairs_from publisher (drop publisher lasts)) ≡ first_in (pairs_from publisher (v ∷ drop (publisher + 1) lasts))
+    at_publisher =
+        at_drop_more (λ (xs : List ℕ). first_in (pairs_from publisher xs)) lasts publisher v l
+        ∙ ap (λ (n : ℕ). first_in (pairs_from publisher (n ∷ drop (publisher + 1) lasts))) (sym e)
+
+    pub found_at : (o : Option Part) → o ≡ first_in (pairs_of publisher 1 v) → is_some o ≡ true → first_in (pairs_from publisher (drop publisher lasts)) ≡ o
+    found_at o f h = at_publisher ∙ publisher_found publisher v (drop (publisher + 1) lasts) o f h
+
+    pub later_than : (o : Option Part) → o ≡ first_in (pairs_of publisher 1 v) → is_some o ≡ false → first_in (pairs_from publisher (drop publisher lasts)) ≡ first_in (pairs_from (publisher + 1) (drop (publisher + 1) lasts))
+    later_than o f h = at_publisher ∙ publisher_later publisher v (drop (publisher + 1) lasts) o f h
+
+    pub none_at : v ≤ 0 → first_in (pairs_from publisher (drop publisher lasts)) ≡ first_in (pairs_from (publisher + 1) (drop (publisher + 1) lasts))
+    none_at z = at_publisher ∙ publisher_empty publisher v (drop (publisher + 1) lasts) (omega (arith, z))
+
+  pub no_publisher : (lasts : List ℕ) (publisher : ℕ) → length lasts ≤ publisher → first_in (pairs_from publisher (drop publisher lasts)) ≡ None
+  no_publisher lasts publisher l = at_drop_all (λ (xs : List ℕ). first_in (pairs_from publisher xs)) lasts publisher l
+
 -- ---- behind a place
 
 -- a part behind a place, that is wanted and not claimed
@@ -171,19 +195,17 @@ greater_first : (x y : Ordering) → x ≡ Greater → is_lt (ordering_then x y)
 greater_first x y e = ap (λ (o : Ordering). is_lt (ordering_then o y)) e
 
 -- a part of an earlier publisher, or of an earlier number of the same, isn't behind
-pub publisher_before : (p : Holdings) (a t : Part) → t.publisher < a.publisher → is_next p (Some a) t ≡ false
-publisher_before p a t l = and_left _ _ (greater_first (nat_cmp a.publisher t.publisher) _ (nat_greater a.publisher t.publisher l))
+pub publisher_before : (a t : Part) → t.publisher < a.publisher → is_after (Some a) t ≡ false
+publisher_before a t l = greater_first (nat_cmp a.publisher t.publisher) _ (nat_greater a.publisher t.publisher l)
 
-pub number_before : (p : Holdings) (a t : Part) → t.publisher ≡ a.publisher → t.seq < a.seq → is_next p (Some a) t ≡ false
-number_before p a t e l = and_left _ _ (go (nat_cmp a.publisher t.publisher) (nat_equal_greater)) where
-  nat_equal_greater : is_lt (ordering_then (nat_cmp a.seq t.seq) (nat_cmp a.part t.part)) ≡ false
-  nat_equal_greater = greater_first (nat_cmp a.seq t.seq) (nat_cmp a.part t.part) (nat_greater a.seq t.seq l)
+pub number_before : (a t : Part) → t.publisher ≡ a.publisher → t.seq < a.seq → is_after (Some a) t ≡ false
+number_before a t e l =
+    let same : nat_cmp a.publisher t.publisher ≡ Equal = ap (nat_cmp a.publisher) e ∙ nat_itself a.publisher in
+    ap (λ (o : Ordering). is_lt (ordering_then o (ordering_then (nat_cmp a.seq t.seq) (nat_cmp a.part t.part)))) same
+    ∙ greater_first (nat_cmp a.seq t.seq) (nat_cmp a.part t.part) (nat_greater a.seq t.seq l)
 
-  same : nat_cmp a.publisher t.publisher ≡ Equal
-  same = let f : a.publisher ≡ t.publisher = sym e in grind (arith, nat_tests)
-
-  go : (o : Ordering) → is_lt (ordering_then (nat_cmp a.seq t.seq) (nat_cmp a.part t.part)) ≡ false → is_lt (ordering_then (nat_cmp a.publisher t.publisher) (ordering_then (nat_cmp a.seq t.seq) (nat_cmp a.part t.part))) ≡ false
-  go o h = ap (λ (o : Ordering). is_lt (ordering_then o (ordering_then (nat_cmp a.seq t.seq) (nat_cmp a.part t.part)))) same ∙ h
+pub not_next : (p : Holdings) (after : Option Part) (t : Part) → is_after after t ≡ false → is_next p after t ≡ false
+not_next p after t h = and_left (is_after after t) (is_unclaimed p t) h
 
 -- ---- the list behind a place
 
@@ -238,6 +260,42 @@ first_nothing (x ∷ xs) h = absurd cc
 
 pub take_nothing : (n : ℕ) (done xs : List Part) → first xs ≡ None → done ++ take (n - length done) xs ≡ done
 take_nothing n done xs h = ap (λ (ys : List Part). done ++ take (n - length done) ys) (first_nothing xs h) ∙ ap (λ (ys : List Part). done ++ ys) (none (n - length done)) ∙ append-nil done where
-  none : (k : ℕ) → take k ([] {A = Part}) ≡ []
+  none : (k : ℕ) → let nothing : List Part = [] in take k nothing ≡ nothing
   none zero = refl
   none (suc k) = refl
+
+-- ---- all parts of a publication
+
+module _ (p : Holdings) (pair : Pair) (n : ℕ) where
+  abbrev pub all_from : ℕ → Bool
+  all_from k = list_all (holds p) (map (part_of pair) (numbers_from k (n - k)))
+
+  pub all_more : (k : ℕ) → k < n → holds p (part_of pair k) ≡ true → all_from k ≡ all_from (k + 1)
+  all_more k l h = ap (λ (xs : List ℕ). list_all (holds p) (map (part_of pair) xs)) (numbers_more n k l) ∙ ap (λ (b : Bool). b && all_from (k + 1)) h
+
+  pub not_all : (k : ℕ) → k < n → holds p (part_of pair k) ≡ false → all_from k ≡ false
+  not_all k l h = ap (λ (xs : List ℕ). list_all (holds p) (map (part_of pair) xs)) (numbers_more n k l) ∙ ap (λ (b : Bool). b && all_from (k + 1)) h
+
+  pub all_done : (k : ℕ) → n ≤ k → all_from k ≡ true
+  all_done k l = ap (λ (xs : List ℕ). list_all (holds p) (map (part_of pair) xs)) (numbers_none n k l)
+
+-- the parts that are known of, by the number of segments
+pub told_or_none : (shape : Option Shape) → unwrap_or shape 0 ≡ parts_told shape
+told_or_none None = refl
+told_or_none (Some n) = refl
+
+-- a number up to the last is known
+pub knows_at : (p : Holdings) (publisher seq : ℕ) → 1 ≤ seq → seq ≤ get_or p.known publisher 0 → knows p (publisher, seq) ≡ true
+knows_at p publisher seq a b = and_from (nat_le 1 seq) _ (le-leb 1 seq a) (le-leb seq _ b)
+
+-- no part of a hidden publication passes
+pub hidden_none : (p : Holdings) (after : Option Part) (pair : Pair) (n : ℕ) → hides p pair ≡ true → first_of (is_next p after) (parts_of pair n) ≡ None
+hidden_none p after pair n h = none_pass (is_next p after) (parts_of pair n) (λ t i.
+    let same : pair_of t ≡ pair = (from_parts_of pair n t i).0 in
+    let off : hides p (pair_of t) ≡ true = ap (hides p) same ∙ h in
+    and_right _ _ (and_left _ _ (and_right (is_asked p t) _ (and_right (not (holds p t)) _ (ap not off)))))
+
+-- all that is unclaimed stands behind no place
+pub behind_none : (xs : List Part) → filter (is_after None) xs ≡ xs
+behind_none [] = refl
+behind_none (x ∷ xs) = ap (λ ys. x ∷ ys) (behind_none xs)

@@ -1,5 +1,6 @@
-ghost use Rattle.std.specs.Prelude.{◌≡◌, ◌<◌, ◌&&◌, true, false, take, slice_index, IfOk};
+ghost use Rattle.std.specs.Prelude.{◌≡◌, ◌<◌, ◌≤◌, ◌&&◌, true, false, take, slice_index, IfOk};
 ghost use Rattle.std.specs.List.{list_any, filter, flat_map};
+ghost use Rattle.repo_plan.specs.declared.part.Part.{Part};
 ghost use Rattle.repo_plan.specs.Parts.{pair_of};
 ghost use Rattle.repo_plan.specs.Plan.{knows, hides, is_asked, is_claim_of, is_unclaimed, unclaimed, first, is_after, parts_known, pairs_of};
 
@@ -34,8 +35,7 @@ impl Plan {
     pub(super) fn next_unclaimed(&self, after: Option<Part>) -> Option<Part>
         ensures { result ≡ first (filter (is_after after) (unclaimed self.now)) }
     {
-        let start = after.map_or(0, |part| part.publisher as usize);
-        for p in start..self.known.len() {
+        for p in passed_publishers(after)..self.known.len() {
             let last = self.known[p];
             if last > 0 {
                 let found = self.next_of_publisher(p as u32, last, after);
@@ -52,11 +52,7 @@ impl Plan {
         requires { last ≡ slice_index self.now.known publisher }
         ensures { result ≡ first (filter (λ t. is_after after t && is_unclaimed self.now t) (flat_map (parts_known self.now) (pairs_of publisher 1 last))) }
     {
-        let start = match after {
-            Some(part) if part.publisher == publisher => part.seq.saturating_sub(1),
-            _ => 0,
-        };
-        for s in start..last {
+        for s in passed_numbers(publisher, after)..last {
             let found = self.next_of_publication(publisher, s + 1, after);
             if found.is_some() {
                 return found;
@@ -97,6 +93,27 @@ impl Plan {
     }
 }
 
+// How many publishers have no part greater than `after`.
+fn passed_publishers(after: Option<Part>) -> usize
+    ensures { (t : Part) → t.publisher < result → is_after after t ≡ false }
+{
+    match after {
+        Some(part) => part.publisher as usize,
+        None => 0,
+    }
+}
+
+// Up to which number the publisher's publications have no part greater than `after`.
+fn passed_numbers(publisher: u32, after: Option<Part>) -> u16
+    ensures { (t : Part) → t.publisher ≡ publisher → 1 ≤ t.seq → t.seq ≤ result → is_after after t ≡ false }
+{
+    match after {
+        Some(part) if part.publisher == publisher => part.seq.saturating_sub(1),
+        _ => 0,
+    }
+}
+
+// Whether the part is greater than `after`.
 fn is_behind(part: Part, after: Option<Part>) -> bool
     ensures { result ≡ is_after after part }
 {
