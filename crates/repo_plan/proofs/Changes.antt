@@ -255,9 +255,9 @@ module _ (p : Holdings) (t : Part) (s : IsSound p) (can : CanBeHeld p t) (fresh 
   shapes_held (Some m) told pair =
       let here : eq_by_cmp part_cmp (part_of pair 0) t ≡ eq_by_cmp pair_cmp pair (pair_of t) = record_eq pair t (record_from t m (Some m) told refl) in
       ap is_some (value_of-with_value exact_pairs (pair_of t) m p.shapes pair) ∙ go (eq_by_cmp pair_cmp pair (pair_of t)) ∙ sym (contains-insert_key exact_parts t p.held (part_of pair 0) ∙ ap (λ (b : Bool). b || holds p (part_of pair 0)) here) where
-    go : (b : Bool) → is_some (cond b (Some m) (shape_of p pair)) ≡ (b || holds p (part_of pair 0))
-    go true = refl
-    go false = s.shapes pair
+        go : (b : Bool) → is_some (cond b (Some m) (shape_of p pair)) ≡ (b || holds p (part_of pair 0))
+        go true = refl
+        go false = s.shapes pair
 
   shapes_rise : (shape : Option Shape) → Rises pair_cmp (keys (with_shape (pair_of t) shape p.shapes))
   shapes_rise None = s.in_order.shapes

@@ -21,7 +21,6 @@ pub record IsFetcher (f : ℕ) : Type 0 where
   pub from_one : 1 ≤ f
   pub to_last : f ≤ 16
 
-
 -- a claim of nothing gives the first part that is wanted and that nobody claims; a fetcher that claims one keeps it
 abbrev pub after_claim : Option Part → ℕ → Holdings → Holdings
 after_claim None f p = with_claim f (first (unclaimed p)) p

@@ -7,7 +7,10 @@ mod part;
 mod plan;
 mod sorted;
 
-pub use laws::{calls_keep_plans_sound, claims_are_wanted_once, released_parts_can_be_claimed, wanted_parts_are_listed};
+pub use laws::{
+    calls_keep_plans_sound, claims_are_wanted_once, released_parts_can_be_claimed,
+    wanted_parts_are_listed,
+};
 pub use part::Part;
 pub use plan::{FetcherBusy, FetcherIdle, Plan};
 

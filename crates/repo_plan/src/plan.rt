@@ -6,10 +6,9 @@ ghost use Rattle.repo_plan.specs.Sound.{IsSound};
 mod claims;
 mod wanted;
 
-pub use claims::{FetcherBusy, FetcherIdle};
-
 use crate::part::Part;
 use crate::sorted;
+pub use claims::{FetcherBusy, FetcherIdle};
 use std::alloc::{AllocError, Global};
 use std::marker::Model;
 
@@ -34,21 +33,21 @@ impl Model for Plan {
     ghost Value = { Holdings };
 
     ghost view = { λ p. record {
-        known = p.known.items;
-        held = p.held.items;
-        shapes = p.shapes.items;
-        claims = p.claims;
-        hidden = p.hidden.items;
-        attempts = p.attempts.items;
+      known = p.known.items;
+      held = p.held.items;
+      shapes = p.shapes.items;
+      claims = p.claims;
+      hidden = p.hidden.items;
+      attempts = p.attempts.items;
     } };
 
     ghost invariant = { λ p. IsSound (record {
-        known = p.known.items;
-        held = p.held.items;
-        shapes = p.shapes.items;
-        claims = p.claims;
-        hidden = p.hidden.items;
-        attempts = p.attempts.items;
+      known = p.known.items;
+      held = p.held.items;
+      shapes = p.shapes.items;
+      claims = p.claims;
+      hidden = p.hidden.items;
+      attempts = p.attempts.items;
     }) };
 }
 
@@ -143,8 +142,7 @@ impl Plan {
     {
         let pair = (publisher, seq);
         sorted::insert_key(&mut self.hidden, pair)?;
-        self.held
-            .retain(|part| (part.publisher, part.seq) != pair);
+        self.held.retain(|part| (part.publisher, part.seq) != pair);
         self.shapes.retain(|shape| shape.0 != pair);
         Ok(())
     }

@@ -1,4 +1,7 @@
-ghost use Rattle.std.specs.Prelude.{◌≡◌, ◌<◌, length, OnOk};
+ghost use Rattle.std.specs.Prelude.{◌≡◌, ◌<◌, ◌≤◌, [], length, slice_index, OnOk};
+ghost use Rattle.repo_plan.specs.Parts.{part_of};
+ghost use Rattle.repo_plan.specs.Plan.{no_claims};
+ghost use Rattle.repo_plan.specs.Sound.{CanBeHeld};
 ghost use Rattle.repo_plan.specs.Calls.{IsFetcher};
 
 use super::*;
@@ -7,7 +10,9 @@ use std::process::Abort;
 use std::test::*;
 
 // A part of a publication of the first member.
-fn part(seq: u16, part: u8) -> Part {
+fn part(seq: u16, part: u8) -> Part
+    ensures { result ≡ part_of (0, seq) part }
+{
     Part {
         publisher: 0,
         seq,
@@ -22,9 +27,25 @@ fn parts_of_one_publication(rt: HostRuntime) -> Result<(), Fail> {
     assert_eq!(rt; plan.claim(1)?, Some(part(1, 0)));
     assert_eq!(rt; plan.claim(2)?, None);
     assert_eq!(rt; plan.claim(1), Err(FetcherBusy { part: part(1, 0) }));
-    assert_eq!(rt; plan.release(1)?, part(1, 0));
-    assert!(rt; plan.hold(part(1, 0), Some(2))?);
-    assert!(rt; !plan.hold(part(1, 0), Some(2))?);
+    let wanted = plan.release(1)?;
+    assert_eq!(rt; wanted, part(1, 0));
+    hold_record(&rt, &mut plan, wanted)?;
+    claim_segments(&rt, &mut plan)
+}
+
+// The record counts two segments. It is held once, and then again.
+fn hold_record(rt: &impl Abort, plan: &mut Plan, wanted: Part) -> Result<(), Fail>
+    requires is_record { wanted.part ≡ 0 }
+    requires free { CanBeHeld plan.old wanted }
+    ensures { OnOk result (plan.new.known ≡ plan.old.known) }
+{
+    assert!(rt; plan.hold(wanted, Some(2))?);
+    assert!(rt; !plan.hold(wanted, Some(2))?);
+    Ok(())
+}
+
+// What is asked of a plan that holds the record of the first publication alone.
+fn claim_segments(rt: &(impl Abort + AllocGlobal), plan: &mut Plan) -> Result<(), Fail> {
     assert_eq!(rt; plan.claim(1)?, Some(part(1, 1)));
     assert_eq!(rt; plan.claim(2)?, Some(part(1, 2)));
     assert_eq!(rt; plan.release(2)?, part(1, 2));
@@ -34,8 +55,36 @@ fn parts_of_one_publication(rt: HostRuntime) -> Result<(), Fail> {
     );
     assert_eq!(rt; plan.release(3), Err(FetcherIdle));
     assert_eq!(rt; plan.release(1)?, part(1, 1));
+    // No fetcher claims a part any more.
+    plan.end_claims();
     plan.hide(0, 1)?;
     assert!(rt; plan.wanted_after(rt.alloc(), None, 10)?.is_empty());
+    Ok(())
+}
+
+// The record of a publication without segments is held.
+fn hold_empty(plan: &mut Plan, seq: u16) -> Result<(), Fail>
+    requires from_one { 1 ≤ seq }
+    requires known { slice_index plan.old.known 0 ≡ 65535 }
+    requires none_hidden { plan.old.hidden ≡ [] }
+    requires none_claimed { plan.old.claims ≡ no_claims }
+    ensures known { OnOk result (plan.new.known ≡ plan.old.known) }
+    ensures none_hidden { OnOk result (plan.new.hidden ≡ []) }
+    ensures none_claimed { OnOk result (plan.new.claims ≡ no_claims) }
+{
+    plan.hold(part(seq, 0), Some(0))?;
+    Ok(())
+}
+
+#[test]
+fn every_number_of_a_publisher(rt: HostRuntime) -> Result<(), Fail> {
+    let mut plan = Plan::new(rt.alloc(), 1)?;
+    plan.raise(0, 65535);
+    for seq in 0..65535 {
+        hold_empty(&mut plan, seq + 1)?;
+    }
+    assert!(rt; plan.complete(0, 65535));
+    assert!(rt; plan.wanted_after(rt.alloc(), None, 1)?.is_empty());
     Ok(())
 }
 
@@ -113,7 +162,11 @@ impl Slow {
     }
 
     fn wants(&self, part: Part) -> bool {
-        let last = self.known.get(part.publisher as usize).copied().unwrap_or(0);
+        let last = self
+            .known
+            .get(part.publisher as usize)
+            .copied()
+            .unwrap_or(0);
         let asked = match self.segments(part.publisher, part.seq) {
             Some(segments) => part.part <= segments,
             None => part.part == 0,
@@ -126,12 +179,21 @@ impl Slow {
     }
 
     // The wanted parts greater than `after` that no fetcher claims, in order, among the first few that there can be.
-    fn wanted_after(&self, alloc: Global, after: Option<Part>, most: usize) -> Result<Vec<Part>, AllocError> {
+    fn wanted_after(
+        &self,
+        alloc: Global,
+        after: Option<Part>,
+        most: usize,
+    ) -> Result<Vec<Part>, AllocError> {
         let mut parts = Vec::new(alloc);
         for k in 0..64 {
             let part = listed_part(k);
             let behind = after.map_or(true, |other| other < part);
-            if behind && self.wants(part) && !self.claims.contains(&Some(part)) && parts.len() < most {
+            if behind
+                && self.wants(part)
+                && !self.claims.contains(&Some(part))
+                && parts.len() < most
+            {
                 parts.push(part)?;
             }
         }
@@ -228,7 +290,12 @@ fn hold_claimed(plan: &mut Plan, slow: &mut Slow, f: u8, segments: u8) -> Result
 }
 
 // Both say the same.
-fn compare(rt: &(impl Abort + AllocGlobal), plan: &Plan, slow: &Slow, draw: u32) -> Result<(), Fail> {
+fn compare(
+    rt: &(impl Abort + AllocGlobal),
+    plan: &Plan,
+    slow: &Slow,
+    draw: u32,
+) -> Result<(), Fail> {
     let alloc = rt.alloc();
     let after = (draw % 2 == 0).then_some(drawn_part(draw));
     let most = draw as usize % 7 * 5;
