@@ -11,7 +11,7 @@ use Rattle.std.proofs.lemmas.List.{at_drop_more, at_drop_all}
 use Rattle.repo_plan.specs.declared.part.Part.{Part}
 use Rattle.repo_plan.specs.SortedList.{IsBefore, Rises}
 use Rattle.repo_plan.specs.Parts.{Pair, Shape, part_cmp, pair_of, part_of, numbers_from, parts_of, parts_told}
-use Rattle.repo_plan.specs.Plan.{Holdings, knows, hides, holds, shape_of, is_asked, is_wanted, is_claimed, is_unclaimed, unclaimed, first, is_after, parts_known, pairs_of, pairs_from, known_parts}
+use Rattle.repo_plan.specs.Plan.{Holdings, knows, hides, holds, shape_of, is_asked, is_wanted, is_claimed, is_unclaimed, unclaimed, first, is_after, is_next, parts_known, pairs_of, pairs_from, known_parts}
 use Rattle.repo_plan.proofs.Orders.{exact_parts, less_back, nat_itself}
 use Rattle.repo_plan.proofs.Sets.{In, in_append, each_before}
 use Rattle.repo_plan.proofs.Known.{from_parts_of, from_pairs_of, in_pairs_known, flat_append}
@@ -180,10 +180,6 @@ module _ (p : Holdings) (ok : Part → Bool) where
   no_publisher lasts publisher l = at_drop_all (λ (xs : List ℕ). first_in (pairs_from publisher xs)) lasts publisher l
 
 -- ---- behind a place
-
--- a part behind a place, that is wanted and not claimed
-abbrev pub is_next : Holdings → Option Part → Part → Bool
-is_next p after t = is_after after t && is_unclaimed p t
 
 pub next_in : (p : Holdings) (after : Option Part) → first (filter (is_after after) (unclaimed p)) ≡ first_in p (is_next p after) (pairs_from 0 p.known)
 next_in p after = ap first (both_tests (is_after after) (is_unclaimed p) (known_parts p))

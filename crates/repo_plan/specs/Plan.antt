@@ -112,6 +112,10 @@ abbrev pub is_after : Option Part → Part → Bool
 is_after None t = true
 is_after (Some u) t = is_lt (part_cmp u t)
 
+-- a wanted part behind a place, that no fetcher claims
+abbrev pub is_next : Holdings → Option Part → Part → Bool
+is_next p after t = is_after after t && is_unclaimed p t
+
 -- every part of the publication is held
 abbrev pub is_complete : Holdings → Pair → Bool
 is_complete p pair = list_all (holds p) (parts_known p pair)

@@ -1,5 +1,6 @@
 ghost use Rattle.std.specs.Prelude.{◌≡◌, ◌+◌, ◌<◌, ◌==◌, false, true, not, length, is_some, IfOk, OnOk, OnErr};
-ghost use Rattle.repo_plan.specs.Plan.{opening, holds, hides, is_asked, is_claimed, claims_part_in, shape_of, attempts_of, is_complete, raises, holds_too, hides_too, with_attempts};
+ghost use Rattle.repo_plan.specs.Plan.{opening, holds, hides, is_asked, is_claimed, claims_part_in, shape_of};
+ghost use Rattle.repo_plan.specs.Plan.{attempts_of, is_complete, raises, holds_too, hides_too, with_attempts};
 ghost use Rattle.repo_plan.specs.Parts.{pair_of};
 ghost use Rattle.repo_plan.specs.Sound.{IsSound};
 
@@ -90,15 +91,19 @@ impl Plan {
         if self.holds(part) {
             return Ok(false);
         }
+        let Some(segments) = segments else {
+            sorted::insert_key(&mut self.held, part)?;
+            return Ok(true);
+        };
         self.shapes.reserve(1)?;
         sorted::insert_key(&mut self.held, part)?;
-        if let Some(segments) = segments {
-            // The room is there, so this doesn't fail.
-            let _ = sorted::set_value(&mut self.shapes, (part.publisher, part.seq), segments);
-        }
+        // The room is there, so this doesn't fail.
+        let _ = sorted::set_value(&mut self.shapes, (part.publisher, part.seq), segments);
         Ok(true)
     }
 
+    /// Whether the part is held.
+    //
     // A caller sees the value alone, so `sound` states what the invariant says of it.
     pub fn holds(&self, part: Part) -> bool
         ensures held { result ≡ holds self.now part }

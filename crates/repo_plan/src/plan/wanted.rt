@@ -1,8 +1,8 @@
-ghost use Rattle.std.specs.Prelude.{◌≡◌, ◌<◌, ◌≤◌, ◌&&◌, true, false, take, slice_index, IfOk};
+ghost use Rattle.std.specs.Prelude.{◌≡◌, ◌<◌, ◌≤◌, true, false, take, slice_index, IfOk};
 ghost use Rattle.std.specs.List.{list_any, filter, flat_map};
 ghost use Rattle.repo_plan.specs.declared.part.Part.{Part};
 ghost use Rattle.repo_plan.specs.Parts.{pair_of};
-ghost use Rattle.repo_plan.specs.Plan.{knows, hides, is_asked, is_claim_of, is_unclaimed, unclaimed, first, is_after, parts_known, pairs_of};
+ghost use Rattle.repo_plan.specs.Plan.{knows, hides, is_asked, is_claim_of, unclaimed, first, is_after, is_next, parts_known, pairs_of};
 
 use super::Plan;
 use crate::part::Part;
@@ -10,14 +10,15 @@ use crate::sorted;
 use std::alloc::{AllocError, Global};
 
 impl Plan {
-    /// The least wanted parts that no fetcher claims and that are greater than `after`, at most `most` of them.
+    /// The least wanted parts that no fetcher claims and that are greater than `after`, in order, at most `most` of them.
     pub fn wanted_after(
         &self,
         alloc: Global,
         after: Option<Part>,
         most: usize,
     ) -> Result<Vec<Part>, AllocError>
-        ensures { IfOk result (λ v. v.items ≡ take most (filter (is_after after) (unclaimed self.now))) }
+        ensures { IfOk result (λ parts.
+            parts.items ≡ take most (filter (is_after after) (unclaimed self.now))) }
     {
         let mut parts = Vec::new(alloc);
         let mut last = after;
@@ -50,7 +51,8 @@ impl Plan {
     // The same among the publications of one publisher.
     fn next_of_publisher(&self, publisher: u32, last: u16, after: Option<Part>) -> Option<Part>
         requires { last ≡ slice_index self.now.known publisher }
-        ensures { result ≡ first (filter (λ t. is_after after t && is_unclaimed self.now t) (flat_map (parts_known self.now) (pairs_of publisher 1 last))) }
+        ensures { result ≡ first (filter (is_next self.now after)
+            (flat_map (parts_known self.now) (pairs_of publisher 1 last))) }
     {
         for s in passed_numbers(publisher, after)..last {
             let found = self.next_of_publication(publisher, s + 1, after);
@@ -64,7 +66,8 @@ impl Plan {
     // The same among the parts of one publication.
     fn next_of_publication(&self, publisher: u32, seq: u16, after: Option<Part>) -> Option<Part>
         requires { knows self.now (publisher, seq) ≡ true }
-        ensures { result ≡ first (filter (λ t. is_after after t && is_unclaimed self.now t) (parts_known self.now (publisher, seq))) }
+        ensures { result ≡ first (filter (is_next self.now after)
+            (parts_known self.now (publisher, seq))) }
     {
         if sorted::contains(&self.hidden, &(publisher, seq)) {
             return None;
@@ -87,7 +90,7 @@ impl Plan {
     fn is_next(&self, part: Part, after: Option<Part>) -> bool
         requires asked { is_asked self.now part ≡ true }
         requires not_hidden { hides self.now (pair_of part) ≡ false }
-        ensures { result ≡ (is_after after part && is_unclaimed self.now part) }
+        ensures { result ≡ is_next self.now after part }
     {
         is_behind(part, after) && !self.holds(part) && !is_claimed(&self.claims, part)
     }
@@ -105,7 +108,8 @@ fn passed_publishers(after: Option<Part>) -> usize
 
 // Up to which number the publisher's publications have no part greater than `after`.
 fn passed_numbers(publisher: u32, after: Option<Part>) -> u16
-    ensures { (t : Part) → t.publisher ≡ publisher → 1 ≤ t.seq → t.seq ≤ result → is_after after t ≡ false }
+    ensures { (t : Part) → t.publisher ≡ publisher → 1 ≤ t.seq → t.seq ≤ result
+        → is_after after t ≡ false }
 {
     match after {
         Some(part) if part.publisher == publisher => part.seq.saturating_sub(1),

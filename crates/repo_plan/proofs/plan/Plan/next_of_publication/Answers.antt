@@ -1,8 +1,8 @@
 use Rattle.std.proofs.Common.{◌+◌, sym, ap, ◌∙◌}
 use Rattle.repo_plan.specs.SortedList.{contains}
 use Rattle.repo_plan.specs.Parts.{Pair, pair_cmp, parts_told}
-use Rattle.repo_plan.specs.Plan.{Holdings, hides, shape_of}
-use Rattle.repo_plan.proofs.Scans.{is_next, part_here, part_later, hidden_none}
+use Rattle.repo_plan.specs.Plan.{Holdings, hides, shape_of, is_next}
+use Rattle.repo_plan.proofs.Scans.{part_here, part_later, hidden_none}
 use Rattle.repo_plan.proofs.plan.Plan.next_of_publication.Goals as goal
 
 pub contains-requires : goal.contains-requires

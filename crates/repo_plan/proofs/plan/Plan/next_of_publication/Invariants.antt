@@ -1,6 +1,6 @@
 use Rattle.std.proofs.Common.{◌≡◌, ◌+◌}
-use Rattle.repo_plan.specs.Plan.{parts_known}
-use Rattle.repo_plan.proofs.Scans.{first_of, parts_from, is_next}
+use Rattle.repo_plan.specs.Plan.{parts_known, is_next}
+use Rattle.repo_plan.proofs.Scans.{first_of, parts_from}
 use Rattle.repo_plan.proofs.plan.Plan.next_of_publication.Given as goal
 
 abbrev pub invariant-loop-x : goal.invariant-loop-x

@@ -1,5 +1,6 @@
 use Rattle.std.proofs.Common.{◌∙◌, sym}
-use Rattle.repo_plan.proofs.Scans.{is_next, not_next, skip_numbers, pair_found, pair_later}
+use Rattle.repo_plan.specs.Plan.{is_next}
+use Rattle.repo_plan.proofs.Scans.{not_next, skip_numbers, pair_found, pair_later}
 use Rattle.repo_plan.proofs.plan.Plan.next_of_publisher.Goals as goal
 
 pub loop-s-init : goal.loop-s-init

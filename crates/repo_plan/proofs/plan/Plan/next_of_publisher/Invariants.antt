@@ -1,6 +1,6 @@
 use Rattle.std.proofs.Common.{◌≡◌, ◌+◌, ◌-◌}
-use Rattle.repo_plan.specs.Plan.{pairs_of}
-use Rattle.repo_plan.proofs.Scans.{first_in, is_next}
+use Rattle.repo_plan.specs.Plan.{pairs_of, is_next}
+use Rattle.repo_plan.proofs.Scans.{first_in}
 use Rattle.repo_plan.proofs.plan.Plan.next_of_publisher.Given as goal
 
 abbrev pub invariant-loop-s : goal.invariant-loop-s

@@ -1,6 +1,6 @@
 use Rattle.std.proofs.Common.{◌≡◌, ◌<◌, ◌≤◌, List, ℕ, length, get_or, arith, ◌∙◌, sym, ap}
-use Rattle.repo_plan.specs.Plan.{Holdings}
-use Rattle.repo_plan.proofs.Scans.{is_next, next_in, not_next, skip_first, found_at, later_than, none_at, no_publisher}
+use Rattle.repo_plan.specs.Plan.{Holdings, is_next}
+use Rattle.repo_plan.proofs.Scans.{next_in, not_next, skip_first, found_at, later_than, none_at, no_publisher}
 use Rattle.repo_plan.proofs.plan.Plan.next_unclaimed.Goals as goal
 use Rattle.repo_plan.proofs.plan.Plan.next_unclaimed.Goals.{then-last-gt0+else-is_some, else-last-gt0}
 
