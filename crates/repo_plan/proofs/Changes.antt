@@ -1,5 +1,5 @@
 -- Each call keeps a plan sound.
-use Rattle.std.proofs.Common.{◌≡◌, ◌≢◌, ◌⊎◌, inl, inr, ℕ, suc, zero, ◌+◌, ◌-◌, ◌≤◌, ◌<◌, ◌^◌, max, Bool, true, false, cond, not, ◌&&◌, ◌||◌, List, [], ◌∷◌, length, get_or, set, refl, sym, ap, ◌∙◌, subst, arith, Option, Some, None}
+use Rattle.std.proofs.Common.{◌≡◌, ◌≢◌, ◌⊎◌, inl, inr, ℕ, suc, zero, ◌+◌, ◌-◌, ◌≤◌, ◌<◌, ◌^◌, max, Bool, true, false, cond, not, ◌&&◌, ◌||◌, List, [], ◌∷◌, get_or, set, refl, sym, ap, ◌∙◌, subst, arith, Option, Some, None}
 use Rattle.std.proofs.lemmas.Bool.{true≢false, and_parts, and_from, and_right, or_cases, or_right, or_left, or_parts, or_from, not-true, not_from_false, leb-true, le-leb, eqb-true, eqb-false, eq-eqb, cases_eq}
 use Rattle.std.proofs.lemmas.Bool.Decides.{nat_tests}
 use Rattle.std.proofs.lemmas.List.{length-set, get_or-set_other}
@@ -13,8 +13,8 @@ use Rattle.repo_plan.specs.SortedList.{Rises, keys, contains, insert_key, value_
 use Rattle.repo_plan.specs.Parts.{Pair, Shape, pair_cmp, part_cmp, pair_of, part_of, record_of}
 use Rattle.repo_plan.specs.Plan.{Holdings, opening, no_claims, knows, holds, hides, shape_of, attempts_of, claim_of, is_claim_of, is_claimed, is_claim_in, claims_part_in, can_be_asked, is_asked, is_wanted, is_unclaimed, unclaimed, known_parts, first, raises, with_shape, holds_too, with_claim, without_claims, is_in, hides_too, with_attempts}
 use Rattle.repo_plan.specs.Calls.{Call, Raise, Hold, Claim, Release, EndClaims, Hide, AddAttempts, after_claim, after, after_all, IsAllowed, AreAllowed, CallsKeepSound}
-use Rattle.repo_plan.specs.Sound.{IsInOrder, IsHeldRightly, IsSound, CanBeHeld}
-use Rattle.repo_plan.proofs.Orders.{exact_parts, exact_pairs, nat_itself, nat_same, equal_from_is_eq}
+use Rattle.repo_plan.specs.Sound.{IsHeldRightly, IsSound, CanBeHeld}
+use Rattle.repo_plan.proofs.Orders.{exact_parts, exact_pairs, nat_itself}
 use Rattle.repo_plan.proofs.Sets.{rises_insert, rises_filter, eq_same, eq_itself, contains-insert_key, contains-filter, rises_with_value, value_of-with_value, rises_keys_filter, value_of-filter}
 
 -- ---- what is wanted, in parts

@@ -1,15 +1,13 @@
 -- The parts that are known of: which they are, and that they stand in order.
-use Rattle.std.proofs.Common.{◌≡◌, ◌⊎◌, inl, inr, ℕ, suc, zero, ◌+◌, ◌-◌, ◌≤◌, ◌<◌, Bool, true, false, not, ◌&&◌, ◌||◌, List, [], ◌∷◌, ◌++◌, map, length, get_or, refl, sym, ap, ◌∙◌, subst, arith, append_assoc, Option, Some, None}
-use Rattle.std.proofs.lemmas.Bool.{true≢false, and_parts, and_from, or_cases, or_left, or_right, leb-true, le-leb, eqb-true, eq-eqb, cases_eq}
+use Rattle.std.proofs.Common.{◌≡◌, inl, inr, ℕ, suc, zero, ◌+◌, ◌-◌, ◌≤◌, ◌<◌, Bool, true, false, ◌&&◌, List, [], ◌∷◌, ◌++◌, map, get_or, refl, sym, ap, ◌∙◌, subst, arith, append_assoc, Option, Some, None}
+use Rattle.std.proofs.lemmas.Bool.{and_parts, and_from, or_cases, or_right, leb-true, le-leb, eqb-true, eq-eqb, cases_eq}
 use Rattle.std.specs.Prelude.{nat_le, ◌==◌, is_some}
-use Rattle.std.specs.List.{filter, flat_map}
+use Rattle.std.specs.List.{flat_map}
 use Rattle.std.specs.Ordering.{nat_cmp}
-use Rattle.std.specs.declared.cmp.Ordering.{Ordering}
-use Rattle.std.specs.declared.cmp.Ordering.TheVariants.{Less, Equal}
 use Rattle.repo_plan.specs.declared.part.Part.{Part}
 use Rattle.repo_plan.specs.SortedList.{Rises, contains}
-use Rattle.repo_plan.specs.Parts.{Pair, Shape, part_cmp, pair_of, part_of, record_of, numbers_from, parts_of, parts_told}
-use Rattle.repo_plan.specs.Plan.{Holdings, knows, holds, shape_of, can_be_asked, is_asked, is_wanted, is_unclaimed, is_claimed, parts_known, pairs_of, pairs_from, known_parts, wanted, unclaimed}
+use Rattle.repo_plan.specs.Parts.{Pair, Shape, part_cmp, pair_of, part_of, numbers_from, parts_of, parts_told}
+use Rattle.repo_plan.specs.Plan.{Holdings, knows, holds, shape_of, can_be_asked, is_asked, is_wanted, is_unclaimed, parts_known, pairs_of, pairs_from, known_parts, wanted, unclaimed}
 use Rattle.repo_plan.specs.Sound.{IsSound}
 use Rattle.repo_plan.proofs.Orders.{exact_parts, nat_less, nat_itself, first_less, then_second}
 use Rattle.repo_plan.proofs.Sets.{In, contains_in, contains-filter, in_append, append_left, append_right, in_flat_map, from_flat_map, in_map, from_map, before_each, rises_append, rises_filter}

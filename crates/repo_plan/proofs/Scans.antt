@@ -5,13 +5,13 @@ use Rattle.std.specs.List.{filter, flat_map, list_all}
 use Rattle.std.specs.Ordering.{nat_cmp, is_lt, ordering_then}
 use Rattle.std.specs.declared.cmp.Ordering.{Ordering}
 use Rattle.std.specs.declared.cmp.Ordering.TheVariants.{Less, Equal, Greater}
-use Rattle.std.proofs.lemmas.Bool.{and_from, and_left, and_right, le-leb, cases_eq, cases_lt}
+use Rattle.std.proofs.lemmas.Bool.{and_from, and_left, and_right, le-leb, cases_lt}
 use Rattle.std.proofs.lemmas.Bool.Decides.{nat_tests}
 use Rattle.std.proofs.lemmas.List.{at_drop_more, at_drop_all}
 use Rattle.repo_plan.specs.declared.part.Part.{Part}
 use Rattle.repo_plan.specs.SortedList.{IsBefore, Rises}
 use Rattle.repo_plan.specs.Parts.{Pair, Shape, part_cmp, pair_of, part_of, numbers_from, parts_of, parts_told}
-use Rattle.repo_plan.specs.Plan.{Holdings, knows, hides, holds, shape_of, is_asked, is_wanted, is_claimed, is_unclaimed, unclaimed, first, is_after, is_next, parts_known, pairs_of, pairs_from, known_parts}
+use Rattle.repo_plan.specs.Plan.{Holdings, knows, hides, holds, shape_of, is_asked, is_unclaimed, unclaimed, first, is_after, is_next, parts_known, pairs_of, pairs_from, known_parts}
 use Rattle.repo_plan.proofs.Orders.{exact_parts, less_back, nat_itself}
 use Rattle.repo_plan.proofs.Sets.{In, in_append, each_before}
 use Rattle.repo_plan.proofs.Known.{from_parts_of, from_pairs_of, in_pairs_known, flat_append}

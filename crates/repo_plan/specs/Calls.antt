@@ -2,8 +2,8 @@
 use Rattle.std.specs.Prelude.{ℕ, ◌≡◌, ◌≢◌, ◌≤◌, ◌<◌, ◌^◌, ◌+◌, true, false, is_some, ◌==◌, List, [], ◌∷◌, Option, Some, None, length}
 use Rattle.repo_plan.specs.declared.part.Part.{Part}
 use Rattle.repo_plan.specs.SortedList.{contains, Rises}
-use Rattle.repo_plan.specs.Parts.{Pair, Shape, part_cmp, pair_of}
-use Rattle.repo_plan.specs.Plan.{Holdings, opening, hides, is_claimed, claims_part_in, claim_of, attempts_of, is_asked, is_wanted, wanted, unclaimed, first, raises, holds_too, with_claim, without_claims, hides_too, with_attempts}
+use Rattle.repo_plan.specs.Parts.{Pair, Shape, part_cmp}
+use Rattle.repo_plan.specs.Plan.{Holdings, opening, claims_part_in, claim_of, attempts_of, is_wanted, wanted, unclaimed, first, raises, holds_too, with_claim, without_claims, hides_too, with_attempts}
 use Rattle.repo_plan.specs.Sound.{IsSound, CanBeHeld}
 
 -- a call that may change a plan, with its arguments

@@ -1,11 +1,12 @@
 -- What a plan keeps, which parts it wants, and what each call makes of it.
-use Rattle.std.specs.Prelude.{ℕ, ◌+◌, ◌-◌, Bool, true, false, not, max, List, [], ◌∷◌, ◌++◌, map, Option, Some, None, unwrap_or, is_some, slice_index, slice_index_or, slice_set, replicate, ◌==◌, ◌&&◌, ◌||◌, nat_le, if◌then◌else◌}
+use Rattle.std.specs.Prelude.{ℕ, ◌+◌, ◌-◌, Bool, true, false, not, max, List, [], ◌∷◌, ◌++◌, map, Option, Some, None, unwrap_or, slice_index, slice_index_or, slice_set, replicate, ◌==◌, ◌&&◌, ◌||◌, nat_le, if◌then◌else◌}
 use Rattle.std.specs.List.{flat_map, filter, list_any, list_all}
 use Rattle.std.specs.Ordering.{eq_by_cmp, is_lt}
 use Rattle.repo_plan.specs.declared.part.Part.{Part}
 use Rattle.repo_plan.specs.SortedList.{contains, insert_key, value_of, with_value}
-use Rattle.repo_plan.specs.Parts.{Pair, Shape, pair_cmp, part_cmp, pair_of, part_of, record_of, numbers_from, parts_of, parts_behind, parent, parts_told}
+use Rattle.repo_plan.specs.Parts.{Pair, Shape, pair_cmp, part_cmp, pair_of, numbers_from, parts_of, parts_behind, parent, parts_told}
 
+-- what a member knows of, holds, hides and claims of publications
 pub record Holdings : Type 0 where
   pub known : List ℕ  -- by publisher, the last number that is known
   pub held : List Part  -- in order
@@ -14,6 +15,7 @@ pub record Holdings : Type 0 where
   pub hidden : List Pair  -- in order
   pub attempts : List (Part × ℕ)  -- in order, without 0
 
+-- sixteen fetchers that claim nothing
 abbrev pub no_claims : List (Option Part)
 no_claims = replicate 16 None
 
@@ -23,12 +25,15 @@ opening members = record { known = replicate members 0; held = []; shapes = []; 
 
 -- ---- readings
 
+-- whether the publication's number is between 1 and its publisher's last known one
 abbrev pub knows : Holdings → Pair → Bool
 knows p pair = nat_le 1 pair.1 && nat_le pair.1 (slice_index p.known pair.0)
 
+-- whether the part is held
 abbrev pub holds : Holdings → Part → Bool
 holds p t = contains part_cmp p.held t
 
+-- whether the publication is hidden
 abbrev pub hides : Holdings → Pair → Bool
 hides p pair = contains pair_cmp p.hidden pair
 
@@ -36,6 +41,7 @@ hides p pair = contains pair_cmp p.hidden pair
 abbrev pub shape_of : Holdings → Pair → Option Shape
 shape_of p pair = value_of pair_cmp p.shapes pair
 
+-- how often the part was tried
 abbrev pub attempts_of : Holdings → Part → ℕ
 attempts_of p t = unwrap_or (value_of part_cmp p.attempts t) 0
 
@@ -43,6 +49,7 @@ attempts_of p t = unwrap_or (value_of part_cmp p.attempts t) 0
 abbrev pub claim_of : Holdings → ℕ → Option Part
 claim_of p f = slice_index_or p.claims (f - 1) None
 
+-- whether this is a claim of the part
 abbrev pub is_claim_of : Part → Option Part → Bool
 is_claim_of t None = false
 is_claim_of t (Some u) = eq_by_cmp part_cmp t u
@@ -51,6 +58,7 @@ is_claim_of t (Some u) = eq_by_cmp part_cmp t u
 abbrev pub is_claimed : Holdings → Part → Bool
 is_claimed p t = list_any (is_claim_of t) p.claims
 
+-- whether this is a claim of a part of the publication
 abbrev pub is_claim_in : Pair → Option Part → Bool
 is_claim_in pair None = false
 is_claim_in pair (Some u) = eq_by_cmp pair_cmp pair (pair_of u)
@@ -66,6 +74,7 @@ abbrev pub can_be_asked : List Part → Option Shape → Part → Bool
 can_be_asked held None t = t.part == 0
 can_be_asked held (Some shape) t = t.part == 0 || (nat_le t.part (parts_behind shape) && contains part_cmp held (parent shape t))
 
+-- such a part of a known publication
 abbrev pub is_asked : Holdings → Part → Bool
 is_asked p t = knows p (pair_of t) && can_be_asked p.held (shape_of p (pair_of t)) t
 
@@ -126,6 +135,7 @@ is_complete p pair = list_all (holds p) (parts_known p pair)
 abbrev pub raises : ℕ → ℕ → Holdings → Holdings
 raises publisher seq p = record p { known = slice_set p.known publisher (max (slice_index p.known publisher) seq) }
 
+-- what a record tells, if it is one, beside what others told
 abbrev pub with_shape : Pair → Option Shape → List (Pair × Shape) → List (Pair × Shape)
 with_shape pair None shapes = shapes
 with_shape pair (Some shape) shapes = with_value pair_cmp pair shape shapes
@@ -135,12 +145,15 @@ abbrev pub holds_too : Part → Option Shape → Holdings → Holdings
 holds_too t shape p =
     if holds p t then p else record p { held = insert_key part_cmp t p.held; shapes = with_shape (pair_of t) shape p.shapes }
 
+-- a fetcher claims a part, or nothing
 abbrev pub with_claim : ℕ → Option Part → Holdings → Holdings
 with_claim f claim p = record p { claims = slice_set p.claims (f - 1) claim }
 
+-- no fetcher claims a part
 abbrev pub without_claims : Holdings → Holdings
 without_claims p = record p { claims = no_claims }
 
+-- whether the part is one of the publication's
 abbrev pub is_in : Pair → Part → Bool
 is_in pair t = eq_by_cmp pair_cmp pair (pair_of t)
 

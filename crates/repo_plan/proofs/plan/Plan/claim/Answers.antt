@@ -1,6 +1,6 @@
 use Rattle.std.proofs.Common.{subst, sym, ap, ◌∙◌}
 use Rattle.repo_plan.specs.contracts.plan.Plan.{the_view}
-use Rattle.repo_plan.specs.Plan.{Holdings, with_claim, known_parts, is_unclaimed, unclaimed, first}
+use Rattle.repo_plan.specs.Plan.{Holdings, with_claim, unclaimed, first}
 use Rattle.repo_plan.specs.Sound.{IsSound}
 use Rattle.repo_plan.proofs.Changes.{sound_first}
 use Rattle.repo_plan.proofs.Scans.{behind_none}

@@ -24,6 +24,7 @@ invariant_of-self-in_default c =
     let told : is_some none ≡ (c.args.part.part == 0) = ap is_some (sym c.in_default.is) ∙ c.requires.segments in
     sound_as (with_part c.args.part None p) _ refl (sym c.in_ok-insert_key.ensures.ok) refl refl refl refl
     (sound_part p c.args.part c.self.invariant can fresh None told)
+
 pub invariant_of-self-2 : goal.invariant_of-self-2
 invariant_of-self-2 c =
     let p = the_view c.self.inside in
@@ -34,4 +35,3 @@ invariant_of-self-2 c =
     let shapes = stored ∙ ap (with_value pair_cmp (pair_of c.args.part) c.in-Some.segments) c.in_ok-reserve.ensures.items in
     sound_as (with_part c.args.part (Some c.in-Some.segments) p) _ refl (sym c.in_ok-insert_key-2.ensures.ok) (sym shapes) refl refl refl
     (sound_part p c.args.part c.self.invariant can fresh (Some c.in-Some.segments) told)
-

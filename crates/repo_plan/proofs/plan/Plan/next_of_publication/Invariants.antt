@@ -1,4 +1,4 @@
-use Rattle.std.proofs.Common.{◌≡◌, ◌+◌}
+use Rattle.std.proofs.Common.{◌≡◌}
 use Rattle.repo_plan.specs.Plan.{parts_known, is_next}
 use Rattle.repo_plan.proofs.Scans.{first_of, parts_from}
 use Rattle.repo_plan.proofs.plan.Plan.next_of_publication.Given as goal

@@ -1,4 +1,4 @@
-use Rattle.std.proofs.Common.{◌≡◌, sym, subst, ◌∙◌, None, Some, ap}
+use Rattle.std.proofs.Common.{sym, subst, ◌∙◌, None, ap}
 use Rattle.repo_plan.specs.contracts.plan.Plan.{the_view}
 use Rattle.repo_plan.specs.Plan.{Holdings, with_claim, claim_of}
 use Rattle.repo_plan.specs.Sound.{CanBeHeld}
