@@ -1,0 +1,6 @@
+pub mod Orders
+pub mod Search
+pub mod Sets
+pub mod Changes
+pub mod Known
+pub mod Scans

@@ -1,0 +1,9 @@
+use Rattle.std.proofs.Common.{refl, sym}
+use Rattle.repo_plan.specs.Plan.{opening}
+use Rattle.repo_plan.proofs.Changes.{sound_as, sound_opening}
+use Rattle.repo_plan.proofs.plan.Plan.new.Goals as goal
+
+pub invariant_of-result : goal.invariant_of-result
+invariant_of-result c =
+    sound_as (opening c.args.members) _ (sym (c.in_ok-vec.ensures.items_if_clones_equal (λ y e. e))) (sym c.new.ensures.items) (sym c.new-2.ensures.items) refl (sym c.new-3.ensures.items) (sym c.new-4.ensures.items)
+    (sound_opening c.args.members)

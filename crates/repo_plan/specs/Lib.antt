@@ -1,0 +1,5 @@
+pub mod SortedList
+pub mod Parts
+pub mod Plan
+pub mod Sound
+pub mod Calls

@@ -1,0 +1,18 @@
+//! The fetch plan of one member of a repository group: which parts of the known publications it holds, which it still
+//! wants, and which of those its fetchers claim.
+#![tactic(auto)]
+
+mod laws;
+mod part;
+mod plan;
+mod sorted;
+
+pub use laws::{
+    calls_keep_plans_sound, claims_are_wanted_once, released_parts_can_be_claimed,
+    wanted_parts_are_listed,
+};
+pub use part::Part;
+pub use plan::{FetcherBusy, FetcherIdle, Plan};
+
+#[cfg(test)]
+mod tests;

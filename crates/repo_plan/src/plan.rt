@@ -1,0 +1,175 @@
+ghost use Rattle.std.specs.Prelude.{◌≡◌, ◌+◌, ◌<◌, ◌==◌, false, true, not, length, is_some, IfOk, OnOk, OnErr};
+ghost use Rattle.repo_plan.specs.Plan.{opening, holds, hides, is_asked, is_claimed, claims_part_in, shape_of};
+ghost use Rattle.repo_plan.specs.Plan.{attempts_of, is_complete, raises, holds_too, hides_too, with_attempts};
+ghost use Rattle.repo_plan.specs.Parts.{pair_of};
+ghost use Rattle.repo_plan.specs.Sound.{IsSound};
+
+mod claims;
+mod wanted;
+
+use crate::part::Part;
+use crate::sorted;
+pub use claims::{FetcherBusy, FetcherIdle};
+use std::alloc::{AllocError, Global};
+use std::marker::Model;
+
+/// What a member knows of, holds, hides and claims.
+///
+/// A part is wanted where its publication's number is known, it is a record or is counted by the held record, it is not
+/// held, and its publication is not hidden. Sixteen fetchers, numbered from 1, claim wanted parts, each at most one.
+#[derive(Debug, Drop)]
+pub struct Plan {
+    known: Vec<u16>,
+    held: Vec<Part>,
+    shapes: Vec<((u32, u16), u8)>,
+    claims: [Option<Part>; 16],
+    hidden: Vec<(u32, u16)>,
+    attempts: Vec<(Part, u32)>,
+}
+
+impl Model for Plan {
+    ghost use Rattle.repo_plan.specs.Plan.{Holdings};
+    ghost use Rattle.repo_plan.specs.Sound.{IsSound};
+
+    ghost Value = { Holdings };
+
+    ghost view = { λ p. record {
+      known = p.known.items;
+      held = p.held.items;
+      shapes = p.shapes.items;
+      claims = p.claims;
+      hidden = p.hidden.items;
+      attempts = p.attempts.items;
+    } };
+
+    ghost invariant = { λ p. IsSound (record {
+      known = p.known.items;
+      held = p.held.items;
+      shapes = p.shapes.items;
+      claims = p.claims;
+      hidden = p.hidden.items;
+      attempts = p.attempts.items;
+    }) };
+}
+
+impl Plan {
+    /// A plan for a group of so many members, which knows of nothing.
+    pub fn new(alloc: Global, members: usize) -> Result<Plan, AllocError>
+        ensures { IfOk result (λ plan. plan ≡ opening members) }
+    {
+        Ok(Plan {
+            known: vec![in alloc; 0; members]?,
+            held: Vec::new(alloc),
+            shapes: Vec::new(alloc),
+            claims: [None; 16],
+            hidden: Vec::new(alloc),
+            attempts: Vec::new(alloc),
+        })
+    }
+
+    /// The publisher's publications up to number `seq` are known, besides those that are known already.
+    pub fn raise(&mut self, publisher: u32, seq: u16)
+        requires { publisher < length self.old.known }
+        ensures { self.new ≡ raises publisher seq self.old }
+    {
+        let last = &mut self.known[publisher as usize];
+        *last = seq.max(*last);
+    }
+
+    /// The part is held from now on, and no more wanted. `segments` is what a record says of its publication.
+    ///
+    /// The answer is `false` where the part was held already.
+    pub fn hold(&mut self, part: Part, segments: Option<u8>) -> Result<bool, AllocError>
+        requires segments { is_some segments ≡ (part.part == 0) }
+        requires asked { is_asked self.old part ≡ true }
+        requires not_hidden { hides self.old (pair_of part) ≡ false }
+        requires not_claimed { is_claimed self.old part ≡ false }
+        ensures fresh { IfOk result (λ fresh. fresh ≡ not (holds self.old part)) }
+        ensures ok { OnOk result (self.new ≡ holds_too part segments self.old) }
+        ensures err { OnErr result (self.new ≡ self.old) }
+    {
+        if self.holds(part) {
+            return Ok(false);
+        }
+        let Some(segments) = segments else {
+            sorted::insert_key(&mut self.held, part)?;
+            return Ok(true);
+        };
+        self.shapes.reserve(1)?;
+        sorted::insert_key(&mut self.held, part)?;
+        // The room is there, so this doesn't fail.
+        let _ = sorted::set_value(&mut self.shapes, (part.publisher, part.seq), segments);
+        Ok(true)
+    }
+
+    /// Whether the part is held.
+    //
+    // A caller sees the value alone, so `sound` states what the invariant says of it.
+    pub fn holds(&self, part: Part) -> bool
+        ensures held { result ≡ holds self.now part }
+        ensures sound { IsSound self.now }
+    {
+        sorted::contains(&self.held, &part)
+    }
+
+    /// How many segments the held record of a publication counts, or `None` where its record is not held.
+    pub fn segments(&self, publisher: u32, seq: u16) -> Option<u8>
+        ensures { result ≡ shape_of self.now (publisher, seq) }
+    {
+        sorted::value_of(&self.shapes, (publisher, seq))
+    }
+
+    /// Whether the record of a publication and every segment that it counts are held.
+    pub fn complete(&self, publisher: u32, seq: u16) -> bool
+        ensures { result ≡ is_complete self.now (publisher, seq) }
+    {
+        let segments = self.segments(publisher, seq).unwrap_or(0);
+        for x in 0..u16::from(segments) + 1 {
+            let part = Part {
+                publisher,
+                seq,
+                part: x as u8,
+            };
+            if !self.holds(part) {
+                return false;
+            }
+        }
+        true
+    }
+
+    /// The publication is hidden: its held parts are forgotten, and none of its parts is wanted from now on.
+    ///
+    /// The attempts of its parts stay.
+    pub fn hide(&mut self, publisher: u32, seq: u16) -> Result<(), AllocError>
+        requires { claims_part_in self.old (publisher, seq) ≡ false }
+        ensures ok { OnOk result (self.new ≡ hides_too (publisher, seq) self.old) }
+        ensures err { OnErr result (self.new ≡ self.old) }
+    {
+        let pair = (publisher, seq);
+        sorted::insert_key(&mut self.hidden, pair)?;
+        self.held.retain(|part| (part.publisher, part.seq) != pair);
+        self.shapes.retain(|shape| shape.0 != pair);
+        Ok(())
+    }
+
+    /// How often the part was tried.
+    pub fn attempts(&self, part: Part) -> u32
+        ensures { result ≡ attempts_of self.now part }
+    {
+        sorted::value_of(&self.attempts, part).unwrap_or(0)
+    }
+
+    /// The part was tried so often more.
+    pub fn add_attempts(&mut self, part: Part, n: u32) -> Result<(), AllocError>
+        requires { attempts_of self.old part + n < 2097152 }
+        ensures ok { OnOk result (self.new ≡ with_attempts part n self.old) }
+        ensures err { OnErr result (self.new ≡ self.old) }
+    {
+        if n == 0 {
+            return Ok(());
+        }
+        let tried = self.attempts(part) + n;
+        sorted::set_value(&mut self.attempts, part, tried)?;
+        Ok(())
+    }
+}
