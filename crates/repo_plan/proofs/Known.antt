@@ -64,7 +64,7 @@ from_parts_of pair n t i =
     let e : t.part ≡ r.0 = ap (λ (u : Part). u.part) r.2 in
     (ap pair_of r.2, omega (arith, e, b.1))
 
-in_parts_of : (n : ℕ) (t : Part) → t.part ≤ n → In t (parts_of (pair_of t) n)
+pub in_parts_of : (n : ℕ) (t : Part) → t.part ≤ n → In t (parts_of (pair_of t) n)
 in_parts_of n t l = in_map (part_of (pair_of t)) (numbers_from 0 (n + 1)) t.part (in_numbers 0 (n + 1) t.part (omega arith) (omega (arith, l)))
 
 module _ (p : Holdings) where

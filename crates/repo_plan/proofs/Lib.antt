@@ -4,3 +4,4 @@ pub mod Sets
 pub mod Changes
 pub mod Known
 pub mod Scans
+pub mod Whole

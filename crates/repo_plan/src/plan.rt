@@ -123,18 +123,26 @@ impl Plan {
     pub fn complete(&self, publisher: u32, seq: u16) -> bool
         ensures { result ≡ is_complete self.now (publisher, seq) }
     {
-        let segments = self.segments(publisher, seq).unwrap_or(0);
-        for x in 0..u16::from(segments) + 1 {
-            let part = Part {
-                publisher,
-                seq,
-                part: x as u8,
-            };
-            if !self.holds(part) {
-                return false;
-            }
-        }
-        true
+        let record_part = Part {
+            publisher,
+            seq,
+            part: 0,
+        };
+        let Ok(first) = self.held.binary_search(&record_part) else {
+            return false;
+        };
+        let Some(segments) = self.segments(publisher, seq) else {
+            return false;
+        };
+        let last_part = Part {
+            part: segments,
+            ..record_part
+        };
+        let Ok(last) = self.held.binary_search(&last_part) else {
+            return false;
+        };
+        // The parts stand in order, each once, so none is missing between these.
+        first + usize::from(segments) == last
     }
 
     /// The publication is hidden: its held parts are forgotten, and none of its parts is wanted from now on.

@@ -72,6 +72,9 @@ impl Plan {
         if sorted::contains(&self.hidden, &(publisher, seq)) {
             return None;
         }
+        if self.complete(publisher, seq) {
+            return None;
+        }
         let segments = self.segments(publisher, seq).unwrap_or(0);
         for x in 0..u16::from(segments) + 1 {
             let part = Part {
