@@ -1,0 +1,15 @@
+use Rattle.std.proofs.Common.{ℕ, ◌≡◌, ◌-◌, ◌≤◌, List, length, take, drop, Some, ap, ◌∙◌, sym, arith}
+use Rattle.repo_top.proofs.Outputs.{front_left}
+use Rattle.repo_top.specs.InMemory.{Supply}
+use Rattle.repo_top.proofs.vec_source.VecSourceSource.read.Goals as goal
+
+pub returns-clause-taken : goal.returns-clause-taken
+returns-clause-taken c =
+    let octets = c.self.inside.octets.items in
+    let at = c.self.inside.at in
+    let n = c.min-n.result in
+    let items : c.deref-2.result.now ≡ octets = c.deref-2.ensures.value in
+    let copied = rw items at c.copy_from_slice.ensures.after in
+    let within : n ≤ length (take (length octets - at) (drop at octets)) = ? in
+    let left : c.args.self.now.left ≡ drop at octets = ap (λ (s : Supply). s.left) (sym c.self.view_is) in
+    ap (λ (t : List ℕ). Some t) (left ∙ front_left octets c.copy_from_slice.new.self (drop n c.args.buf.now) at n within copied)
