@@ -1,3 +1,7 @@
 pub mod Outputs
 pub mod Cuts
 pub mod Numerals
+pub mod Scenes
+pub mod Stories
+pub mod Fronts
+pub mod Runs

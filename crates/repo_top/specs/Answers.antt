@@ -1,5 +1,5 @@
 -- The words that a run takes, and the statuses that it answers.
-use Rattle.std.specs.Prelude.{ℕ, List, [], ◌∷◌, Option, Some, None, Bool, codes, if◌then◌else◌}
+use Rattle.std.specs.Prelude.{ℕ, ⊤, List, [], ◌∷◌, Option, Some, None, Bool, codes, if◌then◌else◌}
 use Rattle.std.specs.Str.{bytes_eq}
 use Rattle.repo_top.specs.declared.form.Form.{Form}
 use Rattle.repo_top.specs.declared.form.Form.TheVariants.{Run}
@@ -17,6 +17,16 @@ form_of _ = None
 abbrev pub status_of : Ending → Status
 status_of ending.Done = Done
 status_of (ending.Refused line number) = Refused line number
+
+-- The statuses of a script that was told to its end.
+abbrev pub IsTold : Status → Type 0
+IsTold Done = ⊤
+IsTold Usage = ⊥
+IsTold (Refused line number) = ⊤
+IsTold ReadFault = ⊥
+IsTold WriteFault = ⊥
+IsTold NoMemory = ⊥
+IsTold (Foreign line) = ⊥
 
 abbrev pub exit_code : Status → ℕ
 exit_code Done = 0

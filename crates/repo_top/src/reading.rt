@@ -10,7 +10,11 @@ use std::alloc::Global;
 const CHUNK: usize = 4096;
 
 // Reads to the end, or until there are so many octets.
-pub(crate) fn read_up_to<S: Source>(alloc: Global, source: &mut S, most: usize) -> Result<Vec<u8>, ReadFault>
+pub(crate) fn read_up_to<S: Source>(
+    alloc: Global,
+    source: &mut S,
+    most: usize,
+) -> Result<Vec<u8>, ReadFault>
     ensures taken { IfOk result (λ octets. S.left source.old ≡ with_left octets.items (S.left source.new)) }
     ensures most { IfOk result (λ octets. length octets.items ≤ most) }
     ensures whole { IfOk result (λ octets. length octets.items < most → IfSome (S.left source.new) (λ rest. rest ≡ [])) }
@@ -27,7 +31,11 @@ pub(crate) fn read_up_to<S: Source>(alloc: Global, source: &mut S, most: usize) 
 }
 
 // Reads as many octets as one call gives, and tells how many. There is room for so many.
-fn read_some<S: Source>(source: &mut S, octets: &mut Vec<u8>, room: usize) -> Result<usize, ReadFault>
+fn read_some<S: Source>(
+    source: &mut S,
+    octets: &mut Vec<u8>,
+    room: usize,
+) -> Result<usize, ReadFault>
     requires { 0 < room }
     ensures taken { OnOk result (with_left octets.old.items (S.left source.old) ≡ with_left octets.new.items (S.left source.new)) }
     ensures count { IfOk result (λ n. (n ≤ room) × (length octets.new.items ≡ length octets.old.items + n)) }

@@ -9,7 +9,12 @@ use std::alloc::AllocError;
 
 // Each call appends one line of a report.
 
-pub(crate) fn put_publish(out: &mut Vec<u8>, label: &[u8], seq: u64, sync: u64) -> Result<(), AllocError>
+pub(crate) fn put_publish(
+    out: &mut Vec<u8>,
+    label: &[u8],
+    seq: u64,
+    sync: u64,
+) -> Result<(), AllocError>
     ensures { OnOk result (out.new.items ≡ out.old.items ++ publish_text label.now seq sync) }
 {
     out.extend_from_slice(b"publish ")?;
@@ -44,7 +49,13 @@ pub(crate) fn put_catalogue(out: &mut Vec<u8>, label: &[u8], count: u64) -> Resu
     Ok(())
 }
 
-pub(crate) fn put_entry(out: &mut Vec<u8>, label: &[u8], seq: u64, name: &[u8], content: &[u8]) -> Result<(), AllocError>
+pub(crate) fn put_entry(
+    out: &mut Vec<u8>,
+    label: &[u8],
+    seq: u64,
+    name: &[u8],
+    content: &[u8],
+) -> Result<(), AllocError>
     ensures { OnOk result (out.new.items ≡ out.old.items ++ entry_text label.now seq name.now content.now) }
 {
     out.extend_from_slice(b"entry ")?;

@@ -16,6 +16,7 @@ use std::marker::Model;
 
 // How many lines a script has at most, and how many members.
 const MOST_LINES: u32 = 1_000;
+
 const MOST_MEMBERS: usize = 16;
 
 // What the lines so far came to.
@@ -139,12 +140,9 @@ impl<'a> Scene<'a> {
     fn is_taken(&self, label: &[u8], node: &[u8]) -> bool
         ensures { result ≡ is_taken self.now.members label.now node.now }
     {
-        for member in &self.members {
-            if member.label == label || member.node == node {
-                return true;
-            }
-        }
-        false
+        self.members
+            .iter()
+            .any(|member| member.label == label || member.node == node)
     }
 
     // The number of the member of this label.
@@ -152,12 +150,16 @@ impl<'a> Scene<'a> {
         ensures place { result ≡ member_of_label self.now.members label.now }
         ensures there { IfSome result (λ m. m < length self.now.members) }
     {
-        for (m, member) in self.members.iter().enumerate() {
-            if member.label == label {
-                return Some(m as u32);
-            }
-        }
-        None
+        let place = self.place(label)?;
+        Some(place as u32)
+    }
+
+    fn place(&self, label: &[u8]) -> Option<usize>
+        ensures place { result ≡ member_of_label self.now.members label.now }
+        ensures there { IfSome result (λ m. m < length self.now.members) }
+        ensures few { IfSome result (λ m. m < 16) }
+    {
+        self.members.iter().position(|member| member.label == label)
     }
 
     // The label of a member.
@@ -264,7 +266,13 @@ impl<'a> Scene<'a> {
     {
         for entry in entries {
             let label = self.label(entry.publisher);
-            put_entry(text, label, u64::from(entry.seq), &entry.name, &entry.content)?;
+            put_entry(
+                text,
+                label,
+                u64::from(entry.seq),
+                &entry.name,
+                &entry.content,
+            )?;
         }
         Ok(())
     }

@@ -23,17 +23,35 @@ const FIRST_REPORT: &str = "publish alice 1 segments 1 sync 1\n\
     entry alice 1 /doc segments 1 octets 3 sha256 ba7816bf8f01cfea414140de5dae2223b00361a396177a9cb410ff61f20015ad\n";
 
 // Runs the script with the words from one to the other, and gives the status.
-fn status<R: Threads + Sync + AllocGlobal>(rt: &R, words: &[&str], source: &mut VecSource, sink: &mut VecSink) -> Result<Status, Fail> {
+fn status<R: Threads + Sync + AllocGlobal>(
+    rt: &R,
+    words: &[&str],
+    source: &mut VecSource,
+    sink: &mut VecSink,
+) -> Result<Status, Fail> {
     let alloc = rt.alloc();
     let mut owned = Vec::new(alloc);
     for word in words {
         owned.push(String::from_str(alloc, word)?)?;
     }
-    Ok(run(rt, alloc, &owned, source, sink, &OpenNet::new(), &FixedDraws::new(100)))
+    Ok(run(
+        rt,
+        alloc,
+        &owned,
+        source,
+        sink,
+        &OpenNet::new(),
+        &FixedDraws::new(100),
+    ))
 }
 
 // Runs the script, and expects the status and the report.
-fn expect<R: Threads + Sync + AllocGlobal + Abort>(rt: &R, script: &[u8], wanted: Status, report: &str) -> Result<(), Fail> {
+fn expect<R: Threads + Sync + AllocGlobal + Abort>(
+    rt: &R,
+    script: &[u8],
+    wanted: Status,
+    report: &str,
+) -> Result<(), Fail> {
     let alloc = rt.alloc();
     let mut source = VecSource::new(script.to_vec(alloc)?, 100, Vec::new(alloc));
     let mut sink = VecSink::new(alloc, 100, Vec::new(alloc));
@@ -61,13 +79,23 @@ fn a_publication_reaches_both_catalogues(rt: HostRuntime) -> Result<(), Fail> {
 fn little_is_reported_of_little(rt: HostRuntime) -> Result<(), Fail> {
     expect(&rt, b"", Status::Done, "")?;
     expect(&rt, b"group /g\n", Status::Done, "")?;
-    expect(&rt, b"group /g\nsettle 1\n", Status::Done, "settle syncs 0 kept 0\n")
+    expect(
+        &rt,
+        b"group /g\nsettle 1\n",
+        Status::Done,
+        "settle syncs 0 kept 0\n",
+    )
 }
 
 #[test]
 fn other_words_touch_nothing(rt: HostRuntime) -> Result<(), Fail> {
     let alloc = rt.alloc();
-    for words in [[].as_slice(), ["run", "x"].as_slice(), ["gen", "0", "1", "1"].as_slice(), ["inspect"].as_slice()] {
+    for words in [
+        [].as_slice(),
+        ["run", "x"].as_slice(),
+        ["gen", "0", "1", "1"].as_slice(),
+        ["inspect"].as_slice(),
+    ] {
         let mut source = VecSource::new(FIRST.as_bytes().to_vec(alloc)?, 100, vec![in alloc; 1]?);
         let mut sink = VecSink::new(alloc, 100, vec![in alloc; 1]?);
         let answered = status(&rt, words, &mut source, &mut sink)?;
@@ -113,11 +141,23 @@ fn a_line_that_is_not_built_is_refused(rt: HostRuntime) -> Result<(), Fail> {
         let mut source = VecSource::new(script, 7, Vec::new(alloc));
         let mut sink = VecSink::new(alloc, 5, Vec::new(alloc));
         let answered = status(&rt, &["run"], &mut source, &mut sink)?;
-        assert_eq!(rt; answered, Status::Refused { line, number: 13 }, "on {back:?}");
+        assert_eq!(rt;
+            answered,
+            Status::Refused { line, number: 13 },
+            "on {back:?}"
+        );
         let last = format!(in alloc; "refused {line} 13 NotBuilt\n")?;
         assert!(rt; sink.octets().ends_with(last.as_bytes()), "on {back:?}");
     }
-    expect(&rt, b"settle 1\n", Status::Refused { line: 1, number: 13 }, "refused 1 13 NotBuilt\n")
+    expect(
+        &rt,
+        b"settle 1\n",
+        Status::Refused {
+            line: 1,
+            number: 13,
+        },
+        "refused 1 13 NotBuilt\n",
+    )
 }
 
 #[test]
@@ -172,7 +212,15 @@ fn limits_are_kept(rt: HostRuntime) -> Result<(), Fail> {
     // The octet past them refuses the line that it belongs to.
     script.push(b'x')?;
     write!(report, "refused 12 13 NotBuilt\n")?;
-    expect(&rt, &script, Status::Refused { line: 12, number: 13 }, report.as_str())?;
+    expect(
+        &rt,
+        &script,
+        Status::Refused {
+            line: 12,
+            number: 13,
+        },
+        report.as_str(),
+    )?;
     Ok(())
 }
 
@@ -188,7 +236,15 @@ fn a_thousand_lines_are_taken(rt: HostRuntime) -> Result<(), Fail> {
     expect(&rt, &script, Status::Done, report.as_str())?;
     script.extend_from_slice(b"settle 16\n")?;
     report.push_str("refused 1001 13 NotBuilt\n")?;
-    expect(&rt, &script, Status::Refused { line: 1_001, number: 13 }, report.as_str())
+    expect(
+        &rt,
+        &script,
+        Status::Refused {
+            line: 1_001,
+            number: 13,
+        },
+        report.as_str(),
+    )
 }
 
 #[test]
@@ -205,8 +261,19 @@ fn real_readers_and_writers(rt: HostRuntime) -> Result<(), Fail> {
 
 #[test]
 fn statuses_have_their_codes(rt: HostRuntime) {
-    let refused = Status::Refused { line: 9, number: 13 };
-    let statuses = [Status::Done, Status::Usage, refused, Status::ReadFault, Status::WriteFault, Status::NoMemory, Status::Foreign { line: 9 }];
+    let refused = Status::Refused {
+        line: 9,
+        number: 13,
+    };
+    let statuses = [
+        Status::Done,
+        Status::Usage,
+        refused,
+        Status::ReadFault,
+        Status::WriteFault,
+        Status::NoMemory,
+        Status::Foreign { line: 9 },
+    ];
     for (code, status) in statuses.iter().enumerate() {
         assert_eq!(rt; usize::from(status.code()), code);
     }

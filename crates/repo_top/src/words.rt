@@ -20,9 +20,7 @@ pub(crate) fn is_label(word: &[u8]) -> bool
 fn are_label_octets(octets: &[u8]) -> bool
     ensures { result ≡ list_all is_label_octet octets.now }
 {
-    octets
-        .iter()
-        .all(|octet| octet.is_ascii_lowercase() || octet.is_ascii_digit())
+    octets.iter().all(|octet| octet.is_ascii_lowercase() || octet.is_ascii_digit())
 }
 
 // One or more times `/` and one or more letters, digits, `-` or `_`, at most 100 octets in all.
@@ -55,19 +53,14 @@ fn is_component(component: &[u8]) -> bool
 fn are_plain_octets(octets: &[u8]) -> bool
     ensures { result ≡ list_all is_plain_octet octets.now }
 {
-    octets
-        .iter()
-        .all(|octet| octet.is_ascii_alphanumeric() || *octet == b'-' || *octet == b'_')
+    octets.iter().all(|octet| octet.is_ascii_alphanumeric() || *octet == b'-' || *octet == b'_')
 }
 
 // 1 to 128 octets, each written as two hexadecimal digits.
 pub(crate) fn is_key(word: &[u8]) -> bool
     ensures { result ≡ is_key word.now }
 {
-    2 <= word.len()
-        && word.len() <= 256
-        && word.len() % 2 == 0
-        && are_hex_digits(word)
+    2 <= word.len() && word.len() <= 256 && word.len() % 2 == 0 && are_hex_digits(word)
 }
 
 fn are_hex_digits(octets: &[u8]) -> bool
@@ -93,9 +86,7 @@ fn is_numeral(word: &[u8]) -> bool
     let [first, others @ ..] = word else {
         return false;
     };
-    others.len() <= 17
-        && (*first != b'0' || others.is_empty())
-        && are_digits(word)
+    others.len() <= 17 && (*first != b'0' || others.is_empty()) && are_digits(word)
 }
 
 fn are_digits(octets: &[u8]) -> bool

@@ -10,6 +10,7 @@ returns-clause-taken c =
     let n = c.min-n.result in
     let items : c.deref-2.result.now ≡ octets = c.deref-2.ensures.value in
     let copied = rw items at c.copy_from_slice.ensures.after in
-    let within : n ≤ length (take (length octets - at) (drop at octets)) = ? in
+    let rest = rw items at c.min.ensures in
+    let within : n ≤ length (take (length octets - at) (drop at octets)) = omega (arith, c.min-n.ensures, rest) in
     let left : c.args.self.now.left ≡ drop at octets = ap (λ (s : Supply). s.left) (sym c.self.view_is) in
     ap (λ (t : List ℕ). Some t) (left ∙ front_left octets c.copy_from_slice.new.self (drop n c.args.buf.now) at n within copied)
