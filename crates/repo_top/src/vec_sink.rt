@@ -1,4 +1,6 @@
-ghost use Rattle.std.specs.Prelude.{◌≡◌, ◌≤◌, [], Some};
+ghost use Rattle.std.specs.Prelude.{◌≡◌, ◌<◌, ◌≤◌, [], length, min, take, Ok, Some, IfOk, IsErr, IsTrue, OnOk, OnErr};
+ghost use Rattle.repo_top.specs.InMemory.{after_failed, after_write, is_listed};
+ghost use Rattle.repo_top.specs.Outside.{Gains, HasRisen};
 
 use crate::failed::Failed;
 use crate::sink::Sink;
@@ -55,7 +57,19 @@ impl Sink for VecSink {
 
     ghost faults = { λ k. k.faults };
 
-    fn write(&mut self, piece: &[u8]) -> Result<usize, Failed> {
+    // What the trait says, and: the calls that are listed fail, and those that don't fail take as much as they can.
+    fn write(&mut self, piece: &[u8]) -> Result<usize, Failed>
+        ensures count { IfOk result (λ n. n ≤ length piece.now) }
+        ensures given { IfOk result (λ n. Gains (Some self.old.out) (Some self.new.out) (take n piece.now)) }
+        ensures refused { result ≡ Ok 0 → 0 < length piece.now → HasRisen self.old.faults self.new.faults }
+        ensures failed { OnErr result (Some self.new.out ≡ Some self.old.out) }
+        ensures risen { OnErr result (HasRisen self.old.faults self.new.faults) }
+        ensures faults { self.old.faults ≤ self.new.faults }
+        ensures listed { IsTrue (is_listed self.old.fails self.old.calls) → IsErr result }
+        ensures took { IfOk result (λ n. n ≡ min (length piece.now) self.old.piece) }
+        ensures ok { OnOk result (self.new ≡ after_write self.old piece.now) }
+        ensures err { OnErr result (self.new ≡ after_failed self.old) }
+    {
         self.calls = self.calls.saturating_add(1);
         let n = piece.len().min(self.piece);
         if self.fails.contains(&self.calls) || self.octets.extend_from_slice(&piece[..n]).is_err() {

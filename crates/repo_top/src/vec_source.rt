@@ -1,4 +1,7 @@
-ghost use Rattle.std.specs.Prelude.{◌≡◌, ◌<◌, ◌≤◌, ◌^◌, ◌++◌, [], length, take, drop, min, Ok, IfOk, OnErr, IfSome, Some};
+ghost use Rattle.std.specs.Prelude.{◌≡◌, ◌<◌, ◌≤◌, ◌↔◌, ◌++◌, [], length, take, Ok, IfOk, IsErr, IsTrue, OnErr, IfSome, Some};
+ghost use Rattle.std.specs.Option.{option_map};
+ghost use Rattle.repo_top.specs.InMemory.{after_read, given, is_listed};
+ghost use Rattle.repo_top.specs.Outside.{HasRisen};
 
 use crate::failed::Failed;
 use crate::source::Source;
@@ -49,7 +52,18 @@ impl Source for VecSource {
 
     ghost faults = { λ s. s.faults };
 
-    fn read(&mut self, buf: &mut [u8]) -> Result<usize, Failed> {
+    // What the trait says, and: the calls that fail are those listed, and the others give as much as they can.
+    fn read(&mut self, buf: &mut [u8]) -> Result<usize, Failed>
+        ensures count { IfOk result (λ n. n ≤ length buf.old) }
+        ensures taken { IfOk result (λ n. Some self.old.left ≡ option_map (λ rest. take n buf.new ++ rest) (Some self.new.left)) }
+        ensures end { result ≡ Ok 0 → 0 < length buf.old → IfSome (Some self.new.left) (λ rest. rest ≡ []) }
+        ensures failed { OnErr result (Some self.new.left ≡ Some self.old.left) }
+        ensures risen { OnErr result (HasRisen self.old.faults self.new.faults) }
+        ensures faults { self.old.faults ≤ self.new.faults }
+        ensures listed { IsErr result ↔ IsTrue (is_listed self.old.fails self.old.calls) }
+        ensures given { IfOk result (λ n. n ≡ given self.old (length buf.old)) }
+        ensures after { self.new ≡ after_read self.old (length buf.old) }
+    {
         self.calls = self.calls.saturating_add(1);
         if self.fails.contains(&self.calls) {
             self.faults = self.faults.saturating_add(1);
