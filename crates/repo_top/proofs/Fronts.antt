@@ -1,10 +1,9 @@
 -- A story depends on the octets that are taken, and one more.
-use Rattle.std.proofs.Common.{◌≡◌, ◌≢◌, ℕ, ◌+◌, ◌<◌, ◌≤◌, zero, suc, Bool, true, false, eqb, List, [], ◌∷◌, ◌++◌, length, Option, Some, None, refl, sym, ap, ◌∙◌, arith, inl, inr}
+use Rattle.std.proofs.Common.{◌≡◌, ◌≢◌, ℕ, ◌<◌, ◌≤◌, zero, suc, Bool, true, false, eqb, List, [], ◌∷◌, ◌++◌, length, Option, Some, None, refl, ap, arith, inl, inr}
 use Rattle.std.proofs.lemmas.Bool.Decides.{leb_tells}
-use Rattle.repo_top.specs.declared.ending.Ending.{Ending}
-use Rattle.repo_top.specs.declared.ending.Ending.TheVariants.{Done, Refused}
-use Rattle.repo_top.specs.Lines.{line_ended, octet_taken, lines_from, lines}
-use Rattle.repo_top.specs.Story.{Story, SceneModel, EventValue, told, judge, after, story_from, story_of, opening_scene}
+use Rattle.repo_top.specs.declared.ending.Ending.TheVariants.{Done}
+use Rattle.repo_top.specs.Lines.{line_ended, lines_from}
+use Rattle.repo_top.specs.Story.{SceneModel, EventValue, told, judge, after, story_from, story_of, opening_scene}
 
 module _ (more : List ℕ) where
   -- what stands behind the octet past the room changes nothing

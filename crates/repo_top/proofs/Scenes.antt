@@ -1,5 +1,5 @@
 -- Scenes: the first, and who publishes in one.
-use Rattle.std.proofs.Common.{◌≡◌, ◌+◌, ◌<◌, ◌≤◌, ℕ, Bool, true, false, List, [], ◌∷◌, ◌++◌, length, get_or, All, refl, arith}
+use Rattle.std.proofs.Common.{◌+◌, ◌<◌, ◌≤◌, ℕ, Bool, List, [], ◌∷◌, length, All, refl, arith}
 use Rattle.std.specs.List.{filter}
 use Rattle.std.proofs.lemmas.List.Elements.{All-append, All-filter, All-push}
 use Rattle.bench_world.specs.Publications.{Publication, Entry, numbered, entries_from, entries}

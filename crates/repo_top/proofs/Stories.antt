@@ -3,7 +3,7 @@ use Rattle.std.proofs.Common.{◌≡◌, ℕ, ◌+◌, List, [], ◌∷◌, ◌+
 use Rattle.std.proofs.lemmas.List.{append-nil}
 use Rattle.repo_top.specs.declared.ending.Ending.TheVariants.{Done, Refused}
 use Rattle.repo_top.specs.Report.{refused_text}
-use Rattle.repo_top.specs.Story.{Story, SceneModel, EventValue, behind, told, refusal, judge, after, reply, story_from}
+use Rattle.repo_top.specs.Story.{Story, SceneModel, EventValue, behind, judge, after, reply, story_from}
 
 behind_behind : (x y : List ℕ) (s : Story) → behind x (behind y s) ≡ behind (x ++ y) s
 behind_behind x y s = ap (λ (t : List ℕ). let r : Story = record { text = t; ending = s.ending } in r) (sym (append_assoc x y s.text))

@@ -1,5 +1,5 @@
 -- The words that a run takes, and the statuses that it answers.
-use Rattle.std.specs.Prelude.{ℕ, ⊤, List, [], ◌∷◌, Option, Some, None, Bool, codes, if◌then◌else◌}
+use Rattle.std.specs.Prelude.{ℕ, ⊤, List, [], ◌∷◌, Option, Some, None, codes, if◌then◌else◌}
 use Rattle.std.specs.Str.{bytes_eq}
 use Rattle.repo_top.specs.declared.form.Form.{Form}
 use Rattle.repo_top.specs.declared.form.Form.TheVariants.{Run}

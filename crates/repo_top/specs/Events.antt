@@ -1,5 +1,5 @@
 -- A scene's lines and events as the code has them, and what an event needs.
-use Rattle.std.specs.Prelude.{◌≡◌, ◌≢◌, ℕ, ◌*◌, ◌<◌, ◌≤◌, ◌⊎◌, ⊤, List, [], length, Option}
+use Rattle.std.specs.Prelude.{◌≡◌, ◌≢◌, ℕ, ◌*◌, ◌<◌, ◌≤◌, ⊤, List, [], length}
 use Rattle.bench_world.specs.PlainModel.{PlainModel, log_of, join_of_all}
 use Rattle.repo_top.specs.declared.event.Event.{Event}
 use Rattle.repo_top.specs.declared.event.Event.TheVariants.{Open, Declare, Publish, Settle, List as ListOf}

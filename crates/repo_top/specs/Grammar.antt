@@ -1,5 +1,5 @@
 -- The built lines of a script.
-use Rattle.std.specs.Prelude.{ℕ, ◌<◌, ⊤, length, Bool, true, false, ◌&&◌, List, [], ◌∷◌, Option, Some, None, is_some, codes, if◌then◌else◌}
+use Rattle.std.specs.Prelude.{ℕ, ◌<◌, ⊤, length, ◌&&◌, List, [], ◌∷◌, Option, Some, None, is_some, codes, if◌then◌else◌}
 use Rattle.std.specs.Option.{option_map}
 use Rattle.std.specs.Str.{bytes_eq}
 use Rattle.repo_top.specs.declared.line.Line.{Line}

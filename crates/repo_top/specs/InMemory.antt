@@ -1,5 +1,5 @@
 -- A source and a sink in memory, as contracts see them, and what a call does to them.
-use Rattle.std.specs.Prelude.{ℕ, ◌+◌, min, Bool, List, ◌++◌, length, take, drop, nat_eq, if◌then◌else◌, ◌==◌}
+use Rattle.std.specs.Prelude.{ℕ, ◌+◌, min, Bool, List, ◌++◌, length, take, drop, if◌then◌else◌, ◌==◌}
 use Rattle.std.specs.List.{list_any}
 
 -- The octets that are left, how many a call gives at most, the numbers of the calls that fail, how many calls there
@@ -18,6 +18,11 @@ pub record Store : Type 0 where
   pub piece : ℕ
   pub fails : List ℕ
   pub calls : ℕ
+  pub faults : ℕ
+
+-- A reader or a writer, and how many calls of it failed.
+pub record Counted (X : Type 0) : Type 0 where
+  pub inner : X
   pub faults : ℕ
 
 -- One more. A count stays at the greatest number that 64 bits hold.

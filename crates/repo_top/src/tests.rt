@@ -205,8 +205,8 @@ fn a_failing_source_or_sink_is_told(rt: HostRuntime) -> Result<(), Fail> {
     for call in 1..=39 {
         let (answered, written) = with_failing(&rt, 0, call)?;
         assert_eq!(rt;
-            (answered, written as u64 + 8),
-            (Status::WriteFault, call * 8)
+            (answered, written as u64),
+            (Status::WriteFault, (call - 1) * 8)
         );
     }
     assert_eq!(rt; with_failing(&rt, 18, 40)?.0, Status::Done);

@@ -1,4 +1,4 @@
-use Rattle.std.proofs.Common.{◌≡◌, ◌+◌, ◌≤◌, ◌∷◌, ◌∙◌, ℕ, List, sym, ap, length, take, arith}
+use Rattle.std.proofs.Common.{◌+◌, ◌≤◌, ◌∷◌, ◌∙◌, ℕ, List, sym, ap, length, take, arith}
 use Rattle.repo_top.specs.Pieces.{pieces}
 use Rattle.repo_top.proofs.Cuts.{piece_more, piece_ends, piece_last, tail_is}
 use Rattle.repo_top.proofs.pieces.cut.Goals as goal

@@ -1,5 +1,5 @@
-use Rattle.std.proofs.Common.{◌≡◌, ℕ, List, Option, Some, ◌⊎◌, inl, inr, sym, ◌∙◌, subst}
-use Rattle.repo_top.specs.declared.status.Status.TheVariants.{Done, NoMemory}
+use Rattle.std.proofs.Common.{◌≡◌, ◌⊎◌, sym, ◌∙◌, subst}
+use Rattle.repo_top.specs.declared.status.Status.TheVariants.{NoMemory}
 use Rattle.repo_top.specs.Answers.{IsTold, status_of}
 use Rattle.repo_top.specs.Outside.{Gains, GainsFront}
 use Rattle.repo_top.specs.Story.{Story, story_of}

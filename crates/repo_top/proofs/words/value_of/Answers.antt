@@ -1,4 +1,4 @@
-use Rattle.std.proofs.Common.{◌≡◌, ◌+◌, ◌*◌, ◌-◌, ◌<◌, ◌≤◌, ◌^◌, ℕ, true, length, get_or, arith, ◌∙◌, sym}
+use Rattle.std.proofs.Common.{◌<◌, get_or, arith}
 use Rattle.repo_top.proofs.Numerals.{is_short, small_power, ten_times, digit_is, digit_bounds, value_more}
 use Rattle.repo_top.proofs.words.value_of.Goals as goal
 
