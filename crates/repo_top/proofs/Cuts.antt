@@ -16,7 +16,7 @@ tail_is octets i = take_all (length octets - i) (drop i octets) (omega (arith, l
 none_left : (octets : List ℕ) (i : ℕ) → length octets ≤ i → drop i octets ≡ []
 none_left octets i le = nil_from_length (drop i octets) (omega (arith, length-drop i octets))
 
-test_false : (a b : ℕ) → a ≢ b → eqb a b ≡ false
+pub test_false : (a b : ℕ) → a ≢ b → eqb a b ≡ false
 test_false a b other = elim (eqb_tells a b) [ inl p ↦ absurd (other p.1) | inr p ↦ p.0 ]
 
 -- ---- pieces

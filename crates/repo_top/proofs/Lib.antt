@@ -5,3 +5,4 @@ pub mod Scenes
 pub mod Stories
 pub mod Fronts
 pub mod Runs
+pub mod CutLaws

@@ -50,7 +50,8 @@ content_at (Some size) word = content_of size word
 -- `publish LABEL URI SIZE CONTENT`, with a size of 1 to 8,000
 abbrev pub publish_of : List (List ℕ) → Option LineValue
 publish_of (label ∷ name ∷ size ∷ content ∷ []) =
-    if is_label label && is_name name then option_map (publish_line label name) (content_at (number_within 1 8000 size) content) else None
+    if is_label label && is_name name
+    then option_map (publish_line label name) (content_at (number_within 1 8000 size) content) else None
 publish_of _ = None
 
 -- `settle WORKERS`, with 1 to 16 workers

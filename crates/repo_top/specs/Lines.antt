@@ -1,5 +1,5 @@
 -- The lines of an input.
-use Rattle.std.specs.Prelude.{ℕ, zero, suc, Bool, true, false, List, [], ◌∷◌, ◌++◌, Option, Some, None, ◌==◌}
+use Rattle.std.specs.Prelude.{◌≢◌, All, ℕ, zero, suc, Bool, true, false, List, [], ◌∷◌, ◌++◌, Option, Some, None, ◌==◌}
 
 -- What one more octet does behind the front of its line: a line feed ends the line.
 abbrev pub line_ended : (List ℕ → List (Option (List ℕ))) → List ℕ → ℕ → Bool → List (Option (List ℕ))
@@ -27,3 +27,13 @@ lines_from room front (octet ∷ octets) =
 -- the line that it ends. The line that holds the octet past the room is `None`, and it is the last.
 abbrev pub lines : ℕ → List ℕ → List (Option (List ℕ))
 lines room octets = lines_from room [] octets
+
+-- A line has no line feed in it.
+abbrev pub IsLine : Option (List ℕ) → Type 0
+IsLine None = ⊥
+IsLine (Some line) = All (λ octet. octet ≢ 10) line
+
+-- A line with its line feed.
+abbrev pub with_feed : Option (List ℕ) → List ℕ
+with_feed None = []
+with_feed (Some line) = line ++ 10 ∷ []

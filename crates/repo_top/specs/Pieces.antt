@@ -15,3 +15,7 @@ pieces_from separator front (octet ∷ octets) =
 -- The pieces between the separators, one more than there are separators.
 abbrev pub pieces : ℕ → List ℕ → List (List ℕ)
 pieces separator octets = pieces_from separator [] octets
+
+-- A piece with a separator behind it.
+abbrev pub with_separator : ℕ → List ℕ → List ℕ
+with_separator separator piece = piece ++ separator ∷ []

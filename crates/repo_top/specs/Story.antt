@@ -66,13 +66,15 @@ abbrev pub judged : SceneModel → Option LineValue → Option EventValue
 judged s None = None
 judged s (Some group_line) = if is_first s.stage then Some opens else None
 judged s (Some (member_line label node)) =
-    if is_declaring s.stage && nat_lt (length s.members) 16 && not (is_taken s.members label node) then Some (declares label node) else None
-judged s (Some (publish_line label name content)) = option_map (λ m. publishes m name content) (member_of_label s.members label)
+    if is_declaring s.stage && nat_lt (length s.members) 16 && not (is_taken s.members label node)
+    then Some (declares label node) else None
+judged s (Some (publish_line label name content)) =
+    option_map (λ m. publishes m name content) (member_of_label s.members label)
 judged s (Some settle_line) = if is_first s.stage then None else Some settles
 judged s (Some (catalogue_line label)) = option_map lists (member_of_label s.members label)
 
--- What the next line does, or nothing where it is not built: it is too long, the thousand lines are over, or it has no
--- built form at this place.
+-- What the next line does, or nothing where it is not built: it is too long, the thousand lines are over, or
+-- it has no built form at this place.
 abbrev pub judge : SceneModel → Option (List ℕ) → Option EventValue
 judge s None = None
 judge s (Some octets) = if nat_lt s.lines 1000 then judged s (line_of octets) else None
@@ -80,13 +82,18 @@ judge s (Some octets) = if nat_lt s.lines 1000 then judged s (line_of octets) el
 -- ---- one step
 
 abbrev pub after : SceneModel → EventValue → SceneModel
-after s opens = record { lines = s.lines + 1; stage = Declaring; members = s.members; world = s.world }
+after s opens = record s { lines = s.lines + 1; stage = Declaring }
 after s (declares label node) =
-    record { lines = s.lines + 1; stage = Declaring; members = s.members ++ record { label = label; node = node } ∷ []; world = with_member s.world }
+    record s {
+      lines = s.lines + 1;
+      stage = Declaring;
+      members = s.members ++ record { label = label; node = node } ∷ [];
+      world = with_member s.world;
+    }
 after s (publishes m name content) =
-    record { lines = s.lines + 1; stage = Acting; members = s.members; world = published m name content s.world }
-after s settles = record { lines = s.lines + 1; stage = Acting; members = s.members; world = settled s.world }
-after s (lists m) = record { lines = s.lines + 1; stage = Acting; members = s.members; world = s.world }
+    record s { lines = s.lines + 1; stage = Acting; world = published m name content s.world }
+after s settles = record s { lines = s.lines + 1; stage = Acting; world = settled s.world }
+after s (lists m) = record s { lines = s.lines + 1; stage = Acting }
 
 abbrev pub entry_line : List Declared → Entry → List ℕ
 entry_line members e = entry_text (label_of members e.publisher) e.seq e.name e.content
@@ -96,10 +103,12 @@ abbrev pub reply : SceneModel → EventValue → List ℕ
 reply s opens = []
 reply s (declares label node) = []
 reply s (publishes m name content) =
-    publish_text (label_of s.members m) (length (log_of m s.world) + 1) (published m name content s.world).sent
+    publish_text (label_of s.members m) (length (log_of m s.world) + 1)
+    (published m name content s.world).sent
 reply s settles = settle_text (length s.members) (newly_held s.world)
 reply s (lists m) =
-    catalogue_text (label_of s.members m) (length (catalogue m s.world)) ++ flat_map (entry_line s.members) (catalogue m s.world)
+    catalogue_text (label_of s.members m) (length (catalogue m s.world))
+    ++ flat_map (entry_line s.members) (catalogue m s.world)
 
 -- ---- the whole
 

@@ -7,6 +7,7 @@ mod ending;
 mod event;
 mod failed;
 mod form;
+mod laws;
 mod line;
 mod lines;
 mod pieces;
@@ -28,6 +29,10 @@ mod write_sink;
 mod writing;
 
 pub use failed::Failed;
+pub use laws::{
+    first_story, later_octets_change_nothing, lines_are_the_input, pieces_are_the_octets,
+    small_stories,
+};
 pub use read_source::ReadSource;
 pub use sink::Sink;
 pub use source::Source;

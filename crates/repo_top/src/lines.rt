@@ -31,7 +31,8 @@ impl<'a> Lines<'a> {
 
     // The next line. `Some(None)` is the line that holds the octet past the room; nothing comes after it.
     pub(crate) fn next(&mut self) -> Option<Option<&'a [u8]>>
-        ensures { MatchOption result (self.old ≡ []) (λ line. self.old ≡ option_copied line ∷ self.new) }
+        ensures { MatchOption result (self.old ≡ [])
+            (λ line. self.old ≡ option_copied line ∷ self.new) }
     {
         let (line, behind) = first_line(self.rest, self.room)?;
         *self = behind;
@@ -41,7 +42,8 @@ impl<'a> Lines<'a> {
 
 // The first line, and the lines behind it.
 fn first_line(octets: &[u8], room: usize) -> Option<(Option<&[u8]>, Lines<'_>)>
-    ensures { MatchOption result (lines room octets.now ≡ []) (λ x. lines room octets.now ≡ option_copied x.0 ∷ x.1) }
+    ensures { MatchOption result (lines room octets.now ≡ [])
+        (λ x. lines room octets.now ≡ option_copied x.0 ∷ x.1) }
 {
     if octets.is_empty() {
         return None;

@@ -53,7 +53,8 @@ impl<'a> Pieces<'a> {
 
 // What stands before the first separator and behind it, if there is one.
 fn cut(octets: &[u8], separator: u8) -> Option<(&[u8], &[u8])>
-    ensures { MatchOption result (pieces separator octets.now ≡ octets.now ∷ []) (λ x. pieces separator octets.now ≡ x.0.now ∷ pieces separator x.1.now) }
+    ensures { MatchOption result (pieces separator octets.now ≡ octets.now ∷ [])
+        (λ x. pieces separator octets.now ≡ x.0.now ∷ pieces separator x.1.now) }
 {
     for (at, octet) in octets.iter().enumerate() {
         if *octet == separator {

@@ -41,7 +41,8 @@ impl<R: Read> Source for ReadSource<R> {
         ensures count { IfOk result (λ n. n ≤ length buf.old) }
         ensures risen { OnErr result (HasRisen self.old.faults self.new.faults) }
         ensures faults { self.old.faults ≤ self.new.faults }
-        ensures counted { self.new.faults ≡ (if is_ok result then self.old.faults else one_more self.old.faults) }
+        ensures counted { self.new.faults
+            ≡ (if is_ok result then self.old.faults else one_more self.old.faults) }
     {
         let read = self.reader.read(buf);
         if read.is_err() {

@@ -15,10 +15,13 @@ pub(crate) fn read_up_to<S: Source>(
     source: &mut S,
     most: usize,
 ) -> Result<Vec<u8>, ReadFault>
-    ensures taken { IfOk result (λ octets. S.left source.old ≡ with_left octets.items (S.left source.new)) }
+    ensures taken { IfOk result
+        (λ octets. S.left source.old ≡ with_left octets.items (S.left source.new)) }
     ensures most { IfOk result (λ octets. length octets.items ≤ most) }
-    ensures whole { IfOk result (λ octets. length octets.items < most → IfSome (S.left source.new) (λ rest. rest ≡ [])) }
-    ensures risen { result ≡ Err ReadFault.Failed → HasRisen (S.faults source.old) (S.faults source.new) }
+    ensures whole { IfOk result (λ octets. length octets.items < most
+        → IfSome (S.left source.new) (λ rest. rest ≡ [])) }
+    ensures risen { result ≡ Err ReadFault.Failed
+        → HasRisen (S.faults source.old) (S.faults source.new) }
 {
     let mut octets = Vec::new(alloc);
     while octets.len() < most {
@@ -37,10 +40,13 @@ fn read_some<S: Source>(
     room: usize,
 ) -> Result<usize, ReadFault>
     requires { 0 < room }
-    ensures taken { OnOk result (with_left octets.old.items (S.left source.old) ≡ with_left octets.new.items (S.left source.new)) }
-    ensures count { IfOk result (λ n. (n ≤ room) × (length octets.new.items ≡ length octets.old.items + n)) }
+    ensures taken { OnOk result (with_left octets.old.items (S.left source.old)
+        ≡ with_left octets.new.items (S.left source.new)) }
+    ensures count { IfOk result
+        (λ n. (n ≤ room) × (length octets.new.items ≡ length octets.old.items + n)) }
     ensures end { IfOk result (λ n. n ≡ 0 → IfSome (S.left source.new) (λ rest. rest ≡ [])) }
-    ensures risen { result ≡ Err ReadFault.Failed → HasRisen (S.faults source.old) (S.faults source.new) }
+    ensures risen { result ≡ Err ReadFault.Failed
+        → HasRisen (S.faults source.old) (S.faults source.new) }
     ensures faults { S.faults source.old ≤ S.faults source.new }
 {
     let mut chunk = [0; CHUNK];

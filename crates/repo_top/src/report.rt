@@ -56,7 +56,8 @@ pub(crate) fn put_entry(
     name: &[u8],
     content: &[u8],
 ) -> Result<(), AllocError>
-    ensures { OnOk result (out.new.items ≡ out.old.items ++ entry_text label.now seq name.now content.now) }
+    ensures { OnOk result (out.new.items
+        ≡ out.old.items ++ entry_text label.now seq name.now content.now) }
 {
     out.extend_from_slice(b"entry ")?;
     out.extend_from_slice(label)?;

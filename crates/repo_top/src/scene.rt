@@ -34,7 +34,12 @@ impl<'a> Model for Scene<'a> {
 
     ghost Value = { SceneModel };
 
-    ghost view = { λ s. record { lines = s.lines; stage = s.stage; members = s.members.items; world = s.world } };
+    ghost view = { λ s. record {
+      lines = s.lines;
+      stage = s.stage;
+      members = s.members.items;
+      world = s.world;
+    } };
 
     ghost invariant = { λ s. IsScene s.lines s.stage s.members.items s.world };
 }
@@ -61,7 +66,8 @@ impl<'a> Scene<'a> {
     // What the next line does, or nothing where it is not built. `None` is a line that is too long.
     pub(crate) fn judge(&self, line: Option<&'a [u8]>) -> Option<Event<'a>>
         ensures judged { option_map event_value result ≡ judge self.now (option_copied line.entry) }
-        ensures fit { IfSome result (λ event. (self.now.lines < 1000) × IsFit self.now (event_value event)) }
+        ensures fit { IfSome result
+            (λ event. (self.now.lines < 1000) × IsFit self.now (event_value event)) }
     {
         let octets = line?;
         if self.lines >= MOST_LINES {
@@ -72,7 +78,8 @@ impl<'a> Scene<'a> {
 
     fn judge_line(&self, line: Line<'a>) -> Option<Event<'a>>
         requires { HasContent (line_value line) }
-        ensures judged { option_map event_value result ≡ judged self.now (Some (line_value line.entry)) }
+        ensures judged { option_map event_value result
+            ≡ judged self.now (Some (line_value line.entry)) }
         ensures fit { IfSome result (λ event. IsFit self.now (event_value event)) }
     {
         match line {
@@ -111,7 +118,8 @@ impl<'a> Scene<'a> {
 
     // Declares a member, where members are declared and this one can be.
     fn declared(&self, label: &'a [u8], node: &'a [u8]) -> Option<Event<'a>>
-        ensures judged { option_map event_value result ≡ judged self.now (Some (member_line label.now node.now)) }
+        ensures judged { option_map event_value result
+            ≡ judged self.now (Some (member_line label.now node.now)) }
         ensures fit { IfSome result (λ event. IsFit self.now (event_value event)) }
     {
         match self.stage {
@@ -175,7 +183,8 @@ impl<'a> Scene<'a> {
         requires room { self.old.lines < 1000 }
         requires fit { IsFit self.old (event_value event) }
         ensures scene { OnOk result (self.new ≡ after self.old (event_value event.entry)) }
-        ensures text { OnOk result (text.new.items ≡ text.old.items ++ reply self.old (event_value event.entry)) }
+        ensures text { OnOk result (text.new.items
+            ≡ text.old.items ++ reply self.old (event_value event.entry)) }
     {
         match event {
             Event::Open => {
@@ -227,7 +236,8 @@ impl<'a> Scene<'a> {
         requires there { m < length self.old.members }
         requires content { 0 < length content.now }
         ensures scene { OnOk result (self.new ≡ after self.old (publishes m name.now content.now)) }
-        ensures text { OnOk result (text.new.items ≡ text.old.items ++ reply self.old (publishes m name.now content.now)) }
+        ensures text { OnOk result (text.new.items
+            ≡ text.old.items ++ reply self.old (publishes m name.now content.now)) }
     {
         let seq = self.world.publish(m, name, content)?;
         self.stage = Stage::Acting;
@@ -262,7 +272,8 @@ impl<'a> Scene<'a> {
 
     fn put_entries(&self, entries: &[PlainEntry], text: &mut Vec<u8>) -> Result<(), AllocError>
         requires { All (λ e. e.publisher < length self.now.members) entries.now }
-        ensures { OnOk result (text.new.items ≡ text.old.items ++ flat_map (entry_line self.now.members) entries.now) }
+        ensures { OnOk result (text.new.items
+            ≡ text.old.items ++ flat_map (entry_line self.now.members) entries.now) }
     {
         for entry in entries {
             let label = self.label(entry.publisher);

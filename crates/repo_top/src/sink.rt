@@ -15,7 +15,8 @@ pub trait Sink {
     fn write(&mut self, piece: &[u8]) -> Result<usize, Failed>
         ensures count { IfOk result (λ n. n ≤ length piece.now) }
         ensures given { IfOk result (λ n. Gains (out self.old) (out self.new) (take n piece.now)) }
-        ensures refused { result ≡ Ok 0 → 0 < length piece.now → HasRisen (faults self.old) (faults self.new) }
+        ensures refused { result ≡ Ok 0 → 0 < length piece.now
+            → HasRisen (faults self.old) (faults self.new) }
         ensures failed { OnErr result (out self.new ≡ out self.old) }
         ensures risen { OnErr result (HasRisen (faults self.old) (faults self.new)) }
         ensures faults { faults self.old ≤ faults self.new };

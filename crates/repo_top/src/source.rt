@@ -15,8 +15,10 @@ pub trait Source {
     /// Puts octets at the beginning of `buf`, and tells how many. None for a `buf` that has room is the end.
     fn read(&mut self, buf: &mut [u8]) -> Result<usize, Failed>
         ensures count { IfOk result (λ n. n ≤ length buf.old) }
-        ensures taken { IfOk result (λ n. left self.old ≡ option_map (λ rest. take n buf.new ++ rest) (left self.new)) }
-        ensures end { result ≡ Ok 0 → 0 < length buf.old → IfSome (left self.new) (λ rest. rest ≡ []) }
+        ensures taken { IfOk result (λ n. left self.old ≡ option_map
+            (λ rest. take n buf.new ++ rest) (left self.new)) }
+        ensures end { result ≡ Ok 0 → 0 < length buf.old
+            → IfSome (left self.new) (λ rest. rest ≡ []) }
         ensures failed { OnErr result (left self.new ≡ left self.old) }
         ensures risen { OnErr result (HasRisen (faults self.old) (faults self.new)) }
         ensures faults { faults self.old ≤ faults self.new };

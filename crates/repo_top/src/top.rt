@@ -32,18 +32,27 @@ pub fn run<R: Threads + Sync, S: Source, K: Sink, N: Net + Sync, D: Draws>(
     ensures untouched { result ≡ Status.Usage → (source.new ≡ source.old) × (sink.new ≡ sink.old) }
 
     // On `Done` and `Refused` the status is the story's end, and what was written is its text.
-    ensures end { IsTold result → IfSome (S.left source.old) (λ input. result ≡ status_of (story_of input).ending) }
-    ensures text { IsTold result → IfSome (S.left source.old) (λ input. Gains (K.out sink.old) (K.out sink.new) (story_of input).text) }
-    ensures read_to_end { result ≡ Status.Done → IfSome (S.left source.old) (λ input. S.left source.new ≡ Some []) }
+    ensures end { IsTold result
+        → IfSome (S.left source.old) (λ input. result ≡ status_of (story_of input).ending) }
+    ensures text { IsTold result → IfSome (S.left source.old)
+        (λ input. Gains (K.out sink.old) (K.out sink.new) (story_of input).text) }
+    ensures read_to_end { result ≡ Status.Done
+        → IfSome (S.left source.old) (λ input. S.left source.new ≡ Some []) }
 
     // The other answers have their causes; want of memory may come at any time.
-    ensures read_fault { result ≡ Status.ReadFault → HasRisen (S.faults source.old) (S.faults source.new) }
+    ensures read_fault { result ≡ Status.ReadFault
+        → HasRisen (S.faults source.old) (S.faults source.new) }
     ensures unwritten { result ≡ Status.ReadFault → sink.new ≡ sink.old }
-    ensures write_fault { result ≡ Status.WriteFault → HasRisen (K.faults sink.old) (K.faults sink.new) }
+    ensures write_fault { result ≡ Status.WriteFault
+        → HasRisen (K.faults sink.old) (K.faults sink.new) }
     ensures never_foreign { (line : ℕ) → result ≢ Status.Foreign line }
-    ensures front { IfSome (S.left source.old) (λ input. GainsFront (K.out sink.old) (K.out sink.new) (story_of input).text) }
-    ensures complete { form_of (map string_bytes words.now) ≢ None → ¬ HasRisen (S.faults source.old) (S.faults source.new) → ¬ HasRisen (K.faults sink.old) (K.faults sink.new)
-        → IfSome (S.left source.old) (λ input. (result ≡ status_of (story_of input).ending) ⊎ (result ≡ Status.NoMemory)) }
+    ensures front { IfSome (S.left source.old)
+        (λ input. GainsFront (K.out sink.old) (K.out sink.new) (story_of input).text) }
+    ensures complete { form_of (map string_bytes words.now) ≢ None
+        → ¬ HasRisen (S.faults source.old) (S.faults source.new)
+        → ¬ HasRisen (K.faults sink.old) (K.faults sink.new)
+        → IfSome (S.left source.old)
+        (λ input. (result ≡ status_of (story_of input).ending) ⊎ (result ≡ Status.NoMemory)) }
 {
     match form_of(words) {
         Some(Form::Run) => run_script(alloc, source, sink),
@@ -53,17 +62,25 @@ pub fn run<R: Threads + Sync, S: Source, K: Sink, N: Net + Sync, D: Draws>(
 
 // Reads the script, and writes its report.
 fn run_script<S: Source, K: Sink>(alloc: Global, source: &mut S, sink: &mut K) -> Status
-    ensures end { IsTold result → IfSome (S.left source.old) (λ input. result ≡ status_of (story_of input).ending) }
-    ensures text { IsTold result → IfSome (S.left source.old) (λ input. Gains (K.out sink.old) (K.out sink.new) (story_of input).text) }
-    ensures read_to_end { result ≡ Status.Done → IfSome (S.left source.old) (λ input. S.left source.new ≡ Some []) }
-    ensures read_fault { result ≡ Status.ReadFault → HasRisen (S.faults source.old) (S.faults source.new) }
+    ensures end { IsTold result
+        → IfSome (S.left source.old) (λ input. result ≡ status_of (story_of input).ending) }
+    ensures text { IsTold result → IfSome (S.left source.old)
+        (λ input. Gains (K.out sink.old) (K.out sink.new) (story_of input).text) }
+    ensures read_to_end { result ≡ Status.Done
+        → IfSome (S.left source.old) (λ input. S.left source.new ≡ Some []) }
+    ensures read_fault { result ≡ Status.ReadFault
+        → HasRisen (S.faults source.old) (S.faults source.new) }
     ensures unwritten { result ≡ Status.ReadFault → sink.new ≡ sink.old }
-    ensures write_fault { result ≡ Status.WriteFault → HasRisen (K.faults sink.old) (K.faults sink.new) }
+    ensures write_fault { result ≡ Status.WriteFault
+        → HasRisen (K.faults sink.old) (K.faults sink.new) }
     ensures never_foreign { (line : ℕ) → result ≢ Status.Foreign line }
     ensures never_usage { result ≢ Status.Usage }
-    ensures front { IfSome (S.left source.old) (λ input. GainsFront (K.out sink.old) (K.out sink.new) (story_of input).text) }
-    ensures complete { ¬ HasRisen (S.faults source.old) (S.faults source.new) → ¬ HasRisen (K.faults sink.old) (K.faults sink.new)
-        → IfSome (S.left source.old) (λ input. (result ≡ status_of (story_of input).ending) ⊎ (result ≡ Status.NoMemory)) }
+    ensures front { IfSome (S.left source.old)
+        (λ input. GainsFront (K.out sink.old) (K.out sink.new) (story_of input).text) }
+    ensures complete { ¬ HasRisen (S.faults source.old) (S.faults source.new)
+        → ¬ HasRisen (K.faults sink.old) (K.faults sink.new)
+        → IfSome (S.left source.old)
+        (λ input. (result ≡ status_of (story_of input).ending) ⊎ (result ≡ Status.NoMemory)) }
 {
     // One octet more than are taken, so that a longer input shows.
     let input = match read_up_to(alloc, source, MOST_OCTETS + 1) {
@@ -76,9 +93,12 @@ fn run_script<S: Source, K: Sink>(alloc: Global, source: &mut S, sink: &mut K) -
 
 // Tells the story of the script, and writes its text.
 fn write_report<K: Sink>(alloc: Global, input: &[u8], sink: &mut K) -> Status
-    ensures ends { (result ≡ status_of (story_of input.now).ending) ⊎ ((result ≡ Status.NoMemory) ⊎ (result ≡ Status.WriteFault)) }
-    ensures text { IsTold result → Gains (K.out sink.old) (K.out sink.new) (story_of input.now).text }
-    ensures write_fault { result ≡ Status.WriteFault → HasRisen (K.faults sink.old) (K.faults sink.new) }
+    ensures ends { (result ≡ status_of (story_of input.now).ending) ⊎ ((result ≡ Status.NoMemory)
+        ⊎ (result ≡ Status.WriteFault)) }
+    ensures text { IsTold result
+        → Gains (K.out sink.old) (K.out sink.new) (story_of input.now).text }
+    ensures write_fault { result ≡ Status.WriteFault
+        → HasRisen (K.faults sink.old) (K.faults sink.new) }
     ensures front { GainsFront (K.out sink.old) (K.out sink.new) (story_of input.now).text }
 {
     let Ok(told) = tell(alloc, input) else {

@@ -1,6 +1,6 @@
-ghost use Rattle.std.specs.Prelude.{◌≡◌, ◌<◌, ◌≤◌, [], length, min, take, Ok, Some, IfOk, IsErr, IsTrue, OnOk, OnErr};
+ghost use Rattle.std.specs.Prelude.{◌≡◌, ◌<◌, ◌≤◌, ◌++◌, [], length, min, take, Ok, Some, IfOk, IsErr, IsTrue, OnOk, OnErr};
 ghost use Rattle.repo_top.specs.InMemory.{after_failed, after_write, is_listed};
-ghost use Rattle.repo_top.specs.Outside.{Gains, HasRisen};
+ghost use Rattle.repo_top.specs.Outside.{HasRisen};
 
 use crate::failed::Failed;
 use crate::sink::Sink;
@@ -23,7 +23,13 @@ impl Model for VecSink {
 
     ghost Value = { Store };
 
-    ghost view = { λ k. record { out = k.octets.items; piece = k.piece; fails = k.fails.items; calls = k.calls; faults = k.faults } };
+    ghost view = { λ k. record {
+      out = k.octets.items;
+      piece = k.piece;
+      fails = k.fails.items;
+      calls = k.calls;
+      faults = k.faults;
+    } };
 
     ghost invariant = { λ k. 1 ≤ k.piece };
 }
@@ -33,7 +39,13 @@ impl VecSink {
     /// does one whose octets find no memory.
     pub fn new(alloc: Global, piece: usize, fails: Vec<u64>) -> VecSink
         requires { 1 ≤ piece }
-        ensures { result ≡ record { out = []; piece = piece; fails = fails.items; calls = 0; faults = 0 } }
+        ensures { result ≡ record {
+          out = [];
+          piece = piece;
+          fails = fails.items;
+          calls = 0;
+          faults = 0;
+        } }
     {
         VecSink {
             octets: Vec::new(alloc),
@@ -60,9 +72,10 @@ impl Sink for VecSink {
     // What the trait says, and: the calls that are listed fail, and those that don't fail take as much as they can.
     fn write(&mut self, piece: &[u8]) -> Result<usize, Failed>
         ensures count { IfOk result (λ n. n ≤ length piece.now) }
-        ensures given { IfOk result (λ n. Gains (Some self.old.out) (Some self.new.out) (take n piece.now)) }
-        ensures refused { result ≡ Ok 0 → 0 < length piece.now → HasRisen self.old.faults self.new.faults }
-        ensures failed { OnErr result (Some self.new.out ≡ Some self.old.out) }
+        ensures given { IfOk result (λ n. self.new.out ≡ self.old.out ++ take n piece.now) }
+        ensures refused { result ≡ Ok 0 → 0 < length piece.now
+            → HasRisen self.old.faults self.new.faults }
+        ensures failed { OnErr result (self.new.out ≡ self.old.out) }
         ensures risen { OnErr result (HasRisen self.old.faults self.new.faults) }
         ensures faults { self.old.faults ≤ self.new.faults }
         ensures listed { IsTrue (is_listed self.old.fails self.old.calls) → IsErr result }

@@ -1,5 +1,4 @@
-ghost use Rattle.std.specs.Prelude.{◌≡◌, ◌<◌, ◌≤◌, ◌↔◌, ◌++◌, [], length, take, Ok, IfOk, IsErr, IsTrue, OnErr, IfSome, Some};
-ghost use Rattle.std.specs.Option.{option_map};
+ghost use Rattle.std.specs.Prelude.{◌≡◌, ◌<◌, ◌≤◌, ◌↔◌, ◌++◌, [], length, take, Ok, IfOk, IsErr, IsTrue, OnErr, Some};
 ghost use Rattle.repo_top.specs.InMemory.{after_read, given, is_listed};
 ghost use Rattle.repo_top.specs.Outside.{HasRisen};
 
@@ -24,7 +23,13 @@ impl Model for VecSource {
 
     ghost Value = { Supply };
 
-    ghost view = { λ s. record { left = drop s.at s.octets.items; piece = s.piece; fails = s.fails.items; calls = s.calls; faults = s.faults } };
+    ghost view = { λ s. record {
+      left = drop s.at s.octets.items;
+      piece = s.piece;
+      fails = s.fails.items;
+      calls = s.calls;
+      faults = s.faults;
+    } };
 
     ghost invariant = { λ s. (s.at ≤ length s.octets.items) × (1 ≤ s.piece) };
 }
@@ -34,7 +39,13 @@ impl VecSource {
     /// `fails` fail.
     pub fn new(octets: Vec<u8>, piece: usize, fails: Vec<u64>) -> VecSource
         requires { 1 ≤ piece }
-        ensures { result ≡ record { left = octets.items; piece = piece; fails = fails.items; calls = 0; faults = 0 } }
+        ensures { result ≡ record {
+          left = octets.items;
+          piece = piece;
+          fails = fails.items;
+          calls = 0;
+          faults = 0;
+        } }
     {
         VecSource {
             octets,
@@ -55,9 +66,9 @@ impl Source for VecSource {
     // What the trait says, and: the calls that fail are those listed, and the others give as much as they can.
     fn read(&mut self, buf: &mut [u8]) -> Result<usize, Failed>
         ensures count { IfOk result (λ n. n ≤ length buf.old) }
-        ensures taken { IfOk result (λ n. Some self.old.left ≡ option_map (λ rest. take n buf.new ++ rest) (Some self.new.left)) }
-        ensures end { result ≡ Ok 0 → 0 < length buf.old → IfSome (Some self.new.left) (λ rest. rest ≡ []) }
-        ensures failed { OnErr result (Some self.new.left ≡ Some self.old.left) }
+        ensures taken { IfOk result (λ n. self.old.left ≡ take n buf.new ++ self.new.left) }
+        ensures end { result ≡ Ok 0 → 0 < length buf.old → self.new.left ≡ [] }
+        ensures failed { OnErr result (self.new.left ≡ self.old.left) }
         ensures risen { OnErr result (HasRisen self.old.faults self.new.faults) }
         ensures faults { self.old.faults ≤ self.new.faults }
         ensures listed { IsErr result ↔ IsTrue (is_listed self.old.fails self.old.calls) }

@@ -41,7 +41,8 @@ impl<W: Write> Sink for WriteSink<W> {
         ensures taken { IfOk result (λ n. 0 < length piece.now → 0 < n) }
         ensures risen { OnErr result (HasRisen self.old.faults self.new.faults) }
         ensures faults { self.old.faults ≤ self.new.faults }
-        ensures counted { self.new.faults ≡ (if is_ok result then self.old.faults else one_more self.old.faults) }
+        ensures counted { self.new.faults
+            ≡ (if is_ok result then self.old.faults else one_more self.old.faults) }
     {
         match self.writer.write(piece) {
             Ok(n) if n > 0 || piece.is_empty() => Ok(n),
