@@ -1,5 +1,6 @@
 ghost use Rattle.std.specs.Prelude.{◌≡◌, ◌<◌, ◌≤◌, ◌++◌, [], None, Ok, length, take, is_ok, IfOk, IfSome, OnErr, if◌then◌else◌};
 ghost use Rattle.std.specs.Option.{option_map};
+ghost use Rattle.std.specs.Io.KnownBytes.{ReadConsumes};
 ghost use Rattle.repo_top.specs.InMemory.{one_more};
 ghost use Rattle.repo_top.specs.Outside.{HasRisen};
 
@@ -36,11 +37,12 @@ impl<R: Read> Source for ReadSource<R> {
 
     ghost faults = { λ s. s.faults };
 
-    // What the trait says, and: the count rises at each fault of the reader.
+    // What the trait says, and: the octets are the reader's, and the count rises at each fault of it.
     fn read(&mut self, buf: &mut [u8]) -> Result<usize, Failed>
         ensures count { IfOk result (λ n. n ≤ length buf.old) }
         ensures risen { OnErr result (HasRisen self.old.faults self.new.faults) }
         ensures faults { self.old.faults ≤ self.new.faults }
+        ensures bytes { ReadConsumes (R.remaining self.old.inner) (R.remaining self.new.inner) result buf.new }
         ensures counted { self.new.faults
             ≡ (if is_ok result then self.old.faults else one_more self.old.faults) }
     {

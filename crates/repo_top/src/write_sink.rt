@@ -1,4 +1,5 @@
 ghost use Rattle.std.specs.Prelude.{◌≡◌, ◌<◌, ◌≤◌, None, length, is_ok, IfOk, OnErr, if◌then◌else◌};
+ghost use Rattle.std.specs.Io.KnownBytes.{WriteAppends};
 ghost use Rattle.repo_top.specs.InMemory.{one_more};
 ghost use Rattle.repo_top.specs.Outside.{HasRisen};
 
@@ -41,6 +42,7 @@ impl<W: Write> Sink for WriteSink<W> {
         ensures taken { IfOk result (λ n. 0 < length piece.now → 0 < n) }
         ensures risen { OnErr result (HasRisen self.old.faults self.new.faults) }
         ensures faults { self.old.faults ≤ self.new.faults }
+        ensures bytes { WriteAppends (W.contents self.old.inner) (W.contents self.new.inner) result piece.now }
         ensures counted { self.new.faults
             ≡ (if is_ok result then self.old.faults else one_more self.old.faults) }
     {
