@@ -6,7 +6,7 @@ use Rattle.ndn_tlv.specs.declared.tlv_fault.TlvFault.{TlvFault}
 use Rattle.ndn_tlv.specs.Spelling.{number, element}
 use Rattle.ndn_tlv.specs.Listing.{Listing, ◌then◌, ◌>>=◌, gather, gathered}
 use Rattle.ndn_tlv.specs.Elements.{IsOctets, Item, placed, elements, AreElements}
-use Rattle.ndn_tlv.proofs.Numbers.{IsOctets-drop, IsOctets-take}
+use Rattle.ndn_tlv.proofs.Numbers.{IsOctets-drop, IsOctets-take, number-narrow, number-16, number-32, number-64}
 use Rattle.ndn_tlv.proofs.Listings.{elements-nil, elements-element, elements_are}
 use Rattle.ndn_name.specs.declared.name_fault.NameFault.{NameFault}
 use Rattle.ndn_name.specs.declared.name_fault.NameFault.TheVariants.{Tlv, BadComponent, BadDigestLength}
@@ -139,6 +139,9 @@ pub record Encoded (octets : List ℕ) (front name : List Component) : Type 0 wh
   pub valid : IsName whole
   pub spelled : octets ≡ encoding whole
 
+push-then : (front : List Component) (c : Component) (whole : List Component) → front ++ c ∷ whole ≡ (front ++ c ∷ []) ++ whole
+push-then front c whole = sym (append_assoc front (c ∷ []) whole)
+
 gather_encoded : (offset : ℕ) (octets : List ℕ) (items : List Item) (fault : Option TlvFault) (front name : List Component) → IsOctets octets → length octets < 2 ^ 64 → AreElements offset octets items fault
     → gather with_component Tlv front items fault ≡ Ok name → Encoded octets front name
 unfolding gather encoding
@@ -160,7 +163,7 @@ gather_encoded offset octets (e ∷ es) fault front name fits long are h =
     let P : Component → Type 0 = λ x. IsComponent x in
     record {
       whole = c ∷ others.whole;
-      parts = sym (append_assoc front (c ∷ []) others.whole) ∙ others.parts;
+      parts = push-then front c others.whole ∙ others.parts;
       valid = (subst P taken.0 taken.1, others.valid);
       spelled = are.1 ∙ ap (λ (x : List ℕ). element e.typ e.value ++ x) others.spelled ∙ ap (λ (x : Component). element x.0 x.1 ++ encoding others.whole) taken.0;
     }
@@ -188,3 +191,48 @@ IsValue-encoding octets name valid spelled =
 
 pub encoding-same : (a b : List Component) → IsName a → IsName b → encoding a ≡ encoding b → a ≡ b
 encoding-same a b h k e = sym (components-encoding a h) ∙ ap components e ∙ components-encoding b k
+
+-- ---- one component more
+
+pub number-some : (n : ℕ) → 0 < length (number n)
+number-some n =
+    elim (cases_lt n 253) [
+      | inl a ↦ rw (number-narrow n a) (omega arith)
+      | inr a ↦
+          elim (cases_lt n (2 ^ 16)) [
+            | inl b ↦ rw (number-16 n a b) (omega arith)
+            | inr b ↦ elim (cases_lt n (2 ^ 32)) [ inl d ↦ rw (number-32 n b d) (omega arith) | inr d ↦ rw (number-64 n d) (omega arith) ]
+          ]
+    ]
+
+element_octets : (c : Component) → 0 < c.0 → 0 < length (element c.0 c.1)
+element_octets c above = omega (arith, length-append (number c.0 ++ number (length c.1)) c.1, length-append (number c.0) (number (length c.1)), number-some c.0)
+
+-- a name has no more components than octets
+pub count-octets : (name : List Component) → IsName name → length name ≤ length (encoding name)
+unfolding encoding
+count-octets [] h = omega arith
+count-octets (c ∷ cs) h =
+    omega (arith, count-octets cs h.1, element_octets c h.0.above, length-append (element c.0 c.1) (encoding cs))
+
+pub record Pushed (octets : List ℕ) (len : ℕ) (name : List Component) : Type 0 where
+  pub value : IsValue octets len
+  pub is : components octets ≡ name
+
+pub pushed : (octets new : List ℕ) (len : ℕ) (name : List Component) (c : Component) → IsValue octets len → components octets ≡ name → IsComponent c → new ≡ octets ++ element c.0 c.1 → Pushed new (len + 1) (name ++ c ∷ [])
+pushed octets new len name c value is more e =
+    let P : List Component → Type 0 = λ n. (octets ≡ encoding n) × IsName n × (len ≡ length n) in
+    let old = subst P is (value.spelled, value.name, value.count) in
+    let spelled : new ≡ encoding (name ++ c ∷ []) = e ∙ ap (λ (x : List ℕ). x ++ element c.0 c.1) old.0 ∙ sym (encoding-push name c) in
+    let valid = IsName-append name (c ∷ []) old.1 (more, tt) in
+    let count : length (name ++ c ∷ []) ≡ len + 1 = omega (arith, length-append name (c ∷ []), old.2) in
+    let Q : ℕ → Type 0 = λ n. IsValue new n in
+    record { value = subst Q count (IsValue-encoding new (name ++ c ∷ []) valid spelled); is = ap components spelled ∙ components-encoding (name ++ c ∷ []) valid }
+
+-- how long a name is with one component more
+pub pushed-length : (octets : List ℕ) (len : ℕ) (name : List Component) (c : Component) → IsValue octets len → components octets ≡ name → length (encoding (name ++ c ∷ [])) ≡ length (octets ++ element c.0 c.1)
+pushed-length octets len name c value is =
+    ap length (encoding-push name c ∙ ap (λ (x : List ℕ). x ++ element c.0 c.1) (ap encoding (sym is) ∙ sym value.spelled))
+
+pub count-fits : (octets : List ℕ) (len : ℕ) → IsValue octets len → len ≤ length octets
+count-fits octets len value = omega (arith, value.count, ap length value.spelled, count-octets (components octets) value.name)

@@ -1,1 +1,3 @@
 pub mod Encodings
+pub mod OrderLemmas
+pub mod Prefixes

@@ -2,6 +2,7 @@
 //! order and their URI text, and the faults that packets share.
 #![tactic(auto)]
 
+mod append;
 mod component_view;
 mod components;
 mod fault;

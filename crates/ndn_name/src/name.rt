@@ -2,9 +2,9 @@ ghost use Rattle.std.specs.Prelude.{◌≡◌, ◌<◌, ◌≤◌, ◌↔◌, �
 ghost use Rattle.ndn_tlv.specs.NumberField.{number_field};
 ghost use Rattle.ndn_name.specs.Names.{IsName, encoding};
 
+use crate::append::append_component;
 use crate::name_fault::NameFault;
 use crate::name_view::NameView;
-use ndn_tlv::{Writer, head_len};
 use std::alloc::{AllocError, Global};
 use std::marker::Model;
 
@@ -84,14 +84,7 @@ impl Name {
         ensures refused { IfErr result (λ fault. (fault ≡ NameFault.NameTooLong) ⊎ (fault ≡ NameFault.NoMemory)) }
         ensures err { OnErr result (self.new ≡ self.old) }
     {
-        let typ = u32::from(typ);
-        let room = NAME_LIMIT - self.octets.len();
-        if value.len() > room || head_len(typ, value.len()) > room - value.len() {
-            return Err(NameFault::NameTooLong);
-        }
-        let mut element = Writer::new(*self.octets.allocator());
-        element.put(typ, value)?;
-        self.octets.extend_from_slice(element.octets())?;
+        append_component(&mut self.octets, typ, value)?;
         self.len += 1;
         Ok(())
     }
@@ -130,7 +123,8 @@ impl Clone for Name {
 /// The full name of a Data packet: its name with its implicit digest, the SHA-256 of the packet, behind it.
 pub fn full_name(alloc: Global, name: &Name, digest: &[u8; 32]) -> Result<Name, NameFault>
     ensures ok { IfOk result (λ full. full ≡ name.now ++ (1, digest.now) ∷ []) }
-    ensures too_long { (result ≡ Err NameFault.NameTooLong) ↔ (NAME_LIMIT < length (encoding (name.now ++ (1, digest.now) ∷ []))) }
+    ensures fits { OnOk result (length (encoding (name.now ++ (1, digest.now) ∷ [])) ≤ NAME_LIMIT) }
+    ensures too_long { result ≡ Err NameFault.NameTooLong → NAME_LIMIT < length (encoding (name.now ++ (1, digest.now) ∷ [])) }
     ensures refused { IfErr result (λ fault. (fault ≡ NameFault.NameTooLong) ⊎ (fault ≡ NameFault.NoMemory)) }
 {
     let mut full = Name::from_view(alloc, &name.view())?;
