@@ -11,6 +11,12 @@ mod name;
 mod name_fault;
 mod name_view;
 mod order;
+mod uri_component;
+mod uri_digits;
+mod uri_form;
+mod uri_print;
+mod uri_read;
+mod uri_value;
 
 pub use component_view::ComponentView;
 pub use fault::{Field, PacketFault, PacketWriteFault};
@@ -21,3 +27,6 @@ pub use laws::{
 pub use name::{NAME_LIMIT, Name, full_name};
 pub use name_fault::NameFault;
 pub use name_view::NameView;
+
+#[cfg(test)]
+mod tests;
