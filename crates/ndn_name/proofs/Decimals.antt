@@ -33,7 +33,7 @@ all-behind : (a b : List ℕ) → AllDigits 10 (a ++ b) → AllDigits 10 b
 all-behind [] b h = h
 all-behind (c ∷ a) b h = all-behind a b h.1
 
-digit_char : (c : ℕ) → digit_value c < 10 → c ≡ 48 + digit_value c
+pub digit_char : (c : ℕ) → digit_value c < 10 → c ≡ 48 + digit_value c
 digit_char c h = grind arith
 
 value_of : (n : ℕ) → n < 2 ^ 64 → digits_value 10 (decimal n) ≡ n

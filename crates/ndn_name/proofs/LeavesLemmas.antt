@@ -1,7 +1,10 @@
 -- Where a text leaves a language, and the same behind a front.
 use Rattle.std.proofs.Common.{◌≡◌, ℕ, ◌+◌, ◌<◌, ◌≤◌, List, [], ◌∷◌, ◌++◌, length, length-append, take, refl, sym, ap, subst, ◌∙◌, append_assoc, arith}
 use Rattle.std.proofs.Math.Seq.{take-append-add, take-length}
+use Rattle.ndn_name.specs.declared.name_fault.NameFault.{NameFault}
+use Rattle.ndn_name.specs.declared.name_fault.NameFault.TheVariants.{Tlv, BadComponent, BadDigestLength, NameTooLong, BadUri, NoMemory}
 use Rattle.ndn_name.specs.UriVerdict.{Leaves}
+use Rattle.ndn_name.specs.UriReading.{FailsIn}
 
 -- languages that have the same texts
 pub Leaves-same : (L M : List ℕ → Type 0) (text : List ℕ) (k : ℕ) → ((t : List ℕ) → L t → M t) → ((t : List ℕ) → M t → L t) → Leaves L text k → Leaves M text k
@@ -52,3 +55,15 @@ Leaves-whole L text some none = record {
   breaks = λ lt more m. absurd (omega arith);
   ends = none;
 }
+
+-- ---- failures
+
+-- languages that have the same texts
+pub fails-same : {V W : Type 0} (L : V → List ℕ → Type 0) (M : W → List ℕ → Type 0) (at : ℕ) (text : List ℕ) (f : NameFault) → ((t : List ℕ) → (v : V) × L v t → (w : W) × M w t) → ((t : List ℕ) → (w : W) × M w t → (v : V) × L v t) → FailsIn L at text f → FailsIn M at text f
+fails-same {V} {W} L M at text (BadUri place) there back h =
+    (h.0, h.1, Leaves-same (λ t. (v : V) × L v t) (λ t. (w : W) × M w t) text h.0 there back h.2)
+fails-same L M at text NoMemory there back h = h
+fails-same L M at text NameTooLong there back h = h
+fails-same L M at text (Tlv f) there back h = h
+fails-same L M at text (BadComponent p) there back h = h
+fails-same L M at text (BadDigestLength p) there back h = h

@@ -6,3 +6,7 @@ pub mod Escapes
 pub mod Values
 pub mod Digests
 pub mod Decimals
+pub mod Separators
+pub mod Heads
+pub mod ComponentTexts
+pub mod PathTexts

@@ -33,7 +33,7 @@ periods-take (suc n) (x ∷ a) h =
     let p = and_parts (eqb x 46) (are_periods a) h in
     ap (λ (b : Bool). b && are_periods (take n a)) p.0 ∙ periods-take n a p.1
 
-letter_behind : (a : List ℕ) → are_periods (a ++ 97 ∷ []) ≡ false
+pub letter_behind : (a : List ℕ) → are_periods (a ++ 97 ∷ []) ≡ false
 letter_behind [] = refl
 letter_behind (x ∷ a) = ap (λ (b : Bool). eqb x 46 && b) (letter_behind a) ∙ never (eqb x 46) where
   never : (b : Bool) → (b && false) ≡ false

@@ -12,7 +12,7 @@ use Rattle.ndn_name.specs.declared.uri_form.PartValue.{PartValue}
 use Rattle.ndn_name.specs.declared.uri_form.PartValue.TheVariants as value
 use Rattle.ndn_name.specs.declared.uri_form.UriPart.{UriPart}
 use Rattle.ndn_name.specs.Names.{Component}
-use Rattle.ndn_name.specs.Uri.{Part, IsDecimal, IsDigestText, IsNumberText, IsValueText, is_unreserved}
+use Rattle.ndn_name.specs.Uri.{Part, IsDecimal, IsDigestText, IsNumberText, IsValueText, headed, is_unreserved}
 use Rattle.ndn_name.specs.UriVerdict.{Leaves}
 
 -- The text that begins at this place leaves the language of all values at the place that is told.
@@ -69,6 +69,9 @@ IsHead (Digest typ) head = ((typ ≡ 1) × (head ≡ codes "sha256digest")) ⊎ 
 IsHead (Number typ) head =
     ((typ ≡ 50) × (head ≡ codes "seg")) ⊎ (((typ ≡ 54) × (head ≡ codes "v")) ⊎ ((typ ≡ 58) × (head ≡ codes "seq")))
 IsHead (Escaped typ) head = (0 < typ) × IsDecimal 65535 typ head
+
+abbrev pub HasNoHead : List ℕ → Type 0
+HasNoHead text = (form : Form) (head tail : List ℕ) → IsHead form head → text ≡ headed head tail → ⊥
 
 -- The form that a keyword says.
 abbrev pub keyword_of : List ℕ → Option Form

@@ -1,8 +1,8 @@
 ghost use Rattle.std.specs.Prelude.{◌≡◌, ◌+◌, ◌^◌, ◌<◌, length, IfSome, IfNone};
 ghost use Rattle.std.specs.Option.{option_copied};
 ghost use Rattle.ndn_name.specs.declared.uri_form.Form.{Form};
-ghost use Rattle.ndn_name.specs.Uri.{IsComponentText};
-ghost use Rattle.ndn_name.specs.UriReading.{IsHead, IsTail, Reads, Splits, keyword_of, value_octets};
+ghost use Rattle.ndn_name.specs.Uri.{IsComponentText, headed};
+ghost use Rattle.ndn_name.specs.UriReading.{HasNoHead, IsHead, IsTail, Reads, Splits, keyword_of, value_octets};
 
 use crate::name_fault::NameFault;
 use crate::uri_digits::{read_decimal, read_digest};
@@ -19,14 +19,24 @@ pub(crate) fn read_component(
     requires { at + length text.now < 2 ^ 63 }
     ensures { Reads (λ x. (x.0, value_octets x.1)) IsComponentText at text.now result }
 {
-    let (head, tail) = split_once(text, b'=');
-    if let Some(tail) = tail
-        && let Some(form) = form_of(head)
-    {
-        return read_tail(alloc, form, tail, at + head.len() + 1);
+    match split_head(text) {
+        Some((form, head, tail)) => read_tail(alloc, form, tail, at + head.len() + 1),
+        None => {
+            let value = read_value(alloc, text, at)?;
+            Ok((8, PartValue::Octets(value)))
+        }
     }
-    let value = read_value(alloc, text, at)?;
-    Ok((8, PartValue::Octets(value)))
+}
+
+// The form that the text has, its head, and what follows the equals sign, where it has a head.
+fn split_head(text: &[u8]) -> Option<(Form, &[u8], &[u8])>
+    ensures some { IfSome result (λ x. IsHead x.0 x.1.now × (text.now ≡ headed x.1.now x.2.now)) }
+    ensures none { IfNone result (HasNoHead text.now) }
+{
+    let (head, behind) = split_once(text, b'=');
+    let tail = behind?;
+    let form = form_of(head)?;
+    Some((form, head, tail))
 }
 
 // The component whose text this is behind a head of this form.
@@ -54,10 +64,13 @@ fn form_of(head: &[u8]) -> Option<Form>
     if let Some(form) = keyword(head) {
         return Some(form);
     }
-    match read_decimal(head, 0, 65_535) {
-        Ok(typ) if typ > 0 => Some(Form::Escaped(typ as u16)),
-        _ => None,
+    let Ok(typ) = read_decimal(head, 0, 65_535) else {
+        return None;
+    };
+    if typ == 0 {
+        return None;
     }
+    Some(Form::Escaped(typ as u16))
 }
 
 // What a keyword says.

@@ -55,7 +55,7 @@ fn read_rooted(alloc: Global, text: &[u8], at: usize) -> Result<Vec<UriPart>, Na
 // The parts of a text that follows a slash at place `at`.
 fn read_path(alloc: Global, path: &[u8], at: usize) -> Result<Vec<UriPart>, NameFault>
     requires { at + 1 + length path.now < 2 ^ 63 }
-    ensures { Reads (λ v. map uri_part v.items) (λ parts text. IsPath at parts (47 ∷ text)) (at + 1) path.now result }
+    ensures { Reads (λ v. map uri_part v.items) (IsPath at) at (47 ∷ path.now) result }
 {
     let mut parts = Vec::new(alloc);
     let mut left = Some(path);
