@@ -1,14 +1,15 @@
 -- The texts of paths: a slash and the text of a component, again and again.
-use Rattle.std.proofs.Common.{◌≡◌, ◌≢◌, ℕ, zero, suc, ◌+◌, ◌-◌, ◌<◌, ◌≤◌, List, [], ◌∷◌, ◌++◌, length, length-append, map, take, drop, Option, Some, None, refl, sym, ap, subst, ◌∙◌, append_assoc, arith, ◌⊎◌, inl, inr}
+use Rattle.std.proofs.Common.{◌≡◌, ◌≢◌, ℕ, zero, suc, ◌+◌, ◌-◌, ◌<◌, ◌≤◌, List, [], ◌∷◌, ◌++◌, length, length-append, map, take, drop, Option, Some, None, Result, Ok, Err, add-one, refl, sym, ap, subst, ◌∙◌, append_assoc, arith, ◌⊎◌, inl, inr}
+use Rattle.std.specs.Prelude.{codes}
 use Rattle.std.proofs.lemmas.Bool.{cases_lt}
 use Rattle.std.proofs.lemmas.List.{append-nil, take-append-le, take-append-drop, length-take-le}
 use Rattle.std.proofs.Math.Seq.{take-append-add}
 use Rattle.ndn_name.specs.declared.name_fault.NameFault.{NameFault}
 use Rattle.ndn_name.specs.declared.name_fault.NameFault.TheVariants.{Tlv, BadComponent, BadDigestLength, NameTooLong, BadUri, NoMemory}
 use Rattle.ndn_name.specs.Names.{Component}
-use Rattle.ndn_name.specs.Uri.{is_unreserved, plain, IsComponentText, generic, Part, IsPath, IsRooted}
+use Rattle.ndn_name.specs.Uri.{is_unreserved, plain, IsComponentText, generic, Part, IsPath, IsRooted, IsUri}
 use Rattle.ndn_name.specs.UriVerdict.{Leaves}
-use Rattle.ndn_name.specs.UriReading.{FailsIn, Lacks, Splits}
+use Rattle.ndn_name.specs.UriReading.{BeginsOtherwise, BreaksOff, FailsIn, Lacks, Reads, Splits}
 use Rattle.ndn_name.proofs.Escapes.{escaped-one}
 use Rattle.ndn_name.proofs.Values.{value-other}
 use Rattle.ndn_name.proofs.Separators.{Bounded, lacks-front, parts-same, front-first}
@@ -217,3 +218,103 @@ no_slash at (c ∷ text) none =
     let e = r.1 in
     let same : c ≡ 47 = cc in
     none text (ap (λ (n : ℕ). n ∷ text) same))
+
+-- ---- the scheme
+
+abbrev pub IsUriText : List ℕ → Type 0
+IsUriText text = (parts : List Part) × IsUri parts text
+
+cancel : (a x y : List ℕ) → a ++ x ≡ a ++ y → x ≡ y
+cancel [] x y e = e
+cancel (c ∷ a) x y e = cancel a x y cc
+
+-- behind a front of the scheme the next octet of it comes
+scheme_next : (front : List ℕ) (next : ℕ) (others t : List ℕ) → codes "ndn:" ≡ 110 ∷ front ++ next ∷ others → IsUriText (110 ∷ front ++ t) → (path : List ℕ) × (t ≡ next ∷ others ++ path)
+scheme_next front next others t e m =
+    elim m.1 [
+      | inl a ↦ let r = rooted_begins 0 m.0 (110 ∷ front ++ t) a in let g = r.1 in absurd cc
+      | inr a ↦
+          let whole : front ++ t ≡ front ++ (next ∷ others ++ a.0) = let both : 110 ∷ (front ++ t) ≡ 110 ∷ (front ++ (next ∷ others ++ a.0)) = a.1 ∙ ap (λ (x : List ℕ). x ++ a.0) e ∙ ap (λ (x : List ℕ). 110 ∷ x) (append_assoc front (next ∷ others) a.0) in cc in
+          (a.0, cancel front t (next ∷ others ++ a.0) whole)
+    ]
+
+scheme_goes : (front : List ℕ) (next : ℕ) (others : List ℕ) → codes "ndn:" ≡ 110 ∷ front ++ next ∷ others → (more : List ℕ) × IsUriText (110 ∷ front ++ more)
+scheme_goes front next others e =
+    (next ∷ others ++ 47 ∷ [], ([], inr (47 ∷ [], ap (λ (x : List ℕ). 110 ∷ x) (sym (append_assoc front (next ∷ others) (47 ∷ []))) ∙ ap (λ (x : List ℕ). x ++ 47 ∷ []) (sym e), refl)))
+
+scheme_rest : (front : List ℕ) (next : ℕ) (others rest : List ℕ) → codes "ndn:" ≡ 110 ∷ front ++ next ∷ others → BeginsOtherwise next rest → Leaves (λ t. IsUriText (110 ∷ front ++ t)) rest 0
+scheme_rest front next others [] e other =
+    Leaves-end (λ t. IsUriText (110 ∷ front ++ t)) (scheme_goes front next others e) (λ m. let n = scheme_next front next others [] e m in let g = n.1 in absurd cc)
+scheme_rest front next others (c ∷ rest) e other =
+    Leaves-first (λ t. IsUriText (110 ∷ front ++ t)) c rest (scheme_goes front next others e) (λ more m. let n = scheme_next front next others (c ∷ more) e m in let g = n.1 in let same : c ≡ next = cc in other same)
+
+scheme_leaves : (front : List ℕ) (next : ℕ) (others rest text : List ℕ) → codes "ndn:" ≡ 110 ∷ front ++ next ∷ others → BeginsOtherwise next rest → text ≡ 110 ∷ front ++ rest → Leaves IsUriText text (length (110 ∷ front) + 0)
+scheme_leaves front next others rest text e other is =
+    let P : List ℕ → Type 0 = λ t. Leaves IsUriText t (length (110 ∷ front) + 0) in
+    subst P (sym is) (Leaves-behind (λ t. IsUriText (110 ∷ front ++ t)) IsUriText (110 ∷ front) rest 0 (λ t m. m) (λ t m. m) (scheme_rest front next others rest e other))
+
+-- a front of the scheme that breaks off
+pub scheme-fails : (text : List ℕ) (place : ℕ) → 0 < place → BreaksOff (codes "ndn:") text place → Leaves IsUriText text place
+scheme-fails text zero some b = absurd (omega arith)
+scheme-fails text (suc zero) some b = scheme_leaves [] 100 (110 ∷ 58 ∷ []) b.0 text refl b.3 b.1
+scheme-fails text (suc (suc zero)) some b = scheme_leaves (100 ∷ []) 110 (58 ∷ []) b.0 text refl b.3 b.1
+scheme-fails text (suc (suc (suc zero))) some b = scheme_leaves (100 ∷ 110 ∷ []) 58 [] b.0 text refl b.3 b.1
+scheme-fails text (suc (suc (suc (suc n)))) some b = absurd (omega (arith, b.2))
+
+-- a text behind the scheme
+pub scheme-reads : {X : Type 0} (view : X → List Part) (path text : List ℕ) (r : Result X NameFault) → text ≡ codes "ndn:" ++ path → Reads view (IsRooted 4) 4 path r → Reads view IsUri 0 text r
+scheme-reads view path text (Ok x) e h = inr (path, e, h)
+scheme-reads view path text (Err f) e h = fails f h where
+    path_of : (t : List ℕ) → IsUriText (codes "ndn:" ++ t) → IsSomeRooted 4 t
+    path_of t m =
+        elim m.1 [
+          | inl a ↦ let s = rooted_begins 0 m.0 (codes "ndn:" ++ t) a in let g = s.1 in absurd cc
+          | inr a ↦ (m.0, subst (IsRooted 4 m.0) (sym (cancel (codes "ndn:") t a.0 a.1)) a.2)
+        ]
+
+    fails : (g : NameFault) → FailsIn (IsRooted 4) 4 path g → FailsIn IsUri 0 text g
+    fails (BadUri place) k =
+        let P : List ℕ → Type 0 = λ t. Leaves IsUriText t (4 + k.0) in
+        (4 + k.0, omega (arith, k.1), subst P (sym e) (Leaves-behind (IsSomeRooted 4) IsUriText (codes "ndn:") path k.0 (λ t m. (m.0, inr (t, refl, m.1))) path_of k.2))
+    fails NoMemory k = k
+    fails NameTooLong k = k
+    fails (Tlv d) k = k
+    fails (BadComponent p) k = k
+    fails (BadDigestLength p) k = k
+
+-- a text without it
+pub plain-reads : {X : Type 0} (view : X → List Part) (text : List ℕ) (r : Result X NameFault) → BeginsOtherwise 110 text → Reads view (IsRooted 0) 0 text r → Reads view IsUri 0 text r
+plain-reads view text (Ok x) other h = inl h
+plain-reads view text (Err f) other h = fails f h where
+    no_scheme : (t path : List ℕ) → BeginsOtherwise 110 t → t ≡ codes "ndn:" ++ path → ⊥
+    no_scheme [] path o e = absurd cc
+    no_scheme (c ∷ t) path o e = let same : c ≡ 110 = cc in o same
+
+    front_other : (t more : List ℕ) (k : ℕ) → k < length t → BeginsOtherwise 110 t → BeginsOtherwise 110 (take (k + 1) t ++ more)
+    front_other [] more k lt o = absurd (omega arith)
+    front_other (c ∷ t) more k lt o = rw add-one o
+
+    leaves : (k : ℕ) → Leaves (IsSomeRooted 0) text k → Leaves IsUriText text k
+    leaves k l = record {
+      within = l.within;
+      goes_on = (l.goes_on.0, (l.goes_on.1.0, inl l.goes_on.1.1));
+      breaks = λ lt more m. elim m.1 [ inl a ↦ l.breaks lt more (m.0, a) | inr a ↦ no_scheme (take (k + 1) text ++ more) a.0 (front_other text more k lt other) a.1 ];
+      ends = λ m. elim m.1 [ inl a ↦ l.ends (m.0, a) | inr a ↦ no_scheme text a.0 other a.1 ];
+    }
+
+    fails : (g : NameFault) → FailsIn (IsRooted 0) 0 text g → FailsIn IsUri 0 text g
+    fails (BadUri place) k = (k.0, k.1, leaves k.0 k.2)
+    fails NoMemory k = k
+    fails NameTooLong k = k
+    fails (Tlv d) k = k
+    fails (BadComponent p) k = k
+    fails (BadDigestLength p) k = k
+
+-- ---- a text that begins with a slash
+
+pub rooted-reads : {X : Type 0} (view : X → List Part) (at : ℕ) (path text : List ℕ) (r : Result X NameFault) → text ≡ 47 ∷ path → 0 < length path → Reads view (IsPath at) at (47 ∷ path) r → Reads view (IsRooted at) at text r
+rooted-reads view at path text (Ok x) e some h = subst (IsRooted at (view x)) (sym e) (rooted-path at (view x) path h)
+rooted-reads view at path text (Err f) e some h = let P : List ℕ → Type 0 = λ t. FailsIn (IsRooted at) at t f in subst P (sym e) (rooted-fails at path f some h)
+
+pub otherwise : (at : ℕ) (text : List ℕ) → BeginsOtherwise 47 text → Leaves (IsSomeRooted at) text 0
+otherwise at text other = no_slash at text (λ rest e. let P : List ℕ → Type 0 = λ t. BeginsOtherwise 47 t in let k = subst P e other in k refl)

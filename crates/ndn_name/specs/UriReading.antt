@@ -1,5 +1,5 @@
 -- What the functions that read the text of a name answer.
-use Rattle.std.specs.Prelude.{◌≡◌, ◌≢◌, ℕ, ◌+◌, ◌*◌, ◌-◌, ◌<◌, ◌≤◌, Bool, ◌||◌, not, ◌&&◌, nat_lt, nat_le, ◌==◌, List, [], ◌∷◌, ◌++◌, length, map, Option, Some, None, Result, Ok, Err, codes, bytes_eq, if◌then◌else◌, ◌⊎◌}
+use Rattle.std.specs.Prelude.{◌≡◌, ◌≢◌, ℕ, ◌+◌, ◌*◌, ◌-◌, ◌<◌, ◌≤◌, Bool, ◌||◌, not, ◌&&◌, nat_lt, nat_le, ◌==◌, List, [], ◌∷◌, ◌++◌, length, take, slice_index, map, Option, Some, None, Result, Ok, Err, codes, bytes_eq, if◌then◌else◌, ◌⊎◌}
 use Rattle.std.specs.Char.{digit_value}
 use Rattle.std.specs.Fmt.{decimal}
 use Rattle.ndn_tlv.specs.Listing.{◌>>=◌}
@@ -101,3 +101,13 @@ uri_part p = (p.at, (p.typ, value_octets p.value))
 -- A part that may be appended to a name.
 abbrev pub IsSound : Component → Type 0
 IsSound c = (0 < c.0) × (c.0 ≤ 2 → length c.1 ≡ 32)
+
+-- The text is empty, or its first octet is another.
+abbrev pub BeginsOtherwise : ℕ → List ℕ → Type 0
+BeginsOtherwise octet [] = Unit {0}
+BeginsOtherwise octet (c ∷ text) = c ≢ octet
+
+-- So many octets of the word are at the front of the text, and not the next.
+abbrev pub BreaksOff : List ℕ → List ℕ → ℕ → Type 0
+BreaksOff word text place =
+    (rest : List ℕ) × (text ≡ take place word ++ rest) × (place < length word) × BeginsOtherwise (slice_index word place) rest

@@ -1,9 +1,9 @@
-ghost use Rattle.std.specs.Prelude.{◌≡◌, ◌≢◌, ◌+◌, ◌^◌, ◌<◌, ◌≤◌, [], ◌∷◌, ◌++◌, ◌⊎◌, ◌↔◌, length, map, IfOk, IfErr, OnOk, None, Err};
+ghost use Rattle.std.specs.Prelude.{◌≡◌, ◌≢◌, ◌+◌, ◌^◌, ◌<◌, ◌≤◌, [], ◌∷◌, ◌++◌, ◌⊎◌, ◌↔◌, length, map, codes, MatchOption, MatchResult, IfOk, IfErr, OnOk, None, Err};
 ghost use Rattle.std.specs.List.{AllByRecursion};
 ghost use Rattle.ndn_name.specs.Names.{encoding};
 ghost use Rattle.ndn_name.specs.Uri.{IsPath, IsRooted, IsUri, name_in};
 ghost use Rattle.ndn_name.specs.UriVerdict.{IsAnswer, first_bad_digest};
-ghost use Rattle.ndn_name.specs.UriReading.{IsSound, Reads, uri_part};
+ghost use Rattle.ndn_name.specs.UriReading.{BeginsOtherwise, BreaksOff, IsSound, Reads, uri_part};
 
 use crate::name::{NAME_LIMIT, Name};
 use crate::name_fault::NameFault;
@@ -31,12 +31,34 @@ fn read_uri(alloc: Global, text: &[u8]) -> Result<Vec<UriPart>, NameFault>
     requires { length text.now < 2 ^ 63 }
     ensures { Reads (λ v. map uri_part v.items) IsUri 0 text.now result }
 {
+    match behind_scheme(text) {
+        Ok(path) => read_rooted(alloc, path, 4),
+        Err(0) => read_rooted(alloc, text, 0),
+        Err(place) => Err(NameFault::BadUri { place }),
+    }
+}
+
+// What follows the scheme at the front, or how much of the scheme is there.
+fn behind_scheme(text: &[u8]) -> Result<&[u8], usize>
+    ensures { MatchResult result (λ path. text.now ≡ codes "ndn:" ++ path.now) (BreaksOff (codes "ndn:") text.now) }
+{
+    let mut rest = text;
+    for (place, octet) in b"ndn:".iter().enumerate() {
+        let Some(behind) = behind_octet(rest, *octet) else {
+            return Err(place);
+        };
+        rest = behind;
+    }
+    Ok(rest)
+}
+
+// What follows an octet at the front, where it is there.
+fn behind_octet(text: &[u8], octet: u8) -> Option<&[u8]>
+    ensures { MatchOption result (BeginsOtherwise octet text.now) (λ rest. text.now ≡ octet ∷ rest.now) }
+{
     match text {
-        [b'n', b'd', b'n', b':', path @ ..] => read_rooted(alloc, path, 4),
-        [b'n', b'd', b'n', ..] => Err(NameFault::BadUri { place: 3 }),
-        [b'n', b'd', ..] => Err(NameFault::BadUri { place: 2 }),
-        [b'n', ..] => Err(NameFault::BadUri { place: 1 }),
-        _ => read_rooted(alloc, text, 0),
+        [first, rest @ ..] if *first == octet => Some(rest),
+        _ => None,
     }
 }
 
@@ -45,11 +67,13 @@ fn read_rooted(alloc: Global, text: &[u8], at: usize) -> Result<Vec<UriPart>, Na
     requires { at + length text.now < 2 ^ 63 }
     ensures { Reads (λ v. map uri_part v.items) (IsRooted at) at text.now result }
 {
-    match text {
-        [b'/'] => Ok(Vec::new(alloc)),
-        [b'/', path @ ..] => read_path(alloc, path, at),
-        _ => Err(NameFault::BadUri { place: at }),
+    let Some(path) = behind_octet(text, b'/') else {
+        return Err(NameFault::BadUri { place: at });
+    };
+    if path.is_empty() {
+        return Ok(Vec::new(alloc));
     }
+    read_path(alloc, path, at)
 }
 
 // The parts of a text that follows a slash at place `at`.
