@@ -10,3 +10,4 @@ pub mod Separators
 pub mod Heads
 pub mod ComponentTexts
 pub mod PathTexts
+pub mod Limits

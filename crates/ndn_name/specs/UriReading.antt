@@ -91,7 +91,6 @@ IsTail (Escaped typ) c tail = (c.0 ≡ typ) × IsValueText c.1 tail
 
 abbrev pub value_octets : PartValue → List ℕ
 value_octets (value.Octets v) = v.items
-value_octets (value.Digest d) = d
 value_octets (value.Number n) = number_field n
 
 -- A part without where it lies in memory.

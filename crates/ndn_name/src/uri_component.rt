@@ -50,7 +50,10 @@ fn read_tail(
     ensures { Reads (λ x. (x.0, value_octets x.1)) (IsTail form) at tail.now result }
 {
     match form {
-        Form::Digest(typ) => Ok((typ, PartValue::Digest(read_digest(tail, at)?))),
+        Form::Digest(typ) => {
+            let digest = read_digest(tail, at)?;
+            Ok((typ, PartValue::Octets(Vec::from_slice(alloc, &digest)?)))
+        }
         Form::Number(typ) => Ok((typ, PartValue::Number(read_decimal(tail, at, u64::MAX)?))),
         Form::Escaped(typ) => Ok((typ, PartValue::Octets(read_value(alloc, tail, at)?))),
     }

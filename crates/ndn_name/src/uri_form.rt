@@ -10,7 +10,6 @@ pub(crate) enum Form {
 #[derive(Debug, Drop)]
 pub(crate) enum PartValue {
     Octets(Vec<u8>),
-    Digest([u8; 32]),
     Number(u64),
 }
 
@@ -23,11 +22,15 @@ pub(crate) struct UriPart {
 }
 
 impl PartValue {
-    // Whether the value has 32 octets.
-    pub(crate) fn is_digest(&self) -> bool {
+    ghost use Rattle.std.specs.Prelude.{◌≡◌, ◌==◌, length};
+    ghost use Rattle.ndn_name.specs.UriReading.{value_octets};
+
+    // Whether the value has as many octets as a digest.
+    pub(crate) fn is_digest(&self) -> bool
+        ensures { result ≡ (length (value_octets self.now) == 32) }
+    {
         match self {
             PartValue::Octets(value) => value.len() == 32,
-            PartValue::Digest(_) => true,
             PartValue::Number(_) => false,
         }
     }

@@ -129,7 +129,6 @@ fn push_part(name: &mut Name, part: &UriPart) -> Result<(), NameFault>
 {
     match &part.value {
         PartValue::Octets(value) => name.push(part.typ, value),
-        PartValue::Digest(digest) => name.push(part.typ, digest),
         PartValue::Number(n) => name.push_number(part.typ, *n),
     }
 }

@@ -18,12 +18,12 @@ number typ at tail f = fails-same (IsDecimal 18446744073709551615) (IsTail (Numb
 value : (typ at : ℕ) (tail : List ℕ) (f : NameFault) → FailsIn IsValueText at tail f → FailsIn (IsTail (Escaped typ)) at tail f
 value typ at tail f = fails-same IsValueText (IsTail (Escaped typ)) at tail f (λ t m. ((typ, m.0), (refl, m.1))) (λ t m. (m.0.1, m.1.1))
 
-pub returns-in_err-read_digest-in-Digest : goal.returns-in_err-read_digest-in-Digest
-returns-in_err-read_digest-in-Digest c =
+pub returns-in_err-digest-in-Digest : goal.returns-in_err-digest-in-Digest
+returns-in_err-digest-in-Digest c =
     let p = err_from_is_err_and c.from_residual.result c.from_residual.ensures.1 in
-    let f = c.in_err-read_digest-in-Digest.field-0.0 in
+    let f = c.in_err-digest-in-Digest.field-0.0 in
     let P : Form → Type 0 = λ x. FailsIn (IsTail x) c.args.at c.args.tail.now f in
-    rw (p.1, p.2) (subst P (sym c.in-Digest.is) (digest c.in-Digest.typ c.args.at c.args.tail.now f c.in_err-read_digest-in-Digest.ensures))
+    rw (p.1, p.2) (subst P (sym c.in-Digest.is) (digest c.in-Digest.typ c.args.at c.args.tail.now f c.in_err-digest-in-Digest.ensures))
 
 pub returns-in_err-read_decimal-in-Number : goal.returns-in_err-read_decimal-in-Number
 returns-in_err-read_decimal-in-Number c =
