@@ -1,6 +1,7 @@
-ghost use Rattle.std.specs.Prelude.{◌≡◌, ◌++◌, IfOk, OnOk, string_bytes, length};
+ghost use Rattle.std.specs.Prelude.{◌≡◌, ◌++◌, IfOk, OnOk, false, string_bytes, length};
+ghost use Rattle.std.specs.List.{flat_map};
 ghost use Rattle.ndn_tlv.specs.NumberField.{number_field, number_of};
-ghost use Rattle.ndn_name.specs.Uri.{component_text, digest_text, escape_of, in_shortest_width, number_text, plain_text, uri, value_text};
+ghost use Rattle.ndn_name.specs.Uri.{component_text, digest_text, escape_of, in_shortest_width, number_text, pair_of, plain_text, uri, value_text};
 
 use crate::name::Name;
 use crate::uri_value::{are_periods, is_unreserved};
@@ -45,10 +46,24 @@ fn put_digest(text: &mut String, word: &str, digest: &[u8]) -> Result<(), AllocE
     ensures { OnOk result (string_bytes text.new ≡ string_bytes text.old ++ (word.now ++ digest_text digest.now)) }
 {
     text.push_str(word)?;
-    for octet in digest {
-        write!(text, "{octet:02x}")?;
+    put_digits(text, digest)
+}
+
+// Appends two digits for each octet.
+fn put_digits(text: &mut String, octets: &[u8]) -> Result<(), AllocError>
+    ensures { OnOk result (string_bytes text.new ≡ string_bytes text.old ++ digest_text octets.now) }
+{
+    for octet in octets {
+        put_pair(text, *octet)?;
     }
     Ok(())
+}
+
+// Appends two digits, in lower case.
+fn put_pair(text: &mut String, octet: u8) -> Result<(), AllocError>
+    ensures { OnOk result (string_bytes text.new ≡ string_bytes text.old ++ pair_of false octet) }
+{
+    write!(text, "{octet:02x}")
 }
 
 // Appends a word and the number, where the value is a number in its shortest width, and else the value.
@@ -102,10 +117,18 @@ fn put_plain(text: &mut String, typ: u16, value: &[u8]) -> Result<(), AllocError
 fn put_value(text: &mut String, value: &[u8]) -> Result<(), AllocError>
     ensures { OnOk result (string_bytes text.new ≡ string_bytes text.old ++ value_text value.now) }
 {
-    if are_periods(value) {
-        text.push_str("...")?;
+    if !are_periods(value) {
+        return put_octets(text, value);
     }
-    for octet in value {
+    text.push_str("...")?;
+    put_octets(text, value)
+}
+
+// Appends the escapes of octets.
+fn put_octets(text: &mut String, octets: &[u8]) -> Result<(), AllocError>
+    ensures { OnOk result (string_bytes text.new ≡ string_bytes text.old ++ flat_map escape_of octets.now) }
+{
+    for octet in octets {
         put_octet(text, *octet)?;
     }
     Ok(())
