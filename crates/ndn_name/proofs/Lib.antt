@@ -11,3 +11,4 @@ pub mod Heads
 pub mod ComponentTexts
 pub mod PathTexts
 pub mod Limits
+pub mod Verdicts
