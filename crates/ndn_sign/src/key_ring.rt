@@ -1,0 +1,108 @@
+ghost use Rattle.std.specs.Prelude.{◌≡◌, ◌<◌, ◌↔◌, ◌++◌, ◌∷◌, [], ℕ, Some, length, slice_get, option_map, IfOk, OnOk, OnErr, IsTrue};
+ghost use Rattle.ndn_sign.specs.Hmac.{hmac};
+ghost use Rattle.ndn_sign.specs.Ring.{number_of};
+
+use crate::hashing::hmac;
+use crate::ring_fault::RingFault;
+use indexmap::IndexMap;
+use std::alloc::{AllocError, Global};
+use std::marker::Model;
+
+/// The keys that packets may be signed with, under the names that key locators give them.
+///
+/// A name is kept as the octets of its value. Pairs are numbered from 0 as they are added.
+#[derive(Drop)]
+pub struct KeyRing {
+    pairs: IndexMap<Vec<u8>, Vec<u8>>,
+}
+
+// A ring is seen as the list of its pairs.
+impl Model for KeyRing {
+    ghost use Rattle.std.specs.Prelude.{◌<◌, List, map, length};
+    ghost use Rattle.ndn_sign.specs.Ring.{Pair, pair};
+
+    ghost Value = { List Pair };
+
+    ghost view = { λ ring. map (λ entry. pair entry.0.items entry.1.items) ring.pairs.entries };
+
+    ghost invariant = { λ ring. length ring.pairs.entries < 4294967296 };
+}
+
+impl KeyRing {
+    /// A ring without keys.
+    pub fn new(alloc: Global) -> KeyRing
+        ensures { result ≡ [] }
+    {
+        KeyRing {
+            pairs: IndexMap::new(alloc),
+        }
+    }
+
+    /// Adds a key under a name that the ring does not have, and gives the pair's number.
+    pub fn add(&mut self, name: &[u8], key: &[u8]) -> Result<u32, RingFault>
+        requires room { length self.old < 4294967295 }
+        ensures number { IfOk result (λ number. number ≡ length self.old) }
+        ensures ok { OnOk result (self.new ≡ self.old ++ record { name = name.now; key = key.now } ∷ []) }
+        ensures duplicate { (number : ℕ)
+            → (result ≡ Err (RingFault.Duplicate number)) ↔ (number_of name.now self.old ≡ Some number) }
+        ensures err { OnErr result (self.new ≡ self.old) }
+    {
+        if let Some(number) = self.find(name) {
+            return Err(RingFault::Duplicate { number });
+        }
+        let number = self.pairs.len() as u32;
+        self.insert(name, key)?;
+        Ok(number)
+    }
+
+    // Adds a pair whose name is not there.
+    fn insert(&mut self, name: &[u8], key: &[u8]) -> Result<(), AllocError>
+        requires new_name { number_of name.now self.old ≡ None }
+        requires room { length self.old < 4294967295 }
+        ensures ok { OnOk result (self.new ≡ self.old ++ record { name = name.now; key = key.now } ∷ []) }
+        ensures err { OnErr result (self.new ≡ self.old) }
+    {
+        let alloc = *self.pairs.allocator();
+        let name = name.to_vec(alloc)?;
+        let key = key.to_vec(alloc)?;
+        self.pairs.insert(name, key)?;
+        Ok(())
+    }
+
+    /// The number of the key of this name.
+    pub fn find(&self, name: &[u8]) -> Option<u32>
+        ensures { result ≡ number_of name.now self.now }
+    {
+        let number = self.pairs.get_index_of(name)?;
+        Some(number as u32)
+    }
+
+    /// The octets of the key's name.
+    pub fn name(&self, number: u32) -> &[u8]
+        requires { number < length self.now }
+        ensures { option_map (λ pair. pair.name) (slice_get self.now number) ≡ Some result.now }
+    {
+        let (name, _) = self.pairs.get_index(number as usize).unwrap();
+        name
+    }
+
+    /// The key.
+    pub fn key(&self, number: u32) -> &[u8]
+        requires { number < length self.now }
+        ensures { option_map (λ pair. pair.key) (slice_get self.now number) ≡ Some result.now }
+    {
+        let (_, key) = self.pairs.get_index(number as usize).unwrap();
+        key
+    }
+
+    /// Whether these octets are the mac of `first` and then `second`, taken as one message, under
+    /// the key of that number: all of its 32 octets.
+    pub fn check_mac(&self, number: u32, first: &[u8], second: &[u8], mac: &[u8]) -> bool
+        requires { number < length self.now }
+        ensures { IsTrue result
+            ↔ (option_map (λ pair. hmac pair.key (first.now ++ second.now)) (slice_get self.now number)
+            ≡ Some mac.now) }
+    {
+        hmac(self.key(number), first, second).as_slice() == mac
+    }
+}

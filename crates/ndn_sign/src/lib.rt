@@ -1,0 +1,14 @@
+//! Digests and signatures of packets: SHA-256 (FIPS 180-4), HMAC with it (RFC 2104), and rings of the
+//! keys that a group's packets are signed with.
+#![tactic(auto)]
+
+mod hashing;
+mod key_ring;
+mod ring_fault;
+
+pub use hashing::{digest, hmac};
+pub use key_ring::KeyRing;
+pub use ring_fault::RingFault;
+
+#[cfg(test)]
+mod tests;
