@@ -12,3 +12,4 @@ pub mod ComponentTexts
 pub mod PathTexts
 pub mod Limits
 pub mod Verdicts
+pub mod PrintedTexts

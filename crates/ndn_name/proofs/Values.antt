@@ -40,10 +40,10 @@ letter_behind (x ∷ a) = ap (λ (b : Bool). eqb x 46 && b) (letter_behind a) �
   never true = refl
   never false = refl
 
-guarded-other : (a : List ℕ) → are_periods a ≡ false → guarded a ≡ a
+pub guarded-other : (a : List ℕ) → are_periods a ≡ false → guarded a ≡ a
 guarded-other a h = rw h refl
 
-guarded-periods : (a : List ℕ) → are_periods a ≡ true → guarded a ≡ 46 ∷ 46 ∷ 46 ∷ a
+pub guarded-periods : (a : List ℕ) → are_periods a ≡ true → guarded a ≡ 46 ∷ 46 ∷ 46 ∷ a
 guarded-periods a h = rw h refl
 
 -- ---- what periods alone stand for

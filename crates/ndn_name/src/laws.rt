@@ -1,10 +1,13 @@
-ghost use Rattle.std.specs.Prelude.{◌≡◌, ◌≢◌, ◌^◌, ◌<◌, ℕ, List, length, Ok};
+ghost use Rattle.std.specs.Prelude.{◌≡◌, ◌≢◌, ◌^◌, ◌<◌, ◌≤◌, ℕ, List, length, Result, Ok};
 ghost use Rattle.std.specs.Ordering.{nat_cmp};
 ghost use Rattle.std.specs.declared.cmp.Ordering.TheVariants.{Less, Equal};
 ghost use Rattle.std.specs.Cmp.{IsTotalOrder};
 ghost use Rattle.std.specs.Cmp.Lexicographic.{slice_cmp};
 ghost use Rattle.ndn_tlv.specs.Elements.{IsOctets};
 ghost use Rattle.ndn_name.specs.Names.{Component, IsName, encoding, name_of};
+ghost use Rattle.ndn_name.specs.declared.name_fault.NameFault.{NameFault};
+ghost use Rattle.ndn_name.specs.Uri.{uri};
+ghost use Rattle.ndn_name.specs.UriVerdict.{IsAnswer};
 ghost use Rattle.ndn_name.specs.CanonicalOrder.{IsPrefix, canonical_cmp};
 
 /// What is read as a name is a name, and the octets are its encoding.
@@ -42,4 +45,10 @@ pub fn prefixes_come_first()
 /// The canonical order of names is the lexicographic order of their octets.
 pub fn canonical_order_is_of_octets()
     ensures { (a b : List Component) → IsName a → IsName b → slice_cmp nat_cmp (encoding a) (encoding b) ≡ canonical_cmp a b }
+{}
+
+/// The text that is printed for a name within the limit is read as that name, and as nothing else.
+pub fn printed_names_are_read()
+    ensures name { (name : List Component) → IsName name → length (encoding name) ≤ 1000 → IsAnswer (uri name) (Ok name) }
+    ensures alone { (text : List ℕ) (r s : Result (List Component) NameFault) → IsAnswer text r → IsAnswer text s → r ≡ s }
 {}
