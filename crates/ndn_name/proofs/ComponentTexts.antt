@@ -72,17 +72,17 @@ escaped-lacks s [] text reserved large other h = let P : List ℕ → Type 0 = �
 escaped-lacks s (o ∷ octets) text reserved large other h =
     let P : List ℕ → Type 0 = λ t. Lacks s t in
     subst P (sym h.2) (lacks-append s h.0 h.1 (first h.0 h.3) (escaped-lacks s octets h.1 reserved large other h.4)) where
-    digit : (d : ℕ) → digit_value d < 16 → d ≢ s
-    digit d small e = absurd (omega (arith, ap digit_value e, small, large))
+      digit : (d : ℕ) → digit_value d < 16 → d ≢ s
+      digit d small e = absurd (omega (arith, ap digit_value e, small, large))
 
-    first : (t : List ℕ) → IsOctetText o t → Lacks s t
-    first t (plain k e) =
-        let Q : List ℕ → Type 0 = λ x. Lacks s x in
-        let apart : o ≢ s = λ g. let never : true ≡ false = sym k ∙ ap is_unreserved g ∙ reserved in absurd cc in
-        subst Q (sym e) (apart, tt)
-    first t (escape high low k e) =
-        let Q : List ℕ → Type 0 = λ x. Lacks s x in
-        subst Q (sym e) (λ g. other (sym g), (digit high k.0, (digit low k.1, tt)))
+      first : (t : List ℕ) → IsOctetText o t → Lacks s t
+      first t (plain k e) =
+          let Q : List ℕ → Type 0 = λ x. Lacks s x in
+          let apart : o ≢ s = λ g. let never : true ≡ false = sym k ∙ ap is_unreserved g ∙ reserved in absurd cc in
+          subst Q (sym e) (apart, tt)
+      first t (escape high low k e) =
+          let Q : List ℕ → Type 0 = λ x. Lacks s x in
+          subst Q (sym e) (λ g. other (sym g), (digit high k.0, (digit low k.1, tt)))
 
 digits-lacks : (s : ℕ) (octets text : List ℕ) → 16 ≤ digit_value s → IsDigits octets text → Lacks s text
 digits-lacks s [] text large h = let P : List ℕ → Type 0 = λ t. Lacks s t in subst P (sym h) tt
@@ -117,7 +117,7 @@ component-lacks c text h =
           subst P (sym a.split) (lacks-append 47 a.head (61 ∷ a.tail) (head-lacks 47 a.form a.head slash_reserved a.is_head) (omega arith, tail-lacks a.form c a.tail a.is_tail))
     ]
 
-no_equals : (value text head tail : List ℕ) → IsValueText value text → text ≡ headed head tail → ⊥
+pub no_equals : (value text head tail : List ℕ) → IsValueText value text → text ≡ headed head tail → ⊥
 no_equals value text head tail h e =
     let P : List ℕ → Type 0 = λ t. Lacks 61 t in
     lacks-separator 61 head tail (subst P e (escaped-lacks 61 (guarded value) text equals_reserved (omega arith) (omega arith) h))
@@ -141,8 +141,8 @@ tail_leaves : (form : Form) (head tail : List ℕ) (k : ℕ) → IsHead form hea
 tail_leaves form head tail k is_head h =
     let P : List ℕ → Type 0 = λ t. Leaves IsSomeComponent t (length (head ++ 61 ∷ []) + k) in
     subst P (regroup tail) (Leaves-behind (λ t. (c : Component) × IsTail form c t) IsSomeComponent (head ++ 61 ∷ []) tail k (λ t m. (m.0, subst (IsComponentText m.0) (sym (regroup t)) (component-headed form m.0 head t is_head m.1))) (λ t m. (m.0, component-tail form m.0 head t is_head (subst (IsComponentText m.0) (regroup t) m.1))) h) where
-    regroup : (t : List ℕ) → (head ++ 61 ∷ []) ++ t ≡ headed head t
-    regroup t = append_assoc head (61 ∷ []) t
+      regroup : (t : List ℕ) → (head ++ 61 ∷ []) ++ t ≡ headed head t
+      regroup t = append_assoc head (61 ∷ []) t
 
 pub headed-fails : (form : Form) (at : ℕ) (head tail text : List ℕ) (f : NameFault) → IsHead form head → text ≡ headed head tail → FailsIn (IsTail form) (at + length head + 1) tail f → FailsIn IsComponentText at text f
 headed-fails form at head tail text (BadUri place) is_head e h =
@@ -173,23 +173,23 @@ plain_leaves text k none h = record {
   breaks = λ lt more m. breaks lt more (component-cases m.0 (take (k + 1) text ++ more) m.1);
   ends = λ m. ends (component-cases m.0 text m.1);
 } where
-    breaks : {c : Component} → k < length text → (more : List ℕ) → ((c.0 ≡ 8) × IsValueText c.1 (take (k + 1) text ++ more)) ⊎ IsHeaded c (take (k + 1) text ++ more) → ⊥
-    breaks {c} lt more m =
-        elim m [
-          | inl a ↦ h.breaks lt more (c.1, a.1)
-          | inr a ↦
-              elim (cut 61 (take (k + 1) text) more a.head a.tail a.split) [
-                | inl b ↦
-                    let text-is : a.head ++ 97 ∷ [] ≡ take (k + 1) text ++ (b.0 ++ 97 ∷ []) = ap (λ (x : List ℕ). x ++ 97 ∷ []) b.1 ∙ append_assoc (take (k + 1) text) b.0 (97 ∷ []) in
-                    h.breaks lt (b.0 ++ 97 ∷ []) (subst IsSomeValueText text-is (head_value a.form a.head a.is_head))
-                | inr b ↦
-                    let text-is : text ≡ headed a.head (b.0 ++ drop (k + 1) text) = sym (take-append-drop (k + 1) text) ∙ ap (λ (x : List ℕ). x ++ drop (k + 1) text) b.1 ∙ append_assoc a.head (61 ∷ b.0) (drop (k + 1) text) in
-                    none a.form a.head (b.0 ++ drop (k + 1) text) a.is_head text-is
-              ]
-        ]
+  breaks : {c : Component} → k < length text → (more : List ℕ) → ((c.0 ≡ 8) × IsValueText c.1 (take (k + 1) text ++ more)) ⊎ IsHeaded c (take (k + 1) text ++ more) → ⊥
+  breaks {c} lt more m =
+      elim m [
+        | inl a ↦ h.breaks lt more (c.1, a.1)
+        | inr a ↦
+            elim (cut 61 (take (k + 1) text) more a.head a.tail a.split) [
+              | inl b ↦
+                  let text-is : a.head ++ 97 ∷ [] ≡ take (k + 1) text ++ (b.0 ++ 97 ∷ []) = ap (λ (x : List ℕ). x ++ 97 ∷ []) b.1 ∙ append_assoc (take (k + 1) text) b.0 (97 ∷ []) in
+                  h.breaks lt (b.0 ++ 97 ∷ []) (subst IsSomeValueText text-is (head_value a.form a.head a.is_head))
+              | inr b ↦
+                  let text-is : text ≡ headed a.head (b.0 ++ drop (k + 1) text) = sym (take-append-drop (k + 1) text) ∙ ap (λ (x : List ℕ). x ++ drop (k + 1) text) b.1 ∙ append_assoc a.head (61 ∷ b.0) (drop (k + 1) text) in
+                  none a.form a.head (b.0 ++ drop (k + 1) text) a.is_head text-is
+            ]
+      ]
 
-    ends : {c : Component} → ((c.0 ≡ 8) × IsValueText c.1 text) ⊎ IsHeaded c text → ⊥
-    ends {c} m = elim m [ inl a ↦ h.ends (c.1, a.1) | inr a ↦ none a.form a.head a.tail a.is_head a.split ]
+  ends : {c : Component} → ((c.0 ≡ 8) × IsValueText c.1 text) ⊎ IsHeaded c text → ⊥
+  ends {c} m = elim m [ inl a ↦ h.ends (c.1, a.1) | inr a ↦ none a.form a.head a.tail a.is_head a.split ]
 
 pub plain-fails : (at : ℕ) (text : List ℕ) (f : NameFault) → HasNoHead text → FailsIn IsValueText at text f → FailsIn IsComponentText at text f
 plain-fails at text (BadUri place) none h = (h.0, h.1, plain_leaves text h.0 none h.2)

@@ -81,9 +81,9 @@ longer-some most (Some m) w c n fits digit so_far e =
     let low : m * 10 + digit_value c ≤ most = leb-true (m * 10 + digit_value c) most outer.1 in
     let text = ap (λ (t : List ℕ). t ++ c ∷ []) so_far.1 ∙ sym (decimal-push m c (some m inner.1) small (omega arith)) in
     (omega (arith, g.1), text ∙ ap (λ (k : ℕ). decimal k) g.1) where
-    some : (k : ℕ) → not (eqb k 0) ≡ true → 0 < k
-    some zero h = absurd cc
-    some (suc k) h = omega arith
+      some : (k : ℕ) → not (eqb k 0) ≡ true → 0 < k
+      some zero h = absurd cc
+      some (suc k) h = omega arith
 
 -- a digit that can't follow
 stuck : (most : ℕ) (number : Option ℕ) (w : List ℕ) (c : ℕ) → most < 2 ^ 64 → SoFar most number w → with_digit most number c ≡ None → (more : List ℕ) (n : ℕ) → n ≤ most → w ++ c ∷ more ≡ decimal n → ⊥
@@ -97,29 +97,29 @@ stuck most (Some m) w c fits so_far e more n low text =
     let P : List ℕ → Type 0 = λ t. AllDigits 10 t in
     let all = all-behind w (c ∷ more) (subst P (sym text) (digits_of n (omega arith))) in
     no_next (ltb (digit_value c) 10) (not (eqb m 0)) (leb (m * 10 + digit_value c) most) refl refl refl all.0 (guard_none (ltb (digit_value c) 10 && not (eqb m 0) && leb (m * 10 + digit_value c) most) (m * 10 + digit_value c) e) where
-    zero_first : m ≡ 0 → ⊥
-    zero_first none =
-        let zero_text : w ≡ 48 ∷ [] = so_far.1 ∙ ap (λ (k : ℕ). decimal k) none ∙ decimal_digit 0 (omega arith) in
-        let whole : 48 ∷ c ∷ more ≡ decimal n = ap (λ (t : List ℕ). t ++ c ∷ more) (sym zero_text) ∙ text in
-        elim (cases_lt 0 n) [
-          | inl some ↦ let first = first_decimal n some (omega arith) in absurd (omega (arith, first, ap (λ (t : List ℕ). get_or t 0 0) whole))
-          | inr nothing ↦ let is : n ≡ 0 = omega arith in absurd (omega (arith, ap length (whole ∙ ap (λ (k : ℕ). decimal k) is ∙ decimal_digit 0 (omega arith))))
-        ]
+      zero_first : m ≡ 0 → ⊥
+      zero_first none =
+          let zero_text : w ≡ 48 ∷ [] = so_far.1 ∙ ap (λ (k : ℕ). decimal k) none ∙ decimal_digit 0 (omega arith) in
+          let whole : 48 ∷ c ∷ more ≡ decimal n = ap (λ (t : List ℕ). t ++ c ∷ more) (sym zero_text) ∙ text in
+          elim (cases_lt 0 n) [
+            | inl some ↦ let first = first_decimal n some (omega arith) in absurd (omega (arith, first, ap (λ (t : List ℕ). get_or t 0 0) whole))
+            | inr nothing ↦ let is : n ≡ 0 = omega arith in absurd (omega (arith, ap length (whole ∙ ap (λ (k : ℕ). decimal k) is ∙ decimal_digit 0 (omega arith))))
+          ]
 
-    too_large : most < m * 10 + digit_value c → ⊥
-    too_large large =
-        let value : digits_value 10 w ≡ m = ap (digits_value 10) so_far.1 ∙ value_of m (omega (arith, so_far.0)) in
-        let whole = sym (after-append 0 w (c ∷ more)) ∙ ap (digits_value 10) text ∙ value_of n (omega arith) in
-        absurd (omega (arith, value, whole, large, after-ge (digits_value 10 w * 10 + digit_value c) more))
+      too_large : most < m * 10 + digit_value c → ⊥
+      too_large large =
+          let value : digits_value 10 w ≡ m = ap (digits_value 10) so_far.1 ∙ value_of m (omega (arith, so_far.0)) in
+          let whole = sym (after-append 0 w (c ∷ more)) ∙ ap (digits_value 10) text ∙ value_of n (omega arith) in
+          absurd (omega (arith, value, whole, large, after-ge (digits_value 10 w * 10 + digit_value c) more))
 
-    no_next : (a b d : Bool) → ltb (digit_value c) 10 ≡ a → not (eqb m 0) ≡ b → leb (m * 10 + digit_value c) most ≡ d → digit_value c < 10 → (a && b && d) ≡ false → ⊥
-    no_next false b d p q r small h = absurd (omega (arith, ltb-false (digit_value c) 10 p))
-    no_next true false d p q r small h = zero_first (is_zero (eqb m 0) refl q) where
-      is_zero : (e : Bool) → eqb m 0 ≡ e → not e ≡ false → m ≡ 0
-      is_zero true k g = eqb-true m 0 k
-      is_zero false k g = let no_way : true ≡ false = g in absurd cc
-    no_next true true false p q r small h = too_large (leb-false (m * 10 + digit_value c) most r)
-    no_next true true true p q r small h = let k : true ≡ false = h in absurd cc
+      no_next : (a b d : Bool) → ltb (digit_value c) 10 ≡ a → not (eqb m 0) ≡ b → leb (m * 10 + digit_value c) most ≡ d → digit_value c < 10 → (a && b && d) ≡ false → ⊥
+      no_next false b d p q r small h = absurd (omega (arith, ltb-false (digit_value c) 10 p))
+      no_next true false d p q r small h = zero_first (is_zero (eqb m 0) refl q) where
+        is_zero : (e : Bool) → eqb m 0 ≡ e → not e ≡ false → m ≡ 0
+        is_zero true k g = eqb-true m 0 k
+        is_zero false k g = let no_way : true ≡ false = g in absurd cc
+      no_next true true false p q r small h = too_large (leb-false (m * 10 + digit_value c) most r)
+      no_next true true true p q r small h = let k : true ≡ false = h in absurd cc
 
 goes_on : (most : ℕ) (number : Option ℕ) (w : List ℕ) → SoFar most number w → (more : List ℕ) × IsSomeDecimal most (w ++ more)
 goes_on most None w so_far = (decimal 0, (0, (omega arith, ap (λ (t : List ℕ). t ++ decimal 0) so_far)))

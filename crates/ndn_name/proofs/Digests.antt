@@ -41,9 +41,9 @@ digits-same a b text h k =
     let P : List ℕ → Type 0 = λ x. IsDigits b x in
     let front = digits-front a b text [] h (subst P (sym (append-nil text)) k) in
     sym (front.parts ∙ ap (λ (x : List ℕ). a ++ x) (nothing front.others front.read) ∙ append-nil a) where
-    nothing : (octets : List ℕ) → IsDigits octets [] → octets ≡ []
-    nothing [] e = refl
-    nothing (o ∷ octets) e = let g = e.3 in absurd cc
+      nothing : (octets : List ℕ) → IsDigits octets [] → octets ≡ []
+      nothing [] e = refl
+      nothing (o ∷ octets) e = let g = e.3 in absurd cc
 
 -- zeros to fill a digest up
 abbrev zeros : ℕ → List ℕ
@@ -68,20 +68,20 @@ Continues front t = IsSomeDigest (front ++ t)
 
 begins_digits : (a front : List ℕ) → IsDigits a front → length a < 32 → BeginsWithPair (Continues front)
 begins_digits a front read short = record { only = λ t m. two t (digits-front a m.0 front t read m.1.1) m.1.0; goes = goes } where
-    first : (t others : List ℕ) → IsDigits others t → 0 < length others → (h : ℕ) × (l : ℕ) × (r : List ℕ) × (t ≡ h ∷ l ∷ r) × (digit_value h < 16) × (digit_value l < 16)
-    first t [] e some = absurd (omega arith)
-    first t (o ∷ others) e some = (e.0, e.1, e.2, e.3, e.4.0, e.4.1)
+  first : (t others : List ℕ) → IsDigits others t → 0 < length others → (h : ℕ) × (l : ℕ) × (r : List ℕ) × (t ≡ h ∷ l ∷ r) × (digit_value h < 16) × (digit_value l < 16)
+  first t [] e some = absurd (omega arith)
+  first t (o ∷ others) e some = (e.0, e.1, e.2, e.3, e.4.0, e.4.1)
 
-    two : {value : List ℕ} (t : List ℕ) → BehindDigits value a t → length value ≡ 32 → (h : ℕ) × (l : ℕ) × (r : List ℕ) × (t ≡ h ∷ l ∷ r) × (digit_value h < 16) × (digit_value l < 16)
-    two t b long = first t b.others b.read (omega (arith, long, ap length b.parts, length-append a b.others))
+  two : {value : List ℕ} (t : List ℕ) → BehindDigits value a t → length value ≡ 32 → (h : ℕ) × (l : ℕ) × (r : List ℕ) × (t ≡ h ∷ l ∷ r) × (digit_value h < 16) × (digit_value l < 16)
+  two t b long = first t b.others b.read (omega (arith, long, ap length b.parts, length-append a b.others))
 
-    goes : (h l : ℕ) → digit_value h < 16 → digit_value l < 16 → (more : List ℕ) × IsSomeDigest (front ++ h ∷ l ∷ more)
-    goes h l p q =
-        let n = 31 - length a in
-        let octet = digit_value h * 16 + digit_value l in
-        let behind : IsDigits (octet ∷ zeros n) (h ∷ l ∷ zero_digits n) = (h, l, zero_digits n, refl, (p, q, refl), zeros_read n) in
-        let long : length (a ++ octet ∷ zeros n) ≡ 32 = omega (arith, length-append a (octet ∷ zeros n), length-zeros n) in
-        (zero_digits n, (a ++ octet ∷ zeros n, (long, digits-append a (octet ∷ zeros n) front (h ∷ l ∷ zero_digits n) read behind)))
+  goes : (h l : ℕ) → digit_value h < 16 → digit_value l < 16 → (more : List ℕ) × IsSomeDigest (front ++ h ∷ l ∷ more)
+  goes h l p q =
+      let n = 31 - length a in
+      let octet = digit_value h * 16 + digit_value l in
+      let behind : IsDigits (octet ∷ zeros n) (h ∷ l ∷ zero_digits n) = (h, l, zero_digits n, refl, (p, q, refl), zeros_read n) in
+      let long : length (a ++ octet ∷ zeros n) ≡ 32 = omega (arith, length-append a (octet ∷ zeros n), length-zeros n) in
+      (zero_digits n, (a ++ octet ∷ zeros n, (long, digits-append a (octet ∷ zeros n) front (h ∷ l ∷ zero_digits n) read behind)))
 
 -- a pair that is no pair
 pub digest-pair_fails : (at : ℕ) (a front rest text : List ℕ) (f : NameFault) → IsDigits a front → length a < 32 → front ++ rest ≡ text → pair_at (at + (length text - length rest)) rest ≡ Err f → FailsIn IsDigestText at text f
@@ -98,12 +98,12 @@ digest-long a front text c rest read long split =
     let P : List ℕ → Type 0 = λ t. Leaves IsSomeDigest t (length front + 0) in
     let whole : IsSomeDigest (front ++ []) = (a ++ [], (omega (arith, long, length-append a []), digits-append a [] front [] read refl)) in
     subst P split (Leaves-behind (Continues front) IsSomeDigest front (c ∷ rest) 0 (λ t m. m) (λ t m. m) (Leaves-first (Continues front) c rest ([], whole) (λ more m. none more (digits-front a m.0 front (c ∷ more) read m.1.1) m.1.0))) where
-    empty : (t others : List ℕ) → IsDigits others t → length others ≡ 0 → length t ≡ 0
-    empty t [] e none = ap length e
-    empty t (o ∷ others) e none = absurd (omega arith)
+      empty : (t others : List ℕ) → IsDigits others t → length others ≡ 0 → length t ≡ 0
+      empty t [] e none = ap length e
+      empty t (o ∷ others) e none = absurd (omega arith)
 
-    none : {value : List ℕ} (more : List ℕ) → BehindDigits value a (c ∷ more) → length value ≡ 32 → ⊥
-    none more b size = absurd (omega (arith, empty (c ∷ more) b.others b.read (omega (arith, size, long, ap length b.parts, length-append a b.others))))
+      none : {value : List ℕ} (more : List ℕ) → BehindDigits value a (c ∷ more) → length value ≡ 32 → ⊥
+      none more b size = absurd (omega (arith, empty (c ∷ more) b.others b.read (omega (arith, size, long, ap length b.parts, length-append a b.others))))
 
 pub length-digits : (a front : List ℕ) → IsDigits a front → length front ≡ 2 * length a
 length-digits [] front h = omega (arith, ap length h)

@@ -200,7 +200,7 @@ escaped-front (o ∷ a) octets front t h e =
     let others = escaped-front a one.others h.1 t h.4 one.read in
     record { others = others.others; parts = one.parts ∙ ap (λ (x : List ℕ). o ∷ x) others.parts; read = others.read }
 
-escaped-nothing : (octets : List ℕ) → IsEscaped octets [] → octets ≡ []
+pub escaped-nothing : (octets : List ℕ) → IsEscaped octets [] → octets ≡ []
 escaped-nothing [] e = refl
 escaped-nothing (o ∷ octets) e = absurd (omega (arith, ap length e.2, length-append e.0 e.1, octet-some o e.0 e.3))
 
@@ -218,22 +218,22 @@ IsEscapedText text = (octets : List ℕ) × IsEscaped octets text
 
 begins_escape : BeginsWithPair (λ t. IsEscapedText (37 ∷ t))
 begins_escape = record { only = λ t m. digits t m.0 m.1; goes = λ h l a b. ([], ((digit_value h * 16 + digit_value l) ∷ [], escaped-one _ (37 ∷ h ∷ l ∷ []) (escape h l (a, b, refl) refl))) } where
-    of_first : (o : ℕ) (first rest t : List ℕ) → IsOctetText o first → 37 ∷ t ≡ first ++ rest → (h : ℕ) × (l : ℕ) × (r : List ℕ) × (t ≡ h ∷ l ∷ r) × (digit_value h < 16) × (digit_value l < 16)
-    of_first o first rest t (plain h e) same = let both : 37 ∷ t ≡ o ∷ rest = same ∙ ap (λ (x : List ℕ). x ++ rest) e in absurd (not_percent o h cc)
-    of_first o first rest t (escape high low h e) same =
-        let both : 37 ∷ t ≡ 37 ∷ high ∷ low ∷ rest = same ∙ ap (λ (x : List ℕ). x ++ rest) e in
-        (high, low, rest, cc, h.0, h.1)
+  of_first : (o : ℕ) (first rest t : List ℕ) → IsOctetText o first → 37 ∷ t ≡ first ++ rest → (h : ℕ) × (l : ℕ) × (r : List ℕ) × (t ≡ h ∷ l ∷ r) × (digit_value h < 16) × (digit_value l < 16)
+  of_first o first rest t (plain h e) same = let both : 37 ∷ t ≡ o ∷ rest = same ∙ ap (λ (x : List ℕ). x ++ rest) e in absurd (not_percent o h cc)
+  of_first o first rest t (escape high low h e) same =
+      let both : 37 ∷ t ≡ 37 ∷ high ∷ low ∷ rest = same ∙ ap (λ (x : List ℕ). x ++ rest) e in
+      (high, low, rest, cc, h.0, h.1)
 
-    digits : (t octets : List ℕ) → IsEscaped octets (37 ∷ t) → (h : ℕ) × (l : ℕ) × (r : List ℕ) × (t ≡ h ∷ l ∷ r) × (digit_value h < 16) × (digit_value l < 16)
-    digits t [] e = absurd cc
-    digits t (o ∷ octets) e = of_first o e.0 e.1 t e.3 e.2
+  digits : (t octets : List ℕ) → IsEscaped octets (37 ∷ t) → (h : ℕ) × (l : ℕ) × (r : List ℕ) × (t ≡ h ∷ l ∷ r) × (digit_value h < 16) × (digit_value l < 16)
+  digits t [] e = absurd cc
+  digits t (o ∷ octets) e = of_first o e.0 e.1 t e.3 e.2
 
 begins_otherwise : (c : ℕ) (more octets : List ℕ) → (eqb c 37 ≡ false) → is_unreserved c ≡ false → IsEscaped octets (c ∷ more) → ⊥
 begins_otherwise c more [] other reserved e = absurd cc
 begins_otherwise c more (o ∷ octets) other reserved e = of_first o e.0 e.3 e.2 where
-    of_first : (o : ℕ) (first : List ℕ) → IsOctetText o first → c ∷ more ≡ first ++ e.1 → ⊥
-    of_first o first (plain h g) same = let both : c ∷ more ≡ o ∷ e.1 = same ∙ ap (λ (x : List ℕ). x ++ e.1) g in let k : c ≡ o = cc in let l : is_unreserved c ≡ is_unreserved o = ap is_unreserved k in absurd cc
-    of_first o first (escape high low h g) same = let both : c ∷ more ≡ 37 ∷ high ∷ low ∷ e.1 = same ∙ ap (λ (x : List ℕ). x ++ e.1) g in let k : c ≡ 37 = cc in eqb-false c 37 other k
+  of_first : (o : ℕ) (first : List ℕ) → IsOctetText o first → c ∷ more ≡ first ++ e.1 → ⊥
+  of_first o first (plain h g) same = let both : c ∷ more ≡ o ∷ e.1 = same ∙ ap (λ (x : List ℕ). x ++ e.1) g in let k : c ≡ o = cc in let l : is_unreserved c ≡ is_unreserved o = ap is_unreserved k in absurd cc
+  of_first o first (escape high low h g) same = let both : c ∷ more ≡ 37 ∷ high ∷ low ∷ e.1 = same ∙ ap (λ (x : List ℕ). x ++ e.1) g in let k : c ≡ 37 = cc in eqb-false c 37 other k
 
 pub octet-leaves : (at c : ℕ) (text : List ℕ) (f : NameFault) → octet_at at (c ∷ text) ≡ Err f → FailsAt IsEscapedText at (c ∷ text) f
 unfolding octet_at

@@ -128,34 +128,34 @@ no_digit_first typ c word head low e g large =
 
 keyword_no_decimal : (form : Form) (typ : ℕ) (head : List ℕ) → keyword_of head ≡ Some form → typ ≤ 65535 → head ≡ decimal typ → ⊥
 keyword_no_decimal form typ head e low is = by_form form (keyword-some head form e) (keyword_form form e) where
-    keyword_form : (f : Form) → keyword_of head ≡ Some f → ((n : ℕ) → f ≡ Escaped n → ⊥)
-    keyword_form f k n g = elim (keyword_is head) [ inl none ↦ let h = none in absurd cc | inr one ↦ one.2 n (let i : one.0 ≡ f = some_is one.0 f (sym one.1 ∙ k) in i ∙ g) ] where
-        keyword_is : (h : List ℕ) → (keyword_of h ≡ None) ⊎ ((o : Form) × (keyword_of h ≡ Some o) × ((m : ℕ) → o ≡ Escaped m → ⊥))
-        keyword_is h = tested (bytes_eq h (codes "sha256digest")) (bytes_eq h (codes "params-sha256")) (bytes_eq h (codes "seg")) (bytes_eq h (codes "v")) (bytes_eq h (codes "seq")) where
-          tested : (a b d g i : Bool) → (cond a (some_form (Digest 1)) (cond b (Some (Digest 2)) (cond d (Some (Number 50)) (cond g (Some (Number 54)) (cond i (Some (Number 58)) None)))) ≡ None) ⊎ ((o : Form) × (cond a (some_form (Digest 1)) (cond b (Some (Digest 2)) (cond d (Some (Number 50)) (cond g (Some (Number 54)) (cond i (Some (Number 58)) None)))) ≡ Some o) × ((m : ℕ) → o ≡ Escaped m → ⊥))
-          tested true b d g i = inr (Digest 1, refl, λ m x. absurd cc)
-          tested false true d g i = inr (Digest 2, refl, λ m x. absurd cc)
-          tested false false true g i = inr (Number 50, refl, λ m x. absurd cc)
-          tested false false false true i = inr (Number 54, refl, λ m x. absurd cc)
-          tested false false false false true = inr (Number 58, refl, λ m x. absurd cc)
-          tested false false false false false = inl refl
+  keyword_form : (f : Form) → keyword_of head ≡ Some f → ((n : ℕ) → f ≡ Escaped n → ⊥)
+  keyword_form f k n g = elim (keyword_is head) [ inl none ↦ let h = none in absurd cc | inr one ↦ one.2 n (let i : one.0 ≡ f = some_is one.0 f (sym one.1 ∙ k) in i ∙ g) ] where
+    keyword_is : (h : List ℕ) → (keyword_of h ≡ None) ⊎ ((o : Form) × (keyword_of h ≡ Some o) × ((m : ℕ) → o ≡ Escaped m → ⊥))
+    keyword_is h = tested (bytes_eq h (codes "sha256digest")) (bytes_eq h (codes "params-sha256")) (bytes_eq h (codes "seg")) (bytes_eq h (codes "v")) (bytes_eq h (codes "seq")) where
+      tested : (a b d g i : Bool) → (cond a (some_form (Digest 1)) (cond b (Some (Digest 2)) (cond d (Some (Number 50)) (cond g (Some (Number 54)) (cond i (Some (Number 58)) None)))) ≡ None) ⊎ ((o : Form) × (cond a (some_form (Digest 1)) (cond b (Some (Digest 2)) (cond d (Some (Number 50)) (cond g (Some (Number 54)) (cond i (Some (Number 58)) None)))) ≡ Some o) × ((m : ℕ) → o ≡ Escaped m → ⊥))
+      tested true b d g i = inr (Digest 1, refl, λ m x. absurd cc)
+      tested false true d g i = inr (Digest 2, refl, λ m x. absurd cc)
+      tested false false true g i = inr (Number 50, refl, λ m x. absurd cc)
+      tested false false false true i = inr (Number 54, refl, λ m x. absurd cc)
+      tested false false false false true = inr (Number 58, refl, λ m x. absurd cc)
+      tested false false false false false = inl refl
 
-    by_form : (f : Form) → IsHead f head → ((n : ℕ) → f ≡ Escaped n → ⊥) → ⊥
-    by_form (Digest n) h k =
-        elim h [
-          | inl a ↦ no_digit_first typ 115 (codes "ha256digest") head low is a.1 (omega arith)
-          | inr a ↦ no_digit_first typ 112 (codes "arams-sha256") head low is a.1 (omega arith)
-        ]
-    by_form (Number n) h k =
-        elim h [
-          | inl a ↦ no_digit_first typ 115 (codes "eg") head low is a.1 (omega arith)
-          | inr b ↦
-              elim b [
-                | inl a ↦ no_digit_first typ 118 [] head low is a.1 (omega arith)
-                | inr a ↦ no_digit_first typ 115 (codes "eq") head low is a.1 (omega arith)
-              ]
-        ]
-    by_form (Escaped n) h k = k n refl
+  by_form : (f : Form) → IsHead f head → ((n : ℕ) → f ≡ Escaped n → ⊥) → ⊥
+  by_form (Digest n) h k =
+      elim h [
+        | inl a ↦ no_digit_first typ 115 (codes "ha256digest") head low is a.1 (omega arith)
+        | inr a ↦ no_digit_first typ 112 (codes "arams-sha256") head low is a.1 (omega arith)
+      ]
+  by_form (Number n) h k =
+      elim h [
+        | inl a ↦ no_digit_first typ 115 (codes "eg") head low is a.1 (omega arith)
+        | inr b ↦
+            elim b [
+              | inl a ↦ no_digit_first typ 118 [] head low is a.1 (omega arith)
+              | inr a ↦ no_digit_first typ 115 (codes "eq") head low is a.1 (omega arith)
+            ]
+      ]
+  by_form (Escaped n) h k = k n refl
 
 pub head-same : (f g : Form) (head : List ℕ) → IsHead f head → IsHead g head → f ≡ g
 head-same f g head h k =

@@ -23,11 +23,11 @@ Leaves-behind L M front text k there back h = record {
   breaks = λ lt more m. h.breaks (omega (arith, lt, length-append front text)) more (back (take (k + 1) text ++ more) (subst M (sym (one_more more)) m));
   ends = λ m. h.ends (back text m);
 } where
-    regroup : (n : ℕ) (more : List ℕ) → front ++ (take n text ++ more) ≡ take (length front + n) (front ++ text) ++ more
-    regroup n more = sym (append_assoc front (take n text) more) ∙ ap (λ (x : List ℕ). x ++ more) (sym (take-append-add front text n))
+  regroup : (n : ℕ) (more : List ℕ) → front ++ (take n text ++ more) ≡ take (length front + n) (front ++ text) ++ more
+  regroup n more = sym (append_assoc front (take n text) more) ∙ ap (λ (x : List ℕ). x ++ more) (sym (take-append-add front text n))
 
-    one_more : (more : List ℕ) → front ++ (take (k + 1) text ++ more) ≡ take (length front + k + 1) (front ++ text) ++ more
-    one_more more = let e : length front + (k + 1) ≡ length front + k + 1 = omega arith in regroup (k + 1) more ∙ ap (λ (n : ℕ). take n (front ++ text) ++ more) e
+  one_more : (more : List ℕ) → front ++ (take (k + 1) text ++ more) ≡ take (length front + k + 1) (front ++ text) ++ more
+  one_more more = let e : length front + (k + 1) ≡ length front + k + 1 = omega arith in regroup (k + 1) more ∙ ap (λ (n : ℕ). take n (front ++ text) ++ more) e
 
 -- at the first octet
 pub Leaves-first : (L : List ℕ → Type 0) (c : ℕ) (text : List ℕ) → (more : List ℕ) × L more → ((more : List ℕ) → L (c ∷ more) → ⊥) → Leaves L (c ∷ text) 0

@@ -13,3 +13,4 @@ pub mod PathTexts
 pub mod Limits
 pub mod Verdicts
 pub mod PrintedTexts
+pub mod OneAnswer

@@ -25,7 +25,7 @@ IsSomeRooted at text = (parts : List Part) × IsRooted at parts text
 at_place : (at n : ℕ) (parts : List Part) (text : List ℕ) → at ≡ n → IsPath at parts text → IsPath n parts text
 at_place at n parts text e h = let P : ℕ → Type 0 = λ k. IsPath k parts text in subst P e h
 
-path-bounded : (at : ℕ) (parts : List Part) (text : List ℕ) → IsPath at parts text → Bounded 47 text
+pub path-bounded : (at : ℕ) (parts : List Part) (text : List ℕ) → IsPath at parts text → Bounded 47 text
 path-bounded at [] text h = let P : List ℕ → Type 0 = λ t. Bounded 47 t in subst P (sym h) tt
 path-bounded at (part ∷ parts) text h = let P : List ℕ → Type 0 = λ t. Bounded 47 t in subst P (sym h.2) refl
 
@@ -91,44 +91,44 @@ first_leaves at first after k lacks bounded h = record {
   breaks = λ lt more m. breaks more (path-opens at m.0 (take (k + 1) (first ++ after) ++ more) m.1) lt;
   ends = λ m. ends (path-opens at m.0 (first ++ after) m.1);
 } where
-    ends : Opens at (first ++ after) → ⊥
-    ends o =
-        let s = parts-same 47 first o.first after o.rest lacks (component-lacks o.component o.first o.is) bounded (path-bounded (at + 1 + length o.first) o.others o.rest o.path) o.split in
-        h.ends (o.component, subst (IsComponentText o.component) (sym s.0) o.is)
+  ends : Opens at (first ++ after) → ⊥
+  ends o =
+      let s = parts-same 47 first o.first after o.rest lacks (component-lacks o.component o.first o.is) bounded (path-bounded (at + 1 + length o.first) o.others o.rest o.path) o.split in
+      h.ends (o.component, subst (IsComponentText o.component) (sym s.0) o.is)
 
-    inside : (more : List ℕ) → Opens at (take (k + 1) (first ++ after) ++ more) → k < length first → ⊥
-    inside more o lt =
-        let front = take (k + 1) first in
-        let front-is : take (k + 1) (first ++ after) ≡ front = take-append-le (k + 1) first after (omega arith) in
-        let split : front ++ more ≡ o.first ++ o.rest = ap (λ (t : List ℕ). t ++ more) (sym front-is) ∙ o.split in
-        let P : List ℕ → Type 0 = λ t. Lacks 47 t in
-        let f = front-first 47 front more o.first o.rest (lacks-front 47 front (drop (k + 1) first) (subst P (sym (take-append-drop (k + 1) first)) lacks)) (path-bounded (at + 1 + length o.first) o.others o.rest o.path) split in
-        h.breaks lt f.0 (o.component, subst (IsComponentText o.component) f.1 o.is)
+  inside : (more : List ℕ) → Opens at (take (k + 1) (first ++ after) ++ more) → k < length first → ⊥
+  inside more o lt =
+      let front = take (k + 1) first in
+      let front-is : take (k + 1) (first ++ after) ≡ front = take-append-le (k + 1) first after (omega arith) in
+      let split : front ++ more ≡ o.first ++ o.rest = ap (λ (t : List ℕ). t ++ more) (sym front-is) ∙ o.split in
+      let P : List ℕ → Type 0 = λ t. Lacks 47 t in
+      let f = front-first 47 front more o.first o.rest (lacks-front 47 front (drop (k + 1) first) (subst P (sym (take-append-drop (k + 1) first)) lacks)) (path-bounded (at + 1 + length o.first) o.others o.rest o.path) split in
+      h.breaks lt f.0 (o.component, subst (IsComponentText o.component) f.1 o.is)
 
-    behind : (a : List ℕ) → after ≡ a → (more : List ℕ) → Opens at (take (k + 1) (first ++ after) ++ more) → k ≡ length first → 0 < length a → Bounded 47 a → ⊥
-    behind [] e more o here some b = absurd (omega arith)
-    behind (c ∷ a) e more o here some b =
-        let front-is : take (k + 1) (first ++ after) ≡ first ++ c ∷ [] = ap (λ (n : ℕ). take (n + 1) (first ++ after)) here ∙ take-append-add first after 1 ∙ ap (λ (t : List ℕ). first ++ take 1 t) e in
-        let split : first ++ c ∷ more ≡ o.first ++ o.rest = sym (append_assoc first (c ∷ []) more) ∙ ap (λ (t : List ℕ). t ++ more) (sym front-is) ∙ o.split in
-        let s = parts-same 47 first o.first (c ∷ more) o.rest lacks (component-lacks o.component o.first o.is) b (path-bounded (at + 1 + length o.first) o.others o.rest o.path) split in
-        h.ends (o.component, subst (IsComponentText o.component) (sym s.0) o.is)
+  behind : (a : List ℕ) → after ≡ a → (more : List ℕ) → Opens at (take (k + 1) (first ++ after) ++ more) → k ≡ length first → 0 < length a → Bounded 47 a → ⊥
+  behind [] e more o here some b = absurd (omega arith)
+  behind (c ∷ a) e more o here some b =
+      let front-is : take (k + 1) (first ++ after) ≡ first ++ c ∷ [] = ap (λ (n : ℕ). take (n + 1) (first ++ after)) here ∙ take-append-add first after 1 ∙ ap (λ (t : List ℕ). first ++ take 1 t) e in
+      let split : first ++ c ∷ more ≡ o.first ++ o.rest = sym (append_assoc first (c ∷ []) more) ∙ ap (λ (t : List ℕ). t ++ more) (sym front-is) ∙ o.split in
+      let s = parts-same 47 first o.first (c ∷ more) o.rest lacks (component-lacks o.component o.first o.is) b (path-bounded (at + 1 + length o.first) o.others o.rest o.path) split in
+      h.ends (o.component, subst (IsComponentText o.component) (sym s.0) o.is)
 
-    breaks : (more : List ℕ) → Opens at (take (k + 1) (first ++ after) ++ more) → k < length (first ++ after) → ⊥
-    breaks more o lt =
-        elim (cases_lt k (length first)) [
-          | inl a ↦ inside more o a
-          | inr a ↦ behind after refl more o (omega (arith, a, h.within)) (omega (arith, a, lt, length-append first after)) bounded
-        ]
+  breaks : (more : List ℕ) → Opens at (take (k + 1) (first ++ after) ++ more) → k < length (first ++ after) → ⊥
+  breaks more o lt =
+      elim (cases_lt k (length first)) [
+        | inl a ↦ inside more o a
+        | inr a ↦ behind after refl more o (omega (arith, a, h.within)) (omega (arith, a, lt, length-append first after)) bounded
+      ]
 
 pub component-path_leaves : (at : ℕ) (parts : List Part) (front first after path : List ℕ) (k : ℕ) → IsPath at parts front → front ++ 47 ∷ (first ++ after) ≡ 47 ∷ path → Lacks 47 first → Bounded 47 after → Leaves IsSomeComponent first k → Leaves (IsSomePath at) (47 ∷ path) (length (front ++ 47 ∷ []) + k)
 component-path_leaves at parts front first after path k read split lacks bounded h =
     let P : List ℕ → Type 0 = λ t. Leaves (IsSomePath at) t (length (front ++ 47 ∷ []) + k) in
     subst P (regroup (first ++ after) ∙ split) (Leaves-behind (AfterSlash (at + length front)) (IsSomePath at) (front ++ 47 ∷ []) (first ++ after) k (λ t m. (parts ++ m.0, there t m.0 m.1)) (λ t m. path-front parts m.0 at front (47 ∷ t) read (subst (IsPath at m.0) (regroup t) m.1) refl) (first_leaves (at + length front) first after k lacks bounded h)) where
-    regroup : (t : List ℕ) → (front ++ 47 ∷ []) ++ t ≡ front ++ 47 ∷ t
-    regroup t = append_assoc front (47 ∷ []) t
+      regroup : (t : List ℕ) → (front ++ 47 ∷ []) ++ t ≡ front ++ 47 ∷ t
+      regroup t = append_assoc front (47 ∷ []) t
 
-    there : (t : List ℕ) (more : List Part) → IsPath (at + length front) more (47 ∷ t) → IsPath at (parts ++ more) ((front ++ 47 ∷ []) ++ t)
-    there t more m = subst (IsPath at (parts ++ more)) (sym (regroup t)) (path-append parts more at front (47 ∷ t) read m)
+      there : (t : List ℕ) (more : List Part) → IsPath (at + length front) more (47 ∷ t) → IsPath at (parts ++ more) ((front ++ 47 ∷ []) ++ t)
+      there t more m = subst (IsPath at (parts ++ more)) (sym (regroup t)) (path-append parts more at front (47 ∷ t) read m)
 
 pub component-path_fails : (at place : ℕ) (parts : List Part) (front first after path : List ℕ) (f : NameFault) → place ≡ at + length front + 1 → IsPath at parts front → front ++ 47 ∷ (first ++ after) ≡ 47 ∷ path → Lacks 47 first → Bounded 47 after → FailsIn IsComponentText place first f → FailsIn (IsPath at) at (47 ∷ path) f
 component-path_fails at place parts front first after path (BadUri p) e read split lacks bounded h =
@@ -163,7 +163,7 @@ after_first text first (Some rest) s = (47 ∷ rest, s.0, refl, s.1)
 
 -- ---- texts that begin with a slash
 
-rooted_begins : (at : ℕ) (parts : List Part) (text : List ℕ) → IsRooted at parts text → (rest : List ℕ) × (text ≡ 47 ∷ rest)
+pub rooted_begins : (at : ℕ) (parts : List Part) (text : List ℕ) → IsRooted at parts text → (rest : List ℕ) × (text ≡ 47 ∷ rest)
 rooted_begins at [] text h = ([], h)
 rooted_begins at (part ∷ parts) text h = (h.0 ++ h.1, h.2)
 
@@ -181,25 +181,25 @@ rooted-leaves at path k some h = record {
   breaks = λ lt more m. breaks lt more m.0 m.1;
   ends = λ m. ends m.0 m.1;
 } where
-    goes : (t more : List ℕ) → IsSomePath at (t ++ more) → (other : List ℕ) × IsSomeRooted at (t ++ other)
-    goes [] more m = (47 ∷ [], ([], refl))
-    goes (c ∷ t) more m = (more, in_root m.0 m.1) where
-      in_root : (parts : List Part) → IsPath at parts (c ∷ t ++ more) → IsSomeRooted at (c ∷ t ++ more)
-      in_root [] e = absurd cc
-      in_root (part ∷ parts) e = (part ∷ parts, e)
+  goes : (t more : List ℕ) → IsSomePath at (t ++ more) → (other : List ℕ) × IsSomeRooted at (t ++ other)
+  goes [] more m = (47 ∷ [], ([], refl))
+  goes (c ∷ t) more m = (more, in_root m.0 m.1) where
+    in_root : (parts : List Part) → IsPath at parts (c ∷ t ++ more) → IsSomeRooted at (c ∷ t ++ more)
+    in_root [] e = absurd cc
+    in_root (part ∷ parts) e = (part ∷ parts, e)
 
-    breaks : k < length (47 ∷ path) → (more : List ℕ) (parts : List Part) → IsRooted at parts (take (k + 1) (47 ∷ path) ++ more) → ⊥
-    breaks lt more (part ∷ parts) m = h.breaks lt more (part ∷ parts, m)
-    breaks lt more [] m =
-        let front : ℕ = length (take (k + 1) (47 ∷ path)) in
-        let size : length (take (k + 1) (47 ∷ path)) ≡ k + 1 = length-take-le (k + 1) (47 ∷ path) (omega arith) in
-        let none : k ≡ 0 = omega (arith, size, ap length m, length-append (take (k + 1) (47 ∷ path)) more) in
-        let P : ℕ → Type 0 = λ n. IsSomePath at (take (n + 1) (47 ∷ path) ++ 97 ∷ []) in
-        h.breaks lt (97 ∷ []) (subst P (sym none) ((at + 1, (8, 97 ∷ [])) ∷ [], letter at))
+  breaks : k < length (47 ∷ path) → (more : List ℕ) (parts : List Part) → IsRooted at parts (take (k + 1) (47 ∷ path) ++ more) → ⊥
+  breaks lt more (part ∷ parts) m = h.breaks lt more (part ∷ parts, m)
+  breaks lt more [] m =
+      let front : ℕ = length (take (k + 1) (47 ∷ path)) in
+      let size : length (take (k + 1) (47 ∷ path)) ≡ k + 1 = length-take-le (k + 1) (47 ∷ path) (omega arith) in
+      let none : k ≡ 0 = omega (arith, size, ap length m, length-append (take (k + 1) (47 ∷ path)) more) in
+      let P : ℕ → Type 0 = λ n. IsSomePath at (take (n + 1) (47 ∷ path) ++ 97 ∷ []) in
+      h.breaks lt (97 ∷ []) (subst P (sym none) ((at + 1, (8, 97 ∷ [])) ∷ [], letter at))
 
-    ends : (parts : List Part) → IsRooted at parts (47 ∷ path) → ⊥
-    ends [] m = let e : path ≡ [] = cc in absurd (omega (arith, ap length e, some))
-    ends (part ∷ parts) m = h.ends (part ∷ parts, m)
+  ends : (parts : List Part) → IsRooted at parts (47 ∷ path) → ⊥
+  ends [] m = let e : path ≡ [] = cc in absurd (omega (arith, ap length e, some))
+  ends (part ∷ parts) m = h.ends (part ∷ parts, m)
 
 pub rooted-fails : (at : ℕ) (path : List ℕ) (f : NameFault) → 0 < length path → FailsIn (IsPath at) at (47 ∷ path) f → FailsIn (IsRooted at) at (47 ∷ path) f
 rooted-fails at path (BadUri place) some h = (h.0, h.1, rooted-leaves at path h.0 some h.2)
@@ -224,7 +224,7 @@ no_slash at (c ∷ text) none =
 abbrev pub IsUriText : List ℕ → Type 0
 IsUriText text = (parts : List Part) × IsUri parts text
 
-cancel : (a x y : List ℕ) → a ++ x ≡ a ++ y → x ≡ y
+pub cancel : (a x y : List ℕ) → a ++ x ≡ a ++ y → x ≡ y
 cancel [] x y e = e
 cancel (c ∷ a) x y e = cancel a x y cc
 
@@ -265,50 +265,50 @@ scheme-fails text (suc (suc (suc (suc n)))) some b = absurd (omega (arith, b.2))
 pub scheme-reads : {X : Type 0} (view : X → List Part) (path text : List ℕ) (r : Result X NameFault) → text ≡ codes "ndn:" ++ path → Reads view (IsRooted 4) 4 path r → Reads view IsUri 0 text r
 scheme-reads view path text (Ok x) e h = inr (path, e, h)
 scheme-reads view path text (Err f) e h = fails f h where
-    path_of : (t : List ℕ) → IsUriText (codes "ndn:" ++ t) → IsSomeRooted 4 t
-    path_of t m =
-        elim m.1 [
-          | inl a ↦ let s = rooted_begins 0 m.0 (codes "ndn:" ++ t) a in let g = s.1 in absurd cc
-          | inr a ↦ (m.0, subst (IsRooted 4 m.0) (sym (cancel (codes "ndn:") t a.0 a.1)) a.2)
-        ]
+  path_of : (t : List ℕ) → IsUriText (codes "ndn:" ++ t) → IsSomeRooted 4 t
+  path_of t m =
+      elim m.1 [
+        | inl a ↦ let s = rooted_begins 0 m.0 (codes "ndn:" ++ t) a in let g = s.1 in absurd cc
+        | inr a ↦ (m.0, subst (IsRooted 4 m.0) (sym (cancel (codes "ndn:") t a.0 a.1)) a.2)
+      ]
 
-    fails : (g : NameFault) → FailsIn (IsRooted 4) 4 path g → FailsIn IsUri 0 text g
-    fails (BadUri place) k =
-        let P : List ℕ → Type 0 = λ t. Leaves IsUriText t (4 + k.0) in
-        (4 + k.0, omega (arith, k.1), subst P (sym e) (Leaves-behind (IsSomeRooted 4) IsUriText (codes "ndn:") path k.0 (λ t m. (m.0, inr (t, refl, m.1))) path_of k.2))
-    fails NoMemory k = k
-    fails NameTooLong k = k
-    fails (Tlv d) k = k
-    fails (BadComponent p) k = k
-    fails (BadDigestLength p) k = k
+  fails : (g : NameFault) → FailsIn (IsRooted 4) 4 path g → FailsIn IsUri 0 text g
+  fails (BadUri place) k =
+      let P : List ℕ → Type 0 = λ t. Leaves IsUriText t (4 + k.0) in
+      (4 + k.0, omega (arith, k.1), subst P (sym e) (Leaves-behind (IsSomeRooted 4) IsUriText (codes "ndn:") path k.0 (λ t m. (m.0, inr (t, refl, m.1))) path_of k.2))
+  fails NoMemory k = k
+  fails NameTooLong k = k
+  fails (Tlv d) k = k
+  fails (BadComponent p) k = k
+  fails (BadDigestLength p) k = k
 
 -- a text without it
 pub plain-reads : {X : Type 0} (view : X → List Part) (text : List ℕ) (r : Result X NameFault) → BeginsOtherwise 110 text → Reads view (IsRooted 0) 0 text r → Reads view IsUri 0 text r
 plain-reads view text (Ok x) other h = inl h
 plain-reads view text (Err f) other h = fails f h where
-    no_scheme : (t path : List ℕ) → BeginsOtherwise 110 t → t ≡ codes "ndn:" ++ path → ⊥
-    no_scheme [] path o e = absurd cc
-    no_scheme (c ∷ t) path o e = let same : c ≡ 110 = cc in o same
+  no_scheme : (t path : List ℕ) → BeginsOtherwise 110 t → t ≡ codes "ndn:" ++ path → ⊥
+  no_scheme [] path o e = absurd cc
+  no_scheme (c ∷ t) path o e = let same : c ≡ 110 = cc in o same
 
-    front_other : (t more : List ℕ) (k : ℕ) → k < length t → BeginsOtherwise 110 t → BeginsOtherwise 110 (take (k + 1) t ++ more)
-    front_other [] more k lt o = absurd (omega arith)
-    front_other (c ∷ t) more k lt o = rw add-one o
+  front_other : (t more : List ℕ) (k : ℕ) → k < length t → BeginsOtherwise 110 t → BeginsOtherwise 110 (take (k + 1) t ++ more)
+  front_other [] more k lt o = absurd (omega arith)
+  front_other (c ∷ t) more k lt o = rw add-one o
 
-    leaves : (k : ℕ) → Leaves (IsSomeRooted 0) text k → Leaves IsUriText text k
-    leaves k l = record {
-      within = l.within;
-      goes_on = (l.goes_on.0, (l.goes_on.1.0, inl l.goes_on.1.1));
-      breaks = λ lt more m. elim m.1 [ inl a ↦ l.breaks lt more (m.0, a) | inr a ↦ no_scheme (take (k + 1) text ++ more) a.0 (front_other text more k lt other) a.1 ];
-      ends = λ m. elim m.1 [ inl a ↦ l.ends (m.0, a) | inr a ↦ no_scheme text a.0 other a.1 ];
-    }
+  leaves : (k : ℕ) → Leaves (IsSomeRooted 0) text k → Leaves IsUriText text k
+  leaves k l = record {
+    within = l.within;
+    goes_on = (l.goes_on.0, (l.goes_on.1.0, inl l.goes_on.1.1));
+    breaks = λ lt more m. elim m.1 [ inl a ↦ l.breaks lt more (m.0, a) | inr a ↦ no_scheme (take (k + 1) text ++ more) a.0 (front_other text more k lt other) a.1 ];
+    ends = λ m. elim m.1 [ inl a ↦ l.ends (m.0, a) | inr a ↦ no_scheme text a.0 other a.1 ];
+  }
 
-    fails : (g : NameFault) → FailsIn (IsRooted 0) 0 text g → FailsIn IsUri 0 text g
-    fails (BadUri place) k = (k.0, k.1, leaves k.0 k.2)
-    fails NoMemory k = k
-    fails NameTooLong k = k
-    fails (Tlv d) k = k
-    fails (BadComponent p) k = k
-    fails (BadDigestLength p) k = k
+  fails : (g : NameFault) → FailsIn (IsRooted 0) 0 text g → FailsIn IsUri 0 text g
+  fails (BadUri place) k = (k.0, k.1, leaves k.0 k.2)
+  fails NoMemory k = k
+  fails NameTooLong k = k
+  fails (Tlv d) k = k
+  fails (BadComponent p) k = k
+  fails (BadDigestLength p) k = k
 
 -- ---- a text that begins with a slash
 

@@ -70,11 +70,11 @@ with_letter octets text h =
 pub value-short : (octets text : List ℕ) → IsEscaped octets text → are_periods octets ≡ true → length octets < 3 → Leaves IsSomeValueText text (length text)
 value-short octets text h periods short =
     Leaves-whole IsSomeValueText text (97 ∷ [], with_letter octets text h) (λ m. no_value m.0 (are_periods m.0) refl (escaped-same (guarded m.0) octets text m.1 h)) where
-    no_value : (value : List ℕ) (b : Bool) → are_periods value ≡ b → guarded value ≡ octets → ⊥
-    no_value value true k e = absurd (omega (arith, ap length (sym (guarded-periods value k) ∙ e)))
-    no_value value false k e =
-        let same : are_periods value ≡ are_periods octets = ap are_periods (sym (guarded-other value k) ∙ e) in
-        absurd cc
+      no_value : (value : List ℕ) (b : Bool) → are_periods value ≡ b → guarded value ≡ octets → ⊥
+      no_value value true k e = absurd (omega (arith, ap length (sym (guarded-periods value k) ∙ e)))
+      no_value value false k e =
+          let same : are_periods value ≡ are_periods octets = ap are_periods (sym (guarded-other value k) ∙ e) in
+          absurd cc
 
 -- ---- what leaves the texts of octets leaves those of values
 
@@ -97,14 +97,14 @@ value-fails at text (BadDigestLength p) h = h
 -- a text has one value
 pub value-same : (a b text : List ℕ) → IsValueText a text → IsValueText b text → a ≡ b
 value-same a b text h k = unguarded a b (are_periods a) (are_periods b) refl refl (escaped-same (guarded a) (guarded b) text h k) where
-    unguarded : (x y : List ℕ) (p q : Bool) → are_periods x ≡ p → are_periods y ≡ q → guarded x ≡ guarded y → x ≡ y
-    unguarded x y true true d e g = let both : 46 ∷ 46 ∷ 46 ∷ x ≡ 46 ∷ 46 ∷ 46 ∷ y = sym (guarded-periods x d) ∙ g ∙ guarded-periods y e in cc
-    unguarded x y true false d e g =
-        let both : 46 ∷ 46 ∷ 46 ∷ x ≡ y = sym (guarded-periods x d) ∙ g ∙ guarded-other y e in
-        let same : are_periods (46 ∷ 46 ∷ 46 ∷ x) ≡ are_periods y = ap are_periods both in
-        absurd cc
-    unguarded x y false true d e g =
-        let both : x ≡ 46 ∷ 46 ∷ 46 ∷ y = sym (guarded-other x d) ∙ g ∙ guarded-periods y e in
-        let same : are_periods x ≡ are_periods (46 ∷ 46 ∷ 46 ∷ y) = ap are_periods both in
-        absurd cc
-    unguarded x y false false d e g = sym (guarded-other x d) ∙ g ∙ guarded-other y e
+  unguarded : (x y : List ℕ) (p q : Bool) → are_periods x ≡ p → are_periods y ≡ q → guarded x ≡ guarded y → x ≡ y
+  unguarded x y true true d e g = let both : 46 ∷ 46 ∷ 46 ∷ x ≡ 46 ∷ 46 ∷ 46 ∷ y = sym (guarded-periods x d) ∙ g ∙ guarded-periods y e in cc
+  unguarded x y true false d e g =
+      let both : 46 ∷ 46 ∷ 46 ∷ x ≡ y = sym (guarded-periods x d) ∙ g ∙ guarded-other y e in
+      let same : are_periods (46 ∷ 46 ∷ 46 ∷ x) ≡ are_periods y = ap are_periods both in
+      absurd cc
+  unguarded x y false true d e g =
+      let both : x ≡ 46 ∷ 46 ∷ 46 ∷ y = sym (guarded-other x d) ∙ g ∙ guarded-periods y e in
+      let same : are_periods x ≡ are_periods (46 ∷ 46 ∷ 46 ∷ y) = ap are_periods both in
+      absurd cc
+  unguarded x y false false d e g = sym (guarded-other x d) ∙ g ∙ guarded-other y e

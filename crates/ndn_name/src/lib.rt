@@ -22,7 +22,8 @@ pub use component_view::ComponentView;
 pub use fault::{Field, PacketFault, PacketWriteFault};
 pub use laws::{
     canonical_order_is_of_octets, canonical_order_is_total, encoded_names_are_read,
-    equal_octets_are_equal_names, equals_are_in_no_order, prefixes_come_first, printed_names_are_read, read_names_are_encoded,
+    equal_octets_are_equal_names, equals_are_in_no_order, prefixes_come_first,
+    printed_names_are_read, read_names_are_encoded, texts_have_one_answer,
 };
 pub use name::{NAME_LIMIT, Name, full_name};
 pub use name_fault::NameFault;
