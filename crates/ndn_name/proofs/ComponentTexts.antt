@@ -1,5 +1,5 @@
 -- The texts of components: with a head, and without.
-use Rattle.std.proofs.Common.{◌≡◌, ◌≢◌, ℕ, ◌+◌, ◌^◌, ◌<◌, ◌≤◌, Bool, true, false, ◌&&◌, List, [], ◌∷◌, ◌++◌, length, length-append, take, drop, Result, Ok, Err, refl, sym, ap, subst, ◌∙◌, append_assoc, arith, ◌⊎◌, inl, inr}
+use Rattle.std.proofs.Common.{◌≡◌, ◌≢◌, ℕ, ◌+◌, ◌^◌, ◌<◌, ◌≤◌, true, false, List, [], ◌∷◌, ◌++◌, length, length-append, take, drop, Result, Ok, Err, refl, sym, ap, subst, ◌∙◌, append_assoc, arith, ◌⊎◌, inl, inr}
 use Rattle.std.specs.Prelude.{codes}
 use Rattle.std.specs.List.{list_all}
 use Rattle.std.specs.Char.{digit_value}
@@ -7,13 +7,12 @@ use Rattle.std.specs.Fmt.{decimal}
 use Rattle.std.proofs.lemmas.Bool.{and_parts}
 use Rattle.std.proofs.lemmas.List.{take-append-drop}
 use Rattle.std.proofs.lemmas.Fmt.{decimal_is_IsNumeral}
-use Rattle.ndn_tlv.specs.NumberField.{number_field}
 use Rattle.ndn_name.specs.declared.name_fault.NameFault.{NameFault}
 use Rattle.ndn_name.specs.declared.name_fault.NameFault.TheVariants.{Tlv, BadComponent, BadDigestLength, NameTooLong, BadUri, NoMemory}
 use Rattle.ndn_name.specs.declared.uri_form.Form.{Form}
 use Rattle.ndn_name.specs.declared.uri_form.Form.TheVariants.{Digest, Number, Escaped}
 use Rattle.ndn_name.specs.Names.{Component}
-use Rattle.ndn_name.specs.Uri.{is_unreserved, IsOctetText, plain, escape, IsEscaped, guarded, IsValueText, IsDigits, IsDigestText, IsDecimal, IsNumberText, headed, IsComponentText, generic, typed, implicit_digest, parameters_digest, segment, version, sequence}
+use Rattle.ndn_name.specs.Uri.{is_unreserved, IsOctetText, plain, escape, IsEscaped, guarded, IsValueText, IsDigits, headed, IsComponentText, generic, typed, implicit_digest, parameters_digest, segment, version, sequence}
 use Rattle.ndn_name.specs.UriVerdict.{Leaves}
 use Rattle.ndn_name.specs.UriReading.{FailsIn, HasNoHead, IsHead, IsTail, Lacks, Reads}
 use Rattle.ndn_name.proofs.Escapes.{escaped-append, escaped-one}

@@ -1,14 +1,13 @@
 -- The texts of digests: two digits for each octet.
-use Rattle.std.proofs.Common.{◌≡◌, ℕ, zero, suc, ◌+◌, ◌*◌, ◌-◌, ◌<◌, ◌≤◌, List, [], ◌∷◌, ◌++◌, length, length-append, take, Result, Ok, Err, refl, sym, ap, subst, ◌∙◌, append_assoc, arith}
+use Rattle.std.proofs.Common.{◌≡◌, ℕ, zero, suc, ◌+◌, ◌*◌, ◌-◌, ◌<◌, List, [], ◌∷◌, ◌++◌, length, length-append, Err, refl, sym, ap, subst, ◌∙◌, arith}
 use Rattle.std.specs.Char.{digit_value}
 use Rattle.std.proofs.lemmas.List.{append-nil}
 use Rattle.ndn_name.specs.declared.name_fault.NameFault.{NameFault}
-use Rattle.ndn_name.specs.declared.name_fault.NameFault.TheVariants.{BadUri}
-use Rattle.ndn_name.specs.Uri.{IsPair, IsDigits, IsDigestText}
+use Rattle.ndn_name.specs.Uri.{IsDigits, IsDigestText}
 use Rattle.ndn_name.specs.UriVerdict.{Leaves}
 use Rattle.ndn_name.specs.UriReading.{FailsIn, pair_at}
-use Rattle.ndn_name.proofs.Escapes.{TakesPair, pair-takes, BeginsWithPair, FailsAt, pair-leaves, pair-same}
-use Rattle.ndn_name.proofs.LeavesLemmas.{Leaves-behind, Leaves-first, Leaves-end}
+use Rattle.ndn_name.proofs.Escapes.{TakesPair, BeginsWithPair, pair-leaves, pair-same}
+use Rattle.ndn_name.proofs.LeavesLemmas.{Leaves-behind, Leaves-first}
 
 abbrev pub IsSomeDigest : List ℕ → Type 0
 IsSomeDigest text = (value : List ℕ) × IsDigestText value text

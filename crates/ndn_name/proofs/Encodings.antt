@@ -1,10 +1,10 @@
 -- The encoding of a name is read back, and what is read is an encoding.
-use Rattle.std.proofs.Common.{◌≡◌, ℕ, zero, suc, ◌+◌, ◌-◌, ◌^◌, ◌<◌, ◌≤◌, Bool, true, false, not, cond, ◌&&◌, ltb, leb, eqb, List, [], ◌∷◌, ◌++◌, length, length-append, map, get_or, Option, Some, None, Result, Ok, Err, refl, sym, ap, subst, ◌∙◌, append_assoc, arith, inl, inr}
-use Rattle.std.proofs.lemmas.Bool.{cases_lt, ltb-false, ltb-true, leb-true, le-leb, le-ltb, lt-ltb, eqb-true}
+use Rattle.std.proofs.Common.{◌≡◌, ℕ, ◌+◌, ◌^◌, ◌<◌, ◌≤◌, Bool, true, false, not, cond, ◌&&◌, ltb, leb, eqb, List, [], ◌∷◌, ◌++◌, length, length-append, map, Option, Some, None, Result, Ok, Err, refl, sym, ap, subst, ◌∙◌, append_assoc, arith, inl, inr}
+use Rattle.std.proofs.lemmas.Bool.{cases_lt, ltb-false, leb-true, le-leb, le-ltb, eqb-true}
 use Rattle.std.proofs.lemmas.List.{append-nil, take_at, drop_at}
 use Rattle.ndn_tlv.specs.declared.tlv_fault.TlvFault.{TlvFault}
 use Rattle.ndn_tlv.specs.Spelling.{number, element}
-use Rattle.ndn_tlv.specs.Listing.{Listing, ◌then◌, ◌>>=◌, gather, gathered}
+use Rattle.ndn_tlv.specs.Listing.{Listing, ◌>>=◌, gather, gathered}
 use Rattle.ndn_tlv.specs.Elements.{IsOctets, Item, placed, elements, AreElements}
 use Rattle.ndn_tlv.proofs.Numbers.{IsOctets-drop, IsOctets-take, number-narrow, number-16, number-32, number-64}
 use Rattle.ndn_tlv.proofs.Listings.{elements-nil, elements-element, elements_are}

@@ -1,5 +1,5 @@
 -- The texts of octets: what is read at the front, and where a text leaves them.
-use Rattle.std.proofs.Common.{◌≡◌, ℕ, zero, suc, ◌+◌, ◌*◌, ◌<◌, ◌≤◌, Bool, true, false, cond, ltb, eqb, List, [], ◌∷◌, ◌++◌, length, length-append, take, Result, Ok, Err, refl, sym, ap, subst, ◌∙◌, append_assoc, arith, ◌⊎◌, inl, inr}
+use Rattle.std.proofs.Common.{◌≡◌, ℕ, ◌+◌, ◌*◌, ◌<◌, Bool, true, false, cond, ltb, eqb, List, [], ◌∷◌, ◌++◌, length, length-append, Result, Ok, Err, refl, sym, ap, subst, ◌∙◌, append_assoc, arith, ◌⊎◌, inl, inr}
 use Rattle.std.specs.Char.{digit_value}
 use Rattle.std.proofs.lemmas.Bool.{ltb-true, ltb-false, eqb-true, eqb-false}
 use Rattle.std.proofs.lemmas.List.{append-nil}
@@ -10,7 +10,7 @@ use Rattle.ndn_name.specs.Uri.{is_unreserved, IsPair, IsOctetText, plain, escape
 use Rattle.ndn_name.specs.UriVerdict.{Leaves}
 use Rattle.ndn_name.specs.UriReading.{digit_at, pair_at, octet_at}
 use Rattle.ndn_name.proofs.Encodings.{bind_ok, done, ok_is}
-use Rattle.ndn_name.proofs.LeavesLemmas.{Leaves-same, Leaves-behind, Leaves-first, Leaves-end}
+use Rattle.ndn_name.proofs.LeavesLemmas.{Leaves-behind, Leaves-first, Leaves-end}
 
 -- ---- steps that fail
 

@@ -1,5 +1,5 @@
 -- A text is of one name at most, and leaves the language at one place.
-use Rattle.std.proofs.Common.{◌≡◌, ◌≢◌, ℕ, ◌+◌, ◌^◌, ◌<◌, ◌≤◌, Bool, true, false, cond, ltb, List, [], ◌∷◌, ◌++◌, length, length-append, map, take, drop, Option, Some, None, Result, Ok, Err, refl, sym, ap, subst, ◌∙◌, append_assoc, arith, ◌⊎◌, inl, inr}
+use Rattle.std.proofs.Common.{◌≡◌, ℕ, ◌+◌, ◌<◌, ◌≤◌, Bool, true, false, cond, ltb, List, [], ◌∷◌, ◌++◌, length, length-append, take, drop, Option, Some, None, Result, Ok, Err, refl, sym, ap, subst, ◌∙◌, append_assoc, arith, ◌⊎◌, inl, inr}
 use Rattle.std.specs.Prelude.{codes}
 use Rattle.std.proofs.lemmas.Bool.{cases_lt, lt-ltb, le-ltb}
 use Rattle.std.proofs.lemmas.List.{take-append-drop, take-take}
@@ -9,7 +9,7 @@ use Rattle.ndn_name.specs.declared.name_fault.NameFault.TheVariants.{Tlv, BadCom
 use Rattle.ndn_name.specs.declared.uri_form.Form.{Form}
 use Rattle.ndn_name.specs.declared.uri_form.Form.TheVariants.{Digest, Number, Escaped}
 use Rattle.ndn_name.specs.Names.{Component, encoding}
-use Rattle.ndn_name.specs.Uri.{are_periods, guarded, IsEscaped, IsValueText, headed, IsComponentText, Part, IsPath, IsRooted, IsUri, name_in}
+use Rattle.ndn_name.specs.Uri.{are_periods, guarded, IsEscaped, IsComponentText, Part, IsPath, IsRooted, IsUri, name_in}
 use Rattle.ndn_name.specs.UriVerdict.{Leaves, IsUriText, first_bad_digest, IsAnswer}
 use Rattle.ndn_name.specs.UriReading.{IsHead, IsTail}
 use Rattle.ndn_name.proofs.Values.{value-same, guarded-other, guarded-periods}
@@ -18,7 +18,7 @@ use Rattle.ndn_name.proofs.Digests.{digits-same}
 use Rattle.ndn_name.proofs.Decimals.{decimal-same}
 use Rattle.ndn_name.proofs.Separators.{split-same, parts-same}
 use Rattle.ndn_name.proofs.Heads.{head-lacks, head-same}
-use Rattle.ndn_name.proofs.ComponentTexts.{IsHeaded, component-cases, component-lacks, no_equals}
+use Rattle.ndn_name.proofs.ComponentTexts.{component-cases, component-lacks, no_equals}
 use Rattle.ndn_name.proofs.PathTexts.{path-bounded, rooted_begins, cancel}
 
 -- ---- components

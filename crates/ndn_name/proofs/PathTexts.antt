@@ -1,5 +1,5 @@
 -- The texts of paths: a slash and the text of a component, again and again.
-use Rattle.std.proofs.Common.{◌≡◌, ◌≢◌, ℕ, zero, suc, ◌+◌, ◌-◌, ◌<◌, ◌≤◌, List, [], ◌∷◌, ◌++◌, length, length-append, map, take, drop, Option, Some, None, Result, Ok, Err, add-one, refl, sym, ap, subst, ◌∙◌, append_assoc, arith, ◌⊎◌, inl, inr}
+use Rattle.std.proofs.Common.{◌≡◌, ℕ, zero, suc, ◌+◌, ◌<◌, List, [], ◌∷◌, ◌++◌, length, length-append, take, drop, Option, Some, None, Result, Ok, Err, add-one, refl, sym, ap, subst, ◌∙◌, append_assoc, arith, inl, inr}
 use Rattle.std.specs.Prelude.{codes}
 use Rattle.std.proofs.lemmas.Bool.{cases_lt}
 use Rattle.std.proofs.lemmas.List.{append-nil, take-append-le, take-append-drop, length-take-le}
@@ -7,7 +7,7 @@ use Rattle.std.proofs.Math.Seq.{take-append-add}
 use Rattle.ndn_name.specs.declared.name_fault.NameFault.{NameFault}
 use Rattle.ndn_name.specs.declared.name_fault.NameFault.TheVariants.{Tlv, BadComponent, BadDigestLength, NameTooLong, BadUri, NoMemory}
 use Rattle.ndn_name.specs.Names.{Component}
-use Rattle.ndn_name.specs.Uri.{is_unreserved, plain, IsComponentText, generic, Part, IsPath, IsRooted, IsUri}
+use Rattle.ndn_name.specs.Uri.{plain, IsComponentText, generic, Part, IsPath, IsRooted, IsUri}
 use Rattle.ndn_name.specs.UriVerdict.{Leaves}
 use Rattle.ndn_name.specs.UriReading.{BeginsOtherwise, BreaksOff, FailsIn, Lacks, Reads, Splits}
 use Rattle.ndn_name.proofs.Escapes.{escaped-one}

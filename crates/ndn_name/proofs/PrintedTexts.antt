@@ -1,19 +1,18 @@
 -- The text that is printed for a name is a text of the name.
-use Rattle.std.proofs.Common.{◌≡◌, ◌≢◌, ℕ, zero, suc, ◌+◌, ◌*◌, ◌/◌, ◌%◌, ◌^◌, ◌<◌, ◌≤◌, Bool, true, false, cond, not, ◌&&◌, ltb, leb, eqb, List, [], ◌∷◌, ◌++◌, length, length-append, map, get_or, Option, Some, None, refl, sym, ap, subst, ◌∙◌, append_assoc, arith, ◌⊎◌, inl, inr}
+use Rattle.std.proofs.Common.{◌≡◌, ℕ, zero, suc, ◌+◌, ◌/◌, ◌%◌, ◌^◌, ◌<◌, ◌≤◌, Bool, true, false, cond, not, ◌&&◌, leb, eqb, List, [], ◌∷◌, ◌++◌, length, Option, Some, None, refl, sym, ap, subst, ◌∙◌, arith, ◌⊎◌, inl, inr}
 use Rattle.std.specs.Prelude.{codes}
 use Rattle.std.specs.List.{flat_map}
 use Rattle.std.specs.Char.{digit_value}
 use Rattle.std.specs.Fmt.{decimal, digit_glyph}
 use Rattle.std.specs.Int.{w8, w16, w32, w64, to_be_bytes, from_be_bytes}
-use Rattle.std.proofs.lemmas.Bool.{cases_lt, lt-ltb, le-ltb, leb-true, eqb-true, eqb-false}
+use Rattle.std.proofs.lemmas.Bool.{cases_lt, lt-ltb, le-ltb, leb-true, eqb-true}
 use Rattle.std.proofs.lemmas.Nat.{be_bytes_2, be_bytes_4, be_bytes_8}
 use Rattle.ndn_tlv.specs.Elements.{IsOctets}
 use Rattle.ndn_tlv.proofs.Numbers.{wide16, wide32, wide64}
 use Rattle.ndn_tlv.specs.NumberField.{number_of, number_field}
 use Rattle.ndn_name.specs.Names.{Component, IsComponent, IsName}
-use Rattle.ndn_name.specs.Uri.{is_unreserved, IsPair, IsOctetText, plain, escape, IsEscaped, are_periods, guarded, IsValueText, IsDigits, headed, IsComponentText, generic, typed, implicit_digest, parameters_digest, segment, version, sequence, Part, IsPath, IsUri, name_in, pair_of, escape_of, value_text, digest_text, in_shortest_width, plain_text, number_text, component_text, path_text, uri}
+use Rattle.ndn_name.specs.Uri.{is_unreserved, IsPair, IsOctetText, plain, escape, IsEscaped, are_periods, guarded, IsValueText, IsDigits, IsComponentText, generic, typed, implicit_digest, parameters_digest, segment, version, sequence, Part, IsPath, IsUri, name_in, pair_of, escape_of, value_text, digest_text, in_shortest_width, plain_text, number_text, component_text, path_text, uri}
 use Rattle.ndn_name.specs.UriVerdict.{is_bad_digest, first_bad_digest}
-use Rattle.ndn_name.proofs.Values.{guarded-other, guarded-periods}
 
 -- ---- digits
 

@@ -1,11 +1,10 @@
 -- The texts of values: periods alone stand for three fewer.
-use Rattle.std.proofs.Common.{◌≡◌, ℕ, zero, suc, ◌+◌, ◌-◌, ◌<◌, ◌≤◌, Bool, true, false, cond, ◌&&◌, eqb, List, [], ◌∷◌, ◌++◌, length, length-append, take, refl, sym, ap, subst, ◌∙◌, append_assoc, arith, inl, inr}
-use Rattle.std.specs.List.{list_all}
+use Rattle.std.proofs.Common.{◌≡◌, ℕ, zero, suc, ◌-◌, ◌<◌, ◌≤◌, Bool, true, false, ◌&&◌, eqb, List, [], ◌∷◌, ◌++◌, length, take, refl, sym, ap, subst, ◌∙◌, append_assoc, arith}
 use Rattle.std.proofs.lemmas.Bool.{and_parts, eqb-true}
-use Rattle.std.proofs.lemmas.List.{append-nil, length-take-le}
+use Rattle.std.proofs.lemmas.List.{length-take-le}
 use Rattle.ndn_name.specs.declared.name_fault.NameFault.{NameFault}
 use Rattle.ndn_name.specs.declared.name_fault.NameFault.TheVariants.{Tlv, BadComponent, BadDigestLength, NameTooLong, BadUri, NoMemory}
-use Rattle.ndn_name.specs.Uri.{is_unreserved, IsOctetText, plain, IsEscaped, are_periods, guarded, IsValueText}
+use Rattle.ndn_name.specs.Uri.{plain, IsEscaped, are_periods, guarded, IsValueText}
 use Rattle.ndn_name.specs.UriVerdict.{Leaves}
 use Rattle.ndn_name.specs.UriReading.{FailsIn}
 use Rattle.ndn_name.proofs.Escapes.{IsEscapedText, escaped-append, escaped-one, escaped-same}

@@ -1,5 +1,5 @@
--- The texts of names: which texts a name has, and which of them is printed (the NDN URI scheme of NDN Packet Format 0.3,
--- "Name", with an optional "ndn:", no trailing slash, and no hints).
+-- The texts of names: which texts a name has, and which of them is printed (the NDN URI scheme of
+-- NDN Packet Format 0.3, "Name", with an optional "ndn:", no trailing slash, and no hints).
 use Rattle.std.specs.Prelude.{◌≡◌, ℕ, ◌+◌, ◌*◌, ◌/◌, ◌%◌, ◌^◌, ◌<◌, ◌≤◌, Bool, true, false, ◌||◌, List, [], ◌∷◌, ◌++◌, length, map, codes, Option, Some, None, ◌==◌, ◌⊎◌, if◌then◌else◌}
 use Rattle.std.specs.Char.{digit_value, is_ascii_alphanumeric}
 use Rattle.std.specs.Fmt.{decimal, digit_glyph}
@@ -16,18 +16,21 @@ is_unreserved c = is_ascii_alphanumeric c || (c == 45 || c == 46 || c == 95 || c
 -- Two hexadecimal digits, of either case, for an octet.
 abbrev pub IsPair : ℕ → ℕ → ℕ → Type 0
 IsPair octet high low =
-    (digit_value high < 16) × (digit_value low < 16) × (octet ≡ digit_value high * 16 + digit_value low)
+    (digit_value high < 16) × (digit_value low < 16)
+    × (octet ≡ digit_value high * 16 + digit_value low)
 
 -- The texts of an octet: itself, or a percent sign and two digits.
 pub data IsOctetText (octet : ℕ) (text : List ℕ) : Type 0 where
   plain : is_unreserved octet ≡ true → text ≡ octet ∷ [] → IsOctetText octet text
-  escape : (high low : ℕ) → IsPair octet high low → text ≡ 37 ∷ high ∷ low ∷ [] → IsOctetText octet text
+  escape : (high low : ℕ) → IsPair octet high low → text ≡ 37 ∷ high ∷ low ∷ []
+      → IsOctetText octet text
 
 -- The texts of octets, one after another.
 abbrev pub IsEscaped : List ℕ → List ℕ → Type 0
 IsEscaped [] text = text ≡ []
 IsEscaped (octet ∷ octets) text =
-    (first : List ℕ) × (rest : List ℕ) × (text ≡ first ++ rest) × IsOctetText octet first × IsEscaped octets rest
+    (first : List ℕ) × (rest : List ℕ) × (text ≡ first ++ rest) × IsOctetText octet first
+    × IsEscaped octets rest
 
 abbrev pub are_periods : List ℕ → Bool
 are_periods octets = list_all (λ o. o == 46) octets
@@ -43,7 +46,8 @@ IsValueText value text = IsEscaped (guarded value) text
 abbrev pub IsDigits : List ℕ → List ℕ → Type 0
 IsDigits [] text = text ≡ []
 IsDigits (octet ∷ octets) text =
-    (high : ℕ) × (low : ℕ) × (rest : List ℕ) × (text ≡ high ∷ low ∷ rest) × IsPair octet high low × IsDigits octets rest
+    (high : ℕ) × (low : ℕ) × (rest : List ℕ) × (text ≡ high ∷ low ∷ rest) × IsPair octet high low
+    × IsDigits octets rest
 
 abbrev pub IsDigestText : List ℕ → List ℕ → Type 0
 IsDigestText value text = (length value ≡ 32) × IsDigits value text
@@ -64,12 +68,18 @@ headed head tail = head ++ 61 ∷ tail
 -- The texts of a component.
 pub data IsComponentText (c : Component) (text : List ℕ) : Type 0 where
   generic : c.0 ≡ 8 → IsValueText c.1 text → IsComponentText c text
-  typed : (tail : List ℕ) → 0 < c.0 → c.0 < 2 ^ 16 → text ≡ headed (decimal c.0) tail → IsValueText c.1 tail → IsComponentText c text
-  implicit_digest : (tail : List ℕ) → c.0 ≡ 1 → text ≡ headed (codes "sha256digest") tail → IsDigestText c.1 tail → IsComponentText c text
-  parameters_digest : (tail : List ℕ) → c.0 ≡ 2 → text ≡ headed (codes "params-sha256") tail → IsDigestText c.1 tail → IsComponentText c text
-  segment : (tail : List ℕ) → c.0 ≡ 50 → text ≡ headed (codes "seg") tail → IsNumberText c.1 tail → IsComponentText c text
-  version : (tail : List ℕ) → c.0 ≡ 54 → text ≡ headed (codes "v") tail → IsNumberText c.1 tail → IsComponentText c text
-  sequence : (tail : List ℕ) → c.0 ≡ 58 → text ≡ headed (codes "seq") tail → IsNumberText c.1 tail → IsComponentText c text
+  typed : (tail : List ℕ) → 0 < c.0 → c.0 < 2 ^ 16 → text ≡ headed (decimal c.0) tail
+      → IsValueText c.1 tail → IsComponentText c text
+  implicit_digest : (tail : List ℕ) → c.0 ≡ 1 → text ≡ headed (codes "sha256digest") tail
+      → IsDigestText c.1 tail → IsComponentText c text
+  parameters_digest : (tail : List ℕ) → c.0 ≡ 2 → text ≡ headed (codes "params-sha256") tail
+      → IsDigestText c.1 tail → IsComponentText c text
+  segment : (tail : List ℕ) → c.0 ≡ 50 → text ≡ headed (codes "seg") tail → IsNumberText c.1 tail
+      → IsComponentText c text
+  version : (tail : List ℕ) → c.0 ≡ 54 → text ≡ headed (codes "v") tail → IsNumberText c.1 tail
+      → IsComponentText c text
+  sequence : (tail : List ℕ) → c.0 ≡ 58 → text ≡ headed (codes "seq") tail → IsNumberText c.1 tail
+      → IsComponentText c text
 
 -- ---- names
 
@@ -81,7 +91,8 @@ Part = ℕ × Component
 abbrev pub IsPath : ℕ → List Part → List ℕ → Type 0
 IsPath at [] text = text ≡ []
 IsPath at (part ∷ parts) text =
-    (first : List ℕ) × (rest : List ℕ) × (text ≡ 47 ∷ first ++ rest) × (part.0 ≡ at + 1) × IsComponentText part.1 first × IsPath (at + 1 + length first) parts rest
+    (first : List ℕ) × (rest : List ℕ) × (text ≡ 47 ∷ first ++ rest) × (part.0 ≡ at + 1)
+    × IsComponentText part.1 first × IsPath (at + 1 + length first) parts rest
 
 -- The empty name is a slash alone.
 abbrev pub IsRooted : ℕ → List Part → List ℕ → Type 0
@@ -91,7 +102,8 @@ IsRooted at (part ∷ parts) text = IsPath at (part ∷ parts) text
 -- "ndn:" may stand before it.
 abbrev pub IsUri : List Part → List ℕ → Type 0
 IsUri parts text =
-    IsRooted 0 parts text ⊎ ((path : List ℕ) × (text ≡ codes "ndn:" ++ path) × IsRooted 4 parts path)
+    IsRooted 0 parts text
+    ⊎ ((path : List ℕ) × (text ≡ codes "ndn:" ++ path) × IsRooted 4 parts path)
 
 abbrev pub name_in : List Part → List Component
 name_in parts = map (λ part. part.1) parts

@@ -1,7 +1,6 @@
 -- What the functions that read the text of a name answer.
-use Rattle.std.specs.Prelude.{◌≡◌, ◌≢◌, ℕ, ◌+◌, ◌*◌, ◌-◌, ◌<◌, ◌≤◌, Bool, ◌||◌, not, ◌&&◌, nat_lt, nat_le, ◌==◌, List, [], ◌∷◌, ◌++◌, length, take, slice_index, map, Option, Some, None, Result, Ok, Err, codes, bytes_eq, if◌then◌else◌, ◌⊎◌}
+use Rattle.std.specs.Prelude.{◌≡◌, ◌≢◌, ℕ, ◌+◌, ◌*◌, ◌<◌, ◌≤◌, not, ◌&&◌, nat_lt, nat_le, ◌==◌, List, [], ◌∷◌, ◌++◌, length, take, slice_index, Option, Some, None, Result, Ok, Err, codes, bytes_eq, if◌then◌else◌, ◌⊎◌}
 use Rattle.std.specs.Char.{digit_value}
-use Rattle.std.specs.Fmt.{decimal}
 use Rattle.ndn_tlv.specs.Listing.{◌>>=◌}
 use Rattle.ndn_tlv.specs.NumberField.{number_field}
 use Rattle.ndn_name.specs.declared.name_fault.NameFault.{NameFault}
@@ -17,7 +16,8 @@ use Rattle.ndn_name.specs.UriVerdict.{Leaves}
 
 -- The text that begins at this place leaves the language of all values at the place that is told.
 abbrev pub FailsIn : {V : Type 0} → (V → List ℕ → Type 0) → ℕ → List ℕ → NameFault → Type 0
-FailsIn {V} L at text (BadUri place) = (k : ℕ) × (place ≡ at + k) × Leaves (λ t. (v : V) × L v t) text k
+FailsIn {V} L at text (BadUri place) =
+    (k : ℕ) × (place ≡ at + k) × Leaves (λ t. (v : V) × L v t) text k
 FailsIn L at text NoMemory = Unit {0}
 FailsIn L at text NameTooLong = ⊥
 FailsIn L at text (Tlv f) = ⊥
@@ -25,7 +25,8 @@ FailsIn L at text (BadComponent p) = ⊥
 FailsIn L at text (BadDigestLength p) = ⊥
 
 -- The text has the value, as it is seen, or it fails.
-abbrev pub Reads : {X V : Type 0} → (X → V) → (V → List ℕ → Type 0) → ℕ → List ℕ → Result X NameFault → Type 0
+abbrev pub Reads : {X V : Type 0} → (X → V) → (V → List ℕ → Type 0) → ℕ → List ℕ
+    → Result X NameFault → Type 0
 Reads view L at text (Ok x) = L (view x) text
 Reads view L at text (Err f) = FailsIn L at text f
 
@@ -42,7 +43,8 @@ Splits octet text front (Some rest) = (text ≡ front ++ octet ∷ rest) × Lack
 -- The digit at the front of a text that begins at this place, and what follows it.
 unfoldable pub digit_at : ℕ → List ℕ → Result (ℕ × List ℕ) NameFault
 digit_at at [] = Err (BadUri at)
-digit_at at (c ∷ text) = if nat_lt (digit_value c) 16 then Ok (digit_value c, text) else Err (BadUri at)
+digit_at at (c ∷ text) =
+    if nat_lt (digit_value c) 16 then Ok (digit_value c, text) else Err (BadUri at)
 
 -- The octet of two digits.
 unfoldable pub pair_at : ℕ → List ℕ → Result (ℕ × List ℕ) NameFault
@@ -55,19 +57,26 @@ pair_at at text = do
 unfoldable pub octet_at : ℕ → List ℕ → Result (ℕ × List ℕ) NameFault
 octet_at at [] = Err (BadUri at)
 octet_at at (c ∷ text) =
-    if c == 37 then pair_at (at + 1) text else if is_unreserved c then Ok (c, text) else Err (BadUri at)
+    if c == 37 then pair_at (at + 1) text
+    else if is_unreserved c then Ok (c, text)
+    else Err (BadUri at)
 
--- A number with one digit more, where it stays in decimal without leading zeros and is not above `most`.
+-- A number with one digit more, where it stays in decimal without leading zeros and is not above
+-- `most`.
 unfoldable pub with_digit : ℕ → Option ℕ → ℕ → Option ℕ
 with_digit most None c = if nat_lt (digit_value c) 10 then Some (digit_value c) else None
 with_digit most (Some n) c =
-    if nat_lt (digit_value c) 10 && not (n == 0) && nat_le (n * 10 + digit_value c) most then Some (n * 10 + digit_value c) else None
+    if nat_lt (digit_value c) 10 && not (n == 0) && nat_le (n * 10 + digit_value c) most
+    then Some (n * 10 + digit_value c)
+    else None
 
 -- How a value is written behind a head, and of which type it is.
 abbrev pub IsHead : Form → List ℕ → Type 0
-IsHead (Digest typ) head = ((typ ≡ 1) × (head ≡ codes "sha256digest")) ⊎ ((typ ≡ 2) × (head ≡ codes "params-sha256"))
+IsHead (Digest typ) head =
+    ((typ ≡ 1) × (head ≡ codes "sha256digest")) ⊎ ((typ ≡ 2) × (head ≡ codes "params-sha256"))
 IsHead (Number typ) head =
-    ((typ ≡ 50) × (head ≡ codes "seg")) ⊎ (((typ ≡ 54) × (head ≡ codes "v")) ⊎ ((typ ≡ 58) × (head ≡ codes "seq")))
+    ((typ ≡ 50) × (head ≡ codes "seg"))
+    ⊎ (((typ ≡ 54) × (head ≡ codes "v")) ⊎ ((typ ≡ 58) × (head ≡ codes "seq")))
 IsHead (Escaped typ) head = (0 < typ) × IsDecimal 65535 typ head
 
 abbrev pub HasNoHead : List ℕ → Type 0
@@ -109,4 +118,5 @@ BeginsOtherwise octet (c ∷ text) = c ≢ octet
 -- So many octets of the word are at the front of the text, and not the next.
 abbrev pub BreaksOff : List ℕ → List ℕ → ℕ → Type 0
 BreaksOff word text place =
-    (rest : List ℕ) × (text ≡ take place word ++ rest) × (place < length word) × BeginsOtherwise (slice_index word place) rest
+    (rest : List ℕ) × (text ≡ take place word ++ rest) × (place < length word)
+    × BeginsOtherwise (slice_index word place) rest

@@ -1,5 +1,5 @@
-//! Names of NDN Packet Format 0.3: views that borrow a packet's octets, owned names, their canonical
-//! order and their URI text, and the faults that packets share.
+//! Names of NDN Packet Format 0.3: views that borrow a packet's octets, owned names, their
+//! canonical order and their URI text, and the faults that packets share.
 #![tactic(auto)]
 
 mod append;

@@ -7,7 +7,8 @@ use crate::name_fault::NameFault;
 // The hexadecimal digit at the front of a text that begins at place `at`, and what follows it.
 #[tactic(auto, unfolding(crate::specs::UriReading::digit_at))]
 fn digit_at(text: &[u8], at: usize) -> Result<(u8, &[u8]), NameFault>
-    ensures read { MatchResult result (λ x. digit_at at text.now ≡ Ok (x.0, x.1.now)) (λ f. digit_at at text.now ≡ Err f) }
+    ensures read { MatchResult result (λ x. digit_at at text.now ≡ Ok (x.0, x.1.now))
+        (λ f. digit_at at text.now ≡ Err f) }
     ensures small { MatchResult result (λ x. x.0 < 16) (λ _. Unit {0}) }
 {
     let [octet, rest @ ..] = text else {
@@ -23,7 +24,8 @@ fn digit_at(text: &[u8], at: usize) -> Result<(u8, &[u8]), NameFault>
 #[tactic(auto, unfolding(crate::specs::UriReading::pair_at))]
 pub(crate) fn pair_at(text: &[u8], at: usize) -> Result<(u8, &[u8]), NameFault>
     requires { at + length text.now < 2 ^ 63 }
-    ensures { MatchResult result (λ x. pair_at at text.now ≡ Ok (x.0, x.1.now)) (λ f. pair_at at text.now ≡ Err f) }
+    ensures { MatchResult result (λ x. pair_at at text.now ≡ Ok (x.0, x.1.now))
+        (λ f. pair_at at text.now ≡ Err f) }
 {
     let (high, rest) = digit_at(text, at)?;
     let (low, rest) = digit_at(rest, at + 1)?;

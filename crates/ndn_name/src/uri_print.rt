@@ -29,7 +29,8 @@ impl Name {
 
 // Appends the text of a component.
 fn put_component(text: &mut String, typ: u16, value: &[u8]) -> Result<(), AllocError>
-    ensures { OnOk result (string_bytes text.new ≡ string_bytes text.old ++ component_text (typ, value.now)) }
+    ensures { OnOk result (string_bytes text.new ≡ string_bytes text.old
+        ++ component_text (typ, value.now)) }
 {
     match typ {
         1 => put_digest(text, "sha256digest=", value),
@@ -43,7 +44,8 @@ fn put_component(text: &mut String, typ: u16, value: &[u8]) -> Result<(), AllocE
 
 // Appends a word, and the digits of a digest.
 fn put_digest(text: &mut String, word: &str, digest: &[u8]) -> Result<(), AllocError>
-    ensures { OnOk result (string_bytes text.new ≡ string_bytes text.old ++ (word.now ++ digest_text digest.now)) }
+    ensures { OnOk result (string_bytes text.new ≡ string_bytes text.old
+        ++ (word.now ++ digest_text digest.now)) }
 {
     text.push_str(word)?;
     put_digits(text, digest)
@@ -51,7 +53,8 @@ fn put_digest(text: &mut String, word: &str, digest: &[u8]) -> Result<(), AllocE
 
 // Appends two digits for each octet.
 fn put_digits(text: &mut String, octets: &[u8]) -> Result<(), AllocError>
-    ensures { OnOk result (string_bytes text.new ≡ string_bytes text.old ++ digest_text octets.now) }
+    ensures { OnOk result (string_bytes text.new ≡ string_bytes text.old
+        ++ digest_text octets.now) }
 {
     for octet in octets {
         put_pair(text, *octet)?;
@@ -66,9 +69,12 @@ fn put_pair(text: &mut String, octet: u8) -> Result<(), AllocError>
     write!(text, "{octet:02x}")
 }
 
-// Appends a word and the number, where the value is a number in its shortest width, and else the value.
+// Appends a word and the number, where the value is a number in its shortest width, and else the
+// value.
 fn put_number(text: &mut String, word: &str, typ: u16, value: &[u8]) -> Result<(), AllocError>
-    ensures { OnOk result (string_bytes text.new ≡ string_bytes text.old ++ number_text word.now (in_shortest_width value.now (number_of value.now)) (typ, value.now)) }
+    ensures { OnOk result (string_bytes text.new ≡ string_bytes text.old
+        ++ number_text word.now (in_shortest_width value.now (number_of value.now))
+        (typ, value.now)) }
 {
     match shortest_number(value) {
         Some(n) => write!(text, "{word}{n}"),
@@ -105,7 +111,8 @@ fn width_of(n: u64) -> usize
 
 // Appends the type, unless it is that of most components, and the escaped value.
 fn put_plain(text: &mut String, typ: u16, value: &[u8]) -> Result<(), AllocError>
-    ensures { OnOk result (string_bytes text.new ≡ string_bytes text.old ++ plain_text (typ, value.now)) }
+    ensures { OnOk result (string_bytes text.new ≡ string_bytes text.old
+        ++ plain_text (typ, value.now)) }
 {
     if typ != 8 {
         write!(text, "{typ}=")?;
@@ -126,7 +133,8 @@ fn put_value(text: &mut String, value: &[u8]) -> Result<(), AllocError>
 
 // Appends the escapes of octets.
 fn put_octets(text: &mut String, octets: &[u8]) -> Result<(), AllocError>
-    ensures { OnOk result (string_bytes text.new ≡ string_bytes text.old ++ flat_map escape_of octets.now) }
+    ensures { OnOk result (string_bytes text.new ≡ string_bytes text.old
+        ++ flat_map escape_of octets.now) }
 {
     for octet in octets {
         put_octet(text, *octet)?;

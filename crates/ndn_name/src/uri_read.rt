@@ -40,7 +40,8 @@ fn read_uri(alloc: Global, text: &[u8]) -> Result<Vec<UriPart>, NameFault>
 
 // What follows the scheme at the front, or how much of the scheme is there.
 fn behind_scheme(text: &[u8]) -> Result<&[u8], usize>
-    ensures { MatchResult result (λ path. text.now ≡ codes "ndn:" ++ path.now) (BreaksOff (codes "ndn:") text.now) }
+    ensures { MatchResult result
+        (λ path. text.now ≡ codes "ndn:" ++ path.now) (BreaksOff (codes "ndn:") text.now) }
 {
     let mut rest = text;
     for (place, octet) in b"ndn:".iter().enumerate() {
@@ -54,7 +55,8 @@ fn behind_scheme(text: &[u8]) -> Result<&[u8], usize>
 
 // What follows an octet at the front, where it is there.
 fn behind_octet(text: &[u8], octet: u8) -> Option<&[u8]>
-    ensures { MatchOption result (BeginsOtherwise octet text.now) (λ rest. text.now ≡ octet ∷ rest.now) }
+    ensures { MatchOption result (BeginsOtherwise octet text.now)
+        (λ rest. text.now ≡ octet ∷ rest.now) }
 {
     match text {
         [first, rest @ ..] if *first == octet => Some(rest),
@@ -110,8 +112,10 @@ fn name_of_parts(alloc: Global, parts: &[UriPart]) -> Result<Name, NameFault>
     requires { AllByRecursion IsSound (name_in (map uri_part parts.now)) }
     ensures ok { IfOk result (λ name. name ≡ name_in (map uri_part parts.now)) }
     ensures fits { OnOk result (length (encoding (name_in (map uri_part parts.now))) ≤ NAME_LIMIT) }
-    ensures too_long { result ≡ Err NameFault.NameTooLong → NAME_LIMIT < length (encoding (name_in (map uri_part parts.now))) }
-    ensures refused { IfErr result (λ fault. (fault ≡ NameFault.NameTooLong) ⊎ (fault ≡ NameFault.NoMemory)) }
+    ensures too_long { result ≡ Err NameFault.NameTooLong
+        → NAME_LIMIT < length (encoding (name_in (map uri_part parts.now))) }
+    ensures refused { IfErr result
+        (λ fault. (fault ≡ NameFault.NameTooLong) ⊎ (fault ≡ NameFault.NoMemory)) }
 {
     let mut name = Name::new(alloc);
     for part in parts {
@@ -124,8 +128,10 @@ fn name_of_parts(alloc: Global, parts: &[UriPart]) -> Result<Name, NameFault>
 fn push_part(name: &mut Name, part: &UriPart) -> Result<(), NameFault>
     requires { IsSound (uri_part part.now).1 }
     ensures ok { OnOk result (name.new ≡ name.old ++ (uri_part part.now).1 ∷ []) }
-    ensures too_long { (result ≡ Err NameFault.NameTooLong) ↔ (NAME_LIMIT < length (encoding (name.old ++ (uri_part part.now).1 ∷ []))) }
-    ensures refused { IfErr result (λ fault. (fault ≡ NameFault.NameTooLong) ⊎ (fault ≡ NameFault.NoMemory)) }
+    ensures too_long { (result ≡ Err NameFault.NameTooLong)
+        ↔ (NAME_LIMIT < length (encoding (name.old ++ (uri_part part.now).1 ∷ []))) }
+    ensures refused { IfErr result
+        (λ fault. (fault ≡ NameFault.NameTooLong) ⊎ (fault ≡ NameFault.NoMemory)) }
 {
     match &part.value {
         PartValue::Octets(value) => name.push(part.typ, value),

@@ -17,7 +17,8 @@ pub(crate) fn is_unreserved(octet: u8) -> bool
 #[tactic(auto, unfolding(crate::specs::UriReading::octet_at))]
 fn octet_at(text: &[u8], at: usize) -> Result<(u8, &[u8]), NameFault>
     requires { at + length text.now < 2 ^ 63 }
-    ensures { MatchResult result (λ x. octet_at at text.now ≡ Ok (x.0, x.1.now)) (λ f. octet_at at text.now ≡ Err f) }
+    ensures { MatchResult result (λ x. octet_at at text.now ≡ Ok (x.0, x.1.now))
+        (λ f. octet_at at text.now ≡ Err f) }
 {
     match text {
         [b'%', rest @ ..] => pair_at(rest, at + 1),

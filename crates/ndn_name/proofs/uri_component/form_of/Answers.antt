@@ -1,8 +1,4 @@
-use Rattle.std.proofs.Common.{◌≡◌, ◌<◌, ◌^◌, ℕ, List, None, sym, ap, subst, ◌∙◌, arith}
-use Rattle.ndn_name.specs.declared.name_fault.NameFault.{NameFault}
-use Rattle.ndn_name.specs.declared.name_fault.NameFault.TheVariants.{Tlv, BadComponent, BadDigestLength, NameTooLong, BadUri, NoMemory}
-use Rattle.ndn_name.specs.Uri.{IsDecimal}
-use Rattle.ndn_name.specs.UriReading.{FailsIn}
+use Rattle.std.proofs.Common.{sym, ◌∙◌, arith}
 use Rattle.ndn_name.proofs.Decimals.{decimal-same}
 use Rattle.ndn_name.proofs.Heads.{no_head}
 use Rattle.ndn_name.proofs.uri_component.form_of.Goals as goal

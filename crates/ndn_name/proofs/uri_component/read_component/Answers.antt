@@ -1,8 +1,8 @@
-use Rattle.std.proofs.Common.{ℕ, ◌+◌, subst}
+use Rattle.std.proofs.Common.{ℕ}
 use Rattle.std.proofs.lemmas.Result.{err_from_is_err_and}
 use Rattle.ndn_name.specs.declared.uri_form.PartValue.{PartValue}
 use Rattle.ndn_name.specs.Names.{Component}
-use Rattle.ndn_name.specs.UriReading.{IsTail, Reads, value_octets}
+use Rattle.ndn_name.specs.UriReading.{value_octets}
 use Rattle.ndn_name.proofs.ComponentTexts.{plain-fails, reads-headed}
 use Rattle.ndn_name.proofs.uri_component.read_component.Goals as goal
 

@@ -1,4 +1,4 @@
-use Rattle.std.proofs.Common.{◌≡◌, ℕ, List, sym, subst}
+use Rattle.std.proofs.Common.{ℕ, List, sym, subst}
 use Rattle.ndn_name.specs.UriReading.{Lacks}
 use Rattle.ndn_name.proofs.Heads.{lacks_head, other_head}
 use Rattle.ndn_name.proofs.uri_component.split_head.Goals as goal

@@ -1,4 +1,4 @@
-use Rattle.std.proofs.Common.{ℕ, List, take, get_or, sym, subst}
+use Rattle.std.proofs.Common.{ℕ, List, take, sym, subst}
 use Rattle.std.proofs.lemmas.List.{take_more}
 use Rattle.ndn_name.specs.UriReading.{Lacks}
 use Rattle.ndn_name.proofs.Separators.{lacks-append}

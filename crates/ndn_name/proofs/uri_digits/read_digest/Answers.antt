@@ -1,8 +1,7 @@
-use Rattle.std.proofs.Common.{◌≡◌, ◌+◌, ◌*◌, ◌-◌, ◌<◌, ℕ, List, [], ◌∷◌, ◌++◌, length, length-append, take, refl, sym, ap, subst, ◌∙◌, append_assoc, arith, rules}
+use Rattle.std.proofs.Common.{◌≡◌, ◌+◌, ◌<◌, ℕ, List, [], ◌∷◌, ◌++◌, length, take, sym, ap, subst, ◌∙◌, append_assoc, arith, rules}
 use Rattle.std.proofs.lemmas.Result.{err_from_is_err_and}
 use Rattle.std.proofs.lemmas.List.{length-take, take_more_set}
-use Rattle.ndn_name.specs.Uri.{IsDigits, IsDigestText}
-use Rattle.ndn_name.specs.UriReading.{FailsIn}
+use Rattle.ndn_name.specs.Uri.{IsDigits}
 use Rattle.ndn_name.proofs.Escapes.{pair-takes}
 use Rattle.ndn_name.proofs.Digests.{digest-pair_fails, digest-long, digits-push, length-digits, IsSomeDigest}
 use Rattle.ndn_name.specs.UriVerdict.{Leaves}

@@ -1,6 +1,5 @@
-use Rattle.std.proofs.Common.{◌≡◌, ◌++◌, ℕ, List, length, take}
+use Rattle.std.proofs.Common.{◌≡◌, ◌++◌, ℕ, List, take}
 use Rattle.ndn_name.specs.Uri.{IsDigits}
-use Rattle.ndn_name.proofs.Digests.{digits-push}
 use Rattle.ndn_name.proofs.uri_digits.read_digest.Given as goal
 
 abbrev pub invariant-loop-octet : goal.invariant-loop-octet

@@ -1,4 +1,4 @@
-use Rattle.std.proofs.Common.{◌≡◌, ℕ, true, false, List, ◌∷◌, [], ◌++◌, Option, Some, refl, sym, ap, ◌∙◌, arith}
+use Rattle.std.proofs.Common.{◌≡◌, ℕ, true, false, List, ◌∷◌, Option, Some, refl, sym, ap, ◌∙◌, arith}
 use Rattle.std.specs.Fmt.{styled_digits_output}
 use Rattle.std.proofs.lemmas.Fmt.{hex_byte}
 use Rattle.ndn_name.specs.Uri.{is_unreserved, pair_of, escape_of}

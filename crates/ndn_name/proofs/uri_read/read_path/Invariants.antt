@@ -1,4 +1,4 @@
-use Rattle.std.proofs.Common.{ℕ, ◌+◌, List, length, map, Option, Some, None}
+use Rattle.std.proofs.Common.{◌+◌, length, map}
 use Rattle.std.specs.Option.{option_copied}
 use Rattle.std.specs.Option.{option_map_or}
 use Rattle.ndn_name.specs.UriReading.{uri_part}

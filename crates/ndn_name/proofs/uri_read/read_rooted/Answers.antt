@@ -1,4 +1,4 @@
-use Rattle.std.proofs.Common.{◌+◌, ◌<◌, ℕ, List, length, map, arith, rules}
+use Rattle.std.proofs.Common.{map, arith, rules}
 use Rattle.ndn_name.specs.UriReading.{uri_part}
 use Rattle.ndn_name.proofs.PathTexts.{rooted-reads, otherwise}
 use Rattle.ndn_name.proofs.uri_read.read_rooted.Goals as goal

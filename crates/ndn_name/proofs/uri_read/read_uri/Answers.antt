@@ -1,4 +1,4 @@
-use Rattle.std.proofs.Common.{◌≡◌, ◌+◌, ◌<◌, ◌++◌, ℕ, List, length, map, take, sym, ap, subst, refl, ◌∙◌, arith, rules}
+use Rattle.std.proofs.Common.{ℕ, List, map, sym, subst, arith}
 use Rattle.std.specs.Prelude.{codes}
 use Rattle.ndn_name.specs.UriReading.{BeginsOtherwise, BreaksOff, uri_part}
 use Rattle.ndn_name.proofs.PathTexts.{scheme-reads, scheme-fails, plain-reads}

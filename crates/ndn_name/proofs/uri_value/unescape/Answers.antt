@@ -1,9 +1,7 @@
-use Rattle.std.proofs.Common.{◌≡◌, ℕ, ◌+◌, ◌-◌, ◌<◌, List, [], ◌∷◌, ◌++◌, length, length-append, Result, Ok, Err, refl, sym, ap, subst, ◌∙◌, append_assoc, arith, rules}
+use Rattle.std.proofs.Common.{◌≡◌, ℕ, ◌+◌, ◌-◌, ◌<◌, List, [], ◌∷◌, ◌++◌, length, length-append, Err, sym, ap, subst, ◌∙◌, append_assoc, arith, rules}
 use Rattle.std.proofs.lemmas.Result.{err_from_is_err_and}
 use Rattle.ndn_name.specs.declared.name_fault.NameFault.{NameFault}
-use Rattle.ndn_name.specs.declared.name_fault.NameFault.TheVariants.{BadUri}
 use Rattle.ndn_name.specs.Uri.{IsEscaped}
-use Rattle.ndn_name.specs.UriVerdict.{Leaves}
 use Rattle.ndn_name.specs.UriReading.{octet_at, FailsIn}
 use Rattle.ndn_name.proofs.Escapes.{FailsAt, IsEscapedText, octet-leaves, octet-takes, escaped-append, escaped-one, escaped-leaves}
 use Rattle.ndn_name.proofs.uri_value.unescape.Goals as goal

@@ -1,6 +1,5 @@
 use Rattle.std.proofs.Common.{◌≡◌, ◌++◌, ℕ, List, length}
 use Rattle.ndn_name.specs.Uri.{IsEscaped}
-use Rattle.ndn_name.proofs.Escapes.{pair-leaves}
 use Rattle.ndn_name.proofs.uri_value.unescape.Given as goal
 
 abbrev pub invariant-loop-rest : goal.invariant-loop-rest

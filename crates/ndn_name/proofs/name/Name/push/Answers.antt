@@ -1,8 +1,8 @@
-use Rattle.std.proofs.Common.{◌≡◌, ◌<◌, ◌≤◌, ◌+◌, ℕ, List, [], ◌∷◌, ◌++◌, length, length-append, get_or, ◌^◌, sym, ap, subst, ◌∙◌, arith}
+use Rattle.std.proofs.Common.{◌≡◌, ◌<◌, ◌≤◌, ℕ, List, ◌++◌, length, length-append, get_or, ◌^◌, ap, arith}
 use Rattle.std.specs.Prelude.{◌↔◌}
 use Rattle.std.proofs.lemmas.Result.{err_from_is_err_and}
 use Rattle.ndn_tlv.specs.Spelling.{number, element}
-use Rattle.ndn_name.specs.Names.{Component, IsComponent, encoding}
+use Rattle.ndn_name.specs.Names.{IsComponent}
 use Rattle.ndn_name.proofs.Limits.{in_limit}
 use Rattle.ndn_name.proofs.Encodings.{pushed, pushed-length, count-fits}
 use Rattle.ndn_name.proofs.name.Name.push.Goals as goal

@@ -1,8 +1,8 @@
-use Rattle.std.proofs.Common.{◌≡◌, ℕ, List, ◌++◌, None, sym, ap, subst, ◌∙◌}
+use Rattle.std.proofs.Common.{ℕ, List, ◌++◌, sym, ap, subst, ◌∙◌}
 use Rattle.ndn_tlv.specs.declared.tlv_fault.TlvFault.{TlvFault}
 use Rattle.ndn_tlv.specs.Listing.{Listing}
 use Rattle.ndn_tlv.specs.Elements.{Item, elements}
-use Rattle.ndn_name.specs.Names.{Component, IsName, encoding}
+use Rattle.ndn_name.specs.Names.{Component, IsName}
 use Rattle.ndn_name.specs.Uri.{path_text}
 use Rattle.ndn_name.proofs.Encodings.{Reads, pairs, elements-encoding}
 use Rattle.ndn_name.proofs.name.Name.to_uri.Goals as goal
