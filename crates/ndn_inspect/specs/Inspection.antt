@@ -1,6 +1,6 @@
 -- The text that octets are inspected as: a line for each element, with the lines of those inside it
 -- one deeper, and the first fault, which ends it.
-use Rattle.std.specs.Prelude.{ℕ, zero, suc, ◌+◌, ◌<◌, List, [], ◌∷◌, ◌++◌, length, codes, decimal, Option, Some, None, nat_lt, ◌==◌, ◌||◌, if◌then◌else◌}
+use Rattle.std.specs.Prelude.{ℕ, zero, suc, ◌+◌, false, List, [], ◌∷◌, ◌++◌, length, codes, decimal, Option, Some, None, nat_lt, ◌==◌, ◌||◌, if◌then◌else◌}
 use Rattle.std.specs.Fmt.{digits}
 use Rattle.hex.specs.Hex.{encode_lower}
 use Rattle.ndn_tlv.specs.declared.tlv_fault.TlvFault.{TlvFault}
@@ -38,6 +38,8 @@ pub record Lines : Type 0 where
 abbrev pub no_lines : Lines
 no_lines = record { text = []; fault = None }
 
+-- Lines with a text in front of them.
+infixr 10 ◌before◌
 abbrev pub ◌before◌ : List ℕ → Lines → Lines
 text before lines = record { text = text ++ lines.text; fault = lines.fault }
 
@@ -59,7 +61,7 @@ inner_lines read depth e =
 unfoldable pub lines_of : (ℕ → ℕ → List ℕ → Lines) → ℕ → List Item → Option TlvFault → Lines
 lines_of read depth [] fault = record { text = []; fault = fault }
 lines_of read depth (e ∷ es) fault =
-    line depth e before (inner_lines read depth e and_then lines_of read depth es fault)
+    line depth e before inner_lines read depth e and_then lines_of read depth es fault
 
 -- The same of octets, where elements are nested so deep at most.
 unfoldable pub lines_within : ℕ → ℕ → ℕ → List ℕ → Lines

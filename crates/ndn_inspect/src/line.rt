@@ -1,6 +1,6 @@
 ghost use Rattle.std.specs.Prelude.{◌≡◌, ◌++◌, OnOk, string_bytes};
 ghost use Rattle.ndn_tlv.specs.Elements.{item};
-ghost use Rattle.ndn_inspect.specs.Inspection.{indent, type_digits, line, fault_text, fault_line};
+ghost use Rattle.ndn_inspect.specs.Inspection.{indent, type_digits, value_digits, line, fault_text, fault_line};
 
 use crate::types::{has_elements, name_of};
 use ndn_tlv::{Element, TlvFault};
@@ -21,11 +21,21 @@ pub(crate) fn put_line(
     put_indent(text, depth)?;
     put_type(text, element.typ)?;
     write!(text, " {} {}", name_of(element.typ), element.value.len())?;
-    if !has_elements(element.typ) && !element.value.is_empty() {
-        let digits = hex::encode(*text.allocator(), element.value)?;
-        write!(text, " {digits}")?;
+    put_value(text, element)?;
+    text.push_str("\n")?;
+    Ok(())
+}
+
+// The value's digits behind a space, unless it is read as elements or empty.
+fn put_value(text: &mut String, element: &Element<'_>) -> Result<(), AllocError>
+    ensures { OnOk result (string_bytes text.new
+        ≡ string_bytes text.old ++ value_digits (item element.now)) }
+{
+    if has_elements(element.typ) || element.value.is_empty() {
+        return Ok(());
     }
-    text.push_str("\n")
+    let digits = hex::encode(*text.allocator(), element.value)?;
+    write!(text, " {digits}")
 }
 
 // Two spaces for each depth.
@@ -33,7 +43,7 @@ pub(crate) fn put_line(
 fn put_indent(text: &mut String, depth: usize) -> Result<(), AllocError>
     ensures { OnOk result (string_bytes text.new ≡ string_bytes text.old ++ indent depth) }
 {
-    for _ in 0..depth {
+    for _level in 0..depth {
         text.push_str("  ")?;
     }
     Ok(())

@@ -2,6 +2,7 @@ ghost use Rattle.std.specs.Prelude.{◌≡◌};
 ghost use Rattle.ndn_inspect.specs.Types.{name_of, has_elements};
 
 // What elements of this type are called (NDN Packet Format 0.3, "TLV-TYPE numbers").
+#[tactic(auto, unfolding(crate::specs::Types::name_of))]
 pub(crate) fn name_of(typ: u32) -> &'static str
     ensures { result.now ≡ name_of typ }
 {
@@ -39,6 +40,7 @@ pub(crate) fn name_of(typ: u32) -> &'static str
 }
 
 // Whether the value of such an element is read as elements.
+#[tactic(auto, unfolding(crate::specs::Types::has_elements))]
 pub(crate) fn has_elements(typ: u32) -> bool
     ensures { result ≡ has_elements typ }
 {
