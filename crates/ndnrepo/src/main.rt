@@ -1,0 +1,35 @@
+//! The program `ndnrepo`: `run` reads a script on standard input and writes its report on standard output.
+#![tactic(auto)]
+
+use bench_net::{FixedDraws, OpenNet};
+use repo_top::{ReadSource, Status, WriteSink, run};
+use std::env::{self, Env};
+use std::io;
+use std::process::ExitCode;
+
+fn main(rt: HostRuntime) -> ExitCode {
+    let Ok(words) = words(&rt) else {
+        return ExitCode::from(Status::NoMemory.code());
+    };
+    let mut source = ReadSource::new(rt.stdin());
+    let mut sink = WriteSink::new(rt.stdout());
+    let status = run(
+        &rt,
+        rt.alloc(),
+        &words,
+        &mut source,
+        &mut sink,
+        &OpenNet::new(),
+        &FixedDraws::new(0),
+    );
+    ExitCode::from(status.code())
+}
+
+// The words of the command line, without the program's name.
+fn words<R: Env + AllocGlobal>(rt: &R) -> io::Result<Vec<String>> {
+    let mut words = Vec::new(rt.alloc());
+    for word in env::args(rt)?.skip(1) {
+        words.push(word)?;
+    }
+    Ok(words)
+}

@@ -1,0 +1,12 @@
+pub use Rattle.bench_world.specs.Publications as Publications
+pub use Rattle.bench_world.specs.PlainModel as PlainModel
+pub mod Outside
+pub mod InMemory
+pub mod Pieces
+pub mod Lines
+pub mod Words
+pub mod Grammar
+pub mod Report
+pub mod Story
+pub mod Events
+pub mod Answers

@@ -1,0 +1,3 @@
+/// Octets could not be given or taken.
+#[derive(Clone, Copy, Debug, PartialEq, Eq)]
+pub struct Failed;

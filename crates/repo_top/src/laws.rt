@@ -1,0 +1,52 @@
+ghost use Rattle.std.specs.Prelude.{◌≡◌, ◌≢◌, ◌+◌, ◌<◌, ◌≤◌, ℕ, List, [], ◌∷◌, ◌++◌, All, length, codes};
+ghost use Rattle.std.specs.List.{flat_map};
+ghost use Rattle.repo_top.specs.declared.ending.Ending.TheVariants.{Done, Refused};
+ghost use Rattle.repo_top.specs.Lines.{IsLine, with_feed, lines};
+ghost use Rattle.repo_top.specs.Pieces.{pieces, with_separator};
+ghost use Rattle.repo_top.specs.Story.{story_of};
+
+/// The lines of an input that ends with a line feed are the input, each with its line feed, and no line has one in it.
+/// Where the last line feed is missing, the lines are the same.
+pub fn lines_are_the_input()
+    ensures joined { (room : ℕ) (text : List ℕ) → length text < room
+        → flat_map with_feed (lines room (text ++ 10 ∷ [])) ≡ text ++ 10 ∷ [] }
+    ensures each { (room : ℕ) (text : List ℕ) → length text ≤ room → All IsLine (lines room text) }
+    ensures unended { (room : ℕ) (text : List ℕ) (octet : ℕ) → octet ≢ 10 → length text < room
+        → lines room (text ++ octet ∷ []) ≡ lines (room + 1) (text ++ octet ∷ 10 ∷ []) }
+{}
+
+/// The pieces between separators are the octets, each with a separator behind it, and no piece has one in it.
+pub fn pieces_are_the_octets()
+    ensures joined { (separator : ℕ) (octets : List ℕ)
+        → flat_map (with_separator separator) (pieces separator octets) ≡ octets ++ separator ∷ [] }
+    ensures each { (separator : ℕ) (octets : List ℕ)
+        → All (All (λ octet. octet ≢ separator)) (pieces separator octets) }
+{}
+
+/// What stands behind the octet past the limit changes nothing of a story.
+pub fn later_octets_change_nothing()
+    ensures { (octets more : List ℕ) → 65536 < length octets
+        → story_of (octets ++ more) ≡ story_of octets }
+{}
+
+/// The stories of three small inputs, worked out.
+pub fn small_stories()
+    ensures nothing { story_of [] ≡ record { text = []; ending = Done } }
+    ensures group { story_of (codes "group /g\n") ≡ record { text = []; ending = Done } }
+    ensures refused { story_of (codes "settle 1\n")
+        ≡ record { text = codes "refused 1 13 NotBuilt\n"; ending = Refused 1 13 } }
+{}
+
+/// The story of one publication that reaches two catalogues, worked out.
+pub fn first_story()
+    ensures { story_of (codes "group /g\nmember alice /alice 6b31\nmember bob /bob 6b32\n"
+        ++ codes "publish alice /doc 10 text:abc\nsettle 2\n"
+        ++ codes "catalogue alice\ncatalogue bob\n") ≡ record {
+          text = codes "publish alice 1 segments 1 sync 1\nsettle syncs 2 kept 2\n"
+              ++ codes "catalogue alice 1\nentry alice 1 /doc segments 1 octets 3 sha256 "
+              ++ codes "ba7816bf8f01cfea414140de5dae2223b00361a396177a9cb410ff61f20015ad\n"
+              ++ codes "catalogue bob 1\nentry alice 1 /doc segments 1 octets 3 sha256 "
+              ++ codes "ba7816bf8f01cfea414140de5dae2223b00361a396177a9cb410ff61f20015ad\n";
+          ending = Done;
+        } }
+{}

@@ -1,0 +1,55 @@
+ghost use Rattle.std.specs.Prelude.{◌≡◌, ◌<◌, ◌≤◌, ◌++◌, [], None, Ok, length, take, is_ok, IfOk, IfSome, OnErr, if◌then◌else◌};
+ghost use Rattle.std.specs.Option.{option_map};
+ghost use Rattle.std.specs.Io.KnownBytes.{ReadConsumes};
+ghost use Rattle.repo_top.specs.InMemory.{one_more};
+ghost use Rattle.repo_top.specs.Outside.{HasRisen};
+
+use crate::failed::Failed;
+use crate::source::Source;
+use std::io::Read;
+use std::marker::Model;
+
+/// A source over a reader, as standard input. It tells nothing of its octets.
+#[derive(Debug, Drop)]
+pub struct ReadSource<R: Read> {
+    reader: R,
+    faults: u64,
+}
+
+impl<R: Read> Model for ReadSource<R> {
+    ghost use Rattle.repo_top.specs.InMemory.{Counted};
+
+    ghost Value = { Counted R };
+
+    ghost view = { λ s. record { inner = s.reader; faults = s.faults } };
+}
+
+impl<R: Read> ReadSource<R> {
+    pub fn new(reader: R) -> ReadSource<R>
+        ensures { result ≡ record { inner = reader; faults = 0 } }
+    {
+        ReadSource { reader, faults: 0 }
+    }
+}
+
+impl<R: Read> Source for ReadSource<R> {
+    ghost left = { λ _. None };
+
+    ghost faults = { λ s. s.faults };
+
+    // What the trait says, and: the octets are the reader's, and the count rises at each fault of it.
+    fn read(&mut self, buf: &mut [u8]) -> Result<usize, Failed>
+        ensures count { IfOk result (λ n. n ≤ length buf.old) }
+        ensures risen { OnErr result (HasRisen self.old.faults self.new.faults) }
+        ensures faults { self.old.faults ≤ self.new.faults }
+        ensures bytes { ReadConsumes (R.remaining self.old.inner) (R.remaining self.new.inner) result buf.new }
+        ensures counted { self.new.faults
+            ≡ (if is_ok result then self.old.faults else one_more self.old.faults) }
+    {
+        let read = self.reader.read(buf);
+        if read.is_err() {
+            self.faults = self.faults.saturating_add(1);
+        }
+        read.map_err(|_| Failed)
+    }
+}

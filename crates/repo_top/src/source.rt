@@ -1,0 +1,25 @@
+ghost use Rattle.std.specs.Prelude.{◌≡◌, ◌<◌, ◌≤◌, ℕ, List, [], ◌++◌, length, take, Option, Ok, IfOk, IfSome, OnErr};
+ghost use Rattle.std.specs.Option.{option_map};
+ghost use Rattle.repo_top.specs.Outside.{HasRisen};
+
+use crate::failed::Failed;
+
+/// Where a run reads its input.
+pub trait Source {
+    /// The octets that are not yet read, where they are known.
+    ghost left: { Self → Option (List ℕ) };
+
+    /// How many calls failed. The count stays at 18,446,744,073,709,551,615.
+    ghost faults: { Self → ℕ };
+
+    /// Puts octets at the beginning of `buf`, and tells how many. None for a `buf` that has room is the end.
+    fn read(&mut self, buf: &mut [u8]) -> Result<usize, Failed>
+        ensures count { IfOk result (λ n. n ≤ length buf.old) }
+        ensures taken { IfOk result (λ n. left self.old ≡ option_map
+            (λ rest. take n buf.new ++ rest) (left self.new)) }
+        ensures end { result ≡ Ok 0 → 0 < length buf.old
+            → IfSome (left self.new) (λ rest. rest ≡ []) }
+        ensures failed { OnErr result (left self.new ≡ left self.old) }
+        ensures risen { OnErr result (HasRisen (faults self.old) (faults self.new)) }
+        ensures faults { faults self.old ≤ faults self.new };
+}

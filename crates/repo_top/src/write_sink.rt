@@ -1,0 +1,57 @@
+ghost use Rattle.std.specs.Prelude.{◌≡◌, ◌<◌, ◌≤◌, None, length, is_ok, IfOk, OnErr, if◌then◌else◌};
+ghost use Rattle.std.specs.Io.KnownBytes.{WriteAppends};
+ghost use Rattle.repo_top.specs.InMemory.{one_more};
+ghost use Rattle.repo_top.specs.Outside.{HasRisen};
+
+use crate::failed::Failed;
+use crate::sink::Sink;
+use std::io::Write;
+use std::marker::Model;
+
+/// A sink over a writer, as standard output. It tells nothing of its octets.
+#[derive(Debug, Drop)]
+pub struct WriteSink<W: Write> {
+    writer: W,
+    faults: u64,
+}
+
+impl<W: Write> Model for WriteSink<W> {
+    ghost use Rattle.repo_top.specs.InMemory.{Counted};
+
+    ghost Value = { Counted W };
+
+    ghost view = { λ k. record { inner = k.writer; faults = k.faults } };
+}
+
+impl<W: Write> WriteSink<W> {
+    pub fn new(writer: W) -> WriteSink<W>
+        ensures { result ≡ record { inner = writer; faults = 0 } }
+    {
+        WriteSink { writer, faults: 0 }
+    }
+}
+
+impl<W: Write> Sink for WriteSink<W> {
+    ghost out = { λ _. None };
+
+    ghost faults = { λ k. k.faults };
+
+    // What the trait says, and: the count rises at each fault of the writer, and where it takes nothing of a piece.
+    fn write(&mut self, piece: &[u8]) -> Result<usize, Failed>
+        ensures count { IfOk result (λ n. n ≤ length piece.now) }
+        ensures taken { IfOk result (λ n. 0 < length piece.now → 0 < n) }
+        ensures risen { OnErr result (HasRisen self.old.faults self.new.faults) }
+        ensures faults { self.old.faults ≤ self.new.faults }
+        ensures bytes { WriteAppends (W.contents self.old.inner) (W.contents self.new.inner) result piece.now }
+        ensures counted { self.new.faults
+            ≡ (if is_ok result then self.old.faults else one_more self.old.faults) }
+    {
+        match self.writer.write(piece) {
+            Ok(n) if n > 0 || piece.is_empty() => Ok(n),
+            _ => {
+                self.faults = self.faults.saturating_add(1);
+                Err(Failed)
+            }
+        }
+    }
+}
