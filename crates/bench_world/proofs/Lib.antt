@@ -1,0 +1,6 @@
+pub mod HoldingLemmas
+pub mod Sets
+pub mod Entries
+pub mod Settles
+pub mod Additions
+pub mod Publishes

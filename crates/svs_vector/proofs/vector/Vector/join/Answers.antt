@@ -1,0 +1,16 @@
+use Rattle.std.proofs.Common.{arith, ◌≡◌, ap, ◌∙◌, not, length, ◌++◌, take, drop}
+use Rattle.std.proofs.lemmas.Grind.{common_steps}
+use Rattle.svs_vector.specs.Vectors.{join, covers}
+use Rattle.svs_vector.proofs.JoinLemmas.{told_of_changes, length-join}
+use Rattle.svs_vector.proofs.vector.Vector.join.Goals as goal
+
+pub returns-clause-changed : goal.returns-clause-changed
+returns-clause-changed c =
+    let joined : take c.self.inside.numbers.len (c.take_greater.new.numbers ++ drop (length c.take_greater.new.numbers) c.self.inside.numbers.items) ≡ join c.args.self.now c.args.other.now = grind (arith, common_steps) in
+    let told : c.take_greater.result ≡ not (covers c.args.self.now c.args.other.now) = grind (arith, common_steps) in
+    told_of_changes _ _ _ _ told joined
+
+pub returns-clause-width : goal.returns-clause-width
+returns-clause-width c =
+    let joined : take c.self.inside.numbers.len (c.take_greater.new.numbers ++ drop (length c.take_greater.new.numbers) c.self.inside.numbers.items) ≡ join c.args.self.now c.args.other.now = grind (arith, common_steps) in
+    ap length joined ∙ length-join c.args.self.now c.args.other.now c.requires
