@@ -1,10 +1,11 @@
 -- Lines one behind the other, and the lines of octets as the lines of their elements.
-use Rattle.std.proofs.Common.{◌≡◌, ℕ, zero, suc, ◌+◌, ◌-◌, ◌<◌, ◌≤◌, if◌then◌else◌, List, [], ◌∷◌, ◌++◌, length, append_assoc, append-nil, Option, Some, None, refl, sym, ap, ◌∙◌, arith}
+use Rattle.std.proofs.Common.{◌≡◌, ℕ, zero, suc, ◌+◌, ◌-◌, ◌<◌, ◌≤◌, if◌then◌else◌, List, [], ◌∷◌, ◌++◌, length, append_assoc, append-nil, Option, Some, None, Err, refl, sym, ap, ◌∙◌, arith}
 use Rattle.ndn_tlv.specs.declared.tlv_fault.TlvFault.{TlvFault}
-use Rattle.ndn_tlv.specs.Listing.{Listing}
-use Rattle.ndn_tlv.specs.Elements.{AreWithin, Item, elements}
+use Rattle.ndn_tlv.specs.Listing.{Listing, ◌then◌}
+use Rattle.ndn_tlv.specs.Spelling.{element}
+use Rattle.ndn_tlv.specs.Elements.{AreWithin, IsElement, Item, placed, element_at, elements}
 use Rattle.ndn_tlv.proofs.Fields.{AreWithin-ends}
-use Rattle.ndn_tlv.proofs.Listings.{elements-nil, elements_within_octets}
+use Rattle.ndn_tlv.proofs.Listings.{elements-nil, elements-element, elements-fault, elements_within_octets}
 use Rattle.ndn_inspect.specs.Types.{has_elements}
 use Rattle.ndn_inspect.specs.Inspection.{Lines, no_lines, ◌before◌, carried_on, ◌and_then◌, line, inner_lines, lines_of, lines_within, lines_at}
 
@@ -75,3 +76,28 @@ lines_at-elements depth offset [] = rw (elements-nil offset [] refl) refl
 lines_at-elements depth offset (b ∷ bs) =
     let read = elements offset (b ∷ bs) in
     lines_of-same (lines_within (length bs)) lines_at (length bs) depth offset (offset + length (b ∷ bs)) read.items read.fault (elements_within_octets offset (b ∷ bs)) (omega arith) (λ d o inner short. within-same (length bs) (length inner) d o inner short (omega arith))
+
+-- ---- what octets print, element by element
+
+pub lines_at-nil : (depth offset : ℕ) → lines_at depth offset [] ≡ no_lines
+unfolding lines_at lines_within
+lines_at-nil depth offset = refl
+
+pub lines_at-element : (depth offset typ : ℕ) (value rest : List ℕ) → IsElement typ value
+    → let e = placed offset typ value in
+    lines_at depth offset (element typ value ++ rest)
+    ≡ (line depth e before inner_lines lines_at depth e and_then lines_at depth (offset + length (element typ value)) rest)
+unfolding lines_of
+lines_at-element depth offset typ value rest h =
+    let e = placed offset typ value in
+    let behind = offset + length (element typ value) in
+    lines_at-elements depth offset (element typ value ++ rest)
+    ∙ ap (listed_lines depth) (elements-element offset typ value rest h.0 h.1 h.2)
+    ∙ ap (λ (x : Lines). line depth e before inner_lines lines_at depth e and_then x) (sym (lines_at-elements depth behind rest))
+
+pub lines_at-fault : (depth offset : ℕ) (octets : List ℕ) (f : TlvFault) → 0 < length octets
+    → element_at offset octets ≡ Err f
+    → lines_at depth offset octets ≡ (let ended : Lines = record { text = []; fault = Some f } in ended)
+unfolding lines_of
+lines_at-fault depth offset octets f some h =
+    lines_at-elements depth offset octets ∙ ap (listed_lines depth) (elements-fault offset octets f some h)

@@ -1,13 +1,13 @@
 -- Readings that stand inside each other, the deepest last: what is still to be printed of them, and
 -- how much work they are.
-use Rattle.std.proofs.Common.{◌≡◌, ℕ, zero, suc, ◌+◌, ◌*◌, ◌^◌, ◌<◌, ◌≤◌, true, false, List, [], ◌∷◌, ◌++◌, length, length-append, append-nil, Option, Some, None, refl, sym, ap, ◌∙◌, arith, add-zero, zero-add}
+use Rattle.std.proofs.Common.{◌≡◌, ℕ, suc, ◌+◌, ◌*◌, ◌^◌, ◌<◌, ◌≤◌, true, false, List, [], ◌∷◌, ◌++◌, length, length-append, append-nil, Some, None, refl, sym, ap, ◌∙◌, arith, add-zero, zero-add}
 use Rattle.ndn_tlv.specs.declared.tlv_fault.TlvFault.{TlvFault}
 use Rattle.ndn_tlv.specs.Listing.{Listing, nothing, only_fault, ◌then◌}
 use Rattle.ndn_tlv.specs.Elements.{AreWithin, Item, elements}
 use Rattle.ndn_tlv.proofs.Fields.{AreWithin-ends}
 use Rattle.ndn_tlv.proofs.Listings.{elements_within_octets}
 use Rattle.ndn_inspect.specs.Types.{has_elements}
-use Rattle.ndn_inspect.specs.Inspection.{Lines, no_lines, ◌before◌, carried_on, ◌and_then◌, line, inner_lines, lines_of, lines_at}
+use Rattle.ndn_inspect.specs.Inspection.{Lines, no_lines, ◌before◌, ◌and_then◌, line, inner_lines, lines_of, lines_at}
 use Rattle.ndn_inspect.proofs.LineLemmas.{before-before, before-and_then, and_then-assoc, and_then-none, listed_lines, lines_at-elements}
 
 abbrev pub Readings : Type 0

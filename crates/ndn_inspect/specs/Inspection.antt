@@ -5,7 +5,6 @@ use Rattle.std.specs.Fmt.{digits}
 use Rattle.hex.specs.Hex.{encode_lower}
 use Rattle.ndn_tlv.specs.declared.tlv_fault.TlvFault.{TlvFault}
 use Rattle.ndn_tlv.specs.declared.tlv_fault.TlvFault.TheVariants.{Truncated, NotShortest, ZeroType, TypeTooLarge}
-use Rattle.ndn_tlv.specs.Listing.{Listing}
 use Rattle.ndn_tlv.specs.Elements.{Item, elements}
 use Rattle.ndn_inspect.specs.Types.{name_of, has_elements}
 

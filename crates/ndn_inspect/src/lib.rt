@@ -2,10 +2,12 @@
 #![tactic(auto)]
 
 mod inspector;
+mod laws;
 mod line;
 mod types;
 
 pub use inspector::inspect;
+pub use laws::lines_are_those_of_elements;
 
 #[cfg(test)]
 mod tests;

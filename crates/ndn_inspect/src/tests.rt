@@ -31,7 +31,8 @@ f0 Unknown 1 ff
 ";
 
 // A segment with the content `abc`, signed by `/alice` with the key `k1`.
-const DATA: &str = "064d07080803646f63320100 14051a03320100 1503616263 16131b01041c0e070c0805616c69636508034b4559 1720375b6af5bb89153f9e9f217bcff08bb4e94a9c19f2ab42636d6eaa822dd3fcfa";
+const DATA: &str =
+    "064d07080803646f63320100 14051a03320100 1503616263 16131b01041c0e070c0805616c69636508034b4559 1720375b6af5bb89153f9e9f217bcff08bb4e94a9c19f2ab42636d6eaa822dd3fcfa";
 
 const DATA_LINES: &str = "06 Data 77
   07 Name 8
@@ -69,7 +70,11 @@ fn texts(rt: HostRuntime) -> Result<(), Fail> {
             false,
         ),
         ("07fd0006", "fault NotShortest 1\n", false),
-        ("08000000", "08 GenericNameComponent 0\nfault ZeroType 2\n", false),
+        (
+            "08000000",
+            "08 GenericNameComponent 0\nfault ZeroType 2\n",
+            false,
+        ),
         (
             "0604 0602 0601 07",
             "06 Data 4\n  06 Data 2\nfault Truncated 4\n",

@@ -1,16 +1,15 @@
-use Rattle.std.proofs.Common.{◌≡◌, ℕ, ◌++◌, [], ◌∷◌, length, string_bytes, vec_len, append-nil, sym, ap, ◌∙◌, arith, rules}
+use Rattle.std.proofs.Common.{◌≡◌, ℕ, ◌++◌, [], ◌∷◌, length, string_bytes, append-nil, sym, ap, ◌∙◌, arith, rules}
 use Rattle.ndn_tlv.specs.declared.tlv_fault.TlvFault.{TlvFault}
 use Rattle.ndn_tlv.specs.Listing.{Listing}
 use Rattle.ndn_tlv.specs.Elements.{Item, item, elements}
-use Rattle.ndn_inspect.specs.Inspection.{Lines, no_lines, ◌before◌, line, inspected}
-use Rattle.ndn_inspect.proofs.OpenReadings.{Readings, pending, at_end, at_fault, at_leaf, at_nest, all_read, first_read, Fit, Fit-nil, Fit-last, Fit-parts, Fit-element, elements_fit, size, size_elements, size-then, work, work-last}
+use Rattle.ndn_inspect.specs.Inspection.{Lines, line}
+use Rattle.ndn_inspect.proofs.OpenReadings.{Readings, at_end, at_fault, at_leaf, at_nest, all_read, first_read, Fit-nil, Fit-last, Fit-parts, Fit-element, elements_fit, size, size_elements, size-then, work, work-last}
 use Rattle.ndn_inspect.proofs.inspector.put_elements.Goals as goal
 
 pub loop-reader-init : goal.loop-reader-init
 loop-reader-init c =
     let octets = c.args.octets.now in
-    let pushed : c.push.new.self.items ≡ elements 0 octets ∷ [] = c.in_ok-push.ensures.items ∙ ap (λ (list : Readings). list ++ c.new.result ∷ []) c.new-open.ensures.items ∙ ap (λ (r : Listing Item TlvFault). r ∷ []) c.new.ensures.elements in
-    (
+    let pushed : c.push.new.self.items ≡ elements 0 octets ∷ [] = c.in_ok-push.ensures.items ∙ ap (λ (list : Readings). list ++ c.new.result ∷ []) c.new-open.ensures.items ∙ ap (λ (r : Listing Item TlvFault). r ∷ []) c.new.ensures.elements in (
       rw pushed (first_read (string_bytes c.args.text.now) octets),
       rw pushed (Fit-last [] (elements 0 octets) Fit-nil (elements_fit 0 octets (search rules))),
     )
@@ -72,8 +71,7 @@ loop-reader-preserved c =
     let seen = rw c.in-Some-next.is at c.in-Ok.ensures.ok in
     let leaf = sym c.has_elements.ensures ∙ c.if-has_elements.false in
     let deep : c.len.result ≡ length outer = c.len.ensures ∙ c.pop.new.self.ok.0 in
-    let lined = c.in_ok-put_line.ensures ∙ ap (λ (d : ℕ). text ++ line d element) deep in
-    (
+    let lined = c.in_ok-put_line.ensures ∙ ap (λ (d : ℕ). text ++ line d element) deep in (
       rw (lined, c.in_ok-push-2.ensures.items) (at_leaf text outer c.in-Some.reader _ so_far element c.next.new.self seen leaf),
       rw c.in_ok-push-2.ensures.items (Fit-last outer c.next.new.self parts.0 (Fit-element element c.next.new.self c.in-Some.reader seen parts.1).1),
     )
@@ -108,8 +106,7 @@ loop-reader-preserved-in-Continue-branch-4 c =
     let deep : c.len.result ≡ length outer = c.len.ensures ∙ c.pop.new.self.ok.0 in
     let lined = c.in_ok-put_line.ensures ∙ ap (λ (d : ℕ). text ++ line d element) deep in
     let inner = elements element.value_start element.value in
-    let pushed : c.push-then-has_elements.new.self.items ≡ (outer ++ c.next.new.self ∷ []) ++ inner ∷ [] = c.in_ok-push-3.ensures.items ∙ ap (λ (list : Readings). list ++ c.new-then-has_elements.result ∷ []) c.in_ok-push-2.ensures.items ∙ ap (λ (r : Listing Item TlvFault). (outer ++ c.next.new.self ∷ []) ++ r ∷ []) c.new-then-has_elements.ensures.elements in
-    (
+    let pushed : c.push-then-has_elements.new.self.items ≡ (outer ++ c.next.new.self ∷ []) ++ inner ∷ [] = c.in_ok-push-3.ensures.items ∙ ap (λ (list : Readings). list ++ c.new-then-has_elements.result ∷ []) c.in_ok-push-2.ensures.items ∙ ap (λ (r : Listing Item TlvFault). (outer ++ c.next.new.self ∷ []) ++ r ∷ []) c.new-then-has_elements.ensures.elements in (
       rw (lined, pushed) (at_nest text outer c.in-Some.reader _ so_far element c.next.new.self seen nest),
       rw pushed (Fit-last (outer ++ c.next.new.self ∷ []) inner (Fit-last outer c.next.new.self parts.0 fits.1) (elements_fit element.value_start element.value fits.0)),
     )
