@@ -74,11 +74,7 @@ pub(crate) fn put_entry(
     Ok(())
 }
 
-pub(crate) fn put_refused(
-    out: &mut Vec<u8>,
-    line: u64,
-    refusal: Refusal,
-) -> Result<(), AllocError>
+pub(crate) fn put_refused(out: &mut Vec<u8>, line: u64, refusal: Refusal) -> Result<(), AllocError>
     ensures { OnOk result (out.new.items ≡ out.old.items ++ refused_text line refusal) }
 {
     out.extend_from_slice(b"refused ")?;
