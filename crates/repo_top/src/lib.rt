@@ -33,7 +33,7 @@ mod writing;
 pub use failed::Failed;
 pub use laws::{
     first_story, later_octets_change_nothing, lines_are_the_input, pieces_are_the_octets,
-    small_stories,
+    small_inspections, small_stories,
 };
 pub use read_source::ReadSource;
 pub use sink::Sink;
