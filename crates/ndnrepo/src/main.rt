@@ -1,4 +1,5 @@
-//! The program `ndnrepo`: `run` reads a script on standard input and writes its report on standard output.
+//! The program `ndnrepo`: `run` reads a script on standard input and writes its report on standard output, and `inspect`
+//! reads the hexadecimal digits of octets and writes the elements that they are.
 #![tactic(auto)]
 
 use bench_net::{FixedDraws, OpenNet};

@@ -4,5 +4,6 @@ pub mod Numerals
 pub mod Scenes
 pub mod Stories
 pub mod Fronts
+pub mod Inspections
 pub mod Runs
 pub mod CutLaws

@@ -1,5 +1,5 @@
 -- What was read decides the story of the whole input.
-use Rattle.std.proofs.Common.{◌≡◌, ◌≢◌, ℕ, ◌<◌, List, [], ◌++◌, length, Option, Some, None, ◌⊎◌, inl, inr, refl, sym, ap, subst, arith, IfSome}
+use Rattle.std.proofs.Common.{◌≡◌, ◌≢◌, ℕ, ◌+◌, ◌<◌, ◌≤◌, List, [], ◌++◌, length, Option, Some, None, ◌⊎◌, inl, inr, refl, sym, ap, subst, arith, IfSome}
 use Rattle.std.proofs.lemmas.List.{append-nil}
 use Rattle.std.proofs.lemmas.Bool.Decides.{leb_tells}
 use Rattle.repo_top.specs.declared.ending.Ending.{Ending}
@@ -8,24 +8,34 @@ use Rattle.repo_top.specs.declared.status.Status.{Status}
 use Rattle.repo_top.specs.declared.status.Status.TheVariants.{Done, NoMemory, WriteFault}
 use Rattle.repo_top.specs.Answers.{IsTold, status_of}
 use Rattle.repo_top.specs.Outside.{with_left}
-use Rattle.repo_top.specs.Story.{Story, story_of}
-use Rattle.repo_top.proofs.Fronts.{same_story, is_taken_whole}
+use Rattle.repo_top.specs.declared.form.Form.{Form}
+use Rattle.repo_top.specs.declared.form.Form.TheVariants.{Run, Inspect}
+use Rattle.repo_top.specs.Forms.{form_story, known_story, most_octets}
+use Rattle.repo_top.specs.Story.{Story}
+use Rattle.repo_top.proofs.Fronts.{same_story as same_run, is_taken_whole as run_takes_whole}
+use Rattle.repo_top.proofs.Inspections.{same_inspection, inspection_takes_whole}
 
 -- nothing is left behind so few octets
-abbrev pub IsWhole : List ℕ → Option (List ℕ) → Type 0
-IsWhole read left = length read < 65537 → IfSome left (λ rest. rest ≡ [])
+abbrev pub IsWhole : Form → List ℕ → Option (List ℕ) → Type 0
+IsWhole form read left = length read < most_octets form + 1 → IfSome left (λ rest. rest ≡ [])
 
-story_of_both : (read rest : List ℕ) → (length read < 65537 → rest ≡ []) → story_of (read ++ rest) ≡ story_of read
-story_of_both read rest whole =
-    elim (leb_tells (length read) 65536) [ inl few ↦ rw (whole (omega (arith, few.1)), append-nil read) refl | inr more ↦ same_story read rest more.1 ]
+-- what stands behind the octet past the limit changes nothing
+same_story : (form : Form) (octets more : List ℕ) → most_octets form < length octets → form_story form (octets ++ more) ≡ form_story form octets
+same_story Run octets more lt = same_run octets more lt
+same_story Inspect octets more lt = same_inspection octets more lt
 
-pub story_is_read : (before left : Option (List ℕ)) (read : List ℕ) → before ≡ with_left read left → IsWhole read left → IfSome before (λ input. story_of input ≡ story_of read)
-story_is_read before None read e whole = let P : Option (List ℕ) → Type 0 = λ o. IfSome o (λ input. story_of input ≡ story_of read) in subst P (sym e) tt
-story_is_read before (Some rest) read e whole = let P : Option (List ℕ) → Type 0 = λ o. IfSome o (λ input. story_of input ≡ story_of read) in subst P (sym e) (story_of_both read rest whole)
+is_taken_whole : (form : Form) (octets : List ℕ) → (form_story form octets).ending ≡ ending.Done → length octets ≤ most_octets form
+is_taken_whole Run octets e = run_takes_whole octets e
+is_taken_whole Inspect octets e = inspection_takes_whole octets e
 
-pub by_story : (Q : Story → Type 0) (before : Option (List ℕ)) (s : Story) → IfSome before (λ input. story_of input ≡ s) → Q s → IfSome before (λ input. Q (story_of input))
-by_story Q None s h q = tt
-by_story Q (Some input) s h q = subst Q (sym h) q
+story_of_both : (form : Form) (read rest : List ℕ) → (length read < most_octets form + 1 → rest ≡ []) → form_story form (read ++ rest) ≡ form_story form read
+story_of_both form read rest whole =
+    elim (leb_tells (length read) (most_octets form)) [ inl few ↦ rw (whole (omega (arith, few.1)), append-nil read) refl | inr more ↦ same_story form read rest more.1 ]
+
+-- what holds of the story of what was read holds of the story of the input
+pub by_story : (form : Form) (Q : Story → Type 0) (before left : Option (List ℕ)) (read : List ℕ) → before ≡ with_left read left → IsWhole form read left → Q (form_story form read) → IfSome (known_story form before) Q
+by_story form Q before None read e whole q = let P : Option (List ℕ) → Type 0 = λ o. IfSome (known_story form o) Q in subst P (sym e) tt
+by_story form Q before (Some rest) read e whole q = let P : Option (List ℕ) → Type 0 = λ o. IfSome (known_story form o) Q in subst P (sym e) (subst Q (sym (story_of_both form read rest whole)) q)
 
 -- how a report that was begun may end
 abbrev pub EndsSo : Status → Ending → Type 0
@@ -45,10 +55,10 @@ is_done : (e : Ending) → Done ≡ status_of e → e ≡ ending.Done
 is_done ending.Done h = refl
 is_done (ending.Refused line number) h = cc
 
-pub none_left : (before left : Option (List ℕ)) (read : List ℕ) → before ≡ with_left read left → IsWhole read left → Done ≡ status_of (story_of read).ending → IfSome before (λ input. left ≡ Some [])
-none_left before None read e whole done = let P : Option (List ℕ) → Type 0 = λ o. IfSome o (λ input. let none : Option (List ℕ) = None in none ≡ Some []) in subst P (sym e) tt
-none_left before (Some rest) read e whole done =
-    let few = is_taken_whole read (is_done (story_of read).ending done) in
+pub none_left : (form : Form) (before left : Option (List ℕ)) (read : List ℕ) → before ≡ with_left read left → IsWhole form read left → Done ≡ status_of (form_story form read).ending → IfSome before (λ input. left ≡ Some [])
+none_left form before None read e whole done = let P : Option (List ℕ) → Type 0 = λ o. IfSome o (λ input. let none : Option (List ℕ) = None in none ≡ Some []) in subst P (sym e) tt
+none_left form before (Some rest) read e whole done =
+    let few = is_taken_whole form read (is_done (form_story form read).ending done) in
     let nothing : rest ≡ [] = whole (omega (arith, few)) in
     let P : Option (List ℕ) → Type 0 = λ o. IfSome o (λ input. let some : Option (List ℕ) = Some rest in some ≡ Some []) in
     subst P (sym e) (ap (λ (t : List ℕ). Some t) nothing)

@@ -2,6 +2,7 @@
 use Rattle.std.proofs.Common.{◌≡◌, ℕ, ◌+◌, List, [], ◌∷◌, ◌++◌, Option, Some, None, sym, ap, refl, ◌∙◌, append_assoc}
 use Rattle.std.proofs.lemmas.List.{append-nil}
 use Rattle.repo_top.specs.declared.ending.Ending.TheVariants.{Done, Refused}
+use Rattle.repo_top.specs.declared.refusal.Refusal.TheVariants.{NotBuilt}
 use Rattle.repo_top.specs.Report.{refused_text}
 use Rattle.repo_top.specs.Story.{Story, SceneModel, EventValue, behind, judge, after, reply, story_from}
 
@@ -13,7 +14,7 @@ module _ (s : SceneModel) (rest : List (Option (List ℕ))) (done : List ℕ) (w
   unfolding story_from
   is_done e = sym (sym so_far ∙ rw e (ap (λ (t : List ℕ). let r : Story = record { text = t; ending = Done } in r) (append-nil done)))
 
-  pub is_refused : (line : Option (List ℕ)) (others : List (Option (List ℕ))) → rest ≡ line ∷ others → judge s line ≡ None → record { text = done ++ refused_text (s.lines + 1); ending = Refused (s.lines + 1) 13 } ≡ whole
+  pub is_refused : (line : Option (List ℕ)) (others : List (Option (List ℕ))) → rest ≡ line ∷ others → judge s line ≡ None → record { text = done ++ refused_text (s.lines + 1) NotBuilt; ending = Refused (s.lines + 1) 13 } ≡ whole
   unfolding story_from
   is_refused line others e bad = sym (sym so_far ∙ rw (e, bad) refl)
 

@@ -1,24 +1,16 @@
--- The words that a run takes, and the statuses that it answers.
-use Rattle.std.specs.Prelude.{ℕ, ⊤, List, [], ◌∷◌, Option, Some, None, codes, if◌then◌else◌}
-use Rattle.std.specs.Str.{bytes_eq}
-use Rattle.repo_top.specs.declared.form.Form.{Form}
-use Rattle.repo_top.specs.declared.form.Form.TheVariants.{Run}
+-- The statuses that a run answers.
+use Rattle.std.specs.Prelude.{ℕ, ⊤}
 use Rattle.repo_top.specs.declared.ending.Ending.{Ending}
 use Rattle.repo_top.specs.declared.ending.Ending.TheVariants as ending
 use Rattle.repo_top.specs.declared.status.Status.{Status}
 use Rattle.repo_top.specs.declared.status.Status.TheVariants.{Done, Usage, Refused, ReadFault, WriteFault, NoMemory, Foreign}
 
--- The form that the words are: the one word `run`.
-abbrev pub form_of : List (List ℕ) → Option Form
-form_of (word ∷ []) = if bytes_eq word (codes "run") then Some Run else None
-form_of _ = None
-
--- The status of a script that ends so.
+-- The status of a story that ends so.
 abbrev pub status_of : Ending → Status
 status_of ending.Done = Done
 status_of (ending.Refused line number) = Refused line number
 
--- The statuses of a script that was told to its end.
+-- The statuses of a story that was told to its end.
 abbrev pub IsTold : Status → Type 0
 IsTold Done = ⊤
 IsTold Usage = ⊥

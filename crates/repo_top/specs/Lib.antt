@@ -9,4 +9,6 @@ pub mod Grammar
 pub mod Report
 pub mod Story
 pub mod Events
+pub mod Inspection
+pub mod Forms
 pub mod Answers

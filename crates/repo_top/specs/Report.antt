@@ -2,6 +2,8 @@
 use Rattle.std.specs.Prelude.{ℕ, List, ◌++◌, length, codes, decimal}
 use Rattle.hex.specs.Hex.{encode_lower}
 use Rattle.sha2.specs.Sha256.{sha256}
+use Rattle.repo_top.specs.declared.refusal.Refusal.{Refusal}
+use Rattle.repo_top.specs.declared.refusal.Refusal.TheVariants.{Syntax, Limit, BadPacket, NotBuilt}
 
 -- A member published under its number `seq`. Its object has one segment, and its sync packet is the
 -- `sync`th that was sent.
@@ -26,6 +28,21 @@ entry_text label seq name content =
     ++ codes " segments 1 octets " ++ decimal (length content)
     ++ codes " sha256 " ++ encode_lower (sha256 content) ++ codes "\n"
 
--- A line of this number is not built.
-abbrev pub refused_text : ℕ → List ℕ
-refused_text line = codes "refused " ++ decimal line ++ codes " 13 NotBuilt\n"
+-- The number of a refusal, and its word.
+abbrev pub refusal_number : Refusal → ℕ
+refusal_number Syntax = 1
+refusal_number Limit = 4
+refusal_number BadPacket = 12
+refusal_number NotBuilt = 13
+
+abbrev pub refusal_word : Refusal → List ℕ
+refusal_word Syntax = codes "Syntax"
+refusal_word Limit = codes "Limit"
+refusal_word BadPacket = codes "BadPacket"
+refusal_word NotBuilt = codes "NotBuilt"
+
+-- The line of this number is refused.
+abbrev pub refused_text : ℕ → Refusal → List ℕ
+refused_text line refusal =
+    codes "refused " ++ decimal line ++ codes " " ++ decimal (refusal_number refusal) ++ codes " "
+    ++ refusal_word refusal ++ codes "\n"

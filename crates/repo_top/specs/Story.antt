@@ -9,9 +9,11 @@ use Rattle.repo_top.specs.declared.ending.Ending.{Ending}
 use Rattle.repo_top.specs.declared.ending.Ending.TheVariants.{Done, Refused}
 use Rattle.repo_top.specs.declared.stage.Stage.{Stage}
 use Rattle.repo_top.specs.declared.stage.Stage.TheVariants.{Opening, Declaring, Acting}
+use Rattle.repo_top.specs.declared.refusal.Refusal.{Refusal}
+use Rattle.repo_top.specs.declared.refusal.Refusal.TheVariants.{NotBuilt}
 use Rattle.repo_top.specs.Lines.{lines}
 use Rattle.repo_top.specs.Grammar.{LineValue, group_line, member_line, publish_line, settle_line, catalogue_line, line_of}
-use Rattle.repo_top.specs.Report.{publish_text, settle_text, catalogue_text, entry_text, refused_text}
+use Rattle.repo_top.specs.Report.{publish_text, settle_text, catalogue_text, entry_text, refusal_number, refused_text}
 
 -- ---- what the lines so far came to
 
@@ -121,12 +123,13 @@ pub record Story : Type 0 where
 abbrev pub behind : List ℕ → Story → Story
 behind text s = record { text = text ++ s.text; ending = s.ending }
 
--- A line that is not built ends the story.
-abbrev pub refusal : ℕ → Story
-refusal line = record { text = refused_text line; ending = Refused line 13 }
+-- A line that is refused ends the story.
+abbrev pub refused : ℕ → Refusal → Story
+refused line refusal =
+    record { text = refused_text line refusal; ending = Refused line (refusal_number refusal) }
 
 abbrev pub told : (SceneModel → Story) → SceneModel → Option EventValue → Story
-told others s None = refusal (s.lines + 1)
+told others s None = refused (s.lines + 1) NotBuilt
 told others s (Some event) = behind (reply s event) (others (after s event))
 
 -- The story of lines that follow what happened so far.

@@ -1,6 +1,7 @@
 ghost use Rattle.std.specs.Prelude.{◌≡◌, ◌≢◌, ◌+◌, ◌<◌, ◌≤◌, ℕ, List, [], ◌∷◌, ◌++◌, All, length, codes};
 ghost use Rattle.std.specs.List.{flat_map};
 ghost use Rattle.repo_top.specs.declared.ending.Ending.TheVariants.{Done, Refused};
+ghost use Rattle.repo_top.specs.Inspection.{inspect_story};
 ghost use Rattle.repo_top.specs.Lines.{IsLine, with_feed, lines};
 ghost use Rattle.repo_top.specs.Pieces.{pieces, with_separator};
 ghost use Rattle.repo_top.specs.Story.{story_of};
@@ -35,6 +36,20 @@ pub fn small_stories()
     ensures group { story_of (codes "group /g\n") ≡ record { text = []; ending = Done } }
     ensures refused { story_of (codes "settle 1\n")
         ≡ record { text = codes "refused 1 13 NotBuilt\n"; ending = Refused 1 13 } }
+{}
+
+/// The stories of four small inputs that are inspected, worked out.
+pub fn small_inspections()
+    ensures name { inspect_story (codes "0706 080161\t320100\r\n") ≡ record {
+      text = codes "07 Name 6\n  08 GenericNameComponent 1 61\n  32 SegmentNameComponent 1 00\n";
+      ending = Done;
+    } }
+    ensures fault { inspect_story (codes "0704070207")
+        ≡ record { text = codes "fault Truncated 0\n"; ending = Refused 1 12 } }
+    ensures inner_fault { inspect_story (codes "070207fd")
+        ≡ record { text = codes "07 Name 2\nfault Truncated 3\n"; ending = Refused 1 12 } }
+    ensures syntax { inspect_story (codes "0g")
+        ≡ record { text = codes "refused 1 1 Syntax\n"; ending = Refused 1 1 } }
 {}
 
 /// The story of one publication that reaches two catalogues, worked out.

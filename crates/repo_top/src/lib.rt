@@ -7,6 +7,7 @@ mod ending;
 mod event;
 mod failed;
 mod form;
+mod inspection;
 mod laws;
 mod line;
 mod lines;
@@ -14,6 +15,7 @@ mod pieces;
 mod read_fault;
 mod read_source;
 mod reading;
+mod refusal;
 mod report;
 mod scene;
 mod sink;
@@ -31,7 +33,7 @@ mod writing;
 pub use failed::Failed;
 pub use laws::{
     first_story, later_octets_change_nothing, lines_are_the_input, pieces_are_the_octets,
-    small_stories,
+    small_inspections, small_stories,
 };
 pub use read_source::ReadSource;
 pub use sink::Sink;

@@ -3,6 +3,7 @@ ghost use Rattle.hex.specs.Hex.{encode_lower};
 ghost use Rattle.sha2.specs.Sha256.{sha256};
 ghost use Rattle.repo_top.specs.Report.{publish_text, settle_text, catalogue_text, entry_text, refused_text};
 
+use crate::refusal::Refusal;
 use itoa::Buffer;
 use sha2::{Digest, Sha256};
 use std::alloc::AllocError;
@@ -73,12 +74,16 @@ pub(crate) fn put_entry(
     Ok(())
 }
 
-pub(crate) fn put_refused(out: &mut Vec<u8>, line: u64) -> Result<(), AllocError>
-    ensures { OnOk result (out.new.items ≡ out.old.items ++ refused_text line) }
+pub(crate) fn put_refused(out: &mut Vec<u8>, line: u64, refusal: Refusal) -> Result<(), AllocError>
+    ensures { OnOk result (out.new.items ≡ out.old.items ++ refused_text line refusal) }
 {
     out.extend_from_slice(b"refused ")?;
     put_number(out, line)?;
-    out.extend_from_slice(b" 13 NotBuilt\n")?;
+    out.extend_from_slice(b" ")?;
+    put_number(out, u64::from(refusal.number()))?;
+    out.extend_from_slice(b" ")?;
+    out.extend_from_slice(refusal.word().as_bytes())?;
+    out.extend_from_slice(b"\n")?;
     Ok(())
 }
 

@@ -82,7 +82,26 @@ fn words_of(alloc: Global, text: &str) -> Result<Vec<String>, AllocError> {
     Ok(words)
 }
 
-// Runs the script from pieces to pieces of so many octets, and expects the status and the report.
+// Runs with these words from pieces to pieces of so many octets, and expects the status and the text.
+fn expect_of<R: Threads + Sync + AllocGlobal + Abort>(
+    rt: &R,
+    words: &str,
+    piece: usize,
+    input: Vec<u8>,
+    wanted: Status,
+    text: &str,
+) -> Result<(), AllocError>
+    requires { 1 ≤ piece }
+{
+    let alloc = rt.alloc();
+    let mut source = VecSource::new(input, piece, Vec::new(alloc));
+    let mut sink = VecSink::new(alloc, piece, Vec::new(alloc));
+    let answered = status(rt, &words_of(alloc, words)?, &mut source, &mut sink);
+    assert_eq!(rt; answered, wanted);
+    assert_eq!(rt; sink.octets(), text.as_bytes());
+    Ok(())
+}
+
 fn expect<R: Threads + Sync + AllocGlobal + Abort>(
     rt: &R,
     piece: usize,
@@ -92,13 +111,8 @@ fn expect<R: Threads + Sync + AllocGlobal + Abort>(
 ) -> Result<(), AllocError>
     requires { 1 ≤ piece }
 {
-    let alloc = rt.alloc();
-    let mut source = VecSource::new(script.to_vec(alloc)?, piece, Vec::new(alloc));
-    let mut sink = VecSink::new(alloc, piece, Vec::new(alloc));
-    let answered = status(rt, &words_of(alloc, "run")?, &mut source, &mut sink);
-    assert_eq!(rt; answered, wanted);
-    assert_eq!(rt; sink.octets(), report.as_bytes());
-    Ok(())
+    let script = script.to_vec(rt.alloc())?;
+    expect_of(rt, "run", piece, script, wanted, report)
 }
 
 #[test]
@@ -126,7 +140,7 @@ fn little_is_reported_of_little(rt: HostRuntime) -> Result<(), Fail> {
     Ok(())
 }
 
-// Other words than `run` are answered at once, though each call would fail.
+// Words of no form are answered at once, though each call would fail.
 fn expect_usage<R: Threads + Sync + AllocGlobal + Abort>(
     rt: &R,
     words: &str,
@@ -145,7 +159,7 @@ fn other_words_touch_nothing(rt: HostRuntime) -> Result<(), Fail> {
     expect_usage(&rt, "")?;
     expect_usage(&rt, "run x")?;
     expect_usage(&rt, "gen 0 1 1")?;
-    expect_usage(&rt, "inspect")?;
+    expect_usage(&rt, "inspect run")?;
     Ok(())
 }
 
@@ -286,6 +300,76 @@ fn a_thousand_lines_are_taken(rt: HostRuntime) -> Result<(), Fail> {
         number: 13,
     };
     expect(&rt, piece, script.as_bytes(), refused, report.as_str())?;
+    Ok(())
+}
+
+#[test]
+fn digits_are_inspected(rt: HostRuntime) -> Result<(), Fail> {
+    let name = "07 Name 6\n  08 GenericNameComponent 1 61\n  32 SegmentNameComponent 1 00\n";
+    let refused = |number| Status::Refused { line: 1, number };
+    for (digits, wanted, text) in [
+        ("0706080161320100", Status::Done, name),
+        (" 07 06\t080161\r\n32 010 0\n", Status::Done, name),
+        ("", Status::Done, ""),
+        ("07fd0006", refused(12), "fault NotShortest 1\n"),
+        ("07FD0006", refused(12), "fault NotShortest 1\n"),
+        ("0g", refused(1), "refused 1 1 Syntax\n"),
+        ("070", refused(1), "refused 1 1 Syntax\n"),
+        ("0700\x0c", refused(1), "refused 1 1 Syntax\n"),
+    ] {
+        let input = digits.as_bytes().to_vec(rt.alloc())?;
+        expect_of(&rt, "inspect", 5, input, wanted, text)?;
+    }
+    Ok(())
+}
+
+// Inspects an input of so many octets: `front`, and then one octet again and again.
+fn expect_filled<R: Threads + Sync + AllocGlobal + Abort>(
+    rt: &R,
+    front: &str,
+    filled: (usize, u8),
+    wanted: Status,
+    text: &str,
+) -> Result<(), AllocError> {
+    let mut input = front.as_bytes().to_vec(rt.alloc())?;
+    input.resize(filled.0, filled.1)?;
+    expect_of(rt, "inspect", 5_000, input, wanted, text)
+}
+
+#[test]
+fn so_many_octets_are_inspected(rt: HostRuntime) -> Result<(), Fail> {
+    let refused = |number| Status::Refused { line: 1, number };
+    // 8,800 octets, and one more. Half an octet is no octet.
+    expect_filled(
+        &rt,
+        "0000",
+        (17_600, b'a'),
+        refused(12),
+        "fault ZeroType 0\n",
+    )?;
+    expect_filled(
+        &rt,
+        "0000",
+        (17_601, b'a'),
+        refused(1),
+        "refused 1 1 Syntax\n",
+    )?;
+    expect_filled(
+        &rt,
+        "0000",
+        (17_602, b'a'),
+        refused(4),
+        "refused 1 4 Limit\n",
+    )?;
+    // The limit of the input comes before all else.
+    expect_filled(&rt, "0700", (16_777_216, b' '), Status::Done, "07 Name 0\n")?;
+    expect_filled(
+        &rt,
+        "070g",
+        (16_777_217, b' '),
+        refused(4),
+        "refused 1 4 Limit\n",
+    )?;
     Ok(())
 }
 

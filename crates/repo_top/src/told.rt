@@ -3,6 +3,7 @@ ghost use Rattle.repo_top.specs.Story.{story_of};
 
 use crate::ending::Ending;
 use crate::lines::Lines;
+use crate::refusal::Refusal;
 use crate::report::put_refused;
 use crate::scene::Scene;
 use std::alloc::{AllocError, Global};
@@ -10,9 +11,6 @@ use std::marker::Model;
 
 // How many octets of the input are taken at most.
 pub(crate) const MOST_OCTETS: usize = 65_536;
-
-// The number of the one refusal: the line is not built.
-const NOT_BUILT: u32 = 13;
 
 // A story that was told: the text of the report, and the end.
 #[derive(Drop)]
@@ -39,10 +37,10 @@ pub(crate) fn tell(alloc: Global, input: &[u8]) -> Result<Told, AllocError>
     while let Some(line) = lines.next() {
         let Some(event) = scene.judge(line) else {
             let line = scene.next_line();
-            put_refused(&mut text, u64::from(line))?;
+            put_refused(&mut text, u64::from(line), Refusal::NotBuilt)?;
             let ending = Ending::Refused {
                 line,
-                number: NOT_BUILT,
+                number: Refusal::NotBuilt.number(),
             };
             return Ok(Told { text, ending });
         };

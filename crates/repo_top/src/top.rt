@@ -1,23 +1,25 @@
-ghost use Rattle.std.specs.Prelude.{◌≡◌, ◌≢◌, ◌↔◌, ◌⊎◌, ℕ, [], List, None, Some, IfSome, map, string_bytes};
-ghost use Rattle.repo_top.specs.Answers.{IsTold, form_of, status_of};
+ghost use Rattle.std.specs.Prelude.{◌≡◌, ◌≢◌, ◌↔◌, ◌⊎◌, ℕ, [], List, None, Some, IfOk, IfSome, map, string_bytes};
+ghost use Rattle.repo_top.specs.Answers.{IsTold, status_of};
+ghost use Rattle.repo_top.specs.Forms.{asked_story, form_of, form_story, known_story};
 ghost use Rattle.repo_top.specs.Outside.{Gains, GainsFront, HasRisen};
-ghost use Rattle.repo_top.specs.Story.{story_of};
 
 use crate::form::{Form, form_of};
+use crate::inspection::tell_inspection;
 use crate::read_fault::ReadFault;
 use crate::reading::read_up_to;
 use crate::sink::Sink;
 use crate::source::Source;
 use crate::status::Status;
-use crate::told::{MOST_OCTETS, tell};
+use crate::told::{Told, tell};
 use crate::writing::write_whole;
 use bench_net::{Draws, Net};
-use std::alloc::Global;
+use std::alloc::{AllocError, Global};
 use std::thread::Threads;
 
 /// Does what the words ask for: `run` reads a script from the source whole, and then writes its report to the sink.
+/// `inspect` reads hexadecimal digits, and writes the lines of the elements that their octets are.
 ///
-/// Of an input of more than 65,536 octets one octet more is read.
+/// Of an input of more than 65,536 octets, or 16,777,216 for `inspect`, one octet more is read.
 pub fn run<R: Threads + Sync, S: Source, K: Sink, N: Net + Sync, D: Draws>(
     _rt: &R,
     alloc: Global,
@@ -31,11 +33,14 @@ pub fn run<R: Threads + Sync, S: Source, K: Sink, N: Net + Sync, D: Draws>(
     ensures usage { (result ≡ Status.Usage) ↔ (form_of (map string_bytes words.now) ≡ None) }
     ensures untouched { result ≡ Status.Usage → (source.new ≡ source.old) × (sink.new ≡ sink.old) }
 
-    // On `Done` and `Refused` the status is the story's end, and what was written is its text.
+    // On `Done` and `Refused` the status is the end of the story that the words ask for, and what was written is its
+    // text.
     ensures end { IsTold result
-        → IfSome (S.left source.old) (λ input. result ≡ status_of (story_of input).ending) }
-    ensures text { IsTold result → IfSome (S.left source.old)
-        (λ input. Gains (K.out sink.old) (K.out sink.new) (story_of input).text) }
+        → IfSome (asked_story (form_of (map string_bytes words.now)) (S.left source.old))
+        (λ story. result ≡ status_of story.ending) }
+    ensures text { IsTold result
+        → IfSome (asked_story (form_of (map string_bytes words.now)) (S.left source.old))
+        (λ story. Gains (K.out sink.old) (K.out sink.new) story.text) }
     ensures read_to_end { result ≡ Status.Done
         → IfSome (S.left source.old) (λ input. S.left source.new ≡ Some []) }
 
@@ -46,26 +51,25 @@ pub fn run<R: Threads + Sync, S: Source, K: Sink, N: Net + Sync, D: Draws>(
     ensures write_fault { result ≡ Status.WriteFault
         → HasRisen (K.faults sink.old) (K.faults sink.new) }
     ensures never_foreign { (line : ℕ) → result ≢ Status.Foreign line }
-    ensures front { IfSome (S.left source.old)
-        (λ input. GainsFront (K.out sink.old) (K.out sink.new) (story_of input).text) }
-    ensures complete { form_of (map string_bytes words.now) ≢ None
-        → ¬ HasRisen (S.faults source.old) (S.faults source.new)
+    ensures front { IfSome (asked_story (form_of (map string_bytes words.now)) (S.left source.old))
+        (λ story. GainsFront (K.out sink.old) (K.out sink.new) story.text) }
+    ensures complete { ¬ HasRisen (S.faults source.old) (S.faults source.new)
         → ¬ HasRisen (K.faults sink.old) (K.faults sink.new)
-        → IfSome (S.left source.old)
-        (λ input. (result ≡ status_of (story_of input).ending) ⊎ (result ≡ Status.NoMemory)) }
+        → IfSome (asked_story (form_of (map string_bytes words.now)) (S.left source.old))
+        (λ story. (result ≡ status_of story.ending) ⊎ (result ≡ Status.NoMemory)) }
 {
     match form_of(words) {
-        Some(Form::Run) => run_script(alloc, source, sink),
+        Some(form) => run_form(form, alloc, source, sink),
         None => Status::Usage,
     }
 }
 
-// Reads the script, and writes its report.
-fn run_script<S: Source, K: Sink>(alloc: Global, source: &mut S, sink: &mut K) -> Status
+// Reads the input, and writes what the form makes of it.
+fn run_form<S: Source, K: Sink>(form: Form, alloc: Global, source: &mut S, sink: &mut K) -> Status
     ensures end { IsTold result
-        → IfSome (S.left source.old) (λ input. result ≡ status_of (story_of input).ending) }
-    ensures text { IsTold result → IfSome (S.left source.old)
-        (λ input. Gains (K.out sink.old) (K.out sink.new) (story_of input).text) }
+        → IfSome (known_story form (S.left source.old)) (λ story. result ≡ status_of story.ending) }
+    ensures text { IsTold result → IfSome (known_story form (S.left source.old))
+        (λ story. Gains (K.out sink.old) (K.out sink.new) story.text) }
     ensures read_to_end { result ≡ Status.Done
         → IfSome (S.left source.old) (λ input. S.left source.new ≡ Some []) }
     ensures read_fault { result ≡ Status.ReadFault
@@ -75,37 +79,47 @@ fn run_script<S: Source, K: Sink>(alloc: Global, source: &mut S, sink: &mut K) -
         → HasRisen (K.faults sink.old) (K.faults sink.new) }
     ensures never_foreign { (line : ℕ) → result ≢ Status.Foreign line }
     ensures never_usage { result ≢ Status.Usage }
-    ensures front { IfSome (S.left source.old)
-        (λ input. GainsFront (K.out sink.old) (K.out sink.new) (story_of input).text) }
+    ensures front { IfSome (known_story form (S.left source.old))
+        (λ story. GainsFront (K.out sink.old) (K.out sink.new) story.text) }
     ensures complete { ¬ HasRisen (S.faults source.old) (S.faults source.new)
         → ¬ HasRisen (K.faults sink.old) (K.faults sink.new)
-        → IfSome (S.left source.old)
-        (λ input. (result ≡ status_of (story_of input).ending) ⊎ (result ≡ Status.NoMemory)) }
+        → IfSome (known_story form (S.left source.old))
+        (λ story. (result ≡ status_of story.ending) ⊎ (result ≡ Status.NoMemory)) }
 {
     // One octet more than are taken, so that a longer input shows.
-    let input = match read_up_to(alloc, source, MOST_OCTETS + 1) {
+    let input = match read_up_to(alloc, source, form.most_octets() + 1) {
         Ok(input) => input,
         Err(ReadFault::Failed) => return Status::ReadFault,
         Err(ReadFault::NoMemory) => return Status::NoMemory,
     };
-    write_report(alloc, &input, sink)
+    write_story(form, alloc, input, sink)
 }
 
-// Tells the story of the script, and writes its text.
-fn write_report<K: Sink>(alloc: Global, input: &[u8], sink: &mut K) -> Status
-    ensures ends { (result ≡ status_of (story_of input.now).ending) ⊎ ((result ≡ Status.NoMemory)
-        ⊎ (result ≡ Status.WriteFault)) }
+// Tells the story of the input, and writes its text.
+fn write_story<K: Sink>(form: Form, alloc: Global, input: Vec<u8>, sink: &mut K) -> Status
+    ensures ends { (result ≡ status_of (form_story form input.items).ending)
+        ⊎ ((result ≡ Status.NoMemory) ⊎ (result ≡ Status.WriteFault)) }
     ensures text { IsTold result
-        → Gains (K.out sink.old) (K.out sink.new) (story_of input.now).text }
+        → Gains (K.out sink.old) (K.out sink.new) (form_story form input.items).text }
     ensures write_fault { result ≡ Status.WriteFault
         → HasRisen (K.faults sink.old) (K.faults sink.new) }
-    ensures front { GainsFront (K.out sink.old) (K.out sink.new) (story_of input.now).text }
+    ensures front { GainsFront (K.out sink.old) (K.out sink.new) (form_story form input.items).text }
 {
-    let Ok(told) = tell(alloc, input) else {
+    let Ok(told) = tell_form(form, alloc, input) else {
         return Status::NoMemory;
     };
     match write_whole(sink, &told.text) {
         Ok(()) => Status::from(told.ending),
         Err(_) => Status::WriteFault,
+    }
+}
+
+// What the form makes of the input.
+fn tell_form(form: Form, alloc: Global, input: Vec<u8>) -> Result<Told, AllocError>
+    ensures { IfOk result (λ told. told ≡ form_story form input.items) }
+{
+    match form {
+        Form::Run => tell(alloc, &input),
+        Form::Inspect => tell_inspection(alloc, input),
     }
 }

@@ -1,0 +1,13 @@
+//! Octets as a text for people: a line for each element of NDN Packet Format 0.3, those inside another one deeper.
+#![tactic(auto)]
+
+mod inspector;
+mod laws;
+mod line;
+mod types;
+
+pub use inspector::inspect;
+pub use laws::lines_are_those_of_elements;
+
+#[cfg(test)]
+mod tests;

@@ -1,0 +1,45 @@
+-- What comes of an input that is inspected: the text, and the end.
+use Rattle.std.specs.Prelude.{ℕ, Bool, not, ◌||◌, List, length, Option, Some, None, Result, Ok, Err, nat_lt, ◌==◌, if◌then◌else◌}
+use Rattle.std.specs.List.{filter}
+use Rattle.hex.specs.Hex.{decode_of}
+use Rattle.hex.specs.declared.error.FromHexError.{FromHexError}
+use Rattle.ndn_tlv.specs.declared.tlv_fault.TlvFault.{TlvFault}
+use Rattle.ndn_inspect.specs.Inspection.{Lines, inspected, printed}
+use Rattle.repo_top.specs.declared.ending.Ending.{Ending}
+use Rattle.repo_top.specs.declared.ending.Ending.TheVariants.{Done, Refused}
+use Rattle.repo_top.specs.declared.refusal.Refusal.TheVariants.{Syntax, Limit, BadPacket}
+use Rattle.repo_top.specs.Report.{refusal_number}
+use Rattle.repo_top.specs.Story.{Story, refused}
+
+-- A space, a tab, a line feed or a carriage return.
+abbrev pub is_space : ℕ → Bool
+is_space octet = octet == 32 || octet == 9 || octet == 10 || octet == 13
+
+-- What stands between spaces.
+abbrev pub without_spaces : List ℕ → List ℕ
+without_spaces input = filter (λ octet. not (is_space octet)) input
+
+-- A fault of the elements ends the story too, but with its own line alone.
+abbrev pub sound_ending : Option TlvFault → Ending
+sound_ending None = Done
+sound_ending (Some fault) = Refused 1 (refusal_number BadPacket)
+
+abbrev pub lines_story : Lines → Story
+lines_story lines =
+    record { text = printed lines.text lines.fault; ending = sound_ending lines.fault }
+
+-- The octets are inspected, where a packet may have so many.
+abbrev pub octets_story : List ℕ → Story
+octets_story octets =
+    if nat_lt 8800 (length octets) then refused 1 Limit else lines_story (inspected octets)
+
+abbrev pub decoded_story : Result (List ℕ) FromHexError → Story
+decoded_story (Ok octets) = octets_story octets
+decoded_story (Err e) = refused 1 Syntax
+
+-- The story of an input that is inspected: pairs of hexadecimal digits, with spaces anywhere. An input of more than
+-- 16,777,216 octets is refused before anything else is asked of it.
+unfoldable pub inspect_story : List ℕ → Story
+inspect_story input =
+    if nat_lt 16777216 (length input) then refused 1 Limit
+    else decoded_story (decode_of (without_spaces input))

@@ -1,0 +1,81 @@
+ghost use Rattle.std.specs.Prelude.{◌≡◌, ◌∷◌, [], not, IfOk};
+ghost use Rattle.std.specs.List.{filter};
+ghost use Rattle.repo_top.specs.Inspection.{inspect_story, is_space, octets_story, without_spaces};
+ghost use Rattle.repo_top.specs.Story.{refused};
+
+use crate::ending::Ending;
+use crate::refusal::Refusal;
+use crate::report::put_refused;
+use crate::told::Told;
+use hex::FromHexError;
+use std::alloc::{AllocError, Global};
+
+// How many octets of the input are taken at most.
+pub(crate) const MOST_OCTETS: usize = 16_777_216;
+
+// How many octets a packet has at most.
+const MOST_OF_PACKET: usize = 8_800;
+
+// Inspects the octets whose digits the input gives.
+#[tactic(auto, unfolding(crate::specs::Inspection::inspect_story))]
+pub(crate) fn tell_inspection(alloc: Global, input: Vec<u8>) -> Result<Told, AllocError>
+    ensures { IfOk result (λ told. told ≡ inspect_story input.items) }
+{
+    if input.len() > MOST_OCTETS {
+        return refuse(alloc, Refusal::Limit);
+    }
+    let digits = without_spaces(input);
+    match hex::decode(alloc, digits.as_slice()) {
+        Ok(octets) => tell_octets(alloc, &octets),
+        Err(FromHexError::OutOfMemory) => Err(AllocError),
+        Err(_) => refuse(alloc, Refusal::Syntax),
+    }
+}
+
+// Inspects the octets, where a packet may have so many.
+fn tell_octets(alloc: Global, octets: &[u8]) -> Result<Told, AllocError>
+    ensures { IfOk result (λ told. told ≡ octets_story octets.now) }
+{
+    if octets.len() > MOST_OF_PACKET {
+        return refuse(alloc, Refusal::Limit);
+    }
+    let (text, sound) = ndn_inspect::inspect(alloc, octets)?;
+    if sound {
+        return Ok(Told {
+            text,
+            ending: Ending::Done,
+        });
+    }
+    let ending = Ending::Refused {
+        line: 1,
+        number: Refusal::BadPacket.number(),
+    };
+    Ok(Told { text, ending })
+}
+
+// The input as its first line is refused.
+fn refuse(alloc: Global, refusal: Refusal) -> Result<Told, AllocError>
+    ensures { IfOk result (λ told. told ≡ refused 1 refusal) }
+{
+    let mut text = Vec::new(alloc);
+    put_refused(&mut text, 1, refusal)?;
+    let ending = Ending::Refused {
+        line: 1,
+        number: refusal.number(),
+    };
+    Ok(Told { text, ending })
+}
+
+// What stands between spaces.
+fn without_spaces(mut input: Vec<u8>) -> Vec<u8>
+    ensures { result.items ≡ without_spaces input.items }
+{
+    input.retain(|octet| !is_space(*octet));
+    input
+}
+
+fn is_space(octet: u8) -> bool
+    ensures { result ≡ is_space octet }
+{
+    matches!(octet, b' ' | b'\t' | b'\n' | b'\r')
+}
