@@ -5,12 +5,14 @@
 mod draws;
 mod net;
 mod seeded;
+mod sent;
 mod table_net;
 mod tally;
 
 pub use draws::{Draws, FixedDraws};
 pub use net::{Net, OpenNet};
 pub use seeded::Seeded;
+pub use sent::Sent;
 pub use table_net::TableNet;
 pub use tally::Tally;
 
