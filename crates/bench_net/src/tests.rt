@@ -1,4 +1,5 @@
 use super::*;
+use std::alloc::{AllocError, Global};
 use std::test::*;
 
 // Shared by threads, so that a proof that these can be is owed here.
@@ -85,41 +86,38 @@ fn seeded_passes(rt: HostRuntime) {
     assert!(rt; passed(&Seeded::new([0; 32])) && passed(&TableNet::new(1)));
 }
 
-#[test]
-fn what_was_sent_is_found(rt: HostRuntime) -> Result<(), Fail> {
-    let alloc = rt.alloc();
+// Two packets that tell of one vector.
+fn two(alloc: Global) -> Result<Sent, AllocError> {
     let mut sent = Sent::new(alloc);
-    let first = [1, 0].to_vec(alloc)?;
-    assert_eq!(rt; sent.octets(1), None);
-    assert_eq!(rt; sent.add(0, &first, b"a")?, 1);
-    sent.reserve(2)?;
-    let again = first.clone()?;
-    assert_eq!(rt; sent.add_reserved(0, again, b"b".to_vec(alloc)?), 2);
-    assert_eq!(rt; sent.add(1, &[1, 1].to_vec(alloc)?, b"c")?, 3);
-    assert_eq!(rt;
-        sent.add_reserved(0, [2, 1].to_vec(alloc)?, b"d".to_vec(alloc)?),
-        4
-    );
-    for (k, octets) in [
-        (0, None),
-        (1, Some(b"a")),
-        (2, Some(b"b")),
-        (4, Some(b"d")),
-        (5, None),
-    ] {
-        assert_eq!(rt; sent.octets(k), octets.map(|o| o.as_slice()), "{k}");
-    }
-    assert!(rt; sent.has(0, &[1, 0]) && sent.has(1, &[1, 1]) && sent.has(0, &[2, 1]));
-    assert!(rt; !sent.has(1, &[1, 0]) && !sent.has(0, &[1, 1]) && !sent.has(0, &[1]));
-    assert_eq!(rt; sent.len(), 4);
+    let vector = [1, 0].to_vec(alloc)?;
+    sent.add(0, &vector, b"a")?;
+    sent.reserve(1)?;
+    let octets = b"b".to_vec(alloc)?;
+    sent.add_reserved(3, vector, octets);
+    Ok(sent)
+}
+
+#[test]
+fn what_was_sent_is_found_by_number(rt: HostRuntime) -> Result<(), Fail> {
+    let sent = two(rt.alloc())?;
+    assert_eq!(rt; sent.len(), 2);
+    assert_eq!(rt; sent.octets(0), None);
+    assert_eq!(rt; sent.octets(1).ok_or("a first packet")?, b"a".as_slice());
+    assert_eq!(rt; sent.octets(2).ok_or("a second packet")?, b"b".as_slice());
+    assert_eq!(rt; sent.octets(3), None);
     Ok(())
 }
 
 #[test]
-fn tallies_begin_at_0(rt: HostRuntime) {
-    let tally = Tally {
-        syncs: 1,
-        ..Tally::default()
-    };
-    assert_eq!(rt; (tally.syncs, tally.octets), (1, 0));
+fn what_was_sent_is_found_by_sender_and_vector(rt: HostRuntime) -> Result<(), Fail> {
+    let sent = two(rt.alloc())?;
+    let found = [sent.has(0, &[1, 0]), sent.has(3, &[1, 0])];
+    assert_eq!(rt; found, [true, true]);
+    let others = [
+        sent.has(1, &[1, 0]),
+        sent.has(0, &[1, 1]),
+        sent.has(0, &[1]),
+    ];
+    assert_eq!(rt; others, [false, false, false]);
+    Ok(())
 }
