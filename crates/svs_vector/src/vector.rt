@@ -38,6 +38,14 @@ impl Vector {
         })
     }
 
+    /// Takes the other's numbers for its own. It takes no memory.
+    pub fn copy_from(&mut self, other: &Vector)
+        requires { length self.old ≡ length other.now }
+        ensures { self.new ≡ other.now }
+    {
+        self.numbers.copy_from_slice(&other.numbers);
+    }
+
     pub fn members(&self) -> usize
         ensures { result ≡ length self.now }
     {

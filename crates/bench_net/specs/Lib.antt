@@ -1,0 +1,3 @@
+pub mod Keystream
+pub mod SentList
+pub mod SentFields

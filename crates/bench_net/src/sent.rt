@@ -1,0 +1,137 @@
+ghost use Rattle.std.specs.Prelude.{◌≡◌, ◌+◌, ◌-◌, ◌<◌, [], ◌∷◌, ◌++◌, length, max, IfOk, OnOk, OnErr, option_map};
+ghost use Rattle.bench_net.specs.SentList.{octets_of, sent_packet, was_sent};
+
+use indexmap::IndexSet;
+use std::alloc::{AllocError, Global};
+use std::marker::Model;
+
+// A packet that was sent.
+#[derive(Drop)]
+struct Packet {
+    sender: u32,
+    // The vector's number among those that were told of.
+    vector: usize,
+    octets: Vec<u8>,
+}
+
+/// The packets that were sent in a group, numbered from 1 in the order of sending, and room for more.
+///
+/// Each has its sender, the vector that it tells of, and its octets. It is found by number and by sender and vector, in
+/// a time that doesn't grow with the list.
+#[derive(Drop)]
+pub struct Sent {
+    packets: Vec<Packet>,
+    // Each vector that was told of, once.
+    vectors: IndexSet<Vec<u16>>,
+    // Who told of which, by the vector's number.
+    told: IndexSet<(u32, usize)>,
+    spare: usize,
+}
+
+// What was sent is seen as a list, beside the number of packets that there is room for.
+impl Model for Sent {
+    ghost use Rattle.bench_net.specs.SentList.{SentList};
+
+    ghost Value = { SentList };
+
+    ghost use Rattle.bench_net.specs.SentFields.{lists_of, packets_of, AreSent};
+
+    ghost view = { λ s. record {
+      packets = packets_of (lists_of s.vectors.keys) s.packets.items;
+      spare = s.spare;
+    } };
+
+    ghost invariant = { AreSent };
+}
+
+impl Sent {
+    pub fn new(alloc: Global) -> Sent
+        ensures { result ≡ record { packets = []; spare = 0 } }
+    {
+        Sent {
+            packets: Vec::new(alloc),
+            vectors: IndexSet::new(alloc),
+            told: IndexSet::new(alloc),
+            spare: 0,
+        }
+    }
+
+    /// How many packets were sent.
+    pub fn len(&self) -> usize
+        ensures { result ≡ length self.now.packets }
+    {
+        self.packets.len()
+    }
+
+    /// Appends a packet and gives its number. What is spare stays so.
+    pub fn add(&mut self, sender: u32, vector: &Vec<u16>, octets: &[u8]) -> Result<u32, AllocError>
+        requires { length self.old.packets < 4294967295 }
+        ensures number { IfOk result (λ k. k ≡ length self.old.packets + 1) }
+        ensures ok { OnOk result (self.new ≡ record self.old {
+          packets = self.old.packets ++ sent_packet sender vector.now.items octets.now ∷ [];
+        }) }
+        ensures err { OnErr result (self.new ≡ self.old) }
+    {
+        let alloc = *self.packets.allocator();
+        let vector = vector.to_vec(alloc)?;
+        let octets = octets.to_vec(alloc)?;
+        let Some(room) = self.spare.checked_add(1) else {
+            return Err(AllocError);
+        };
+        self.reserve(room)?;
+        Ok(self.add_reserved(sender, vector, octets))
+    }
+
+    /// Makes room for `n` packets, unless there is room for so many already.
+    pub fn reserve(&mut self, n: usize) -> Result<(), AllocError>
+        ensures ok { OnOk result (self.new ≡ record self.old { spare = max self.old.spare n }) }
+        ensures err { OnErr result (self.new ≡ self.old) }
+    {
+        if self.spare < n {
+            self.packets.reserve(n)?;
+            self.vectors.reserve(n)?;
+            self.told.reserve(n)?;
+            self.spare = n;
+        }
+        Ok(())
+    }
+
+    /// Appends a packet, for which room was made, and gives its number. It takes no memory.
+    pub fn add_reserved(&mut self, sender: u32, vector: Vec<u16>, octets: Vec<u8>) -> u32
+        requires spare { 0 < self.old.spare }
+        requires few { length self.old.packets < 4294967295 }
+        ensures number { result ≡ length self.old.packets + 1 }
+        ensures sent { self.new.packets ≡ self.old.packets ++ sent_packet sender vector.items octets.items ∷ [] }
+        ensures spare { self.new.spare ≡ self.old.spare - 1 }
+    {
+        let (vector, _) = self.vectors.insert_full(vector).unwrap();
+        self.told.insert((sender, vector)).unwrap();
+        let packet = Packet {
+            sender,
+            vector,
+            octets,
+        };
+        self.packets.push(packet).unwrap();
+        self.spare -= 1;
+        self.packets.len() as u32
+    }
+
+    /// The octets of the packet of that number.
+    pub fn octets(&self, k: u32) -> Option<&[u8]>
+        ensures { option_map (λ octets. octets.now) result ≡ octets_of self.now.packets k }
+    {
+        let place = k.checked_sub(1)?;
+        let packet = self.packets.get(place as usize)?;
+        Some(&packet.octets)
+    }
+
+    /// Whether the sender sent a packet that tells of this vector.
+    pub fn has(&self, sender: u32, vector: &[u16]) -> bool
+        ensures { result ≡ was_sent sender vector.now self.now.packets }
+    {
+        match self.vectors.get_index_of(vector) {
+            Some(vector) => self.told.contains(&(sender, vector)),
+            None => false,
+        }
+    }
+}

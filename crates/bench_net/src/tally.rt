@@ -1,0 +1,14 @@
+/// What a run of a group comes to.
+#[derive(Clone, Copy, Debug, PartialEq, Eq, Default)]
+pub struct Tally {
+    /// The sync Interests that were sent.
+    pub syncs: u64,
+    /// Those that were delivered.
+    pub delivered: u64,
+    /// The attempts at parts.
+    pub attempts: u64,
+    /// The parts that were fetched.
+    pub parts: u64,
+    /// The octets that were fetched.
+    pub octets: u64,
+}

@@ -1,0 +1,20 @@
+-- How a machine keeps its member.
+use Rattle.std.specs.Prelude.{◌≡◌, ℕ, List, Option, Some, None, length}
+use Rattle.svs_sync.specs.declared.mode.Mode.{Mode}
+use Rattle.svs_sync.specs.declared.mode.Mode.TheVariants.{Steady, Suppressed}
+use Rattle.svs_sync.specs.declared.machine.Machine.TheInside.{Inside}
+use Rattle.svs_sync.specs.KeptVector.{Keeper}
+
+-- The vector means nothing while the member is Steady.
+abbrev pub heard_in : Mode → List ℕ → Option (List ℕ)
+heard_in Steady vector = None
+heard_in Suppressed vector = Some vector
+
+abbrev pub keeper : Inside → Keeper
+keeper m =
+    record {
+      members = length m.heard;
+      heard = heard_in m.mode m.heard;
+      deadline = m.deadline;
+      draws = m.draws;
+    }

@@ -1,0 +1,4 @@
+pub use Rattle.svs_vector.specs.Vectors
+pub mod Suppression
+pub mod KeptVector
+pub mod Fields

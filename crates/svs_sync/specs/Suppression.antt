@@ -1,0 +1,69 @@
+-- When a member sends its state vector, and when it holds back: the suppression of State Vector Sync, with the times and
+-- the draws of this project. Moments and times are in milliseconds.
+use Rattle.std.specs.Prelude.{ℕ, ◌+◌, ◌%◌, Bool, List, [], ◌∷◌, ◌++◌, Option, Some, None, nat_lt, if◌then◌else◌}
+use Rattle.svs_vector.specs.Vectors.{covers, join_all}
+use Rattle.svs_sync.specs.declared.mode.Mode.{Mode}
+use Rattle.svs_sync.specs.declared.mode.Mode.TheVariants.{Steady, Suppressed}
+use Rattle.svs_sync.specs.declared.fired.Fired.{Fired}
+use Rattle.svs_sync.specs.declared.fired.Fired.TheVariants.{Early, Quiet, Send}
+
+-- How long a member waits that was told nothing.
+abbrev pub periodic : ℕ → ℕ
+periodic draw = 27000 + draw % 6001
+
+-- How long a member holds back that was told of an older vector than its own.
+abbrev pub suppression : ℕ → ℕ
+suppression draw = draw % 201
+
+-- What happens to a member. Each comes with the draw that is next, whether it is used or not.
+pub data Event : Type 0 where
+  published : (now draw : ℕ) → Event
+  heard : (now : ℕ) (told known : List ℕ) (draw : ℕ) → Event
+  fired : (now : ℕ) (known : List ℕ) (draw : ℕ) → Event
+  reset : (now draw : ℕ) → Event
+
+-- A member: nothing where it is Steady, and where it is Suppressed the vectors that were heard since, in order; its
+-- deadline; and how many draws it has used.
+pub record Member : Type 0 where
+  pub heard : Option (List (List ℕ))
+  pub deadline : ℕ
+  pub draws : ℕ
+
+-- Steady, with a periodic deadline and one draw used.
+abbrev pub steady : ℕ → ℕ → Member → Member
+steady now draw m = record { heard = None; deadline = now + periodic draw; draws = m.draws + 1 }
+
+-- A vector is heard. A Steady member stays so where the vector covers the one that is known before, and is Suppressed
+-- where it doesn't. A Suppressed one adds it to those heard, uses no draw, and keeps its deadline.
+abbrev pub hears : ℕ → List ℕ → List ℕ → ℕ → Member → Option (List (List ℕ)) → Member
+hears now told known draw m None =
+    if covers told known then steady now draw m
+    else record { heard = Some (told ∷ []); deadline = now + suppression draw; draws = m.draws + 1 }
+hears now told known draw m (Some vectors) = record m { heard = Some (vectors ++ told ∷ []) }
+
+-- What a member does that is due: it sends, but is quiet where it is Suppressed and those heard together cover the vector
+-- that is known now.
+abbrev pub due : List ℕ → Option (List (List ℕ)) → Fired
+due known None = Send
+due known (Some vectors) = if covers (join_all vectors) known then Quiet else Send
+
+-- What a member does that fires: nothing before its deadline.
+abbrev pub fires : ℕ → List ℕ → Member → Fired
+fires now known m = if nat_lt now m.deadline then Early else due known m.heard
+
+-- The member after each event.
+unfoldable pub after : Event → Member → Member
+after (published now draw) m = steady now draw m
+after (heard now told known draw) m = hears now told known draw m m.heard
+after (fired now known draw) m = if nat_lt now m.deadline then m else steady now draw m
+after (reset now draw) m = steady now draw m
+
+-- And after a list of them.
+unfoldable pub after_all : List Event → Member → Member
+after_all [] m = m
+after_all (e ∷ es) m = after_all es (after e m)
+
+-- The mode that the vectors heard say.
+abbrev pub mode_of : {A : Type 0} → Option A → Mode
+mode_of None = Steady
+mode_of (Some vectors) = Suppressed

@@ -1,0 +1,10 @@
+/// What a member does that fires.
+#[derive(Clone, Copy, Debug, PartialEq, Eq)]
+pub enum Fired {
+    /// The deadline hasn't come.
+    Early,
+    /// Others have told what this member knows.
+    Quiet,
+    /// The member sends its vector.
+    Send,
+}

@@ -1,0 +1,170 @@
+ghost use Rattle.std.specs.Prelude.{◌≡◌, ◌+◌, ◌^◌, ◌<◌, None, length, IfOk};
+ghost use Rattle.svs_sync.specs.Suppression.{mode_of, periodic, suppression};
+ghost use Rattle.svs_sync.specs.KeptVector.{steady_kept, hears_kept, due_kept, fires_kept, fired_kept};
+
+use crate::fired::Fired;
+use crate::mode::Mode;
+use std::alloc::{AllocError, Global};
+use std::marker::Model;
+use svs_vector::Vector;
+
+/// When a member sends its state vector, and when it holds back (the suppression of State Vector Sync).
+///
+/// Moments are in milliseconds, on any clock that doesn't go back. The caller hands in the draw of the number
+/// `next_draw` with each call that may use one. Only `new` takes memory.
+#[derive(Debug, Drop)]
+pub struct Machine {
+    mode: Mode,
+    // The join of the vectors heard since the member was last Steady. It means nothing while it is.
+    heard: Vector,
+    deadline: u64,
+    draws: u64,
+}
+
+// A machine is seen as what it keeps of its member.
+impl Model for Machine {
+    ghost use Rattle.svs_sync.specs.KeptVector.{Keeper};
+
+    ghost Value = { Keeper };
+
+    ghost use Rattle.svs_sync.specs.Fields.{keeper};
+
+    ghost view = { keeper };
+}
+
+impl Machine {
+    /// The machine of a member that begins Steady, with its first draw.
+    pub fn new(alloc: Global, members: usize, now: u64, draw: u32) -> Result<Machine, AllocError>
+        requires { now < 2 ^ 62 }
+        ensures { IfOk result (λ machine. machine ≡ record {
+          members = members;
+          heard = None;
+          deadline = now + periodic draw;
+          draws = 1;
+        }) }
+    {
+        Ok(Machine {
+            mode: Mode::Steady,
+            heard: Vector::new(alloc, members)?,
+            deadline: now + periodic(draw),
+            draws: 1,
+        })
+    }
+
+    /// The member published.
+    pub fn published(&mut self, now: u64, draw: u32)
+        requires early { now < 2 ^ 62 }
+        requires few { self.old.draws < 2 ^ 62 }
+        ensures { self.new ≡ steady_kept now draw self.old }
+    {
+        self.settle(now, draw);
+    }
+
+    /// The member starts again, or has settled with the others.
+    pub fn reset(&mut self, now: u64, draw: u32)
+        requires early { now < 2 ^ 62 }
+        requires few { self.old.draws < 2 ^ 62 }
+        ensures { self.new ≡ steady_kept now draw self.old }
+    {
+        self.settle(now, draw);
+    }
+
+    /// The member was told of a vector, while `known` was the one that it knew.
+    pub fn heard(&mut self, now: u64, told: &Vector, known: &Vector, draw: u32) -> Mode
+        requires early { now < 2 ^ 62 }
+        requires few { self.old.draws < 2 ^ 62 }
+        requires told { length told.now ≡ self.old.members }
+        requires known { length known.now ≡ self.old.members }
+        ensures kept { self.new ≡ hears_kept now told.now known.now draw self.old self.old.heard }
+        ensures mode { result ≡ mode_of self.new.heard }
+    {
+        match self.mode {
+            Mode::Suppressed => {
+                self.heard.join(told);
+            }
+            Mode::Steady if told.covers(known) => self.settle(now, draw),
+            Mode::Steady => {
+                self.mode = Mode::Suppressed;
+                self.heard.copy_from(told);
+                self.deadline = now + suppression(draw);
+                self.draws += 1;
+            }
+        }
+        self.mode
+    }
+
+    /// What the member does now, where `known` is the vector that it knows.
+    pub fn fired(&mut self, now: u64, known: &Vector, draw: u32) -> Fired
+        requires early { now < 2 ^ 62 }
+        requires few { self.old.draws < 2 ^ 62 }
+        requires known { length known.now ≡ self.old.members }
+        ensures fired { result ≡ fires_kept now known.now self.old }
+        ensures kept { self.new ≡ fired_kept now draw self.old }
+    {
+        if now < self.deadline {
+            return Fired::Early;
+        }
+        let fired = self.due(known);
+        self.settle(now, draw);
+        fired
+    }
+
+    /// Whether the member is Steady or Suppressed.
+    pub fn mode(&self) -> Mode
+        ensures { result ≡ mode_of self.now.heard }
+    {
+        self.mode
+    }
+
+    /// The moment from which on the member is due.
+    pub fn deadline(&self) -> u64
+        ensures { result ≡ self.now.deadline }
+    {
+        self.deadline
+    }
+
+    /// How many draws were used, which is the number of the next one.
+    pub fn next_draw(&self) -> u64
+        ensures { result ≡ self.now.draws }
+    {
+        self.draws
+    }
+
+    // Makes the member Steady, with a new periodic deadline.
+    fn settle(&mut self, now: u64, draw: u32)
+        requires early { now < 2 ^ 62 }
+        requires few { self.old.draws < 2 ^ 62 }
+        ensures { self.new ≡ steady_kept now draw self.old }
+    {
+        self.mode = Mode::Steady;
+        self.deadline = now + periodic(draw);
+        self.draws += 1;
+    }
+
+    // What the member does that is due.
+    fn due(&self, known: &Vector) -> Fired
+        requires { length known.now ≡ self.now.members }
+        ensures { result ≡ due_kept known.now self.now.heard }
+    {
+        match self.mode {
+            Mode::Suppressed if self.heard.covers(known) => Fired::Quiet,
+            _ => Fired::Send,
+        }
+    }
+}
+
+// How long a member waits that was told nothing.
+fn periodic(draw: u32) -> u64
+    ensures exact { result ≡ periodic draw }
+    ensures short { result < 33001 }
+{
+    27_000 + u64::from(draw) % 6_001
+}
+
+// How long a member holds back that was told of an older vector.
+fn suppression(draw: u32) -> u64
+    ensures exact { result ≡ suppression draw }
+    ensures short { result < 201 }
+{
+    u64::from(draw) % 201
+}
