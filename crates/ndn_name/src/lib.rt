@@ -1,0 +1,23 @@
+//! Names of NDN Packet Format 0.3: views that borrow a packet's octets, owned names, their canonical
+//! order and their URI text, and the faults that packets share.
+#![tactic(auto)]
+
+mod append;
+mod component_view;
+mod components;
+mod fault;
+mod laws;
+mod name;
+mod name_fault;
+mod name_view;
+mod order;
+
+pub use component_view::ComponentView;
+pub use fault::{Field, PacketFault, PacketWriteFault};
+pub use laws::{
+    canonical_order_is_of_octets, canonical_order_is_total, encoded_names_are_read,
+    equal_octets_are_equal_names, equals_are_in_no_order, prefixes_come_first, read_names_are_encoded,
+};
+pub use name::{NAME_LIMIT, Name, full_name};
+pub use name_fault::NameFault;
+pub use name_view::NameView;
