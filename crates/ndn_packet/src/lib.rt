@@ -10,4 +10,4 @@ mod written;
 pub use contents::{bad_field, first_element, name_in, number_in};
 pub use outer::{PACKET_LIMIT, outer_element};
 pub use signature_info::SignatureInfo;
-pub use written::{element_len, put_signature_info, signature_info_len};
+pub use written::{element_len, number_field_len, put_signature_info, signature_info_len};

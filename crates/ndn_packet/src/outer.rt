@@ -1,5 +1,6 @@
-ghost use Rattle.std.specs.Prelude.{◌≡◌, ◌+◌, ◌≤◌, length, MatchResult, Ok, Err, IfOk};
-ghost use Rattle.ndn_tlv.specs.Elements.{item};
+ghost use Rattle.std.specs.Prelude.{◌≡◌, ◌≤◌, length, MatchResult, Ok, Err, IfOk, OnOk};
+ghost use Rattle.ndn_tlv.specs.Spelling.{element};
+ghost use Rattle.ndn_tlv.specs.Elements.{item, placed};
 ghost use Rattle.ndn_packet.specs.Outer.{outer_of};
 
 use crate::contents::first_element;
@@ -14,7 +15,9 @@ pub fn outer_element(octets: &[u8], typ: u32) -> Result<Element<'_>, PacketFault
     ensures read { MatchResult result
         (λ e. outer_of typ octets.now ≡ Ok (item e))
         (λ fault. outer_of typ octets.now ≡ Err fault) }
-    ensures within { IfOk result (λ e. e.value_start + length e.value.now ≤ length octets.now) }
+    ensures whole { IfOk result (λ e. octets.now ≡ element typ e.value.now) }
+    ensures placed { IfOk result (λ e. item e ≡ placed 0 typ e.value.now) }
+    ensures short { OnOk result (length octets.now ≤ PACKET_LIMIT) }
 {
     if octets.len() > PACKET_LIMIT {
         return Err(PacketFault::PacketTooLong);

@@ -1,5 +1,6 @@
 ghost use Rattle.std.specs.Prelude.{◌≡◌, ◌+◌, ◌^◌, ◌<◌, ◌≤◌, ◌++◌, length, OnOk};
 ghost use Rattle.ndn_tlv.specs.Spelling.{head, element};
+ghost use Rattle.ndn_tlv.specs.NumberField.{number_field};
 ghost use Rattle.ndn_packet.specs.Written.{written_info};
 
 use ndn_name::Name;
@@ -13,6 +14,19 @@ pub fn element_len(typ: u32, len: usize) -> usize
     ensures small { result ≤ len + 18 }
 {
     head_len(typ, len) + len
+}
+
+/// How many octets a number takes as a number field.
+pub fn number_field_len(n: u64) -> usize
+    ensures exact { result ≡ length (number_field n) }
+    ensures small { result ≤ 8 }
+{
+    match n {
+        0..=0xff => 1,
+        0x100..=0xffff => 2,
+        0x1_0000..=0xffff_ffff => 4,
+        _ => 8,
+    }
 }
 
 /// How many octets the value of a signature info has that names this key.
