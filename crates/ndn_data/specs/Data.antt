@@ -99,7 +99,7 @@ pub record IsSpelled (octets : List ℕ) (d : Data) : Type 0 where
   pub fields : List ℕ
   pub behind : List ℕ
   pub packet : octets ≡ element 0x06 d.value
-  pub value : d.value ≡ before ++ d.signed ++ element 0x17 d.signature ++ behind
+  pub value : d.value ≡ before ++ (d.signed ++ (element 0x17 d.signature ++ behind))
   pub signed : d.signed ≡ element 0x07 (encoding d.name) ++ fields
 
 -- An Interest of this name asks for the packet of this digest: by its name, by its full name, or

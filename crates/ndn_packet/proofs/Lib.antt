@@ -1,2 +1,3 @@
 pub mod Lengths
 pub mod Outers
+pub mod Gathering

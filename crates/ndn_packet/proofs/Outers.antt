@@ -1,12 +1,19 @@
 -- The element that comes first is all of the octets where nothing follows it.
-use Rattle.std.proofs.Common.{◌≡◌, ℕ, ◌+◌, ◌≤◌, List, [], ◌∷◌, ◌++◌, length, length-append, Option, Some, None, Result, Ok, Err, refl, sym, ap, subst, ◌∙◌, arith}
+use Rattle.std.proofs.Common.{◌≡◌, ℕ, ◌+◌, ◌≤◌, Bool, true, false, cond, ltb, eqb, ◌⊎◌, inl, inr, List, [], ◌∷◌, ◌++◌, length, length-append, Option, Some, None, Result, Ok, Err, refl, sym, ap, subst, ◌∙◌, arith}
 use Rattle.std.proofs.lemmas.List.{append-nil}
 use Rattle.ndn_tlv.specs.declared.tlv_fault.TlvFault.{TlvFault}
 use Rattle.ndn_tlv.specs.Spelling.{element}
 use Rattle.ndn_tlv.specs.Elements.{Item, IsOctets, AreElements, placed, elements}
 use Rattle.ndn_tlv.proofs.Listings.{elements_are}
 use Rattle.ndn_name.specs.declared.fault.PacketFault.{PacketFault}
+use Rattle.ndn_name.specs.declared.fault.PacketFault.TheVariants.{Tlv, PacketTooLong, WrongType, TrailingOctets}
+use Rattle.ndn_tlv.specs.declared.tlv_fault.TlvFault.TheVariants.{Truncated}
+use Rattle.ndn_tlv.specs.Listing.{◌>>=◌}
+use Rattle.ndn_tlv.proofs.Numbers.{chosen}
+use Rattle.ndn_name.proofs.Encodings.{bind_ok}
+use Rattle.std.proofs.lemmas.Bool.{ltb-false, eqb-true}
 use Rattle.ndn_packet.specs.Contents.{first_among, first_of}
+use Rattle.ndn_packet.specs.Outer.{only_of, outer_of}
 
 abbrev done : Item → Result Item PacketFault
 done e = Ok e
@@ -52,3 +59,34 @@ first_alone absent typ octets e fits h same long =
     let whole : octets ≡ element e.typ e.value = first.parts ∙ ap (λ (r : List ℕ). element e.typ e.value ++ r) empty ∙ append-nil (element e.typ e.value) in
     let all = subst P same (whole, first.is_placed) in
     record { whole = all.0; is_placed = all.1 }
+
+-- ---- the packet's element
+
+guard_ok : (b : Bool) (f : PacketFault) (r : Result Item PacketFault) (e : Item) → cond b (Err f) r ≡ Ok e → (b ≡ false) × (r ≡ Ok e)
+guard_ok true f r e h = absurd cc
+guard_ok false f r e h = (refl, h)
+
+only_ok : (typ len : ℕ) (first e : Item) → only_of typ len first ≡ Ok e → (first ≡ e) × (first.typ ≡ typ) × (len ≤ first.end)
+only_ok typ len first e h =
+    elim (chosen (eqb first.typ typ) (cond (ltb first.end len) (Err (TrailingOctets first.end)) (done first)) (Err (WrongType first.typ)) (done e) h) [
+      | inl a ↦ let b = guard_ok (ltb first.end len) (TrailingOctets first.end) (done first) e a.1 in (ok_is first e b.1, eqb-true first.typ typ a.0, ltb-false first.end len b.0)
+      | inr a ↦ absurd (different first.typ e a.1)
+    ] where
+  different : (typ : ℕ) (e : Item) → Err (WrongType typ) ≡ done e → ⊥
+  different typ e h = cc
+
+pub record IsPacket (typ : ℕ) (octets : List ℕ) (e : Item) : Type 0 where
+  pub whole : octets ≡ element typ e.value
+  pub is_placed : e ≡ placed 0 typ e.value
+  pub short : length octets ≤ 8800
+
+pub outer_ok : (typ : ℕ) (octets : List ℕ) (e : Item) → IsOctets octets → outer_of typ octets ≡ Ok e → IsPacket typ octets e
+outer_ok typ octets e fits h =
+    let absent = Tlv (Truncated 0) in
+    let g = guard_ok (ltb 8800 (length octets)) PacketTooLong (first_of absent 0 octets >>= only_of typ (length octets)) e h in
+    let b = bind_ok (first_of absent 0 octets) (only_of typ (length octets)) e g.1 in
+    let only = only_ok typ (length octets) b.0 e b.2 in
+    let alone = first_alone absent typ octets b.0 fits b.1 only.1 only.2 in
+    let P : Item → Type 0 = λ x. (octets ≡ element typ x.value) × (x ≡ placed 0 typ x.value) in
+    let all = subst P only.0 (alone.whole, alone.is_placed) in
+    record { whole = all.0; is_placed = all.1; short = ltb-false 8800 (length octets) g.0 }
