@@ -1,1 +1,3 @@
 pub mod SignedLemmas
+pub mod FullNames
+pub mod WriteLemmas

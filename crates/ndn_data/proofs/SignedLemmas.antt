@@ -253,7 +253,7 @@ data_gathers octets e s fits short whole at h =
     let stand = elements_stand octets e.value_start e.value read.items read.fault value are in
     let first : Keeps octets e.value_start 0 e.value_start no_field = record { above = omega arith; name = tt; signature = tt; last = tt } in
     let kept = keeps DATA (with_data_field octets) (e.value_start + length e.value) (Stands octets) (Keeps octets e.value_start) (at_place octets e.value_start fits short) (λ from low more t le j. later octets e.value_start from low more t le j)
-      0 read.items read.fault (fields DATA read) (fields_stand DATA read.fault read.items 0 DATA refl) e.value_start no_field s first (elements_within_octets e.value_start e.value) stand h in
+    0 read.items read.fault (fields DATA read) (fields_stand DATA read.fault read.items 0 DATA refl) e.value_start no_field s first (elements_within_octets e.value_start e.value) stand h in
     let P : List ℕ → Type 0 = λ v. IfSome s.signature (SignatureStands v s.name) in
     record { signature = subst P value kept.holds.signature }
 
@@ -272,36 +272,36 @@ data_spelled octets d fits h =
     let s = f.0 in
     let gathers = data_gathers octets e s fits (omega (arith, outer.short)) outer.whole outer.is_placed f.1 in
     spelled octets e.value s d outer.whole gathers f.2 where
-  made : List ℕ → DataSoFar → Named → Info → Signature → Data
-  made value s name info signature =
-      record { name = name.1; content = s.content; content_type = s.meta.content_type; last = s.meta.last; signature_type = info.signature_type; locator = info.locator; signature = signature.0; signed = signature.1; value = value }
+      made : List ℕ → DataSoFar → Named → Info → Signature → Data
+      made value s name info signature =
+          record { name = name.1; content = s.content; content_type = s.meta.content_type; last = s.meta.last; signature_type = info.signature_type; locator = info.locator; signature = signature.0; signed = signature.1; value = value }
 
-  finish : Data → Result Data PacketFault
-  finish d = Ok d
+      finish : Data → Result Data PacketFault
+      finish d = Ok d
 
-  same : (c d : Data) → finish c ≡ finish d → c ≡ d
-  same c d e = cc
+      same : (c d : Data) → finish c ≡ finish d → c ≡ d
+      same c d e = cc
 
-  spelled : (octets value : List ℕ) (s : DataSoFar) (d : Data) → octets ≡ element 0x06 value → Gathers value s → data_from value s ≡ Ok d → IsSpelled octets d
-  spelled octets value s d whole gathers h =
-      let last = λ (name : Named) (info : Info) (signature : Signature). finish (made value s name info signature) in
-      let second = λ (name : Named) (info : Info). ok_or s.signature (Missing field.SignatureValue) >>= last name info in
-      let first = λ (name : Named). ok_or s.info (Missing field.SignatureInfo) >>= second name in
-      let n = bind_ok (ok_or s.name (Missing field.Name)) first d h in
-      let i = bind_ok (ok_or s.info (Missing field.SignatureInfo)) (second n.0) d n.2 in
-      let g = bind_ok (ok_or s.signature (Missing field.SignatureValue)) (last n.0 i.0) d i.2 in
-      let Q : Option Signature → Type 0 = λ o. IfSome o (SignatureStands value s.name) in
-      let R : Option Named → Type 0 = λ o. SignatureStands value o g.0 in
-      let signed = subst Q (some_is (Missing field.SignatureValue) s.signature g.0 g.1) gathers.signature in
-      let stands = subst R (some_is (Missing field.Name) s.name n.0 n.1) signed in
-      subst (IsSpelled octets) (same (made value s n.0 i.0 g.0) d g.2) (record {
-        before = stands.before;
-        fields = stands.named.more;
-        behind = stands.behind;
-        packet = whole;
-        value = stands.parts;
-        signed = stands.named.parts;
-      })
+      spelled : (octets value : List ℕ) (s : DataSoFar) (d : Data) → octets ≡ element 0x06 value → Gathers value s → data_from value s ≡ Ok d → IsSpelled octets d
+      spelled octets value s d whole gathers h =
+          let last = λ (name : Named) (info : Info) (signature : Signature). finish (made value s name info signature) in
+          let second = λ (name : Named) (info : Info). ok_or s.signature (Missing field.SignatureValue) >>= last name info in
+          let first = λ (name : Named). ok_or s.info (Missing field.SignatureInfo) >>= second name in
+          let n = bind_ok (ok_or s.name (Missing field.Name)) first d h in
+          let i = bind_ok (ok_or s.info (Missing field.SignatureInfo)) (second n.0) d n.2 in
+          let g = bind_ok (ok_or s.signature (Missing field.SignatureValue)) (last n.0 i.0) d i.2 in
+          let Q : Option Signature → Type 0 = λ o. IfSome o (SignatureStands value s.name) in
+          let R : Option Named → Type 0 = λ o. SignatureStands value o g.0 in
+          let signed = subst Q (some_is (Missing field.SignatureValue) s.signature g.0 g.1) gathers.signature in
+          let stands = subst R (some_is (Missing field.Name) s.name n.0 n.1) signed in
+          subst (IsSpelled octets) (same (made value s n.0 i.0 g.0) d g.2) (record {
+            before = stands.before;
+            fields = stands.named.more;
+            behind = stands.behind;
+            packet = whole;
+            value = stands.parts;
+            signed = stands.named.parts;
+          })
 
 -- ---- what the view keeps
 
@@ -318,7 +318,7 @@ signs_of value name g small stands =
     record {
       short = omega (arith, long, inner, inmost, length-append (head 0x17 (length g.0)) g.0);
       whole = λ same.
-        let before = none_left stands.before (omega (arith, long, inner, inmost)) in
-        let behind = none_left stands.behind (omega (arith, long, inner, inmost)) in
-        stands.parts ∙ ap (λ (b : List ℕ). b ++ (g.1 ++ (last ++ stands.behind))) before ∙ ap (λ (b : List ℕ). g.1 ++ (last ++ b)) behind ∙ ap (λ (b : List ℕ). g.1 ++ b) (append-nil last);
+          let before = none_left stands.before (omega (arith, long, inner, inmost)) in
+          let behind = none_left stands.behind (omega (arith, long, inner, inmost)) in
+          stands.parts ∙ ap (λ (b : List ℕ). b ++ (g.1 ++ (last ++ stands.behind))) before ∙ ap (λ (b : List ℕ). g.1 ++ (last ++ b)) behind ∙ ap (λ (b : List ℕ). g.1 ++ b) (append-nil last);
     }

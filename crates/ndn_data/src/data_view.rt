@@ -1,7 +1,7 @@
 ghost use Rattle.ndn_data.specs.Signed.{IsShort, IsWholeWhenLong};
 
 use crate::data_fields::Gathered;
-use crate::full_name::is_full_name;
+use crate::full_name::{is_full_name, is_same_name};
 use ndn_name::{ComponentView, Field, NameView, PacketFault};
 use ndn_packet::{element_len, outer_element};
 
@@ -94,7 +94,7 @@ impl<'p> DataView<'p> {
             || if can_be_prefix {
                 name.is_prefix_of(&self.name)
             } else {
-                name.octets() == self.name.octets()
+                is_same_name(name, &self.name)
             }
     }
 }

@@ -72,7 +72,7 @@ impl Unsigned<'_> {
     // The packet, signed, whose element's value has so many octets.
     fn write(&self, alloc: Global, body: usize, key: &[u8]) -> Result<Vec<u8>, AllocError>
         requires long { body ≡ length (unsigned self.now) + 34 }
-        requires short { body < PACKET_LIMIT }
+        requires short { body ≤ PACKET_LIMIT }
         ensures { IfOk result (λ octets. octets.items ≡ signed (unsigned self.now) key.now) }
     {
         let mut writer = Writer::with_capacity(alloc, element_len(0x06, body))?;
