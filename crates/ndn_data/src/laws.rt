@@ -1,4 +1,4 @@
-ghost use Rattle.std.specs.Prelude.{◌≡◌, ◌^◌, ◌<◌, ◌≤◌, ◌++◌, ℕ, List, Option, IfSome, Ok, length};
+ghost use Rattle.std.specs.Prelude.{◌≡◌, ◌≤◌, ℕ, List, Option, Ok, length};
 ghost use Rattle.ndn_tlv.specs.Elements.{IsOctets};
 ghost use Rattle.ndn_name.specs.Names.{Component, IsName};
 ghost use Rattle.ndn_data.specs.Data.{Data, data_of, IsSpelled};
@@ -15,7 +15,7 @@ pub fn data_is_spelled()
 /// mac of the signed portion under the key.
 pub fn written_data_is_read()
     ensures { (name key_name : List Component) (last : Option ℕ) (content key : List ℕ)
-        → IsName name → IsName key_name → IfSome last (λ n. n < 2 ^ 64)
+        → IsName name → IsName key_name
         → length (written_data name last content key_name key) ≤ 8800
         → data_of (written_data name last content key_name key)
         ≡ Ok (read_back name last content key_name key) }

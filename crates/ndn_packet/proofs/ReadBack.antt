@@ -76,6 +76,37 @@ info_table : (a b : Item) → a.typ ≡ 0x1b → b.typ ≡ 0x1c → fields SIGNA
 unfolding fields_among place_of
 info_table a b h k = rw (h, k) refl
 
+locator_again : (e : Item) (key_name : List Component) → e.value ≡ element 0x07 (encoding key_name) → IsName key_name → length (encoding key_name) < 2 ^ 64
+    → locator_in e ≡ Ok (Some key_name)
+locator_again e key_name is valid fits =
+    let bad = BadField field.KeyLocator e.start in
+    let name = placed e.value_start 0x07 (encoding key_name) in
+    let read = ap (elements e.value_start) is ∙ alone e.value_start 0x07 (encoding key_name) (omega arith) (omega arith) fits in
+    let first : first_of bad e.value_start e.value ≡ Ok name = ap (λ (l : Listing Item TlvFault). first_among bad l.items l.fault) read in
+    ap (λ (r : Result Item PacketFault). r >>= locator_from bad) first
+    ∙ ap (λ (r : Result (List Component) PacketFault). r >>= λ n. Ok (Some n)) (name_again bad e.value_start 0x07 key_name valid)
+
 pub info_again : (o typ : ℕ) (key_name : List Component) → IsName key_name → length (written_info key_name) < 2 ^ 64
     → info_in (placed o typ (written_info key_name)) ≡ Ok (record { signature_type = 4; locator = Some key_name })
-info_again o typ key_name valid fits = ?
+info_again o typ key_name valid fits =
+    let v = (placed o typ (written_info key_name)).value_start in
+    let locator = element 0x07 (encoding key_name) in
+    let next = v + length (element 0x1b (4 ∷ [])) in
+    let a = placed v 0x1b (4 ∷ []) in
+    let b = placed next 0x1c locator in
+    let long = length-append (element 0x1b (4 ∷ [])) (element 0x1c locator) in
+    let longer = length-element 0x1c locator in
+    let longest = length-element 0x07 (encoding key_name) in
+    let read = followed v 0x1b (4 ∷ []) (element 0x1c locator) (b then nothing) (omega arith) (omega arith) (omega arith) (alone next 0x1c locator (omega arith) (omega arith) (omega arith)) in
+    let s : InfoSoFar = record { signature_type = None; locator = None } in
+    let t : InfoSoFar = record { signature_type = Some 4; locator = None } in
+    let u : InfoSoFar = record { signature_type = Some 4; locator = Some key_name } in
+    let first : with_info_field s (SignatureType, a) ≡ Ok t = refl in
+    let second : with_info_field t (KeyLocator, b) ≡ Ok u = ap (λ (r : Result (Option (List Component)) PacketFault). r >>= λ l. Ok (record t { locator = l })) (locator_again b key_name refl valid (omega arith)) in
+    let all : info_fields (placed o typ (written_info key_name)) ≡ Ok u =
+      ap (λ (l : Listing Item TlvFault). gathered with_info_field packet_fault s (fields SIGNATURE_INFO l)) read
+      ∙ ap (gathered with_info_field packet_fault s) (info_table a b refl refl)
+      ∙ gathers with_info_field packet_fault s t (SignatureType, a) ((KeyLocator, b) then nothing) first
+      ∙ gathers with_info_field packet_fault t u (KeyLocator, b) nothing second
+      ∙ gathered-nothing with_info_field packet_fault u in
+    ap (λ (r : Result InfoSoFar PacketFault). r >>= info_from) all
