@@ -1,6 +1,7 @@
 -- What octets are as an Interest, or the first fault (NDN Packet Format 0.3, "Interest Packet" and
 -- "Signed Interest").
 use Rattle.std.specs.Prelude.{◌≡◌, ℕ, ◌-◌, ◌≤◌, Bool, true, false, not, ◌&&◌, is_some, is_none, List, [], ◌∷◌, ◌++◌, length, take, drop, slice_get, slice_range, Option, Some, None, option_map, MatchOption, IfSome, Result, Ok, Err, ◌==◌, if◌then◌else◌}
+use Rattle.std.specs.Borrow.{Bor}
 use Rattle.std.specs.Int.{w32, from_be_bytes}
 use Rattle.std.specs.Option.{option_map_or}
 use Rattle.sha2.specs.Sha256.{sha256}
@@ -139,13 +140,11 @@ ends_in_digest name = option_map_or (λ c. c.0 == 2) (last_component name) false
 -- What is signed: the name's components without the last, which is the parameters digest, and the
 -- octets from the parameters up to the signature. Nothing is signed where parameters, signature info
 -- or signature is absent.
-abbrev pub signed_of : List Component → Option (ℕ × List ℕ) → Option Info
-    → Option (List ℕ × Option (List ℕ)) → Option (List ℕ × List ℕ)
-signed_of name None info signature = None
-signed_of name (Some p) None signature = None
-signed_of name (Some p) (Some i) None = None
-signed_of name (Some p) (Some i) (Some s) =
-    option_map (λ portion. (encoding (without_last name), portion)) s.1
+abbrev pub signed_of : List Component → Bool → Option (List ℕ × Option (List ℕ))
+    → Option (List ℕ × List ℕ)
+signed_of name false signature = None
+signed_of name true None = None
+signed_of name true (Some s) = option_map (λ portion. (encoding (without_last name), portion)) s.1
 
 abbrev pub interest_named : List ℕ → InterestSoFar → List Component → Result Interest PacketFault
 interest_named octets s name =
@@ -162,7 +161,7 @@ interest_named octets s name =
       signature_type = option_map (λ i. i.signature_type) s.info;
       locator = option_map_or (λ i. i.locator) s.info None;
       signature = option_map (λ g. g.0) s.signature;
-      signed = signed_of name s.parameters s.info s.signature;
+      signed = signed_of name (is_some s.parameters && is_some s.info) s.signature;
       digested = option_map (λ p. drop p.0 octets) s.parameters;
     })
 
@@ -182,6 +181,10 @@ IsDigested i =
 
 -- ---- the structs without where their octets lie in memory
 
+abbrev pub signature_parts : Option (Bor (List ℕ) × Option (Bor (List ℕ)))
+    → Option (List ℕ × Option (List ℕ))
+signature_parts signature = option_map (λ s. (s.0.now, option_map (λ o. o.now) s.1)) signature
+
 abbrev pub so_far : Gathered → InterestSoFar
 so_far g =
     record {
@@ -193,7 +196,7 @@ so_far g =
       hop_limit = g.hop_limit;
       parameters = option_map (λ p. (p.0, p.1.now)) g.parameters;
       info = option_map info g.info;
-      signature = option_map (λ s. (s.0.now, option_map (λ o. o.now) s.1)) g.signature;
+      signature = signature_parts g.signature;
     }
 
 -- The parameters, if there are any, begin by this offset.

@@ -6,10 +6,14 @@ use Rattle.ndn_name.specs.Names.{Component, encoding}
 use Rattle.ndn_sign.specs.Hmac.{hmac}
 use Rattle.ndn_packet.specs.Written.{written_info}
 
--- Name, and CanBePrefix where that is asked.
+-- CanBePrefix, where that is asked.
+abbrev pub written_flag : Bool → List ℕ
+written_flag can_be_prefix = if can_be_prefix then element 0x21 [] else []
+
+-- Name, and CanBePrefix.
 abbrev pub written_plain : List Component → Bool → List ℕ
 written_plain name can_be_prefix =
-    element 0x05 (element 0x07 (encoding name) ++ (if can_be_prefix then element 0x21 [] else []))
+    element 0x05 (element 0x07 (encoding name) ++ written_flag can_be_prefix)
 
 -- ApplicationParameters and InterestSignatureInfo, which are signed with the name.
 abbrev pub written_parameters : List ℕ → List Component → List ℕ

@@ -1,7 +1,7 @@
 ghost use Rattle.std.specs.Prelude.{◌≡◌, ◌≤◌, ◌↔◌, length, is_some, option_map, IsTrue, MatchResult, MatchOption, IfOk, Ok, Err, Some, None};
 ghost use Rattle.std.specs.Option.{option_map_or};
 ghost use Rattle.ndn_packet.specs.SignatureInfo.{info};
-ghost use Rattle.ndn_interest.specs.Interest.{interest_of, interest_from, ends_in_digest, signed_of, packet, so_far, StartsBy, IsDigested};
+ghost use Rattle.ndn_interest.specs.Interest.{interest_of, interest_from, ends_in_digest, signed_of, signature_parts, packet, so_far, StartsBy, IsDigested};
 
 use crate::interest_fields::Gathered;
 use crate::parameters_digest::{before_digest, ends_in_digest, last_component};
@@ -61,7 +61,8 @@ impl<'p> InterestView<'p> {
         if gathered.info.is_some() && gathered.signature.is_none() {
             return Err(missing(Field::SignatureValue));
         }
-        let signed = signed_of(&name, &gathered);
+        let is_complete = gathered.parameters.is_some() && gathered.info.is_some();
+        let signed = signed_of(&name, is_complete, gathered.signature);
         let (signature_type, locator) = parts_of(gathered.info);
         Ok(InterestView {
             name,
@@ -103,17 +104,19 @@ impl<'p> InterestView<'p> {
     }
 }
 
-// What is signed, in two pieces.
-fn signed_of<'p>(name: &NameView<'p>, gathered: &Gathered<'p>) -> Option<(&'p [u8], &'p [u8])>
-    requires { IsTrue (is_some gathered.now.parameters) → IsTrue (ends_in_digest name.now) }
-    ensures { MatchOption result
-        (signed_of name.now (so_far gathered.now).parameters (so_far gathered.now).info (so_far gathered.now).signature ≡ None)
-        (λ pieces. signed_of name.now (so_far gathered.now).parameters (so_far gathered.now).info (so_far gathered.now).signature ≡ Some (pieces.0.now, pieces.1.now)) }
+// What is signed, in two pieces, where the Interest has parameters and says how it is signed.
+fn signed_of<'p>(
+    name: &NameView<'p>,
+    is_complete: bool,
+    signature: Option<(&'p [u8], Option<&'p [u8]>)>,
+) -> Option<(&'p [u8], &'p [u8])>
+    requires { IsTrue is_complete → IsTrue (ends_in_digest name.now) }
+    ensures { option_map (λ s. (s.0.now, s.1.now)) result ≡ signed_of name.now is_complete (signature_parts signature.entry) }
 {
-    if gathered.parameters.is_none() || gathered.info.is_none() {
+    if !is_complete {
         return None;
     }
-    let (_, portion) = gathered.signature?;
+    let (_, portion) = signature?;
     let portion = portion?;
     Some((before_digest(name), portion))
 }

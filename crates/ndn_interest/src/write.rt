@@ -2,7 +2,7 @@ ghost use Rattle.std.specs.Prelude.{◌≡◌, ℕ, ◌+◌, ◌^◌, ◌-◌, �
 ghost use Rattle.sha2.specs.Sha256.{sha256};
 ghost use Rattle.ndn_tlv.specs.Spelling.{head};
 ghost use Rattle.ndn_name.specs.Names.{encoding};
-ghost use Rattle.ndn_interest.specs.WrittenInterest.{written_plain, written_parameters, written_digested, written_interest, with_digest};
+ghost use Rattle.ndn_interest.specs.WrittenInterest.{written_flag, written_plain, written_parameters, written_digested, written_interest, with_digest};
 
 use crate::parameters_digest::DIGEST_ELEMENT;
 use ndn_name::{Name, PacketWriteFault};
@@ -21,15 +21,33 @@ pub fn write_plain(alloc: Global, name: &Name, can_be_prefix: bool) -> Result<Ve
     ensures { IfOk result (λ octets. octets.items ≡ written_plain name.now can_be_prefix) }
 {
     let name = name.octets();
-    let flags = if can_be_prefix { 2 } else { 0 };
-    let body = element_len(0x07, name.len()) + flags;
+    let body = element_len(0x07, name.len()) + flag_len(can_be_prefix);
     let mut writer = Writer::with_capacity(alloc, element_len(0x05, body))?;
     writer.put_head(0x05, body)?;
     writer.put(0x07, name)?;
-    if can_be_prefix {
-        writer.put(0x21, &[])?;
-    }
+    put_flag(&mut writer, can_be_prefix)?;
     Ok(writer.finish())
+}
+
+// How many octets CanBePrefix has, where that is asked.
+fn flag_len(can_be_prefix: bool) -> usize
+    ensures exact { result ≡ length (written_flag can_be_prefix) }
+    ensures small { result ≤ 18 }
+{
+    if can_be_prefix {
+        return element_len(0x21, 0);
+    }
+    0
+}
+
+// Appends CanBePrefix, where that is asked.
+fn put_flag(writer: &mut Writer, can_be_prefix: bool) -> Result<(), AllocError>
+    ensures { OnOk result (writer.new ≡ writer.old ++ written_flag can_be_prefix) }
+{
+    if can_be_prefix {
+        return writer.put(0x21, &[]);
+    }
+    Ok(())
 }
 
 /// Writes an Interest of this name with the parameters digest behind it, with these parameters,
@@ -87,7 +105,7 @@ fn write_parts(
     key_name: &Name,
     key: &[u8],
 ) -> Result<Vec<u8>, AllocError>
-    requires { length parameters.now < 2 ^ 32 }
+    requires { length (written_parameters parameters.now key_name.now) + 34 ≤ PACKET_LIMIT }
     ensures { IfOk result (λ octets. octets.items ≡ written_interest name.now parameters.now key_name.now key.now) }
 {
     let digested = digested(alloc, name, parameters, key_name, key)?;
@@ -114,7 +132,7 @@ fn digested(
 
 // The Interest of these parameters and signature.
 fn with_digest(alloc: Global, name: &Name, digested: &[u8]) -> Result<Vec<u8>, AllocError>
-    requires { length digested.now < 2 ^ 33 }
+    requires { length digested.now ≤ PACKET_LIMIT }
     ensures { IfOk result (λ octets. octets.items ≡ with_digest name.now digested.now) }
 {
     let components = name.octets();

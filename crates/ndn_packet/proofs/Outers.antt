@@ -2,7 +2,7 @@
 use Rattle.std.proofs.Common.{◌≡◌, ℕ, ◌+◌, ◌≤◌, Bool, true, false, cond, ltb, eqb, ◌⊎◌, inl, inr, List, [], ◌∷◌, ◌++◌, length, length-append, Option, Some, None, Result, Ok, Err, refl, sym, ap, subst, ◌∙◌, arith}
 use Rattle.std.proofs.lemmas.List.{append-nil}
 use Rattle.ndn_tlv.specs.declared.tlv_fault.TlvFault.{TlvFault}
-use Rattle.ndn_tlv.specs.Spelling.{element}
+use Rattle.ndn_tlv.specs.Spelling.{head, element}
 use Rattle.ndn_tlv.specs.Elements.{Item, IsOctets, AreElements, placed, elements}
 use Rattle.ndn_tlv.proofs.Listings.{elements_are}
 use Rattle.ndn_name.specs.declared.fault.PacketFault.{PacketFault}
@@ -90,3 +90,9 @@ outer_ok typ octets e fits h =
     let P : Item → Type 0 = λ x. (octets ≡ element typ x.value) × (x ≡ placed 0 typ x.value) in
     let all = subst P only.0 (alone.whole, alone.is_placed) in
     record { whole = all.0; is_placed = all.1; short = ltb-false 8800 (length octets) g.0 }
+
+-- the value ends where the packet does
+pub value_ends : (typ : ℕ) (octets : List ℕ) (e : Item) → octets ≡ element typ e.value → e ≡ placed 0 typ e.value
+    → e.value_start + length e.value ≡ length octets
+value_ends typ octets e whole at =
+    omega (arith, ap length whole, length-append (head typ (length e.value)) e.value, ap (λ (x : Item). x.value_start) at)

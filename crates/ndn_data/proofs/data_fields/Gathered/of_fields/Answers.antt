@@ -16,6 +16,7 @@ use Rattle.ndn_data.specs.declared.data_fields.TheConstants.{DATA}
 use Rattle.ndn_data.specs.Data.{no_field, with_data_field, data_fields, so_far, StartsBy}
 use Rattle.ndn_data.specs.Signed.{Signs}
 use Rattle.ndn_data.proofs.SignedLemmas.{SignatureStands, data_gathers, signs_of}
+use Rattle.ndn_packet.proofs.Outers.{value_ends}
 use Rattle.ndn_data.proofs.data_fields.Gathered.of_fields.Goals as goal
 
 starts_later : (low later : ℕ) (g : Gathered) → low ≤ later → StartsBy low g → StartsBy later g
@@ -23,11 +24,6 @@ starts_later low later g h s = starts_of g.name s where
   starts_of : (n : Option (ℕ × List Component)) → IfSome n (λ n. n.0 ≤ low) → IfSome n (λ n. n.0 ≤ later)
   starts_of None s = tt
   starts_of (Some n) s = omega arith
-
--- the value ends where the packet does
-ends_with : (octets : List ℕ) (e : Item) → octets ≡ element 0x06 e.value → e ≡ placed 0 0x06 e.value → e.value_start + length e.value ≡ length octets
-ends_with octets e whole at =
-    omega (arith, ap length whole, length-append (head 0x06 (length e.value)) e.value, ap (λ (x : Item). x.value_start) at)
 
 pub loop-next-init : goal.loop-next-init
 loop-next-init c = record {
@@ -70,14 +66,14 @@ take-requires-clause-fits c =
     let seen = rw c.in-Some.is at c.in_ok-next.ensures.ok in
     let P : Listing (DataField × Item) FieldFault → Type 0 = λ read. AreWithin c.loop-next.invariant.low (c.args.outer.value_start + length c.args.outer.value.now) (map (λ f. f.1) read.items) in
     let within = subst P seen c.loop-next.invariant.within in
-    omega (arith, within.2, AreWithin-ends _ _ _ within.3, ends_with c.args.octets.now (item c.args.outer) c.requires.whole c.requires.placed)
+    omega (arith, within.2, AreWithin-ends _ _ _ within.3, value_ends 0x06 c.args.octets.now (item c.args.outer) c.requires.whole c.requires.placed)
 
 pub take-requires-clause-ends : goal.take-requires-clause-ends
 take-requires-clause-ends c =
     let seen = rw c.in-Some.is at c.in_ok-next.ensures.ok in
     let P : Listing (DataField × Item) FieldFault → Type 0 = λ read. AreWithin c.loop-next.invariant.low (c.args.outer.value_start + length c.args.outer.value.now) (map (λ f. f.1) read.items) in
     let within = subst P seen c.loop-next.invariant.within in
-    omega (arith, within.1, within.2, AreWithin-ends _ _ _ within.3, ends_with c.args.octets.now (item c.args.outer) c.requires.whole c.requires.placed)
+    omega (arith, within.1, within.2, AreWithin-ends _ _ _ within.3, value_ends 0x06 c.args.octets.now (item c.args.outer) c.requires.whole c.requires.placed)
 
 pub take-requires-clause-starts : goal.take-requires-clause-starts
 take-requires-clause-starts c =
@@ -97,4 +93,4 @@ returns-clause-signs c =
     let seen = rw c.in_default.is at c.in_ok-next.ensures.ok in
     let read = all_gathered (with_data_field c.args.octets.now) packet_fault (so_far c.loop-next.gathered) c.loop-next.fields (data_fields c.args.octets.now (item c.args.outer)) c.loop-next.invariant.so_far seen.0 in
     let gathers = data_gathers c.args.octets.now (item c.args.outer) (so_far c.loop-next.gathered) (λ i. omega (arith, c.type_inv.octets i)) (omega arith) c.requires.whole c.requires.placed read in
-    view_signs c.args.outer.value.now (so_far c.loop-next.gathered).name c.loop-next.gathered.signature (omega (arith, ends_with c.args.octets.now (item c.args.outer) c.requires.whole c.requires.placed)) gathers.signature
+    view_signs c.args.outer.value.now (so_far c.loop-next.gathered).name c.loop-next.gathered.signature (omega (arith, value_ends 0x06 c.args.octets.now (item c.args.outer) c.requires.whole c.requires.placed)) gathers.signature
