@@ -57,7 +57,7 @@ meta_again o n short =
     let inner = length-element 0x32 (number_field n) in
     let read = alone v 0x1a component (omega arith) (omega arith) (omega arith) in
     let name : name_of a.value_start component ≡ Ok ((0x32, number_field n) ∷ []) =
-      ap (gathered with_component name_faults.Tlv []) (alone a.value_start 0x32 (number_field n) (omega arith) (omega arith) (omega arith)) ∙ one_component a.value_start (number_field n) in
+    ap (gathered with_component name_faults.Tlv []) (alone a.value_start 0x32 (number_field n) (omega arith) (omega arith) (omega arith)) ∙ one_component a.value_start (number_field n) in
     let block : final_block_in a ≡ Ok (0x32, number_field n) = ap (λ (r : Result (List Component) NameFault). name_or bad r >>= only_component bad) name in
     let step : with_meta_field plain (FinalBlockId, a) ≡ Ok (last_of n) = ap (λ (r : Result Component PacketFault). r >>= λ c. Ok (record plain { last = Some c })) block in
     ap (λ (l : Listing Item TlvFault). gathered with_meta_field packet_fault plain (fields META_INFO l)) read
@@ -188,10 +188,10 @@ plain_again name key_name content key valid key_valid short =
     let read = ap (elements o) parts ∙ followed o 0x07 (encoding name) rest _ (omega arith) (omega arith) (omega arith) (behind_read name key_name content mac octets valid key_valid p (omega arith)) in
     let take = with_data_field octets in
     let fields_read : data_fields octets (placed 0 0x06 value) ≡ Ok (all_fields name key_name content mac octets valid key_valid o r plain) =
-      ap (λ (l : Listing Item TlvFault). gathered take packet_fault no_field (fields DATA l)) read
-      ∙ ap (gathered take packet_fault no_field) (plain_table (placed o 0x07 (encoding name)) (placed p 0x15 content) (placed q 0x16 info) (placed r 0x17 mac) refl refl refl refl)
-      ∙ gathers take packet_fault no_field (named name key_name content mac octets valid key_valid o) (Name, placed o 0x07 (encoding name)) _ (name_step name key_name content mac octets valid key_valid o)
-      ∙ others name key_name content mac octets valid key_valid o p q r plain (omega arith) in
+    ap (λ (l : Listing Item TlvFault). gathered take packet_fault no_field (fields DATA l)) read
+    ∙ ap (gathered take packet_fault no_field) (plain_table (placed o 0x07 (encoding name)) (placed p 0x15 content) (placed q 0x16 info) (placed r 0x17 mac) refl refl refl refl)
+    ∙ gathers take packet_fault no_field (named name key_name content mac octets valid key_valid o) (Name, placed o 0x07 (encoding name)) _ (name_step name key_name content mac octets valid key_valid o)
+    ∙ others name key_name content mac octets valid key_valid o p q r plain (omega arith) in
     let counted : length portion ≡ length first + length second + length third = omega (arith, length-append ((first ++ []) ++ second) third, length-append (first ++ []) second, length-append first []) in
     finished name key_name content mac octets valid key_valid value portion o r plain refl short fields_read (portion_is (head 0x06 (length value)) portion (element 0x17 mac) o r (omega arith) (omega arith))
 
@@ -224,14 +224,14 @@ last_again name key_name n content key valid key_valid short =
     let size_last = length-append third (element 0x17 mac) in
     let size_info = length-element 0x16 info in
     let read = ap (elements o) parts ∙ followed o 0x07 (encoding name) (meta ++ rest) _ (omega arith) (omega arith) (omega arith)
-      (followed k 0x14 (final_block n) rest _ (omega arith) (omega arith) (omega arith) (behind_read name key_name content mac octets valid key_valid p (omega arith))) in
+    (followed k 0x14 (final_block n) rest _ (omega arith) (omega arith) (omega arith) (behind_read name key_name content mac octets valid key_valid p (omega arith))) in
     let take = with_data_field octets in
     let fields_read : data_fields octets (placed 0 0x06 value) ≡ Ok (all_fields name key_name content mac octets valid key_valid o r (last_of n)) =
-      ap (λ (l : Listing Item TlvFault). gathered take packet_fault no_field (fields DATA l)) read
-      ∙ ap (gathered take packet_fault no_field) (whole_table (placed o 0x07 (encoding name)) (placed k 0x14 (final_block n)) (placed p 0x15 content) (placed q 0x16 info) (placed r 0x17 mac) refl refl refl refl refl)
-      ∙ gathers take packet_fault no_field (named name key_name content mac octets valid key_valid o) (Name, placed o 0x07 (encoding name)) _ (name_step name key_name content mac octets valid key_valid o)
-      ∙ gathers take packet_fault (named name key_name content mac octets valid key_valid o) (record (named name key_name content mac octets valid key_valid o) { meta = last_of n }) (MetaInfo, placed k 0x14 (final_block n)) _ (meta_step name key_name content mac octets valid key_valid o k n (omega arith))
-      ∙ others name key_name content mac octets valid key_valid o p q r (last_of n) (omega arith) in
+    ap (λ (l : Listing Item TlvFault). gathered take packet_fault no_field (fields DATA l)) read
+    ∙ ap (gathered take packet_fault no_field) (whole_table (placed o 0x07 (encoding name)) (placed k 0x14 (final_block n)) (placed p 0x15 content) (placed q 0x16 info) (placed r 0x17 mac) refl refl refl refl refl)
+    ∙ gathers take packet_fault no_field (named name key_name content mac octets valid key_valid o) (Name, placed o 0x07 (encoding name)) _ (name_step name key_name content mac octets valid key_valid o)
+    ∙ gathers take packet_fault (named name key_name content mac octets valid key_valid o) (record (named name key_name content mac octets valid key_valid o) { meta = last_of n }) (MetaInfo, placed k 0x14 (final_block n)) _ (meta_step name key_name content mac octets valid key_valid o k n (omega arith))
+    ∙ others name key_name content mac octets valid key_valid o p q r (last_of n) (omega arith) in
     let counted : length portion ≡ length first + length meta + length second + length third = omega (arith, length-append ((first ++ meta) ++ second) third, length-append (first ++ meta) second, length-append first meta) in
     finished name key_name content mac octets valid key_valid value portion o r (last_of n) refl short fields_read (portion_is (head 0x06 (length value)) portion (element 0x17 mac) o r (omega arith) (omega arith))
 

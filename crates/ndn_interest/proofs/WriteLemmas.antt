@@ -68,7 +68,7 @@ writes name digested digest begun named joined marked filled whole len body is_l
     let size : len ≡ length value = is_len ∙ sym (length-named name (sha256 digested) (length-sha256 digested)) in
     let bodies : body ≡ length (element 0x07 value ++ digested) = omega (arith, is_body, length-append (element 0x07 value) digested, length-element 0x07 value, size, ap (λ (n : ℕ). length (head 0x07 n)) size) in
     let joins : whole ≡ ((((head 0x05 body ++ head 0x07 len) ++ encoding name) ++ (2 ∷ 32 ∷ [])) ++ digest) ++ digested =
-      h6 ∙ ap (λ (f : List ℕ). f ++ digested) (h5 ∙ ap (λ (m : List ℕ). m ++ digest) (h4 ∙ ap (λ (j : List ℕ). j ++ (2 ∷ 32 ∷ [])) (h3 ∙ ap (λ (n : List ℕ). n ++ encoding name) (h2 ∙ ap (λ (b : List ℕ). b ++ head 0x07 len) h1)))) in
+    h6 ∙ ap (λ (f : List ℕ). f ++ digested) (h5 ∙ ap (λ (m : List ℕ). m ++ digest) (h4 ∙ ap (λ (j : List ℕ). j ++ (2 ∷ 32 ∷ [])) (h3 ∙ ap (λ (n : List ℕ). n ++ encoding name) (h2 ∙ ap (λ (b : List ℕ). b ++ head 0x07 len) h1)))) in
     joins
     ∙ regroup (head 0x05 body) (head 0x07 len) (encoding name) (2 ∷ 32 ∷ []) digest digested
     ∙ ap (λ (v : List ℕ). head 0x05 body ++ ((head 0x07 len ++ v) ++ digested)) spelled
