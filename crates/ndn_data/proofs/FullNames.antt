@@ -1,5 +1,5 @@
 -- Names with one component more.
-use Rattle.std.proofs.Common.{◌≡◌, ℕ, zero, suc, ◌-◌, List, [], ◌∷◌, ◌++◌, length, take, Option, Some, slice_get, refl, sym, ap, ◌∙◌, arith}
+use Rattle.std.proofs.Common.{◌≡◌, ℕ, ◌-◌, List, [], ◌∷◌, ◌++◌, length, take, Option, Some, slice_get, refl, ap, ◌∙◌, arith}
 use Rattle.ndn_name.specs.Names.{Component}
 use Rattle.ndn_name.specs.CanonicalOrder.{IsPrefix}
 

@@ -1,5 +1,5 @@
 -- A Data packet that was written is read back.
-use Rattle.std.proofs.Common.{◌≡◌, ℕ, ◌+◌, ◌-◌, ◌^◌, ◌<◌, ◌≤◌, List, [], ◌∷◌, ◌++◌, length, length-append, take, drop, take_at, drop_at, append_assoc, slice_range, Option, Some, None, option_map, Result, Ok, Err, refl, sym, ap, ◌∙◌, arith}
+use Rattle.std.proofs.Common.{◌≡◌, ℕ, ◌+◌, ◌-◌, ◌^◌, ◌<◌, ◌≤◌, List, [], ◌∷◌, ◌++◌, length, length-append, take, drop, take_at, drop_at, append_assoc, slice_range, Option, Some, None, Result, Ok, refl, sym, ap, ◌∙◌, arith}
 use Rattle.ndn_tlv.specs.declared.tlv_fault.TlvFault.{TlvFault}
 use Rattle.ndn_tlv.specs.Spelling.{head, element}
 use Rattle.ndn_tlv.specs.Listing.{Listing, nothing, ◌then◌, gather, gathered, ◌>>=◌}
@@ -14,21 +14,19 @@ use Rattle.ndn_name.specs.declared.name_fault.NameFault.TheVariants as name_faul
 use Rattle.ndn_name.specs.Names.{Component, IsName, encoding, with_component, name_of}
 use Rattle.ndn_name.specs.Faults.{packet_fault}
 use Rattle.ndn_sign.specs.Hmac.{hmac}
-use Rattle.ndn_packet.specs.Contents.{name_or, name_in}
+use Rattle.ndn_packet.specs.Contents.{name_or}
 use Rattle.ndn_packet.specs.Outer.{outer_of}
-use Rattle.ndn_packet.specs.SignatureInfo.{Info, info_in}
+use Rattle.ndn_packet.specs.SignatureInfo.{Info}
 use Rattle.ndn_packet.specs.Written.{written_info}
 use Rattle.ndn_packet.proofs.Lengths.{length-element}
 use Rattle.ndn_packet.proofs.ReadBack.{alone, followed, outer_again, name_again, info_again, gathers, gathered-nothing}
-use Rattle.ndn_data.specs.declared.meta_info.MetaField.{MetaField}
 use Rattle.ndn_data.specs.declared.meta_info.MetaField.TheVariants.{FinalBlockId}
 use Rattle.ndn_data.specs.declared.meta_info.TheConstants.{META_INFO}
-use Rattle.ndn_data.specs.declared.data_fields.DataField.{DataField}
 use Rattle.ndn_data.specs.declared.data_fields.DataField.TheVariants.{Name, MetaInfo, Content, SignatureInfo, SignatureValue}
 use Rattle.ndn_data.specs.declared.data_fields.TheConstants.{DATA}
 use Rattle.ndn_data.specs.MetaInfo.{Meta, plain, only_component, final_block_in, with_meta_field, meta_in}
-use Rattle.ndn_data.specs.Data.{Data, DataSoFar, no_field, signed_before, with_data_field, data_fields, data_from, data_of}
-use Rattle.ndn_data.specs.WrittenData.{final_block, written_meta, written_signed, signed, written_data, read_back}
+use Rattle.ndn_data.specs.Data.{Data, DataSoFar, no_field, with_data_field, data_fields, data_from, data_of}
+use Rattle.ndn_data.specs.WrittenData.{final_block, written_signed, signed, written_data, read_back}
 
 regroup : (a b c d e : List ℕ) → (((a ++ b) ++ c) ++ d) ++ e ≡ a ++ (b ++ (c ++ (d ++ e)))
 regroup a b c d e = simp append_assoc

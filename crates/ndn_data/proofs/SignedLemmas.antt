@@ -1,11 +1,11 @@
 -- What a Data packet's signature signs stands in the packet, from the Name on.
-use Rattle.std.proofs.Common.{◌≡◌, ℕ, zero, suc, ◌+◌, ◌-◌, ◌^◌, ◌<◌, ◌≤◌, Bool, true, false, cond, List, [], ◌∷◌, ◌++◌, length, length-append, length-drop, take, drop, Option, Some, None, slice_get, slice_range, drop_at, Result, Ok, Err, IfSome, refl, sym, ap, subst, ◌∙◌, append_assoc, arith}
+use Rattle.std.proofs.Common.{◌≡◌, ℕ, zero, suc, ◌+◌, ◌-◌, ◌^◌, ◌<◌, ◌≤◌, Bool, false, cond, List, [], ◌∷◌, ◌++◌, length, length-append, length-drop, take, drop, Option, Some, None, slice_get, slice_range, drop_at, Result, Ok, Err, IfSome, refl, sym, ap, subst, ◌∙◌, arith}
 use Rattle.std.proofs.Math.Seq.{take-append-add}
 use Rattle.std.proofs.lemmas.List.{append-nil}
 use Rattle.std.proofs.lemmas.List.Folds.{drop_split}
 use Rattle.ndn_tlv.specs.Spelling.{head, element}
 use Rattle.ndn_tlv.specs.Listing.{◌>>=◌}
-use Rattle.ndn_tlv.specs.Elements.{Item, IsOctets, AreWithin, AreElements, placed, elements}
+use Rattle.ndn_tlv.specs.Elements.{Item, IsOctets, placed, elements}
 use Rattle.ndn_tlv.specs.OrderTable.{fields}
 use Rattle.ndn_tlv.proofs.Numbers.{IsOctets-drop}
 use Rattle.ndn_tlv.proofs.Listings.{elements_are, elements_within_octets}
@@ -19,7 +19,7 @@ use Rattle.ndn_name.specs.Names.{Component, encoding, name_of}
 use Rattle.ndn_name.proofs.Encodings.{bind_ok, IsOctets-before, IsOctets-behind, name_of-encoded}
 use Rattle.ndn_packet.specs.Contents.{ok_or, name_or, name_in}
 use Rattle.ndn_packet.specs.SignatureInfo.{Info, info_in}
-use Rattle.ndn_packet.proofs.Gathering.{Each, Stands, elements_stand, keeps, Kept}
+use Rattle.ndn_packet.proofs.Gathering.{Stands, elements_stand, keeps}
 use Rattle.ndn_data.specs.declared.data_fields.DataField.{DataField}
 use Rattle.ndn_data.specs.declared.data_fields.DataField.TheVariants.{Name, MetaInfo, Content, SignatureInfo, SignatureValue}
 use Rattle.ndn_data.specs.declared.data_fields.TheConstants.{DATA}

@@ -1,5 +1,5 @@
 -- What octets are as a Data packet, or the first fault (NDN Packet Format 0.3, "Data Packet").
-use Rattle.std.specs.Prelude.{◌≡◌, ◌⊎◌, ℕ, ◌≤◌, Bool, IsTrue, List, [], ◌++◌, Option, Some, None, option_map, IfSome, Result, Ok, Err, slice_range}
+use Rattle.std.specs.Prelude.{◌≡◌, ◌⊎◌, ℕ, ◌≤◌, Bool, IsTrue, List, [], ◌++◌, Option, Some, None, option_map, IfSome, Result, Ok, slice_range}
 use Rattle.ndn_tlv.specs.Spelling.{element}
 use Rattle.ndn_tlv.specs.Listing.{gathered, ◌>>=◌}
 use Rattle.ndn_tlv.specs.Elements.{Item, elements}
@@ -52,7 +52,8 @@ signed_before octets (Some name) offset = slice_range octets name.0 offset
 
 abbrev pub with_data_field : List ℕ → DataSoFar → DataField × Item → Result DataSoFar PacketFault
 with_data_field octets s (Name, e) =
-    name_in (BadField field.Name e.start) e >>= λ name. Ok (record s { name = Some (e.start, name) })
+    name_in (BadField field.Name e.start) e
+    >>= λ name. Ok (record s { name = Some (e.start, name) })
 with_data_field octets s (MetaInfo, e) = meta_in e >>= λ m. Ok (record s { meta = m })
 with_data_field octets s (Content, e) = Ok (record s { content = e.value })
 with_data_field octets s (SignatureInfo, e) = info_in e >>= λ i. Ok (record s { info = Some i })

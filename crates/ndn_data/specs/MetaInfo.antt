@@ -29,8 +29,8 @@ only_component bad [] = Err bad
 only_component bad (c ∷ []) = Ok c
 only_component bad (c ∷ d ∷ cs) = Err bad
 
--- The component that a FinalBlockId holds. It is read to its end as a name is, before it counts that
--- there is one component.
+-- The component that a FinalBlockId holds. It is read to its end as a name is, before it counts
+-- that there is one component.
 abbrev pub final_block_in : Item → Result Component PacketFault
 final_block_in e =
     name_in (BadField field.FinalBlockId e.start) e

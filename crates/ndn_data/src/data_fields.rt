@@ -70,7 +70,8 @@ impl<'p> Gathered<'p> {
         ensures read { MatchResult result
             (λ g. data_fields octets.now (item outer.entry) ≡ Ok (so_far g))
             (λ fault. data_fields octets.now (item outer.entry) ≡ Err fault) }
-        ensures signs { IfOk result (λ g. IfSome g.signature (λ s. Signs outer.entry.value.now s.1.now s.0.now)) }
+        ensures signs { IfOk result
+            (λ g. IfSome g.signature (λ s. Signs outer.entry.value.now s.1.now s.0.now)) }
     {
         let elements = Reader::new(outer.value, outer.value_start);
         let mut fields = FieldReader::new(elements, &DATA);
@@ -98,8 +99,10 @@ impl<'p> Gathered<'p> {
         requires starts { StartsBy element.start self.old }
         requires ends { element.start ≤ length octets.now }
         ensures taken { MatchResult result
-            (λ _. with_data_field octets.now (so_far self.old) (field, item element.entry) ≡ Ok (so_far self.new))
-            (λ fault. with_data_field octets.now (so_far self.old) (field, item element.entry) ≡ Err fault) }
+            (λ _. with_data_field octets.now (so_far self.old) (field, item element.entry)
+            ≡ Ok (so_far self.new))
+            (λ fault. with_data_field octets.now (so_far self.old) (field, item element.entry)
+            ≡ Err fault) }
         ensures starts { OnOk result (StartsBy element.entry.start self.new) }
     {
         match field {

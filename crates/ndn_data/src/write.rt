@@ -33,11 +33,14 @@ pub fn write_signed(
     key_name: &Name,
     key: &[u8],
 ) -> Result<Vec<u8>, PacketWriteFault>
-    ensures ok { IfOk result (λ octets. octets.items ≡ written_data name.now last content.now key_name.now key.now) }
-    ensures fits { OnOk result (length (written_data name.now last content.now key_name.now key.now) ≤ PACKET_LIMIT) }
+    ensures ok { IfOk result
+        (λ octets. octets.items ≡ written_data name.now last content.now key_name.now key.now) }
+    ensures fits { OnOk result
+        (length (written_data name.now last content.now key_name.now key.now) ≤ PACKET_LIMIT) }
     ensures too_long { (n : ℕ) → (result ≡ Err (PacketWriteFault.TooLong n))
         ↔ ((PACKET_LIMIT < length (written_data name.now last content.now key_name.now key.now))
-        × (n ≡ min (length (written_data name.now last content.now key_name.now key.now)) usize.MAX)) }
+        × (n ≡ min (length (written_data name.now last content.now key_name.now key.now))
+        usize.MAX)) }
 {
     let unsigned = Unsigned {
         name,

@@ -1,2 +1,4 @@
 pub mod LastLemmas
 pub mod WriteLemmas
+pub mod DigestLemmas
+pub mod ReadBackLemmas

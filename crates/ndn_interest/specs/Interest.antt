@@ -85,7 +85,8 @@ flag_in name e = if length e.value == 0 then Ok true else Err (BadField name e.s
 -- Four octets, as a number.
 abbrev pub nonce_in : Item → Result ℕ PacketFault
 nonce_in e =
-    if length e.value == 4 then Ok (from_be_bytes w32 e.value) else Err (BadField field.Nonce e.start)
+    if length e.value == 4 then Ok (from_be_bytes w32 e.value)
+    else Err (BadField field.Nonce e.start)
 
 -- One octet.
 abbrev pub one_octet : PacketFault → List ℕ → Result ℕ PacketFault
@@ -138,8 +139,8 @@ abbrev pub ends_in_digest : List Component → Bool
 ends_in_digest name = option_map_or (λ c. c.0 == 2) (last_component name) false
 
 -- What is signed: the name's components without the last, which is the parameters digest, and the
--- octets from the parameters up to the signature. Nothing is signed where parameters, signature info
--- or signature is absent.
+-- octets from the parameters up to the signature. Nothing is signed where parameters, signature
+-- info or signature is absent.
 abbrev pub signed_of : List Component → Bool → Option (List ℕ × Option (List ℕ))
     → Option (List ℕ × List ℕ)
 signed_of name false signature = None

@@ -1,10 +1,11 @@
 -- The Interests that are written.
-use Rattle.std.specs.Prelude.{ℕ, Bool, List, [], ◌∷◌, ◌++◌, if◌then◌else◌}
+use Rattle.std.specs.Prelude.{ℕ, Bool, false, List, [], ◌∷◌, ◌++◌, Some, None, if◌then◌else◌}
 use Rattle.sha2.specs.Sha256.{sha256}
 use Rattle.ndn_tlv.specs.Spelling.{element}
 use Rattle.ndn_name.specs.Names.{Component, encoding}
 use Rattle.ndn_sign.specs.Hmac.{hmac}
 use Rattle.ndn_packet.specs.Written.{written_info}
+use Rattle.ndn_interest.specs.Interest.{Interest}
 
 -- CanBePrefix, where that is asked.
 abbrev pub written_flag : Bool → List ℕ
@@ -34,3 +35,43 @@ with_digest name digested =
 abbrev pub written_interest : List Component → List ℕ → List Component → List ℕ → List ℕ
 written_interest name parameters key_name key =
     with_digest name (written_digested name parameters key_name key)
+
+-- What a plain Interest is read as.
+abbrev pub read_plain : List Component → Bool → Interest
+read_plain name can_be_prefix =
+    record {
+      name = name;
+      can_be_prefix = can_be_prefix;
+      must_be_fresh = false;
+      nonce = None;
+      lifetime = None;
+      hop_limit = None;
+      parameters = None;
+      signature_type = None;
+      locator = None;
+      signature = None;
+      signed = None;
+      digested = None;
+    }
+
+-- What a signed Interest is read as. Its name has the parameters digest behind it, and its
+-- signature is the mac of what is signed: the name without that, and what stands before the
+-- signature.
+abbrev pub read_signed : List Component → List ℕ → List Component → List ℕ → Interest
+read_signed name parameters key_name key =
+    let portion = written_parameters parameters key_name in
+    let digested = written_digested name parameters key_name key in
+    record {
+      name = name ++ (2, sha256 digested) ∷ [];
+      can_be_prefix = false;
+      must_be_fresh = false;
+      nonce = None;
+      lifetime = None;
+      hop_limit = None;
+      parameters = Some parameters;
+      signature_type = Some 4;
+      locator = Some key_name;
+      signature = Some (hmac key (encoding name ++ portion));
+      signed = Some (encoding name, portion);
+      digested = Some digested;
+    }

@@ -131,8 +131,10 @@ impl<'p> Gathered<'p> {
         requires starts { StartsBy element.start self.old }
         requires ends { element.start ≤ length octets.now }
         ensures taken { MatchResult result
-            (λ _. with_interest_field octets.now (so_far self.old) (field, item element.entry) ≡ Ok (so_far self.new))
-            (λ fault. with_interest_field octets.now (so_far self.old) (field, item element.entry) ≡ Err fault) }
+            (λ _. with_interest_field octets.now (so_far self.old) (field, item element.entry)
+            ≡ Ok (so_far self.new))
+            (λ fault. with_interest_field octets.now (so_far self.old) (field, item element.entry)
+            ≡ Err fault) }
         ensures starts { OnOk result (StartsBy element.entry.start self.new) }
     {
         match field {

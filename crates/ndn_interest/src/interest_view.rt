@@ -111,7 +111,8 @@ fn signed_of<'p>(
     signature: Option<(&'p [u8], Option<&'p [u8]>)>,
 ) -> Option<(&'p [u8], &'p [u8])>
     requires { IsTrue is_complete → IsTrue (ends_in_digest name.now) }
-    ensures { option_map (λ s. (s.0.now, s.1.now)) result ≡ signed_of name.now is_complete (signature_parts signature.entry) }
+    ensures { option_map (λ s. (s.0.now, s.1.now)) result
+        ≡ signed_of name.now is_complete (signature_parts signature.entry) }
 {
     if !is_complete {
         return None;
@@ -123,8 +124,10 @@ fn signed_of<'p>(
 
 // How a packet is signed and the name of the key, where it says so.
 fn parts_of<'p>(signature_info: Option<SignatureInfo<'p>>) -> (Option<u64>, Option<NameView<'p>>)
-    ensures typ { result.0 ≡ option_map (λ i. i.signature_type) (option_map info signature_info.entry) }
-    ensures locator { result.1 ≡ option_map_or (λ i. i.locator) (option_map info signature_info.entry) None }
+    ensures typ { result.0
+        ≡ option_map (λ i. i.signature_type) (option_map info signature_info.entry) }
+    ensures locator { result.1
+        ≡ option_map_or (λ i. i.locator) (option_map info signature_info.entry) None }
 {
     match signature_info {
         None => (None, None),

@@ -4,10 +4,12 @@
 
 mod interest_fields;
 mod interest_view;
+mod laws;
 mod parameters_digest;
 mod write;
 
 pub use interest_view::InterestView;
+pub use laws::{written_interest_has_its_digest, written_interest_is_read, written_plain_is_read};
 pub use write::{write_plain, write_signed};
 
 #[cfg(test)]

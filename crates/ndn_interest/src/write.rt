@@ -61,11 +61,14 @@ pub fn write_signed(
     key_name: &Name,
     key: &[u8],
 ) -> Result<Vec<u8>, PacketWriteFault>
-    ensures ok { IfOk result (λ octets. octets.items ≡ written_interest name.now parameters.now key_name.now key.now) }
-    ensures fits { OnOk result (length (written_interest name.now parameters.now key_name.now key.now) ≤ PACKET_LIMIT) }
+    ensures ok { IfOk result
+        (λ octets. octets.items ≡ written_interest name.now parameters.now key_name.now key.now) }
+    ensures fits { OnOk result
+        (length (written_interest name.now parameters.now key_name.now key.now) ≤ PACKET_LIMIT) }
     ensures too_long { (n : ℕ) → (result ≡ Err (PacketWriteFault.TooLong n))
         ↔ ((PACKET_LIMIT < length (written_interest name.now parameters.now key_name.now key.now))
-        × (n ≡ min (length (written_interest name.now parameters.now key_name.now key.now)) usize.MAX)) }
+        × (n ≡ min (length (written_interest name.now parameters.now key_name.now key.now))
+        usize.MAX)) }
 {
     let digested = digested_len(parameters, key_name);
     let body = digested.saturating_add(name_len(name));
@@ -90,7 +93,8 @@ fn name_len(name: &Name) -> usize
 
 // How many octets what the parameters digest is of has, up to the greatest `usize`.
 fn digested_len(parameters: &[u8], key_name: &Name) -> usize
-    ensures { result ≡ min (length (written_parameters parameters.now key_name.now) + 34) usize.MAX }
+    ensures { result
+        ≡ min (length (written_parameters parameters.now key_name.now) + 34) usize.MAX }
 {
     let around = element_len(0x2c, signature_info_len(key_name)) + MAC_ELEMENT;
     let len = parameters.len();
@@ -106,7 +110,8 @@ fn write_parts(
     key: &[u8],
 ) -> Result<Vec<u8>, AllocError>
     requires { length (written_parameters parameters.now key_name.now) + 34 ≤ PACKET_LIMIT }
-    ensures { IfOk result (λ octets. octets.items ≡ written_interest name.now parameters.now key_name.now key.now) }
+    ensures { IfOk result
+        (λ octets. octets.items ≡ written_interest name.now parameters.now key_name.now key.now) }
 {
     let digested = digested(alloc, name, parameters, key_name, key)?;
     with_digest(alloc, name, digested.octets())
@@ -120,7 +125,8 @@ fn digested(
     key_name: &Name,
     key: &[u8],
 ) -> Result<Writer, AllocError>
-    ensures { IfOk result (λ writer. writer ≡ written_digested name.now parameters.now key_name.now key.now) }
+    ensures { IfOk result
+        (λ writer. writer ≡ written_digested name.now parameters.now key_name.now key.now) }
 {
     let mut writer = Writer::with_capacity(alloc, digested_len(parameters, key_name))?;
     writer.put(0x24, parameters)?;

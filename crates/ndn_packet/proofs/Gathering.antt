@@ -1,14 +1,13 @@
 -- What a gathering over the fields of a table keeps true, as it comes from field to field.
-use Rattle.std.proofs.Common.{◌≡◌, ℕ, suc, ◌+◌, ◌<◌, ◌≤◌, Bool, cond, List, [], ◌∷◌, ◌++◌, length, drop, drop_at, drop-drop, Option, Some, None, slice_get, Result, Ok, Err, refl, sym, ap, subst, ◌∙◌, arith}
+use Rattle.std.proofs.Common.{◌≡◌, ℕ, suc, ◌+◌, ◌<◌, ◌≤◌, cond, List, [], ◌∷◌, ◌++◌, length, drop, drop_at, drop-drop, Option, Some, None, slice_get, Result, Ok, refl, sym, ap, subst, ◌∙◌, arith}
 use Rattle.ndn_tlv.specs.Spelling.{element}
-use Rattle.ndn_tlv.specs.Listing.{Listing, gather, gathered, ◌>>=◌}
-use Rattle.ndn_tlv.specs.Elements.{Item, AreElements, AreWithin, placed}
-use Rattle.ndn_tlv.specs.OrderTable.{AreFields, IsFreeOf, HasNoPlace}
+use Rattle.ndn_tlv.specs.Listing.{Listing, gather, gathered}
+use Rattle.ndn_tlv.specs.Elements.{Item, AreElements, AreWithin}
+use Rattle.ndn_tlv.specs.OrderTable.{AreFields}
 use Rattle.ndn_tlv.specs.OrderTable.AreFields.{ended, broken, field, stranger, critical}
 use Rattle.ndn_tlv.specs.declared.tlv_fault.TlvFault.{TlvFault}
 use Rattle.ndn_tlv.specs.declared.order_table.Place.{Place}
 use Rattle.ndn_tlv.specs.declared.order_table.FieldFault.{FieldFault}
-use Rattle.ndn_tlv.proofs.Fields.{AreWithin-ends}
 use Rattle.ndn_name.specs.declared.fault.PacketFault.{PacketFault}
 use Rattle.ndn_name.specs.Faults.{packet_fault}
 use Rattle.ndn_name.proofs.Encodings.{bind_ok}
@@ -37,7 +36,7 @@ elements_stand whole offset octets (e ∷ es) fault at are =
 
 module _ {F S : Type 0} (table : List (Place F)) (take : S → F × Item → Result S PacketFault) (high : ℕ) (P : Item → Type 0) (J : ℕ → ℕ → S → Type 0)
     (step : (from low k : ℕ) (place : Place F) (s t : S) (e : Item) → from ≤ k → slice_get table k ≡ Some place → place.typ ≡ e.typ → J from low s
-      → low ≤ e.start → e.start < e.value_start → e.value_start + length e.value ≡ e.end → P e → take s (place.field, e) ≡ Ok t → J (cond place.repeats k (suc k)) e.end t)
+    → low ≤ e.start → e.start < e.value_start → e.value_start + length e.value ≡ e.end → P e → take s (place.field, e) ≡ Ok t → J (cond place.repeats k (suc k)) e.end t)
     (later : (from low more : ℕ) (s : S) → low ≤ more → J from low s → J from more s) where
   pub record Kept (t : S) : Type 0 where
     pub from : ℕ

@@ -1,5 +1,5 @@
 -- The element that comes first is all of the octets where nothing follows it.
-use Rattle.std.proofs.Common.{◌≡◌, ℕ, ◌+◌, ◌≤◌, Bool, true, false, cond, ltb, eqb, ◌⊎◌, inl, inr, List, [], ◌∷◌, ◌++◌, length, length-append, Option, Some, None, Result, Ok, Err, refl, sym, ap, subst, ◌∙◌, arith}
+use Rattle.std.proofs.Common.{◌≡◌, ℕ, ◌+◌, ◌≤◌, Bool, true, false, cond, ltb, eqb, inl, inr, List, [], ◌∷◌, ◌++◌, length, length-append, Option, Some, None, Result, Ok, Err, refl, ap, subst, ◌∙◌, arith}
 use Rattle.std.proofs.lemmas.List.{append-nil}
 use Rattle.ndn_tlv.specs.declared.tlv_fault.TlvFault.{TlvFault}
 use Rattle.ndn_tlv.specs.Spelling.{head, element}
@@ -72,8 +72,8 @@ only_ok typ len first e h =
       | inl a ↦ let b = guard_ok (ltb first.end len) (TrailingOctets first.end) (done first) e a.1 in (ok_is first e b.1, eqb-true first.typ typ a.0, ltb-false first.end len b.0)
       | inr a ↦ absurd (different first.typ e a.1)
     ] where
-  different : (typ : ℕ) (e : Item) → Err (WrongType typ) ≡ done e → ⊥
-  different typ e h = cc
+      different : (typ : ℕ) (e : Item) → Err (WrongType typ) ≡ done e → ⊥
+      different typ e h = cc
 
 pub record IsPacket (typ : ℕ) (octets : List ℕ) (e : Item) : Type 0 where
   pub whole : octets ≡ element typ e.value

@@ -1,27 +1,24 @@
 -- What was written is read back: the element of a packet, a name, a signature info.
-use Rattle.std.proofs.Common.{◌≡◌, ℕ, ◌+◌, ◌^◌, ◌<◌, ◌≤◌, Bool, true, false, cond, ltb, eqb, List, [], ◌∷◌, ◌++◌, length, length-append, drop, Option, Some, None, Result, Ok, Err, refl, sym, ap, ◌∙◌, arith}
+use Rattle.std.proofs.Common.{◌≡◌, ℕ, ◌+◌, ◌^◌, ◌<◌, ◌≤◌, false, ltb, List, [], ◌∷◌, ◌++◌, length, length-append, Option, Some, None, Result, Ok, refl, sym, ap, ◌∙◌, arith}
 use Rattle.std.proofs.lemmas.List.{append-nil}
 use Rattle.std.proofs.lemmas.Bool.{le-ltb, eq-eqb}
 use Rattle.ndn_tlv.specs.declared.tlv_fault.TlvFault.{TlvFault}
 use Rattle.ndn_tlv.specs.declared.tlv_fault.TlvFault.TheVariants.{Truncated}
-use Rattle.ndn_tlv.specs.declared.order_table.FieldFault.{FieldFault}
-use Rattle.ndn_tlv.specs.Spelling.{head, element}
-use Rattle.ndn_tlv.specs.Listing.{Listing, nothing, only_fault, ◌then◌, gather, gathered, ◌>>=◌}
+use Rattle.ndn_tlv.specs.Spelling.{element}
+use Rattle.ndn_tlv.specs.Listing.{Listing, nothing, ◌then◌, gather, gathered, ◌>>=◌}
 use Rattle.ndn_tlv.specs.Elements.{Item, placed, elements}
 use Rattle.ndn_tlv.specs.OrderTable.{place_of, fields_among, fields}
 use Rattle.ndn_tlv.proofs.Listings.{elements-element, elements-nil}
 use Rattle.ndn_name.specs.declared.fault.PacketFault.{PacketFault}
-use Rattle.ndn_name.specs.declared.fault.PacketFault.TheVariants.{Tlv, BadField, Missing}
+use Rattle.ndn_name.specs.declared.fault.PacketFault.TheVariants.{Tlv, BadField}
 use Rattle.ndn_name.specs.declared.fault.Field.TheVariants as field
-use Rattle.ndn_name.specs.declared.name_fault.NameFault.{NameFault}
-use Rattle.ndn_name.specs.Names.{Component, IsName, encoding, name_of}
+use Rattle.ndn_name.specs.Names.{Component, IsName, encoding}
 use Rattle.ndn_name.specs.Faults.{packet_fault}
 use Rattle.ndn_name.proofs.Encodings.{name_of-encoding}
-use Rattle.ndn_packet.specs.Contents.{first_among, first_of, name_or, name_in, number_in}
-use Rattle.ndn_packet.specs.Outer.{only_of, outer_of}
-use Rattle.ndn_packet.specs.SignatureInfo.{Info, InfoSoFar, locator_from, locator_in, with_info_field, info_fields, info_from, info_in}
+use Rattle.ndn_packet.specs.Contents.{first_among, first_of, name_or, name_in}
+use Rattle.ndn_packet.specs.Outer.{outer_of}
+use Rattle.ndn_packet.specs.SignatureInfo.{InfoSoFar, locator_from, locator_in, with_info_field, info_fields, info_from, info_in}
 use Rattle.ndn_packet.specs.Written.{written_info}
-use Rattle.ndn_packet.specs.declared.signature_info.InfoField.{InfoField}
 use Rattle.ndn_packet.specs.declared.signature_info.InfoField.TheVariants.{SignatureType, KeyLocator}
 use Rattle.ndn_packet.specs.declared.signature_info.TheConstants.{SIGNATURE_INFO}
 use Rattle.ndn_packet.proofs.Lengths.{length-element}
@@ -104,9 +101,9 @@ info_again o typ key_name valid fits =
     let first : with_info_field s (SignatureType, a) ≡ Ok t = refl in
     let second : with_info_field t (KeyLocator, b) ≡ Ok u = ap (λ (r : Result (Option (List Component)) PacketFault). r >>= λ l. Ok (record t { locator = l })) (locator_again b key_name refl valid (omega arith)) in
     let all : info_fields (placed o typ (written_info key_name)) ≡ Ok u =
-      ap (λ (l : Listing Item TlvFault). gathered with_info_field packet_fault s (fields SIGNATURE_INFO l)) read
-      ∙ ap (gathered with_info_field packet_fault s) (info_table a b refl refl)
-      ∙ gathers with_info_field packet_fault s t (SignatureType, a) ((KeyLocator, b) then nothing) first
-      ∙ gathers with_info_field packet_fault t u (KeyLocator, b) nothing second
-      ∙ gathered-nothing with_info_field packet_fault u in
+    ap (λ (l : Listing Item TlvFault). gathered with_info_field packet_fault s (fields SIGNATURE_INFO l)) read
+    ∙ ap (gathered with_info_field packet_fault s) (info_table a b refl refl)
+    ∙ gathers with_info_field packet_fault s t (SignatureType, a) ((KeyLocator, b) then nothing) first
+    ∙ gathers with_info_field packet_fault t u (KeyLocator, b) nothing second
+    ∙ gathered-nothing with_info_field packet_fault u in
     ap (λ (r : Result InfoSoFar PacketFault). r >>= info_from) all

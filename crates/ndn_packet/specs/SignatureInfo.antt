@@ -25,8 +25,8 @@ pub record InfoSoFar : Type 0 where
   pub signature_type : Option ℕ
   pub locator : Option (List Component)
 
--- What a key locator's first element gives: a name, or where it is a key's digest no name. Any other
--- is the fault.
+-- What a key locator's first element gives: a name, or where it is a key's digest no name. Any
+-- other is the fault.
 abbrev pub locator_from : PacketFault → Item → Result (Option (List Component)) PacketFault
 locator_from bad first =
     if first.typ == 7 then (name_in bad first >>= λ name. Ok (Some name))

@@ -26,7 +26,8 @@ pub fn first_element(
     ensures read { MatchResult result
         (λ e. first_of absent base octets.now ≡ Ok (item e))
         (λ fault. first_of absent base octets.now ≡ Err fault) }
-    ensures within { IfOk result (λ e. e.value_start + length e.value.now ≤ base + length octets.now) }
+    ensures within { IfOk result
+        (λ e. e.value_start + length e.value.now ≤ base + length octets.now) }
 {
     let Some(first) = Reader::new(octets, base).next()? else {
         return Err(absent);

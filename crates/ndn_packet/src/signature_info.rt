@@ -77,8 +77,10 @@ impl<'p> Gathered<'p> {
     fn take(&mut self, field: InfoField, element: Element<'p>) -> Result<(), PacketFault>
         requires { element.value_start + length element.value.now < 2 ^ 64 }
         ensures { MatchResult result
-            (λ _. with_info_field (info_so_far self.old) (field, item element.entry) ≡ Ok (info_so_far self.new))
-            (λ fault. with_info_field (info_so_far self.old) (field, item element.entry) ≡ Err fault) }
+            (λ _. with_info_field (info_so_far self.old) (field, item element.entry)
+            ≡ Ok (info_so_far self.new))
+            (λ fault. with_info_field (info_so_far self.old) (field, item element.entry)
+            ≡ Err fault) }
     {
         match field {
             InfoField::SignatureType => {

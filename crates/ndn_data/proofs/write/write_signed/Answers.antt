@@ -1,9 +1,9 @@
-use Rattle.std.proofs.Common.{◌≡◌, ℕ, ◌+◌, ◌-◌, ◌^◌, ◌<◌, ◌≤◌, min, List, length, Err, Result, Vec, Global, sym, ap, ◌∙◌, arith}
+use Rattle.std.proofs.Common.{◌≡◌, ℕ, ◌+◌, ◌-◌, ◌^◌, min, List, length, Err, Result, Vec, Global, sym, ap, ◌∙◌, arith}
 use Rattle.ndn_tlv.specs.Spelling.{head}
 use Rattle.ndn_name.specs.declared.fault.PacketWriteFault.{PacketWriteFault}
-use Rattle.ndn_name.specs.declared.fault.PacketWriteFault.TheVariants.{TooLong, NoMemory}
+use Rattle.ndn_name.specs.declared.fault.PacketWriteFault.TheVariants.{TooLong}
 use Rattle.ndn_packet.proofs.Lengths.{packet_len}
-use Rattle.ndn_data.specs.WrittenData.{written_signed, written_data, signed}
+use Rattle.ndn_data.specs.WrittenData.{written_signed, signed}
 use Rattle.ndn_data.proofs.WriteLemmas.{length-signed}
 use Rattle.ndn_data.proofs.write.write_signed.Goals as goal
 

@@ -1,4 +1,4 @@
-use Rattle.std.proofs.Common.{◌≡◌, ◌≤◌, ◌<◌, length, ◌∙◌, ap, arith}
+use Rattle.std.proofs.Common.{arith}
 use Rattle.ndn_packet.proofs.Outers.{first_alone}
 use Rattle.ndn_packet.proofs.outer.outer_element.Goals as goal
 

@@ -1,4 +1,4 @@
-use Rattle.std.proofs.Common.{length, ap, subst, sym, ◌≡◌, ◌+◌, ◌∙◌, List, ℕ}
+use Rattle.std.proofs.Common.{length, ap, ◌+◌, ◌∙◌, List, ℕ}
 use Rattle.ndn_tlv.specs.Spelling.{head}
 use Rattle.ndn_packet.proofs.Lengths.{length-written_info}
 use Rattle.ndn_packet.proofs.written.signature_info_len.Goals as goal

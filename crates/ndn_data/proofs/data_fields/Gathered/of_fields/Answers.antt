@@ -1,9 +1,8 @@
-use Rattle.std.proofs.Common.{◌≡◌, ◌+◌, ◌≤◌, ◌<◌, ◌++◌, ℕ, length, length-append, map, List, None, Some, Option, ap, subst, ◌∙◌, IfSome, arith}
+use Rattle.std.proofs.Common.{◌+◌, ◌≤◌, ℕ, length, map, List, None, Some, Option, ap, subst, ◌∙◌, IfSome, arith}
 use Rattle.std.proofs.Common.{Bor, option_map}
 use Rattle.std.proofs.lemmas.Result.{err_from_is_err_and}
-use Rattle.ndn_tlv.specs.Spelling.{head, element}
 use Rattle.ndn_tlv.specs.Listing.{Listing, gathered}
-use Rattle.ndn_tlv.specs.Elements.{AreWithin, Item, item, placed}
+use Rattle.ndn_tlv.specs.Elements.{AreWithin, Item, item}
 use Rattle.ndn_tlv.specs.OrderTable.{fields}
 use Rattle.ndn_tlv.specs.declared.order_table.FieldFault.{FieldFault}
 use Rattle.ndn_tlv.proofs.Fields.{AreWithin-ends}

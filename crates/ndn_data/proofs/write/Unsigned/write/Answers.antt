@@ -1,4 +1,4 @@
-use Rattle.std.proofs.Common.{◌≡◌, ◌∙◌, ◌++◌, List, ℕ, sym, ap, drop, length}
+use Rattle.std.proofs.Common.{◌∙◌, ◌++◌, List, ℕ, ap, drop, length}
 use Rattle.ndn_tlv.specs.Spelling.{head}
 use Rattle.ndn_data.specs.WrittenData.{unsigned}
 use Rattle.ndn_data.proofs.WriteLemmas.{writes}
