@@ -26,7 +26,7 @@ component_at (d ∷ ds) zero c h at = let same : d ≡ c = cc in (subst IsCompon
 component_at (d ∷ ds) (suc k) c h at = let rest = component_at ds k c h.1 at in (rest.0, omega (arith, rest.1))
 
 -- a component that the test finds
-found : (o : Option Component) → option_map_or (λ c. eqb c.0 2) o false ≡ true → (c : Component) × (o ≡ Some c) × (c.0 ≡ 2)
+pub found : (o : Option Component) → option_map_or (λ c. eqb c.0 2) o false ≡ true → (c : Component) × (o ≡ Some c) × (c.0 ≡ 2)
 found None h = absurd cc
 found (Some c) h = (c, refl, eqb-true c.0 2 h)
 

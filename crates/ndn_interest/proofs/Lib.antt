@@ -2,3 +2,4 @@ pub mod LastLemmas
 pub mod WriteLemmas
 pub mod DigestLemmas
 pub mod ReadBackLemmas
+pub mod SpelledLemmas

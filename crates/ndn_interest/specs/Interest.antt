@@ -180,6 +180,38 @@ abbrev pub IsDigested : Interest → Type 0
 IsDigested i =
     MatchOption i.digested ⊥ (λ octets. last_component i.name ≡ Some (2, sha256 octets))
 
+-- The element of the parameters stands in the value of the packet, and the parameters digest is of
+-- that and of all that follows it.
+pub record IsDigestedFrom (value : List ℕ) (i : Interest) (parameters : List ℕ) : Type 0 where
+  pub before : List ℕ
+  pub behind : List ℕ
+  pub digested : i.digested ≡ Some (element 0x24 parameters ++ behind)
+  pub parts : value ≡ before ++ (element 0x24 parameters ++ behind)
+
+-- The two pieces of what is signed: the name without the parameters digest at its end, and the
+-- element of the parameters with what stands between that and the element of the signature.
+pub record IsSignedUpTo (i : Interest) (pieces : List ℕ × List ℕ) : Type 0 where
+  pub front : List Component
+  pub digest : List ℕ
+  pub parameters : List ℕ
+  pub signature : List ℕ
+  pub fields : List ℕ
+  pub behind : List ℕ
+  pub name : i.name ≡ front ++ (2, digest) ∷ []
+  pub has_parameters : i.parameters ≡ Some parameters
+  pub has_signature : i.signature ≡ Some signature
+  pub first : pieces.0 ≡ encoding front
+  pub second : pieces.1 ≡ element 0x24 parameters ++ fields
+  pub digested : i.digested ≡ Some (pieces.1 ++ (element 0x2e signature ++ behind))
+
+-- The octets are the packet's element, in which parameters and signature stand where they are
+-- digested and signed.
+pub record IsSpelled (octets : List ℕ) (i : Interest) : Type 0 where
+  pub value : List ℕ
+  pub packet : octets ≡ element 0x05 value
+  pub digested : MatchOption i.parameters (i.digested ≡ None) (IsDigestedFrom value i)
+  pub signed : IfSome i.signed (IsSignedUpTo i)
+
 -- ---- the structs without where their octets lie in memory
 
 abbrev pub signature_parts : Option (Bor (List ℕ) × Option (Bor (List ℕ)))

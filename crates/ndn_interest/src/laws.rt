@@ -1,7 +1,16 @@
 ghost use Rattle.std.specs.Prelude.{◌≡◌, ◌<◌, ◌≤◌, ℕ, Bool, List, Ok, length};
+ghost use Rattle.ndn_tlv.specs.Elements.{IsOctets};
 ghost use Rattle.ndn_name.specs.Names.{Component, IsName};
-ghost use Rattle.ndn_interest.specs.Interest.{interest_of, IsDigested};
+ghost use Rattle.ndn_interest.specs.Interest.{Interest, interest_of, IsDigested, IsSpelled};
 ghost use Rattle.ndn_interest.specs.WrittenInterest.{written_plain, written_interest, read_plain, read_signed};
+
+/// An Interest is the spelling of its element. In that stands what its parameters digest is of, and
+/// what is signed: the name without the digest, and the octets from the beginning of the parameters
+/// to the signature.
+pub fn interest_is_spelled()
+    ensures { (octets : List ℕ) (i : Interest) → IsOctets octets → interest_of octets ≡ Ok i
+        → IsSpelled octets i }
+{}
 
 /// A plain Interest that was written is read back: the fields that were given, and no other.
 pub fn written_plain_is_read()

@@ -9,7 +9,10 @@ mod parameters_digest;
 mod write;
 
 pub use interest_view::InterestView;
-pub use laws::{written_interest_has_its_digest, written_interest_is_read, written_plain_is_read};
+pub use laws::{
+    interest_is_spelled, written_interest_has_its_digest, written_interest_is_read,
+    written_plain_is_read,
+};
 pub use write::{write_plain, write_signed};
 
 #[cfg(test)]
