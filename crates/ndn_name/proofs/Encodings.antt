@@ -1,10 +1,10 @@
 -- The encoding of a name is read back, and what is read is an encoding.
-use Rattle.std.proofs.Common.{◌≡◌, ℕ, zero, suc, ◌+◌, ◌-◌, ◌^◌, ◌<◌, ◌≤◌, Bool, true, false, not, cond, ◌&&◌, ltb, leb, eqb, List, [], ◌∷◌, ◌++◌, length, length-append, map, get_or, Option, Some, None, Result, Ok, Err, refl, sym, ap, subst, ◌∙◌, append_assoc, arith, inl, inr}
-use Rattle.std.proofs.lemmas.Bool.{cases_lt, ltb-false, ltb-true, leb-true, le-leb, le-ltb, lt-ltb, eqb-true}
+use Rattle.std.proofs.Common.{◌≡◌, ℕ, ◌+◌, ◌^◌, ◌<◌, ◌≤◌, Bool, true, false, not, cond, ◌&&◌, ltb, leb, eqb, List, [], ◌∷◌, ◌++◌, length, length-append, map, Option, Some, None, Result, Ok, Err, refl, sym, ap, subst, ◌∙◌, append_assoc, arith, inl, inr}
+use Rattle.std.proofs.lemmas.Bool.{cases_lt, ltb-false, leb-true, le-leb, le-ltb, eqb-true}
 use Rattle.std.proofs.lemmas.List.{append-nil, take_at, drop_at}
 use Rattle.ndn_tlv.specs.declared.tlv_fault.TlvFault.{TlvFault}
 use Rattle.ndn_tlv.specs.Spelling.{number, element}
-use Rattle.ndn_tlv.specs.Listing.{Listing, ◌then◌, ◌>>=◌, gather, gathered}
+use Rattle.ndn_tlv.specs.Listing.{Listing, ◌>>=◌, gather, gathered}
 use Rattle.ndn_tlv.specs.Elements.{IsOctets, Item, placed, elements, AreElements}
 use Rattle.ndn_tlv.proofs.Numbers.{IsOctets-drop, IsOctets-take, number-narrow, number-16, number-32, number-64}
 use Rattle.ndn_tlv.proofs.Listings.{elements-nil, elements-element, elements_are}
@@ -87,7 +87,7 @@ gathered-encoding offset front (c ∷ cs) h =
     let behind = offset + length (element c.0 c.1) in
     let item = placed offset c.0 c.1 in
     let step : with_component front item ≡ Ok (front ++ c ∷ []) =
-        ap (λ (r : Result Component NameFault). r >>= λ d. let x : Result (List Component) NameFault = Ok (front ++ d ∷ []) in x) (component_again item first) in
+    ap (λ (r : Result Component NameFault). r >>= λ d. let x : Result (List Component) NameFault = Ok (front ++ d ∷ []) in x) (component_again item first) in
     ap (gathered with_component Tlv front) e
     ∙ ap (λ (r : Result (List Component) NameFault). r >>= λ t. gathered with_component Tlv t (elements behind (encoding cs))) step
     ∙ gathered-encoding behind (front ++ c ∷ []) cs h.1
@@ -103,7 +103,7 @@ pub bind_ok : {A B E : Type 0} (r : Result A E) (f : A → Result B E) (y : B) �
 bind_ok (Ok x) f y e = (x, refl, e)
 bind_ok (Err d) f y e = absurd cc
 
-abbrev done : {A : Type 0} → A → Result A NameFault
+abbrev pub done : {A : Type 0} → A → Result A NameFault
 done x = Ok x
 
 pub ok_is : {A : Type 0} (x y : A) → done x ≡ done y → x ≡ y
@@ -139,8 +139,8 @@ pub record Encoded (octets : List ℕ) (front name : List Component) : Type 0 wh
   pub valid : IsName whole
   pub spelled : octets ≡ encoding whole
 
-push-then : (front : List Component) (c : Component) (whole : List Component) → front ++ c ∷ whole ≡ (front ++ c ∷ []) ++ whole
-push-then front c whole = sym (append_assoc front (c ∷ []) whole)
+whole_is : (front : List Component) (c : Component) (whole name : List Component) → (front ++ c ∷ []) ++ whole ≡ name → front ++ c ∷ whole ≡ name
+whole_is front c whole name e = sym (append_assoc front (c ∷ []) whole) ∙ e
 
 gather_encoded : (offset : ℕ) (octets : List ℕ) (items : List Item) (fault : Option TlvFault) (front name : List Component) → IsOctets octets → length octets < 2 ^ 64 → AreElements offset octets items fault
     → gather with_component Tlv front items fault ≡ Ok name → Encoded octets front name
@@ -163,7 +163,7 @@ gather_encoded offset octets (e ∷ es) fault front name fits long are h =
     let P : Component → Type 0 = λ x. IsComponent x in
     record {
       whole = c ∷ others.whole;
-      parts = push-then front c others.whole ∙ others.parts;
+      parts = whole_is front c others.whole name others.parts;
       valid = (subst P taken.0 taken.1, others.valid);
       spelled = are.1 ∙ ap (λ (x : List ℕ). element e.typ e.value ++ x) others.spelled ∙ ap (λ (x : Component). element x.0 x.1 ++ encoding others.whole) taken.0;
     }

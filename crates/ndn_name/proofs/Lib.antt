@@ -1,3 +1,16 @@
 pub mod Encodings
 pub mod OrderLemmas
 pub mod Prefixes
+pub mod LeavesLemmas
+pub mod Escapes
+pub mod Values
+pub mod Digests
+pub mod Decimals
+pub mod Separators
+pub mod Heads
+pub mod ComponentTexts
+pub mod PathTexts
+pub mod Limits
+pub mod Verdicts
+pub mod PrintedTexts
+pub mod OneAnswer

@@ -1,5 +1,5 @@
 -- Prefixes, as fronts of the octets and in the canonical order.
-use Rattle.std.proofs.Common.{◌≡◌, ◌≢◌, ℕ, zero, suc, ◌+◌, ◌^◌, ◌<◌, Bool, true, false, List, [], ◌∷◌, ◌++◌, length, length-append, take, drop, refl, sym, ap, subst, ◌∙◌, append_assoc, arith}
+use Rattle.std.proofs.Common.{◌≡◌, ◌≢◌, ℕ, Bool, true, List, [], ◌∷◌, ◌++◌, length, take, drop, refl, sym, ap, ◌∙◌, append_assoc, arith}
 use Rattle.std.specs.declared.cmp.Ordering.{Ordering}
 use Rattle.std.specs.declared.cmp.Ordering.TheVariants.{Less, Equal, Greater}
 use Rattle.std.specs.Ordering.{nat_cmp, ordering_then}
@@ -12,9 +12,9 @@ use Rattle.std.specs.List.{starts_with}
 use Rattle.std.specs.Prelude.{◌↔◌}
 use Rattle.std.proofs.lemmas.List.{take-append-drop}
 use Rattle.std.proofs.lemmas.Slice.Eq.{starts_is}
-use Rattle.ndn_tlv.specs.Spelling.{number, element}
+use Rattle.ndn_tlv.specs.Spelling.{element}
 use Rattle.ndn_tlv.proofs.ElementLemmas.{element_alone}
-use Rattle.ndn_name.specs.Names.{Component, IsComponent, IsName, IsValue, components, encoding}
+use Rattle.ndn_name.specs.Names.{Component, IsName, IsValue, components, encoding}
 use Rattle.ndn_name.specs.CanonicalOrder.{IsPrefix, component_cmp, canonical_cmp, canonical_cmp_total}
 use Rattle.ndn_name.proofs.Encodings.{encoding-append}
 use Rattle.ndn_name.proofs.OrderLemmas.{element-some}

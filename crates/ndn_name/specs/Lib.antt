@@ -5,3 +5,6 @@ pub use Rattle.ndn_tlv.specs.NumberField
 pub mod Names
 pub mod CanonicalOrder
 pub mod Faults
+pub mod Uri
+pub mod UriVerdict
+pub mod UriReading

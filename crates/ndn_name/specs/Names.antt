@@ -1,5 +1,6 @@
--- Names, the octets that they are written in, and what octets are as a name (NDN Packet Format 0.3, "Name").
-use Rattle.std.specs.Prelude.{◌≡◌, ℕ, ◌<◌, ◌≤◌, ◌^◌, List, [], ◌∷◌, ◌++◌, length, map, take, Result, Ok, Err, Bool, not, ◌&&◌, nat_lt, nat_le, ◌==◌, if◌then◌else◌}
+-- Names, the octets that they are written in, and what octets are as a name (NDN Packet Format 0.3,
+-- "Name").
+use Rattle.std.specs.Prelude.{◌≡◌, ℕ, ◌<◌, ◌≤◌, ◌^◌, List, [], ◌∷◌, ◌++◌, length, map, Result, Ok, Err, not, ◌&&◌, nat_lt, nat_le, ◌==◌, if◌then◌else◌}
 use Rattle.ndn_tlv.specs.Spelling.{element}
 use Rattle.ndn_tlv.specs.Listing.{gathered, ◌>>=◌}
 use Rattle.ndn_tlv.specs.Elements.{IsOctets, Item, elements}
@@ -45,7 +46,8 @@ component_of e =
 abbrev pub with_component : List Component → Item → Result (List Component) NameFault
 with_component name e = component_of e >>= λ c. Ok (name ++ c ∷ [])
 
--- The name whose value these octets are, which begin at this offset; or the first fault in reading order.
+-- The name whose value these octets are, which begin at this offset; or the first fault in reading
+-- order.
 abbrev pub name_of : ℕ → List ℕ → Result (List Component) NameFault
 name_of offset octets = gathered with_component Tlv [] (elements offset octets)
 

@@ -14,8 +14,10 @@ pub(crate) fn append_component(
     requires typ { 0 < typ }
     requires short { length octets.old.items ≤ NAME_LIMIT }
     ensures ok { OnOk result (octets.new.items ≡ octets.old.items ++ element typ value.now) }
-    ensures too_long { (result ≡ Err NameFault.NameTooLong) ↔ (NAME_LIMIT < length (octets.old.items ++ element typ value.now)) }
-    ensures refused { IfErr result (λ fault. (fault ≡ NameFault.NameTooLong) ⊎ (fault ≡ NameFault.NoMemory)) }
+    ensures too_long { (result ≡ Err NameFault.NameTooLong)
+        ↔ (NAME_LIMIT < length (octets.old.items ++ element typ value.now)) }
+    ensures refused { IfErr result
+        (λ fault. (fault ≡ NameFault.NameTooLong) ⊎ (fault ≡ NameFault.NoMemory)) }
     ensures err { OnErr result (octets.new.items ≡ octets.old.items) }
 {
     if !has_room(octets.len(), typ, value.len()) {

@@ -8,7 +8,8 @@ use ndn_tlv::{Element, Reader};
 
 // The component that an element is.
 pub(crate) fn component_of(element: Element<'_>) -> Result<ComponentView<'_>, NameFault>
-    ensures { MatchResult result (λ c. component_of (item element.entry) ≡ Ok (component c)) (λ f. component_of (item element.entry) ≡ Err f) }
+    ensures { MatchResult result (λ c. component_of (item element.entry) ≡ Ok (component c))
+        (λ f. component_of (item element.entry) ≡ Err f) }
 {
     let Ok(typ) = u16::try_from(element.typ) else {
         return Err(NameFault::BadComponent { at: element.start });
@@ -25,7 +26,8 @@ pub(crate) fn component_of(element: Element<'_>) -> Result<ComponentView<'_>, Na
 // How many components a value has that begins at offset `base`.
 pub(crate) fn count_components(value: &[u8], base: usize) -> Result<usize, NameFault>
     requires { base + length value.now < 2 ^ 64 }
-    ensures read { MatchResult result (λ _. name_of base value.now ≡ Ok (components value.now)) (λ fault. name_of base value.now ≡ Err fault) }
+    ensures read { MatchResult result (λ _. name_of base value.now ≡ Ok (components value.now))
+        (λ fault. name_of base value.now ≡ Err fault) }
     ensures value { MatchResult result (λ len. IsValue value.now len) (λ _. Unit {0}) }
 {
     let mut elements = Reader::new(value, base);

@@ -1,26 +1,32 @@
-ghost use Rattle.std.specs.Prelude.{◌≡◌, ◌≢◌, ◌^◌, ◌<◌, ℕ, List, length, Ok};
+ghost use Rattle.std.specs.Prelude.{◌≡◌, ◌≢◌, ◌^◌, ◌<◌, ◌≤◌, ℕ, List, length, Result, Ok};
 ghost use Rattle.std.specs.Ordering.{nat_cmp};
 ghost use Rattle.std.specs.declared.cmp.Ordering.TheVariants.{Less, Equal};
 ghost use Rattle.std.specs.Cmp.{IsTotalOrder};
 ghost use Rattle.std.specs.Cmp.Lexicographic.{slice_cmp};
 ghost use Rattle.ndn_tlv.specs.Elements.{IsOctets};
 ghost use Rattle.ndn_name.specs.Names.{Component, IsName, encoding, name_of};
+ghost use Rattle.ndn_name.specs.declared.name_fault.NameFault.{NameFault};
+ghost use Rattle.ndn_name.specs.Uri.{uri};
+ghost use Rattle.ndn_name.specs.UriVerdict.{IsAnswer};
 ghost use Rattle.ndn_name.specs.CanonicalOrder.{IsPrefix, canonical_cmp};
 
 /// What is read as a name is a name, and the octets are its encoding.
 pub fn read_names_are_encoded()
-    ensures { (offset : ℕ) (octets : List ℕ) (name : List Component) → IsOctets octets → length octets < 2 ^ 64
-        → name_of offset octets ≡ Ok name → IsName name × (octets ≡ encoding name) }
+    ensures { (offset : ℕ) (octets : List ℕ) (name : List Component)
+        → IsOctets octets → length octets < 2 ^ 64 → name_of offset octets ≡ Ok name
+        → IsName name × (octets ≡ encoding name) }
 {}
 
 /// The encoding of a name is read back.
 pub fn encoded_names_are_read()
-    ensures { (offset : ℕ) (name : List Component) → IsName name → name_of offset (encoding name) ≡ Ok name }
+    ensures { (offset : ℕ) (name : List Component) → IsName name
+        → name_of offset (encoding name) ≡ Ok name }
 {}
 
 /// Names with the same octets are the same.
 pub fn equal_octets_are_equal_names()
-    ensures { (a b : List Component) → IsName a → IsName b → encoding a ≡ encoding b → a ≡ b }
+    ensures { (a b : List Component) → IsName a → IsName b
+        → encoding a ≡ encoding b → a ≡ b }
 {}
 
 /// The canonical order is a total order.
@@ -41,5 +47,18 @@ pub fn prefixes_come_first()
 
 /// The canonical order of names is the lexicographic order of their octets.
 pub fn canonical_order_is_of_octets()
-    ensures { (a b : List Component) → IsName a → IsName b → slice_cmp nat_cmp (encoding a) (encoding b) ≡ canonical_cmp a b }
+    ensures { (a b : List Component) → IsName a → IsName b
+        → slice_cmp nat_cmp (encoding a) (encoding b) ≡ canonical_cmp a b }
+{}
+
+/// The text that is printed for a name within the limit is a text of that name.
+pub fn printed_names_are_read()
+    ensures { (name : List Component) → IsName name → length (encoding name) ≤ 1000
+        → IsAnswer (uri name) (Ok name) }
+{}
+
+/// A text is one thing alone: one name, or one fault.
+pub fn texts_have_one_answer()
+    ensures { (text : List ℕ) (r s : Result (List Component) NameFault)
+        → IsAnswer text r → IsAnswer text s → r ≡ s }
 {}

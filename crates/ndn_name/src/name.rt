@@ -46,8 +46,10 @@ impl Name {
     /// The name of a view, with octets of its own.
     pub fn from_view(alloc: Global, view: &NameView<'_>) -> Result<Name, NameFault>
         ensures ok { IfOk result (λ name. name ≡ view.now) }
-        ensures too_long { (result ≡ Err NameFault.NameTooLong) ↔ (NAME_LIMIT < length (encoding view.now)) }
-        ensures refused { IfErr result (λ fault. (fault ≡ NameFault.NameTooLong) ⊎ (fault ≡ NameFault.NoMemory)) }
+        ensures too_long { (result ≡ Err NameFault.NameTooLong)
+            ↔ (NAME_LIMIT < length (encoding view.now)) }
+        ensures refused { IfErr result
+            (λ fault. (fault ≡ NameFault.NameTooLong) ⊎ (fault ≡ NameFault.NoMemory)) }
     {
         let octets = view.octets();
         if octets.len() > NAME_LIMIT {
@@ -80,8 +82,10 @@ impl Name {
         requires typ { 0 < typ }
         requires digest { typ ≤ 2 → length value.now ≡ 32 }
         ensures ok { OnOk result (self.new ≡ self.old ++ (typ, value.now) ∷ []) }
-        ensures too_long { (result ≡ Err NameFault.NameTooLong) ↔ (NAME_LIMIT < length (encoding (self.old ++ (typ, value.now) ∷ []))) }
-        ensures refused { IfErr result (λ fault. (fault ≡ NameFault.NameTooLong) ⊎ (fault ≡ NameFault.NoMemory)) }
+        ensures too_long { (result ≡ Err NameFault.NameTooLong)
+            ↔ (NAME_LIMIT < length (encoding (self.old ++ (typ, value.now) ∷ []))) }
+        ensures refused { IfErr result
+            (λ fault. (fault ≡ NameFault.NameTooLong) ⊎ (fault ≡ NameFault.NoMemory)) }
         ensures err { OnErr result (self.new ≡ self.old) }
     {
         append_component(&mut self.octets, typ, value)?;
@@ -89,12 +93,15 @@ impl Name {
         Ok(())
     }
 
-    /// Appends a component whose value is a number, in the fewest octets that a number field may have.
+    /// Appends a component whose value is a number, in the fewest octets that a number field may
+    /// have.
     pub fn push_number(&mut self, typ: u16, n: u64) -> Result<(), NameFault>
         requires { 2 < typ }
         ensures ok { OnOk result (self.new ≡ self.old ++ (typ, number_field n) ∷ []) }
-        ensures too_long { (result ≡ Err NameFault.NameTooLong) ↔ (NAME_LIMIT < length (encoding (self.old ++ (typ, number_field n) ∷ []))) }
-        ensures refused { IfErr result (λ fault. (fault ≡ NameFault.NameTooLong) ⊎ (fault ≡ NameFault.NoMemory)) }
+        ensures too_long { (result ≡ Err NameFault.NameTooLong)
+            ↔ (NAME_LIMIT < length (encoding (self.old ++ (typ, number_field n) ∷ []))) }
+        ensures refused { IfErr result
+            (λ fault. (fault ≡ NameFault.NameTooLong) ⊎ (fault ≡ NameFault.NoMemory)) }
         ensures err { OnErr result (self.new ≡ self.old) }
     {
         if let Ok(n) = u8::try_from(n) {
@@ -120,12 +127,15 @@ impl Clone for Name {
     }
 }
 
-/// The full name of a Data packet: its name with its implicit digest, the SHA-256 of the packet, behind it.
+/// The full name of a Data packet: its name with its implicit digest, the SHA-256 of the packet,
+/// behind it.
 pub fn full_name(alloc: Global, name: &Name, digest: &[u8; 32]) -> Result<Name, NameFault>
     ensures ok { IfOk result (λ full. full ≡ name.now ++ (1, digest.now) ∷ []) }
     ensures fits { OnOk result (length (encoding (name.now ++ (1, digest.now) ∷ [])) ≤ NAME_LIMIT) }
-    ensures too_long { result ≡ Err NameFault.NameTooLong → NAME_LIMIT < length (encoding (name.now ++ (1, digest.now) ∷ [])) }
-    ensures refused { IfErr result (λ fault. (fault ≡ NameFault.NameTooLong) ⊎ (fault ≡ NameFault.NoMemory)) }
+    ensures too_long { result ≡ Err NameFault.NameTooLong
+        → NAME_LIMIT < length (encoding (name.now ++ (1, digest.now) ∷ [])) }
+    ensures refused { IfErr result
+        (λ fault. (fault ≡ NameFault.NameTooLong) ⊎ (fault ≡ NameFault.NoMemory)) }
 {
     let mut full = Name::from_view(alloc, &name.view())?;
     full.push(1, digest)?;

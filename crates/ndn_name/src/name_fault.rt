@@ -4,8 +4,8 @@ use thiserror::Error;
 
 /// Why octets or a text are no name (NDN Packet Format 0.3, "Name"), or why a name was not made.
 ///
-/// `at` is the offset of the component's element from the packet's beginning. For a text it is the first octet of the
-/// component's text, behind its slash.
+/// `at` is the offset of the component's element from the packet's beginning. For a text it is the
+/// first octet of the component's text, behind its slash.
 #[derive(Clone, Copy, Debug, PartialEq, Eq, Error)]
 pub enum NameFault {
     #[error("{0}")]

@@ -33,7 +33,8 @@ impl<'p> NameView<'p> {
     /// The name whose value these octets are, which begin at offset `base` of their packet.
     pub fn read(value: &'p [u8], base: usize) -> Result<NameView<'p>, NameFault>
         requires { base + length value.now < 2 ^ 64 }
-        ensures read { MatchResult result (λ name. name_of base value.now ≡ Ok name) (λ fault. name_of base value.now ≡ Err fault) }
+        ensures read { MatchResult result (λ name. name_of base value.now ≡ Ok name)
+            (λ fault. name_of base value.now ≡ Err fault) }
         ensures spelled { IfOk result (λ name. value.now ≡ encoding name) }
     {
         let len = count_components(value, base)?;
@@ -78,7 +79,8 @@ impl<'p> NameView<'p> {
         self.octets.cmp(other.octets)
     }
 
-    /// Whether the other name begins with the components of this one, as it does where they are equal.
+    /// Whether the other name begins with the components of this one, as it does where they are
+    /// equal.
     pub fn is_prefix_of(&self, other: &NameView<'_>) -> bool
         ensures { IsTrue result ↔ IsPrefix self.now other.now }
     {

@@ -6,7 +6,7 @@ use Rattle.ndn_tlv.specs.Elements.{AreWithin, IsOctets, Item, item}
 use Rattle.ndn_tlv.proofs.Gathers.{all_gathered, ends_at_fault, ends_at_step, goes_on}
 use Rattle.ndn_name.specs.declared.name_fault.NameFault.{NameFault}
 use Rattle.ndn_name.specs.declared.name_fault.NameFault.TheVariants.{Tlv}
-use Rattle.ndn_name.specs.Names.{Component, IsValue, component, component_of, with_component, name_of, components}
+use Rattle.ndn_name.specs.Names.{Component, IsValue, component, with_component, name_of, components}
 use Rattle.ndn_name.proofs.Encodings.{name_of-encoded, value-name_of, IsValue-encoding}
 use Rattle.ndn_name.proofs.components.count_components.Goals as goal
 

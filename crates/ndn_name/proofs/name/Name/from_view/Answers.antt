@@ -1,4 +1,4 @@
-use Rattle.std.proofs.Common.{◌≡◌, ◌≤◌, ℕ, length, sym, ap, subst, ◌∙◌, arith}
+use Rattle.std.proofs.Common.{ℕ, length, sym, ap, subst, ◌∙◌, arith}
 use Rattle.ndn_name.specs.Names.{IsValue, components}
 use Rattle.ndn_name.proofs.Encodings.{components-encoding, IsValue-encoding}
 use Rattle.ndn_name.proofs.name.Name.from_view.Goals as goal

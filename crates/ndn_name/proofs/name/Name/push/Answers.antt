@@ -1,28 +1,15 @@
-use Rattle.std.proofs.Common.{◌≡◌, ◌<◌, ◌≤◌, ◌+◌, ℕ, List, [], ◌∷◌, ◌++◌, length, length-append, Result, Ok, Err, inl, inr, get_or, ◌^◌, sym, ap, subst, ◌∙◌, arith}
+use Rattle.std.proofs.Common.{◌≡◌, ◌<◌, ◌≤◌, ℕ, List, ◌++◌, length, length-append, get_or, ◌^◌, ap, arith}
 use Rattle.std.specs.Prelude.{◌↔◌}
-use Rattle.std.proofs.lemmas.Bool.{cases_lt}
 use Rattle.std.proofs.lemmas.Result.{err_from_is_err_and}
 use Rattle.ndn_tlv.specs.Spelling.{number, element}
-use Rattle.ndn_name.specs.declared.name_fault.NameFault.{NameFault}
-use Rattle.ndn_name.specs.declared.name_fault.NameFault.TheVariants.{NameTooLong}
-use Rattle.ndn_name.specs.Names.{Component, IsComponent, encoding}
+use Rattle.ndn_name.specs.Names.{IsComponent}
+use Rattle.ndn_name.proofs.Limits.{in_limit}
 use Rattle.ndn_name.proofs.Encodings.{pushed, pushed-length, count-fits}
 use Rattle.ndn_name.proofs.name.Name.push.Goals as goal
 
 -- the test of the length, in terms of the names
 at_names : {R : Type 0} (r : R) (too_long : R) (octets : List ℕ) (n : ℕ) → n ≡ length octets → (r ≡ too_long) ↔ (1000 < length octets) → (r ≡ too_long) ↔ (1000 < n)
 at_names r too_long octets n e h = rw e h
-
--- what was not too long
-in_limit : (octets : List ℕ) → (let r : Result (Unit {0}) NameFault = Ok tt in r ≡ Err NameTooLong) ↔ (1000 < length octets) → length octets ≤ 1000
-in_limit octets h =
-    elim (cases_lt 1000 (length octets)) [
-      | inl lt ↦ absurd (never (h.1 lt))
-      | inr le ↦ le
-    ]
-  where
-    never : (let r : Result (Unit {0}) NameFault = Ok tt in r ≡ Err NameTooLong) → ⊥
-    never e = cc
 
 pub returns-in_err-append_component-clause-too_long : goal.returns-in_err-append_component-clause-too_long
 returns-in_err-append_component-clause-too_long c =
@@ -41,7 +28,7 @@ pub invariant_of-self-2 : goal.invariant_of-self-2
 invariant_of-self-2 c =
     let octets = c.self.inside.octets.items in
     let value = c.args.value.now in
-    let short = in_limit (octets ++ element c.args.typ value) c.in_ok-append_component.ensures.too_long in
+    let short = in_limit (length (octets ++ element c.args.typ value)) c.in_ok-append_component.ensures.too_long in
     let one = more octets c.args.typ value c.requires.typ (omega arith) c.requires.digest short (λ i. omega (arith, c.type_inv.value i)) in
     let p = pushed octets c.append_component.new.octets.items c.self.inside.len c.args.self.now (c.args.typ, value) c.self.invariant.0 c.self.view_is one c.in_ok-append_component.ensures.ok in
     (p.value, omega (arith, short, ap length c.in_ok-append_component.ensures.ok))
@@ -50,7 +37,7 @@ pub returns-clause-ok : goal.returns-clause-ok
 returns-clause-ok c =
     let octets = c.self.inside.octets.items in
     let value = c.args.value.now in
-    let short = in_limit (octets ++ element c.args.typ value) c.in_ok-append_component.ensures.too_long in
+    let short = in_limit (length (octets ++ element c.args.typ value)) c.in_ok-append_component.ensures.too_long in
     let one = more octets c.args.typ value c.requires.typ (omega arith) c.requires.digest short (λ i. omega (arith, c.type_inv.value i)) in
     (pushed octets c.append_component.new.octets.items c.self.inside.len c.args.self.now (c.args.typ, value) c.self.invariant.0 c.self.view_is one c.in_ok-append_component.ensures.ok).is
 

@@ -1,4 +1,4 @@
-use Rattle.std.proofs.Common.{◌≡◌, ℕ, List, ap, ◌∙◌}
+use Rattle.std.proofs.Common.{List, ap, ◌∙◌}
 use Rattle.ndn_name.specs.Names.{Component, components}
 use Rattle.ndn_name.specs.CanonicalOrder.{canonical_cmp}
 use Rattle.ndn_name.proofs.OrderLemmas.{values-cmp}

@@ -1,4 +1,4 @@
-use Rattle.std.proofs.Common.{◌≡◌, ℕ, List, true, subst}
+use Rattle.std.proofs.Common.{◌≡◌, List, true, subst}
 use Rattle.std.specs.Prelude.{◌↔◌}
 use Rattle.ndn_name.specs.Names.{Component, components}
 use Rattle.ndn_name.specs.CanonicalOrder.{IsPrefix}

@@ -1,7 +1,6 @@
-use Rattle.std.proofs.Common.{◌≡◌, ℕ, List, Ordering, ap, ◌∙◌}
+use Rattle.std.proofs.Common.{ℕ, List, ap, ◌∙◌}
 use Rattle.std.specs.Ordering.{nat_cmp, is_eq}
 use Rattle.std.specs.Cmp.Lexicographic.{slice_cmp, texts_ties}
-use Rattle.ndn_name.specs.CanonicalOrder.{canonical_cmp}
 use Rattle.ndn_name.proofs.OrderLemmas.{encodings-cmp}
 use Rattle.ndn_name.proofs.order.NamePartialEq.eq.Goals as goal
 

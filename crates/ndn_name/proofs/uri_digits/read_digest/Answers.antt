@@ -1,0 +1,41 @@
+use Rattle.std.proofs.Common.{◌≡◌, ◌+◌, ◌<◌, ℕ, List, [], ◌∷◌, ◌++◌, length, take, sym, ap, subst, ◌∙◌, append_assoc, arith, rules}
+use Rattle.std.proofs.lemmas.Result.{err_from_is_err_and}
+use Rattle.std.proofs.lemmas.List.{length-take, take_more_set}
+use Rattle.ndn_name.specs.Uri.{IsDigits}
+use Rattle.ndn_name.proofs.Escapes.{pair-takes}
+use Rattle.ndn_name.proofs.Digests.{digest-pair_fails, digest-long, digits-push, length-digits, IsSomeDigest}
+use Rattle.ndn_name.specs.UriVerdict.{Leaves}
+use Rattle.ndn_name.proofs.uri_digits.read_digest.Goals as goal
+
+pub returns-in_err-value : goal.returns-in_err-value
+returns-in_err-value c =
+    let p = err_from_is_err_and c.from_residual.result c.from_residual.ensures.1 in
+    let inv = c.loop-octet.invariant in
+    let i = c.loop-octet.octet-index in
+    let short : length (take i c.loop-octet.octet-items) < 32 = omega (arith, length-take i c.loop-octet.octet-items, c.loop-octet-test.true) in
+    rw (p.1, p.2) (digest-pair_fails c.args.at (take i c.loop-octet.octet-items) inv.front c.loop-octet.rest.now c.args.text.now c.in_err-value.field-0.0 inv.read short inv.split c.in_err-value.ensures)
+
+pub loop-octet-preserved : goal.loop-octet-preserved
+loop-octet-preserved c =
+    let inv = c.loop-octet.invariant in
+    let i = c.loop-octet.octet-index in
+    let items = c.loop-octet.octet-items in
+    let behind = c.in_ok-value.behind.now in
+    let t = digits-push (take i items) inv.front c.loop-octet.rest.now c.in_ok-value.value behind inv.read (pair-takes _ c.loop-octet.rest.now (c.in_ok-value.value, behind) c.in_ok-value.ensures) in
+    let P : List ℕ → Type 0 = λ v. IsDigits v (inv.front ++ t.0) in
+    record {
+      front = inv.front ++ t.0;
+      split = append_assoc inv.front t.0 behind ∙ ap (λ (x : List ℕ). inv.front ++ x) (sym t.1) ∙ inv.split;
+      read = subst P (sym (take_more_set items i c.in_ok-value.value (omega arith))) t.2;
+    }
+
+long : (at : ℕ) (a front rest text : List ℕ) → IsDigits a front → length a ≡ 32 → 0 < length rest → front ++ rest ≡ text → (k : ℕ) × (at + 64 ≡ at + k) × Leaves IsSomeDigest text k
+long at a front [] text read size some split = absurd (omega arith)
+long at a front (c ∷ rest) text read size some split =
+    (length front + 0, omega (arith, size, length-digits a front read), digest-long a front text c rest read size split)
+
+pub returns-else-is_empty : goal.returns-else-is_empty
+returns-else-is_empty c =
+    let inv = c.loop-octet.invariant in
+    let a = take c.loop-octet.octet-index c.loop-octet.octet-items in
+    long c.args.at a inv.front c.loop-octet.rest.now c.args.text.now inv.read (omega (arith, length-take c.loop-octet.octet-index c.loop-octet.octet-items)) (search rules) inv.split

@@ -1,0 +1,10 @@
+use Rattle.std.proofs.Common.{◌≡◌, ◌++◌, ℕ, List, take}
+use Rattle.ndn_name.specs.Uri.{IsDigits}
+use Rattle.ndn_name.proofs.uri_digits.read_digest.Given as goal
+
+abbrev pub invariant-loop-octet : goal.invariant-loop-octet
+invariant-loop-octet l = record {
+  front : List ℕ;
+  split : front ++ l.rest ≡ l.text;
+  read : IsDigits (take l.octet-index l.octet-items) front;
+}

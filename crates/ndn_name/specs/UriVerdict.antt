@@ -1,0 +1,43 @@
+-- What a text is as the URI of a name: the name, or why it is none.
+use Rattle.std.specs.Prelude.{◌≡◌, ℕ, ◌+◌, ◌<◌, ◌≤◌, Bool, not, ◌&&◌, nat_le, ◌==◌, List, [], ◌∷◌, ◌++◌, length, take, Option, Some, None, Result, Ok, Err, if◌then◌else◌}
+use Rattle.ndn_name.specs.declared.name_fault.NameFault.{NameFault}
+use Rattle.ndn_name.specs.declared.name_fault.NameFault.TheVariants.{Tlv, BadComponent, BadDigestLength, NameTooLong, BadUri, NoMemory}
+use Rattle.ndn_name.specs.Names.{Component, encoding}
+use Rattle.ndn_name.specs.Uri.{Part, IsUri, name_in}
+
+-- The text leaves a language at this place: what is before it can be continued to a text of the
+-- language; with the octet there it can't, or the text ends there too early.
+pub record Leaves (L : List ℕ → Type 0) (text : List ℕ) (place : ℕ) : Type 0 where
+  pub within : place ≤ length text
+  pub goes_on : (more : List ℕ) × L (take place text ++ more)
+  pub breaks : place < length text → (more : List ℕ) → L (take (place + 1) text ++ more) → ⊥
+  pub ends : L text → ⊥
+
+-- The texts of names.
+abbrev pub IsUriText : List ℕ → Type 0
+IsUriText text = (parts : List Part) × IsUri parts text
+
+abbrev pub is_bad_digest : Component → Bool
+is_bad_digest c = nat_le c.0 2 && not (length c.1 == 32)
+
+-- Where the first digest stands that has not 32 octets.
+abbrev pub first_bad_digest : List Part → Option ℕ
+first_bad_digest [] = None
+first_bad_digest (part ∷ parts) =
+    if is_bad_digest part.1 then Some part.0 else first_bad_digest parts
+
+-- What a text is. It leaves the language; or a digest has not 32 octets, and the first such is
+-- told; or the name is too long; or it is this name.
+abbrev pub IsAnswer : List ℕ → Result (List Component) NameFault → Type 0
+IsAnswer text (Ok name) =
+    (parts : List Part) × IsUri parts text × (first_bad_digest parts ≡ None)
+    × (length (encoding name) ≤ 1000) × (name ≡ name_in parts)
+IsAnswer text (Err (BadUri place)) = Leaves IsUriText text place
+IsAnswer text (Err (BadDigestLength at)) = (parts : List Part) × IsUri parts text
+    × (first_bad_digest parts ≡ Some at)
+IsAnswer text (Err NameTooLong) =
+    (parts : List Part) × IsUri parts text × (first_bad_digest parts ≡ None)
+    × (1000 < length (encoding (name_in parts)))
+IsAnswer text (Err NoMemory) = ⊥
+IsAnswer text (Err (Tlv f)) = ⊥
+IsAnswer text (Err (BadComponent at)) = ⊥
