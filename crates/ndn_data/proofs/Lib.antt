@@ -1,0 +1,4 @@
+pub mod SignedLemmas
+pub mod FullNames
+pub mod WriteLemmas
+pub mod ReadBackLemmas

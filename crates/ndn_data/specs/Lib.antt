@@ -1,0 +1,12 @@
+pub use Rattle.ndn_tlv.specs.Spelling
+pub use Rattle.ndn_tlv.specs.Elements
+pub use Rattle.ndn_tlv.specs.NumberField
+pub use Rattle.ndn_name.specs.Names
+pub use Rattle.ndn_name.specs.CanonicalOrder
+pub use Rattle.ndn_sign.specs.Hmac
+pub use Rattle.ndn_packet.specs.Written
+pub mod FullName
+pub mod Signed
+pub mod MetaInfo
+pub mod Data
+pub mod WrittenData

@@ -1,0 +1,5 @@
+pub mod LastLemmas
+pub mod WriteLemmas
+pub mod DigestLemmas
+pub mod ReadBackLemmas
+pub mod SpelledLemmas

@@ -1,0 +1,36 @@
+ghost use Rattle.std.specs.Prelude.{◌≡◌, ◌<◌, ◌≤◌, ℕ, Bool, List, Ok, length};
+ghost use Rattle.ndn_tlv.specs.Elements.{IsOctets};
+ghost use Rattle.ndn_name.specs.Names.{Component, IsName};
+ghost use Rattle.ndn_interest.specs.Interest.{Interest, interest_of, IsDigested, IsSpelled};
+ghost use Rattle.ndn_interest.specs.WrittenInterest.{written_plain, written_interest, read_plain, read_signed};
+
+/// An Interest is the spelling of its element. In that stands what its parameters digest is of, and
+/// what is signed: the name without the digest, and the octets from the beginning of the parameters
+/// to the signature.
+pub fn interest_is_spelled()
+    ensures { (octets : List ℕ) (i : Interest) → IsOctets octets → interest_of octets ≡ Ok i
+        → IsSpelled octets i }
+{}
+
+/// A plain Interest that was written is read back: the fields that were given, and no other.
+pub fn written_plain_is_read()
+    ensures { (name : List Component) (can_be_prefix : Bool) → IsName name → 0 < length name
+        → length (written_plain name can_be_prefix) ≤ 8800
+        → interest_of (written_plain name can_be_prefix) ≡ Ok (read_plain name can_be_prefix) }
+{}
+
+/// A signed Interest that was written is read back: the fields that were given, a name that ends in
+/// the parameters digest, and a signature that is the mac of the signed portion under the key.
+pub fn written_interest_is_read()
+    ensures { (name key_name : List Component) (parameters key : List ℕ)
+        → IsName name → IsName key_name
+        → length (written_interest name parameters key_name key) ≤ 8800
+        → interest_of (written_interest name parameters key_name key)
+        ≡ Ok (read_signed name parameters key_name key) }
+{}
+
+/// The last component of the name of a signed Interest that was written is its parameters digest.
+pub fn written_interest_has_its_digest()
+    ensures { (name key_name : List Component) (parameters key : List ℕ)
+        → IsDigested (read_signed name parameters key_name key) }
+{}

@@ -1,0 +1,4 @@
+pub mod Lengths
+pub mod Outers
+pub mod Gathering
+pub mod ReadBack

@@ -1,0 +1,11 @@
+pub use Rattle.ndn_tlv.specs.Spelling
+pub use Rattle.ndn_tlv.specs.Listing
+pub use Rattle.ndn_tlv.specs.Elements
+pub use Rattle.ndn_tlv.specs.NumberField
+pub use Rattle.ndn_tlv.specs.OrderTable
+pub use Rattle.ndn_name.specs.Names
+pub use Rattle.ndn_name.specs.Faults
+pub mod Outer
+pub mod Contents
+pub mod SignatureInfo
+pub mod Written

@@ -1,0 +1,13 @@
+//! What Interest and Data packets of NDN Packet Format 0.3 share: the element that a packet is, the
+//! numbers and names in its fields, and what it says of its signature.
+#![tactic(auto)]
+
+mod contents;
+mod outer;
+mod signature_info;
+mod written;
+
+pub use contents::{bad_field, first_element, name_in, number_in};
+pub use outer::{PACKET_LIMIT, outer_element};
+pub use signature_info::SignatureInfo;
+pub use written::{element_len, number_field_len, put_signature_info, signature_info_len};
