@@ -1,12 +1,12 @@
 -- An Interest that was written is read back.
-use Rattle.std.proofs.Common.{◌≡◌, ℕ, suc, ◌+◌, ◌-◌, ◌^◌, ◌<◌, ◌≤◌, Bool, true, false, cond, not, eqb, List, [], ◌∷◌, ◌++◌, length, length-append, take, drop, take_at, drop_at, append_assoc, slice_get, slice_range, Option, Some, None, Result, Ok, Err, refl, sym, ap, ◌∙◌, arith}
+use Rattle.std.proofs.Common.{◌≡◌, ℕ, ◌+◌, ◌-◌, ◌<◌, ◌≤◌, Bool, true, false, cond, not, eqb, List, [], ◌∷◌, ◌++◌, length, length-append, take, drop, take_at, drop_at, append_assoc, slice_get, slice_range, Option, Some, None, Result, Ok, Err, refl, sym, ap, ◌∙◌, arith}
 use Rattle.std.specs.Option.{option_map_or}
 use Rattle.std.proofs.lemmas.List.{append-nil}
 use Rattle.sha2.specs.Sha256.{sha256}
 use Rattle.sha2.proofs.Facts256.{length-sha256}
 use Rattle.ndn_tlv.specs.declared.tlv_fault.TlvFault.{TlvFault}
 use Rattle.ndn_tlv.specs.Spelling.{head, element}
-use Rattle.ndn_tlv.specs.Listing.{Listing, nothing, ◌then◌, gather, gathered, ◌>>=◌}
+use Rattle.ndn_tlv.specs.Listing.{Listing, nothing, ◌then◌, gathered, ◌>>=◌}
 use Rattle.ndn_tlv.specs.Elements.{Item, placed, elements}
 use Rattle.ndn_tlv.specs.OrderTable.{place_of, fields_among, fields}
 use Rattle.ndn_name.specs.declared.fault.PacketFault.{PacketFault}
@@ -16,17 +16,14 @@ use Rattle.ndn_name.specs.Names.{Component, IsComponent, IsName, encoding}
 use Rattle.ndn_name.specs.Faults.{packet_fault}
 use Rattle.ndn_name.proofs.Encodings.{IsName-append}
 use Rattle.ndn_sign.specs.Hmac.{hmac}
-use Rattle.ndn_packet.specs.Contents.{name_in}
-use Rattle.ndn_packet.specs.Outer.{outer_of}
-use Rattle.ndn_packet.specs.SignatureInfo.{Info, info_in}
+use Rattle.ndn_packet.specs.SignatureInfo.{Info}
 use Rattle.ndn_packet.specs.Written.{written_info}
 use Rattle.ndn_packet.proofs.Lengths.{length-element}
 use Rattle.ndn_packet.proofs.ReadBack.{alone, followed, outer_again, name_again, info_again, gathers, gathered-nothing}
-use Rattle.ndn_interest.specs.declared.interest_fields.InterestField.{InterestField}
 use Rattle.ndn_interest.specs.declared.interest_fields.InterestField.TheVariants.{Name, CanBePrefix, ApplicationParameters, InterestSignatureInfo, InterestSignatureValue}
 use Rattle.ndn_interest.specs.declared.interest_fields.TheConstants.{INTEREST}
-use Rattle.ndn_interest.specs.Interest.{Interest, InterestSoFar, no_field, some_name, interest_name_in, with_interest_field, interest_fields, last_component, without_last, ends_in_digest, interest_named, interest_from, interest_of}
-use Rattle.ndn_interest.specs.WrittenInterest.{written_flag, written_plain, written_parameters, written_digested, with_digest, written_interest, read_plain, read_signed}
+use Rattle.ndn_interest.specs.Interest.{Interest, InterestSoFar, no_field, some_name, interest_name_in, with_interest_field, interest_fields, last_component, without_last, ends_in_digest, interest_from, interest_of}
+use Rattle.ndn_interest.specs.WrittenInterest.{written_plain, written_parameters, written_digested, written_interest, read_plain, read_signed}
 use Rattle.ndn_interest.proofs.DigestLemmas.{IsOctets-sha256}
 
 -- ---- names

@@ -1,5 +1,5 @@
 -- What an Interest signs and digests stands in the packet.
-use Rattle.std.proofs.Common.{◌≡◌, ℕ, zero, suc, ◌+◌, ◌-◌, ◌^◌, ◌<◌, ◌≤◌, Bool, true, false, cond, not, ◌&&◌, List, [], ◌∷◌, ◌++◌, length, length-append, length-drop, take, drop, drop_at, Option, Some, None, slice_get, slice_range, Result, Ok, Err, IfSome, MatchOption, refl, sym, ap, subst, ◌∙◌, arith}
+use Rattle.std.proofs.Common.{◌≡◌, ℕ, zero, suc, ◌+◌, ◌-◌, ◌<◌, ◌≤◌, Bool, true, false, cond, not, ◌&&◌, List, [], ◌∷◌, ◌++◌, length, take, drop, drop_at, Option, Some, None, slice_get, slice_range, Result, Ok, Err, IfSome, MatchOption, refl, sym, ap, subst, ◌∙◌, arith}
 use Rattle.std.specs.Prelude.{option_map, is_some, is_none}
 use Rattle.std.specs.Option.{option_map_or}
 use Rattle.std.proofs.Math.Seq.{take-append-add}
@@ -354,3 +354,33 @@ interest_spelled octets i fits h =
       digested = digests octets e.value e.value_start gathers.low (made octets s name) s.parameters gathers.at refl gathers.parameters;
       signed = signs octets (made octets s name) name s.parameters s.info s.signature refl refl refl refl ok.0 gathers.signature;
     })
+
+-- ---- which Interests count as signed
+
+abbrev pieces : List Component → List ℕ → List ℕ × List ℕ
+pieces name portion = (encoding (without_last name), portion)
+
+complete : (octets : List ℕ) (name : List Component) (p : Option Parameters) (info : Option Info) (g : Option Signature)
+    → IfSome g (SignatureStands octets p)
+    → is_some (signed_of name (is_some p && is_some info) g)
+    ≡ (is_some (option_map (λ (q : Parameters). q.1) p) && is_some (option_map (λ (i : Info). i.signature_type) info) && is_some (option_map (λ (q : Signature). q.0) g))
+complete octets name None info g n = refl
+complete octets name (Some p) None g n = refl
+complete octets name (Some p) (Some x) None n = refl
+complete octets name (Some p) (Some x) (Some g) n =
+    ap (λ (o : Option (List ℕ)). is_some (option_map (pieces name) o)) n.is
+
+pub interest_complete : (octets : List ℕ) (i : Interest) → IsOctets octets → interest_of octets ≡ Ok i
+    → is_some i.signed ≡ (is_some i.parameters && is_some i.signature_type && is_some i.signature)
+interest_complete octets i fits h =
+    let b = bind_ok (outer_of 0x05 octets) (λ (e : Item). interest_fields octets e >>= interest_from octets) i h in
+    let e = b.0 in
+    let outer = outer_ok 0x05 octets e fits b.1 in
+    let f = bind_ok (interest_fields octets e) (interest_from octets) i b.2 in
+    let s = f.0 in
+    let gathers = interest_gathers octets e s fits outer.whole outer.is_placed f.1 in
+    let n = bind_ok (ok_or s.name (Missing field.Name)) (interest_named octets s) i f.2 in
+    let name = n.0 in
+    let ok = passed (is_some s.parameters && not (ends_in_digest name)) (is_some s.info && is_none s.signature) (Missing field.ParametersDigest) (Missing field.SignatureValue) (made octets s name) i n.2 in
+    let P : Interest → Type 0 = λ x. is_some x.signed ≡ (is_some x.parameters && is_some x.signature_type && is_some x.signature) in
+    subst P ok.1 (complete octets name s.parameters s.info s.signature gathers.signature)

@@ -1,4 +1,4 @@
-ghost use Rattle.std.specs.Prelude.{◌≡◌, ◌<◌, ◌≤◌, ℕ, Bool, List, Ok, length};
+ghost use Rattle.std.specs.Prelude.{◌≡◌, ◌&&◌, ◌<◌, ◌≤◌, ℕ, Bool, List, Ok, length, is_some};
 ghost use Rattle.ndn_tlv.specs.Elements.{IsOctets};
 ghost use Rattle.ndn_name.specs.Names.{Component, IsName};
 ghost use Rattle.ndn_interest.specs.Interest.{Interest, interest_of, IsDigested, IsSpelled};
@@ -10,6 +10,14 @@ ghost use Rattle.ndn_interest.specs.WrittenInterest.{written_plain, written_inte
 pub fn interest_is_spelled()
     ensures { (octets : List ℕ) (i : Interest) → IsOctets octets → interest_of octets ≡ Ok i
         → IsSpelled octets i }
+{}
+
+/// An Interest has a signed portion exactly where it has parameters, says how it is signed, and has
+/// a signature.
+pub fn signed_interests_are_complete()
+    ensures { (octets : List ℕ) (i : Interest) → IsOctets octets → interest_of octets ≡ Ok i
+        → is_some i.signed
+        ≡ (is_some i.parameters && is_some i.signature_type && is_some i.signature) }
 {}
 
 /// A plain Interest that was written is read back: the fields that were given, and no other.

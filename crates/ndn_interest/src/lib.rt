@@ -10,8 +10,8 @@ mod write;
 
 pub use interest_view::InterestView;
 pub use laws::{
-    interest_is_spelled, written_interest_has_its_digest, written_interest_is_read,
-    written_plain_is_read,
+    interest_is_spelled, signed_interests_are_complete, written_interest_has_its_digest,
+    written_interest_is_read, written_plain_is_read,
 };
 pub use write::{write_plain, write_signed};
 

@@ -89,9 +89,13 @@ fn sync_interest_is_read(rt: HostRuntime) -> Result<(), Fail> {
 #[test]
 fn worked_interests_are_written(rt: HostRuntime) -> Result<(), Fail> {
     let alloc = rt.alloc();
-    let plain = write_plain(alloc, &name(alloc, ALICE_1)?, false)?;
+    let record = name(alloc, ALICE_1)?;
+    assert!(rt; record.view().len() > 0);
+    let plain = write_plain(alloc, &record, false)?;
     assert_eq!(rt; plain.as_slice(), PLAIN.as_slice());
-    let prefix = write_plain(alloc, &name(alloc, &[8, 1, 0x61])?, true)?;
+    let short = name(alloc, &[8, 1, 0x61])?;
+    assert!(rt; short.view().len() > 0);
+    let prefix = write_plain(alloc, &short, true)?;
     assert_eq!(rt;
         prefix.as_slice(),
         [5, 7, 7, 3, 8, 1, 0x61, 0x21, 0].as_slice()

@@ -1,4 +1,4 @@
-use Rattle.std.proofs.Common.{◌≡◌, ℕ, ◌+◌, List, ◌++◌, length, ap, ◌∙◌, arith}
+use Rattle.std.proofs.Common.{ℕ, ◌+◌, List, ◌++◌, length, ap, ◌∙◌}
 use Rattle.ndn_tlv.specs.Spelling.{head}
 use Rattle.ndn_interest.proofs.WriteLemmas.{writes}
 use Rattle.ndn_interest.proofs.write.with_digest.Goals as goal

@@ -1,4 +1,4 @@
-use Rattle.std.proofs.Common.{◌≡◌, ℕ, List, length, ap, ◌∙◌, arith}
+use Rattle.std.proofs.Common.{length, ap, ◌∙◌, arith}
 use Rattle.ndn_interest.proofs.WriteLemmas.{length-digested}
 use Rattle.ndn_interest.proofs.write.write_parts.Goals as goal
 

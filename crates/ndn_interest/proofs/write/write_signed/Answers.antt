@@ -1,4 +1,4 @@
-use Rattle.std.proofs.Common.{◌≡◌, ℕ, ◌+◌, ◌-◌, ◌^◌, ◌<◌, ◌≤◌, min, List, Err, Result, Vec, Global, sym, ap, ◌∙◌, arith}
+use Rattle.std.proofs.Common.{◌≡◌, ℕ, ◌+◌, ◌-◌, ◌^◌, min, Err, Result, Vec, Global, sym, ap, ◌∙◌, arith}
 use Rattle.ndn_name.specs.declared.fault.PacketWriteFault.{PacketWriteFault}
 use Rattle.ndn_name.specs.declared.fault.PacketWriteFault.TheVariants.{TooLong}
 use Rattle.ndn_interest.proofs.WriteLemmas.{total}

@@ -1,15 +1,13 @@
-use Rattle.std.proofs.Common.{◌≡◌, ◌+◌, ◌≤◌, ◌<◌, ◌++◌, ℕ, length, length-append, map, List, None, Some, Option, ap, subst, ◌∙◌, IfSome, arith}
-use Rattle.std.proofs.Common.{Bor, option_map}
+use Rattle.std.proofs.Common.{◌+◌, ◌≤◌, ℕ, length, map, List, None, Some, Option, ap, subst, ◌∙◌, IfSome, arith}
+use Rattle.std.proofs.Common.{Bor}
 use Rattle.std.proofs.lemmas.Result.{err_from_is_err_and}
-use Rattle.ndn_tlv.specs.Spelling.{head, element}
 use Rattle.ndn_tlv.specs.Listing.{Listing, gathered}
-use Rattle.ndn_tlv.specs.Elements.{AreWithin, Item, item, placed}
+use Rattle.ndn_tlv.specs.Elements.{AreWithin, Item, item}
 use Rattle.ndn_tlv.specs.OrderTable.{fields}
 use Rattle.ndn_tlv.specs.declared.order_table.FieldFault.{FieldFault}
 use Rattle.ndn_tlv.proofs.Fields.{AreWithin-ends}
 use Rattle.ndn_tlv.proofs.Gathers.{all_gathered, ends_at_fault, ends_at_step, goes_on}
 use Rattle.ndn_name.specs.Faults.{packet_fault}
-use Rattle.ndn_name.specs.Names.{Component}
 use Rattle.ndn_interest.specs.declared.interest_fields.InterestField.{InterestField}
 use Rattle.ndn_interest.specs.declared.interest_fields.Gathered.{Gathered}
 use Rattle.ndn_interest.specs.declared.interest_fields.TheConstants.{INTEREST}

@@ -1,4 +1,4 @@
-use Rattle.std.proofs.Common.{◌≡◌, ℕ, ◌+◌, ◌≤◌, length, map}
+use Rattle.std.proofs.Common.{◌≡◌, ℕ, ◌+◌, length, map}
 use Rattle.ndn_tlv.specs.Elements.{AreWithin, item}
 use Rattle.ndn_tlv.specs.Listing.{gathered}
 use Rattle.ndn_name.specs.Faults.{packet_fault}
