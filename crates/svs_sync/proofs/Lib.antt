@@ -1,1 +1,6 @@
 pub mod KeptLemmas
+pub mod OctetLemmas
+pub mod NameLemmas
+pub mod LengthLemmas
+pub mod VerdictLemmas
+pub mod TestLemmas

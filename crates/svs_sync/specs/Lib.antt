@@ -1,4 +1,12 @@
+pub use Rattle.ndn_name.specs.Names
+pub use Rattle.ndn_sign.specs.Ring
+pub use Rattle.ndn_interest.specs.Interest
+pub use Rattle.ndn_interest.specs.WrittenInterest
 pub use Rattle.svs_vector.specs.Vectors
+pub use Rattle.svs_vector.specs.Rosters
+pub use Rattle.svs_vector.specs.StateVector
+pub use Rattle.svs_vector.specs.WrittenVector
 pub mod Suppression
 pub mod KeptVector
 pub mod Fields
+pub mod SyncInterest

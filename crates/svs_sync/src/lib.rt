@@ -1,16 +1,23 @@
-//! Sync Interests and the suppression of State Vector Sync: when a member of a group sends its state vector, and when it
-//! holds back because others have told what it knows.
+//! Sync Interests and the suppression of State Vector Sync: how a member tells the others of its
+//! state vector, and what it takes from them; when it sends, and when it holds back because others
+//! have told what it knows.
 #![tactic(auto)]
 
 mod fired;
 mod laws;
 mod machine;
 mod mode;
+mod sync_interest;
+mod sync_refusal;
 
 pub use fired::Fired;
-pub use laws::what_is_kept_is_the_join;
+pub use laws::{
+    made_sync_interests_are_checked, sync_interests_are_tested, what_is_kept_is_the_join,
+};
 pub use machine::Machine;
 pub use mode::Mode;
+pub use sync_interest::{check_sync, make_sync};
+pub use sync_refusal::SyncRefusal;
 
 #[cfg(test)]
 mod tests;

@@ -1,3 +1,6 @@
+mod hostile;
+mod interests;
+
 use super::*;
 use std::test::Fail;
 use svs_vector::Vector;
@@ -39,18 +42,27 @@ fn a_member_that_others_do_not_tell_for_sends(rt: HostRuntime) -> Result<(), Fai
     Ok(())
 }
 
-// The same, but another member tells of it before the member is due.
+// A member that knows of two publications is told of one at moment 0, and then of both. Each draw
+// is 100.
 #[test]
 fn a_member_that_others_tell_for_is_quiet(rt: HostRuntime) -> Result<(), Fail> {
     let mut known = Vector::new(rt.alloc(), 2)?;
-    known.raise(0, 1);
-    let told = Vector::new(rt.alloc(), 2)?;
-    let mut machine = Machine::new(rt.alloc(), 2, 0, 0)?;
-    machine.heard(10, &told, &known, 100);
-    machine.heard(20, &known, &known, 50);
-    assert_eq!(rt; (machine.deadline(), machine.next_draw()), (110, 2));
-    assert_eq!(rt; machine.fired(110, &known, 1), Fired::Quiet);
-    assert_eq!(rt; (machine.deadline(), machine.next_draw()), (27_111, 3));
+    known.raise(0, 2);
+    let mut told = Vector::new(rt.alloc(), 2)?;
+    told.raise(0, 1);
+    let mut machine = Machine::new(rt.alloc(), 2, 0, 100)?;
+    assert_eq!(rt; machine.fired(27_099, &known, 100), Fired::Early);
+    for vector in [&told, &known] {
+        assert_eq!(rt; machine.heard(0, vector, &known, 100), Mode::Suppressed);
+        assert_eq!(rt; machine.deadline(), 100);
+    }
+    assert_eq!(rt; machine.fired(99, &known, 100), Fired::Early);
+    assert_eq!(rt; machine.fired(100, &known, 100), Fired::Quiet);
+    assert_eq!(rt;
+        (machine.mode(), machine.deadline()),
+        (Mode::Steady, 27_200)
+    );
+    assert_eq!(rt; machine.next_draw(), 3);
     Ok(())
 }
 

@@ -1,1 +1,7 @@
 pub mod JoinLemmas
+pub mod RosterLemmas
+pub mod OrderLemmas
+pub mod ToldLemmas
+pub mod SortedLemmas
+pub mod LengthLemmas
+pub mod ReadBackLemmas

@@ -1,1 +1,12 @@
+pub use Rattle.ndn_tlv.specs.Spelling
+pub use Rattle.ndn_tlv.specs.Listing
+pub use Rattle.ndn_tlv.specs.Elements
+pub use Rattle.ndn_tlv.specs.NumberField
+pub use Rattle.ndn_tlv.specs.OrderTable
+pub use Rattle.ndn_name.specs.Names
+pub use Rattle.ndn_name.specs.CanonicalOrder
 pub mod Vectors
+pub mod Rosters
+pub mod StateVector
+pub mod WrittenVector
+pub mod ToldVector

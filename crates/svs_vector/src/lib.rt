@@ -2,15 +2,29 @@
 //! greater number in each place (State Vector Sync).
 #![tactic(auto)]
 
+mod entry;
 mod laws;
+mod read;
+mod roster;
+mod roster_fault;
 mod vector;
+mod vector_fault;
+mod vector_laws;
+mod write;
 
 pub use laws::{
     covers_is_nothing_gained, join_is_associative, join_is_commutative, join_is_idempotent,
     join_is_the_least_that_covers_both, join_takes_the_greater, joins_are_the_join_of_all,
     joins_in_any_order_give_the_same,
 };
+pub use roster::{MEMBER_LIMIT, Roster};
+pub use roster_fault::RosterFault;
 pub use vector::Vector;
+pub use vector_fault::VectorFault;
+pub use vector_laws::{
+    entries_are_written_in_canonical_order, entries_tell_the_same_in_any_order,
+    state_vectors_tell_their_entries, written_vectors_are_read_back,
+};
 
 #[cfg(test)]
 mod tests;

@@ -1,0 +1,129 @@
+-- The names of sync Interests, as octets.
+use Rattle.std.proofs.Common.{◌≡◌, ◌↔◌, ℕ, zero, suc, ◌-◌, Bool, true, false, eqb, List, [], ◌∷◌, ◌++◌, length, length-append, append_assoc, take, drop, take_at, drop_at, slice_get, Option, Some, refl, sym, ap, subst, ◌∙◌, arith}
+use Rattle.std.specs.Option.{option_map_or}
+use Rattle.std.specs.Str.{bytes_eq}
+use Rattle.std.proofs.lemmas.Bool.{and_parts, and_from, false≢true}
+use Rattle.std.proofs.lemmas.Slice.Eq.{bytes_eq-Decides}
+use Rattle.ndn_tlv.specs.Spelling.{number, head, element}
+use Rattle.ndn_tlv.specs.Elements.{IsOctets}
+use Rattle.ndn_name.specs.Names.{Component, IsComponent, IsName, encoding}
+use Rattle.ndn_name.proofs.Encodings.{encoding-append, encoding-push, encoding-same, IsName-append, IsOctets-behind}
+use Rattle.ndn_interest.specs.Interest.{last_component, without_last, ends_in_digest}
+use Rattle.ndn_interest.proofs.LastLemmas.{digest_ends}
+use Rattle.svs_vector.specs.Rosters.{is_same_name}
+use Rattle.svs_sync.proofs.OctetLemmas.{IsOctets-encoding}
+use Rattle.svs_sync.specs.SyncInterest.{sync_name, is_sync_name}
+
+-- what stands between the group's name and the octets of the digest
+abbrev pub between : List ℕ
+between = 0x36 ∷ 1 ∷ 2 ∷ 2 ∷ 32 ∷ []
+
+version_spelled : element 0x36 (2 ∷ []) ≡ 0x36 ∷ 1 ∷ 2 ∷ []
+unfolding number
+version_spelled = refl
+
+digest_head : head 2 32 ≡ 2 ∷ 32 ∷ []
+unfolding number
+digest_head = refl
+
+digest_spelled : (digest : List ℕ) → length digest ≡ 32 → element 2 digest ≡ 2 ∷ 32 ∷ digest
+digest_spelled digest long = ap (λ (n : ℕ). head 2 n ++ digest) long ∙ ap (λ (h : List ℕ). h ++ digest) digest_head
+
+-- the group's name, the version and a digest, as octets
+pub spelled : (group : List Component) (digest : List ℕ) → length digest ≡ 32
+    → encoding (sync_name group ++ (2, digest) ∷ []) ≡ encoding group ++ (between ++ digest)
+spelled group digest long =
+    encoding-push (sync_name group) (2, digest)
+    ∙ ap (λ (o : List ℕ). o ++ element 2 digest) (encoding-push group (0x36, 2 ∷ []))
+    ∙ rw (version_spelled, digest_spelled digest long) (append_assoc (encoding group) (0x36 ∷ 1 ∷ 2 ∷ []) (2 ∷ 32 ∷ digest))
+
+two : IsOctets (2 ∷ [])
+two zero = omega arith
+two (suc i) = omega arith
+
+pub version : IsComponent (0x36, 2 ∷ [])
+version = record { above = omega arith; below = omega arith; digest = λ h. absurd (omega (arith, h)); long = omega arith; octets = two }
+
+-- ---- a name and a component behind it
+
+slice_get-push : (name : List Component) (c : Component) → slice_get (name ++ c ∷ []) (length name) ≡ Some c
+slice_get-push [] c = refl
+slice_get-push (d ∷ name) c = slice_get-push name c
+
+last_place : (name : List Component) (c : Component) → length (name ++ c ∷ []) - 1 ≡ length name
+last_place name c = omega (arith, length-append name (c ∷ []))
+
+pub last-push : (name : List Component) (c : Component) → last_component (name ++ c ∷ []) ≡ Some c
+last-push name c = ap (slice_get (name ++ c ∷ [])) (last_place name c) ∙ slice_get-push name c
+
+without-push : (name : List Component) (c : Component) → without_last (name ++ c ∷ []) ≡ name
+without-push name c = ap (λ (n : ℕ). take n (name ++ c ∷ [])) (last_place name c) ∙ take_at name (c ∷ []) (length name) refl
+
+ends-push : (name : List Component) (digest : List ℕ) → ends_in_digest (name ++ (2, digest) ∷ []) ≡ true
+ends-push name digest = ap (λ (o : Option Component). option_map_or (λ c. eqb c.0 2) o false) (last-push name (2, digest))
+
+pub is_sync_name-made : (group : List Component) (digest : List ℕ) → is_sync_name group (sync_name group ++ (2, digest) ∷ []) ≡ true
+is_sync_name-made group digest =
+    let front = sync_name group in
+    let last : Component = (2, digest) in
+    and_from (is_same_name (without_last (front ++ last ∷ [])) front) (ends_in_digest (front ++ last ∷ []))
+    (rw (without-push front last) ((bytes_eq-Decides (encoding front) (encoding front)).1 refl)) (ends-push front digest)
+
+-- ---- the test of the octets
+
+pub named : (group name : List Component) (digest : List ℕ) → IsName group → IsName name
+    → encoding name ≡ encoding group ++ (between ++ digest) → length digest ≡ 32 → name ≡ sync_name group ++ (2, digest) ∷ []
+named group name digest valid_group valid same long =
+    let front = sync_name group in
+    let last : Component = (2, digest) in
+    let octets = IsOctets-behind between digest (IsOctets-behind (encoding group) (between ++ digest) (subst IsOctets same (IsOctets-encoding name valid))) in
+    let good : IsComponent last = record { above = omega arith; below = omega arith; digest = λ h. long; long = omega (arith, long); octets = octets } in
+    encoding-same name (front ++ last ∷ []) valid (IsName-append front (last ∷ []) (IsName-append group ((0x36, 2 ∷ []) ∷ []) valid_group (version, tt)) (good, tt)) (same ∙ sym (spelled group digest long))
+
+pub is_of_group : (group name : List Component) (digest : List ℕ) → IsName group → IsName name
+    → encoding name ≡ encoding group ++ (between ++ digest) → length digest ≡ 32 → is_sync_name group name ≡ true
+is_of_group group name digest valid_group valid same long =
+    rw (named group name digest valid_group valid same long) (is_sync_name-made group digest)
+
+pub record HasDigest (group name : List Component) : Type 0 where
+  pub digest : List ℕ
+  pub long : length digest ≡ 32
+  pub octets : encoding name ≡ encoding group ++ (between ++ digest)
+
+pub has_digest : (group name : List Component) → IsName name → is_sync_name group name ≡ true → HasDigest group name
+has_digest group name valid h =
+    let tests = and_parts (is_same_name (without_last name) (sync_name group)) (ends_in_digest name) h in
+    let ends = digest_ends name valid tests.1 in
+    let front : encoding (without_last name) ≡ encoding (sync_name group) = (bytes_eq-Decides (encoding (without_last name)) (encoding (sync_name group))).0 tests.0 in
+    record {
+      digest = ends.digest;
+      long = ends.long;
+      octets = ends.spelled ∙ ap (λ (o : List ℕ). o ++ element 2 ends.digest) front ∙ sym (encoding-push (sync_name group) (2, ends.digest)) ∙ spelled group ends.digest ends.long;
+    }
+
+-- ---- answers of the test
+
+pub refused : (b : Bool) → (b ≡ true → ⊥) → false ≡ b
+refused true h = absurd (h refl)
+refused false h = refl
+
+pub agreed : (a b : Bool) → (a ≡ true → b ≡ true) → (b ≡ true → a ≡ true) → a ≡ b
+agreed true b h k = sym (h refl)
+agreed false b h k = refused b (λ e. absurd (false≢true (k e)))
+
+pub behind_same : (front a b : List ℕ) → front ++ a ≡ front ++ b → a ≡ b
+behind_same front a b e = sym (drop_at front a (length front) refl) ∙ ap (drop (length front)) e ∙ drop_at front b (length front) refl
+
+-- ---- the name that the test takes
+
+abbrev IsNamed : List Component → List Component → Type 0
+IsNamed group name = (digest : List ℕ) × (name ≡ group ++ (0x36, 2 ∷ []) ∷ (2, digest) ∷ [])
+
+regrouped : (group : List Component) (digest : List ℕ) → sync_name group ++ (2, digest) ∷ [] ≡ group ++ (0x36, 2 ∷ []) ∷ (2, digest) ∷ []
+regrouped group digest = append_assoc group ((0x36, 2 ∷ []) ∷ []) ((2, digest) ∷ [])
+
+pub name_is_tested : (group name : List Component) → IsName group → IsName name → (is_sync_name group name ≡ true) ↔ IsNamed group name
+name_is_tested group name valid_group valid = (
+  λ yes. (let d = has_digest group name valid yes in (d.digest, named group name d.digest valid_group valid d.octets d.long ∙ regrouped group d.digest)),
+  λ is. rw (is.1 ∙ sym (regrouped group is.0)) (is_sync_name-made group is.0),
+)

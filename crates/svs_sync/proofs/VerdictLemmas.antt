@@ -1,0 +1,47 @@
+-- The verdict on a sync Interest that was made.
+use Rattle.std.proofs.Common.{◌≡◌, ℕ, ◌^◌, ◌<◌, ◌≤◌, Bool, true, false, ◌&&◌, List, [], ◌∷◌, ◌++◌, length, slice_get, Option, Some, None, Result, Ok, Err, refl, sym, ap, ◌∙◌, arith}
+use Rattle.std.specs.List.{All}
+use Rattle.std.specs.Str.{bytes_eq}
+use Rattle.std.proofs.lemmas.Slice.Eq.{bytes_eq-Decides}
+use Rattle.sha2.specs.Sha256.{sha256}
+use Rattle.ndn_tlv.specs.Listing.{◌>>=◌}
+use Rattle.ndn_name.specs.declared.fault.PacketFault.{PacketFault}
+use Rattle.ndn_name.specs.Names.{Component, IsComponent, IsName, encoding}
+use Rattle.ndn_name.proofs.Encodings.{IsName-append}
+use Rattle.ndn_sign.specs.Hmac.{hmac}
+use Rattle.ndn_sign.specs.Ring.{Pair, number_of, pair}
+use Rattle.ndn_interest.specs.Interest.{Interest, interest_of, last_component}
+use Rattle.ndn_interest.specs.WrittenInterest.{written_parameters, written_digested, read_signed}
+use Rattle.ndn_interest.proofs.ReadBackLemmas.{signed_again}
+use Rattle.svs_vector.specs.declared.vector_fault.VectorFault.{VectorFault}
+use Rattle.svs_vector.specs.Rosters.{IsRoster}
+use Rattle.svs_vector.specs.StateVector.{vector_of}
+use Rattle.svs_vector.specs.WrittenVector.{written_vector}
+use Rattle.svs_vector.proofs.ReadBackLemmas.{read_back}
+use Rattle.svs_sync.specs.declared.sync_refusal.SyncRefusal.{SyncRefusal}
+use Rattle.svs_sync.specs.declared.sync_refusal.SyncRefusal.TheVariants.{WrongGroup, Unsigned, ParamsDigest, UnknownKey, BadSignature}
+use Rattle.svs_sync.specs.SyncInterest.{sync_name, sync_interest, sync_verdict, interest_verdict, ensured, or_refused, packet_or, vector_or, is_sync_name, is_digest_of, has_its_digest, key_of, is_mac, is_signed, IsNodeName, IsKeyName}
+use Rattle.svs_sync.proofs.NameLemmas.{version, last-push, is_sync_name-made}
+use Rattle.svs_sync.proofs.LengthLemmas.{sync_interest_short}
+
+same_octets : (octets : List ℕ) → bytes_eq octets octets ≡ true
+same_octets octets = (bytes_eq-Decides octets octets).1 refl
+
+module _ (group : List Component) (roster : List (List Component)) (ring : List Pair) (vector : List ℕ) (key_name : List Component) (key : List ℕ) (signer : ℕ) (found : number_of (encoding key_name) ring ≡ Some signer) (at : slice_get ring signer ≡ Some (pair (encoding key_name) key)) (read : vector_of roster (written_vector roster vector) ≡ Ok vector) where
+  made_verdict : interest_verdict group roster ring (read_signed (sync_name group) (written_vector roster vector) key_name key) ≡ Ok (signer, vector)
+  made_verdict =
+      let name = sync_name group in
+      let parameters = written_vector roster vector in
+      let digested = written_digested name parameters key_name key in
+      let digest = sha256 digested in
+      let portion = written_parameters parameters key_name in
+      let mac = hmac key (encoding name ++ portion) in
+      rw (is_sync_name-made group digest, last-push name (2, digest), same_octets digest, found, at, same_octets mac, read) refl
+
+  pub made_is_checked : IsName group → IsNodeName group → length roster ≤ 16 → All IsNodeName roster → IsName key_name → IsKeyName key_name
+      → sync_verdict group roster ring (sync_interest group vector roster key_name key) ≡ Ok (signer, vector)
+  made_is_checked valid_group limits few members valid_key named =
+      let name = sync_name group in
+      let short = sync_interest_short group vector roster key_name key limits few members named in
+      let packet = signed_again name key_name (written_vector roster vector) key (IsName-append group ((0x36, 2 ∷ []) ∷ []) valid_group (version, tt)) valid_key short in
+      ap (λ (r : Result Interest PacketFault). packet_or r >>= interest_verdict group roster ring) packet ∙ made_verdict

@@ -1,0 +1,115 @@
+ghost use Rattle.std.specs.Prelude.{◌≡◌, ◌≤◌, ◌⊎◌, IfOk, IsTrue, MatchResult, Ok, Err, Some, length, slice_get, is_some};
+ghost use Rattle.std.specs.List.{All};
+ghost use Rattle.ndn_interest.specs.Interest.{packet};
+ghost use Rattle.svs_sync.specs.SyncInterest.{sync_name, sync_interest, sync_verdict, is_sync_name, key_of, IsNodeName, IsKeyName};
+
+use crate::sync_refusal::SyncRefusal;
+use ndn_interest::{InterestView, write_signed};
+use ndn_name::{Name, NameFault, NameView, PacketWriteFault};
+use ndn_sign::KeyRing;
+use std::alloc::{AllocError, Global};
+use svs_vector::{Roster, Vector, VectorFault};
+
+// What stands behind the group's name in that of its sync Interests: the component of version 2,
+// and the head of the parameters digest's component.
+const BEHIND_GROUP: [u8; 5] = [0x36, 1, 2, 2, 32];
+
+/// Makes the sync Interest of a member that knows this vector, signed with its key (State Vector
+/// Sync; NDN Packet Format 0.3, "Signed Interest").
+pub fn make_sync(
+    alloc: Global,
+    group: &Name,
+    vector: &Vector,
+    roster: &Roster,
+    key_name: &Name,
+    key: &[u8],
+) -> Result<Vec<u8>, AllocError>
+    requires group { IsNodeName group.now }
+    requires width { length vector.now ≡ length roster.now }
+    requires members { All IsNodeName roster.now }
+    requires key_name { IsKeyName key_name.now }
+    ensures { IfOk result (λ octets. octets.items
+        ≡ sync_interest group.now vector.now roster.now key_name.now key.now) }
+{
+    let name = sync_name(alloc, group)?;
+    let parameters = vector.write(alloc, roster)?;
+    match write_signed(alloc, &name, &parameters, key_name, key) {
+        Ok(octets) => Ok(octets),
+        Err(PacketWriteFault::TooLong { .. }) => unreachable!(),
+        Err(PacketWriteFault::NoMemory) => Err(AllocError),
+    }
+}
+
+// The name of the group's sync Interests, without the parameters digest.
+fn sync_name(alloc: Global, group: &Name) -> Result<Name, AllocError>
+    requires { IsNodeName group.now }
+    ensures { IfOk result (λ name. name ≡ sync_name group.now) }
+{
+    let mut name = group.clone()?;
+    match name.push(0x36, &[2]) {
+        Ok(()) => Ok(name),
+        Err(NameFault::NameTooLong) => unreachable!(),
+        Err(_) => Err(AllocError),
+    }
+}
+
+/// Checks the octets of a sync Interest of the group, and gives the number of the key in the ring
+/// that signed it, and the vector that it tells.
+///
+/// The signer is known by its key alone, whatever the vector tells. What follows the state vector
+/// in the parameters is passed over. Only the vector takes memory.
+pub fn check_sync(
+    alloc: Global,
+    octets: &[u8],
+    group: &Name,
+    roster: &Roster,
+    ring: &KeyRing,
+) -> Result<(u32, Vector), SyncRefusal>
+    ensures { MatchResult result
+        (λ told. sync_verdict group.now roster.now ring.now octets.now ≡ Ok (told.0, told.1))
+        (λ refusal. (sync_verdict group.now roster.now ring.now octets.now ≡ Err refusal)
+        ⊎ (refusal ≡ SyncRefusal.NoMemory)) }
+{
+    let interest = InterestView::read(octets)?;
+    if !is_sync_name(&interest.name, group) {
+        return Err(SyncRefusal::WrongGroup);
+    }
+    let (first, second) = interest.signed_portion().ok_or(SyncRefusal::Unsigned)?;
+    if !interest.params_digest_matches() {
+        return Err(SyncRefusal::ParamsDigest);
+    }
+    let signer = key_of(&interest, ring).ok_or(SyncRefusal::UnknownKey)?;
+    let signature = interest.signature;
+    if !signature.is_some_and(|mac| ring.check_mac(signer, first, second, mac)) {
+        return Err(SyncRefusal::BadSignature);
+    }
+    match Vector::read(alloc, interest.parameters.unwrap_or(&[]), roster) {
+        Ok(vector) => Ok((signer, vector)),
+        Err(VectorFault::NoMemory) => Err(SyncRefusal::NoMemory),
+        Err(fault) => Err(SyncRefusal::Vector(fault)),
+    }
+}
+
+// Whether the name is that of the group's sync Interests, with a parameters digest behind it.
+fn is_sync_name(name: &NameView<'_>, group: &Name) -> bool
+    ensures { result ≡ is_sync_name group.now name.now }
+{
+    let Some(behind) = name.octets().strip_prefix(group.octets()) else {
+        return false;
+    };
+    match behind.strip_prefix(&BEHIND_GROUP) {
+        Some(digest) => digest.len() == 32,
+        None => false,
+    }
+}
+
+// The number of the key that an Interest names, where it is signed by HMAC with SHA-256.
+fn key_of(interest: &InterestView<'_>, ring: &KeyRing) -> Option<u32>
+    ensures { result
+        ≡ key_of ring.now (packet interest.now).signature_type (packet interest.now).locator }
+{
+    match (interest.signature_type, &interest.locator) {
+        (Some(4), Some(name)) => ring.find(name.octets()),
+        _ => None,
+    }
+}

@@ -1,0 +1,99 @@
+-- What octets are as a state vector of a group, or the first fault in reading order (State Vector Sync, with the
+-- element types of this project).
+use Rattle.std.specs.Prelude.{ℕ, max, List, [], ◌∷◌, Option, Some, None, Result, Ok, Err, length, replicate, slice_index, slice_set, nat_lt, ◌==◌, if◌then◌else◌}
+use Rattle.ndn_tlv.specs.declared.order_table.FieldFault.{FieldFault}
+use Rattle.ndn_tlv.specs.declared.order_table.FieldFault.TheVariants.{Tlv, Critical}
+use Rattle.ndn_tlv.specs.Listing.{gathered, ◌>>=◌}
+use Rattle.ndn_tlv.specs.Elements.{Item, elements}
+use Rattle.ndn_tlv.specs.NumberField.{number_of}
+use Rattle.ndn_tlv.specs.OrderTable.{fields}
+use Rattle.ndn_name.specs.declared.name_fault.NameFault.{NameFault}
+use Rattle.ndn_name.specs.Names.{Component, name_of}
+use Rattle.svs_vector.specs.declared.vector_fault.VectorFault.{VectorFault}
+use Rattle.svs_vector.specs.declared.vector_fault.VectorFault.TheVariants.{BadVector, NumberTooLarge}
+use Rattle.svs_vector.specs.declared.entry.EntryField.{EntryField}
+use Rattle.svs_vector.specs.declared.entry.EntryField.TheVariants as entry_field
+use Rattle.svs_vector.specs.declared.entry.Gathered.{Gathered}
+use Rattle.svs_vector.specs.declared.entry.TheConstants.{ENTRY}
+use Rattle.svs_vector.specs.declared.read.VectorField.{VectorField}
+use Rattle.svs_vector.specs.declared.read.TheConstants.{STATE_VECTOR}
+use Rattle.svs_vector.specs.Rosters.{member_of}
+
+-- Where elements end that begin at an offset: behind the last of them.
+abbrev pub end_of : ℕ → List Item → ℕ
+end_of start [] = start
+end_of start (e ∷ es) = end_of e.end es
+
+-- The fault of the fields in an element: an element that has a fault is bad where it begins, which is where those
+-- before it end, and a critical one without a place where it stands.
+abbrev pub fault_in : Item → FieldFault → VectorFault
+fault_in e (Tlv f) = BadVector (end_of e.value_start (elements e.value_start e.value).items)
+fault_in e (Critical typ at) = BadVector at
+
+-- ---- an entry
+
+-- A node name, and the number that is told of it.
+abbrev pub Entry : Type 0
+Entry = List Component × ℕ
+
+-- The name and the number of an entry, as far as its fields have come.
+pub record EntrySoFar : Type 0 where
+  pub name : Option (List Component)
+  pub number : Option ℕ
+
+abbrev pub good_name : Item → Result (List Component) NameFault → Result (List Component) VectorFault
+good_name e (Ok name) = Ok name
+good_name e (Err f) = Err (BadVector e.start)
+
+abbrev pub good_number : Item → Option ℕ → Result ℕ VectorFault
+good_number e (Some n) = Ok n
+good_number e None = Err (BadVector e.start)
+
+abbrev pub with_entry_field : EntrySoFar → EntryField × Item → Result EntrySoFar VectorFault
+with_entry_field s (entry_field.Name, e) =
+    good_name e (name_of e.value_start e.value) >>= λ name. Ok (record s { name = Some name })
+with_entry_field s (entry_field.SeqNo, e) =
+    good_number e (number_of e.value) >>= λ n. Ok (record s { number = Some n })
+
+abbrev pub entry_fields : Item → Result EntrySoFar VectorFault
+entry_fields e =
+    gathered with_entry_field (fault_in e) (record { name = None; number = None })
+    (fields ENTRY (elements e.value_start e.value))
+
+-- An entry has a name and a number.
+abbrev pub both : Item → Option (List Component) → Option ℕ → Result Entry VectorFault
+both e (Some name) (Some n) = Ok (name, n)
+both e (Some name) None = Err (BadVector e.start)
+both e None n = Err (BadVector e.start)
+
+abbrev pub entry_in : Item → Result Entry VectorFault
+entry_in e = entry_fields e >>= λ s. both e s.name s.number
+
+abbrev pub entry_so_far : Gathered → EntrySoFar
+entry_so_far g = record { name = g.name; number = g.number }
+
+-- ---- the vector
+
+-- A member's number counts as the greatest of its entries. That of a node that is no member is passed over.
+abbrev pub counted : List ℕ → ℕ → Option ℕ → Result (List ℕ) VectorFault
+counted vector n None = Ok vector
+counted vector n (Some member) =
+    if nat_lt 65535 n then Err (NumberTooLarge member n)
+    else Ok (slice_set vector member (max (slice_index vector member) n))
+
+abbrev pub with_entry : List (List Component) → List ℕ → VectorField × Item → Result (List ℕ) VectorFault
+with_entry roster vector field =
+    entry_in field.1 >>= λ entry. counted vector entry.1 (member_of entry.0 roster)
+
+abbrev pub vector_in : List (List Component) → Item → Result (List ℕ) VectorFault
+vector_in roster e =
+    gathered (with_entry roster) (fault_in e) (replicate (length roster) 0)
+    (fields STATE_VECTOR (elements e.value_start e.value))
+
+-- The first element is the vector. What follows it is not looked at.
+abbrev pub vector_among : List Item → Result Item VectorFault
+vector_among [] = Err (BadVector 0)
+vector_among (e ∷ es) = if e.typ == 201 then Ok e else Err (BadVector 0)
+
+abbrev pub vector_of : List (List Component) → List ℕ → Result (List ℕ) VectorFault
+vector_of roster octets = vector_among (elements 0 octets).items >>= vector_in roster

@@ -1,0 +1,77 @@
+-- What the entries of a state vector tell of the members of a group (State Vector Sync).
+use Rattle.std.specs.Prelude.{◌≡◌, ℕ, ◌<◌, ◌≤◌, max, List, [], ◌∷◌, map, Some, IfSome, Result, Ok, Err, ◌↔◌, ◌⊎◌, if◌then◌else◌}
+use Rattle.std.specs.List.{Contains}
+use Rattle.ndn_tlv.specs.declared.order_table.FieldFault.{FieldFault}
+use Rattle.ndn_tlv.specs.Listing.{Listing, nothing, only_fault, ◌then◌}
+use Rattle.ndn_tlv.specs.Elements.{Item, elements}
+use Rattle.ndn_tlv.specs.OrderTable.{fields}
+use Rattle.ndn_name.specs.Names.{Component}
+use Rattle.svs_vector.specs.declared.vector_fault.VectorFault.{VectorFault}
+use Rattle.svs_vector.specs.declared.vector_fault.VectorFault.TheVariants.{BadVector, NumberTooLarge}
+use Rattle.svs_vector.specs.declared.read.VectorField.{VectorField}
+use Rattle.svs_vector.specs.declared.read.TheConstants.{STATE_VECTOR}
+use Rattle.svs_vector.specs.Rosters.{is_same_name, member_of}
+use Rattle.svs_vector.specs.StateVector.{Entry, entry_in, fault_in}
+
+-- What an entry tells of a node: its number where it is that node's, and nothing where it is not.
+abbrev pub number_told : List Component → Entry → ℕ
+number_told name entry = if is_same_name entry.0 name then entry.1 else 0
+
+-- The greatest number that entries tell of a node, 0 where they tell none.
+abbrev pub greatest_told : List Component → List Entry → ℕ
+greatest_told name [] = 0
+greatest_told name (e ∷ es) = max (number_told name e) (greatest_told name es)
+
+-- The vector that entries tell: the greatest number of each member. Nodes that are no members are passed over.
+abbrev pub vector_told : List (List Component) → List Entry → List ℕ
+vector_told roster entries = map (λ name. greatest_told name entries) roster
+
+-- The same entries, in any order and with any repeats.
+abbrev pub HaveSameEntries : List Entry → List Entry → Type 0
+HaveSameEntries a b = (e : Entry) → Contains a e ↔ Contains b e
+
+-- A member's number is at most 65,535. That of a node that is no member may be any.
+abbrev pub IsCounted : List (List Component) → Entry → Type 0
+IsCounted roster entry = IfSome (member_of entry.0 roster) (λ member. entry.1 ≤ 65535)
+
+-- What the fields of a state vector's element tell: the entries that they are, or the first fault in reading order.
+-- That is an element that is no entry, a member's number above 65,535, or a fault of the fields behind the last of them.
+pub data Tells (roster : List (List Component)) (vector : Item) : Listing (VectorField × Item) FieldFault
+    → Result (List Entry) VectorFault → Type 0 where
+  ended : Tells roster vector nothing (Ok [])
+  broken : {f : FieldFault} → Tells roster vector (only_fault f) (Err (fault_in vector f))
+  no_entry : {field : VectorField × Item} {rest : Listing (VectorField × Item) FieldFault} {fault : VectorFault}
+      → entry_in field.1 ≡ Err fault → Tells roster vector (field then rest) (Err fault)
+  too_large : {field : VectorField × Item} {rest : Listing (VectorField × Item) FieldFault}
+      (entry : Entry) (member : ℕ) → entry_in field.1 ≡ Ok entry
+      → member_of entry.0 roster ≡ Some member → 65535 < entry.1
+      → Tells roster vector (field then rest) (Err (NumberTooLarge member entry.1))
+  one : {field : VectorField × Item} {rest : Listing (VectorField × Item) FieldFault} {entries : List Entry}
+      (entry : Entry) → entry_in field.1 ≡ Ok entry → IsCounted roster entry → Tells roster vector rest (Ok entries)
+      → Tells roster vector (field then rest) (Ok (entry ∷ entries))
+  later : {field : VectorField × Item} {rest : Listing (VectorField × Item) FieldFault} {fault : VectorFault}
+      (entry : Entry) → entry_in field.1 ≡ Ok entry → IsCounted roster entry → Tells roster vector rest (Err fault)
+      → Tells roster vector (field then rest) (Err fault)
+
+-- The element of type 201 that octets begin with, and what its fields tell.
+pub record Begins (roster : List (List Component)) (octets : List ℕ) (told : Result (List Entry) VectorFault)
+    : Type 0 where
+  pub vector : Item
+  pub behind : List Item
+  pub first : (elements 0 octets).items ≡ vector ∷ behind
+  pub typ : vector.typ ≡ 201
+  pub tells : Tells roster vector (fields STATE_VECTOR (elements vector.value_start vector.value)) told
+
+-- Octets do not begin with an element of type 201.
+abbrev pub BeginsOtherwise : List ℕ → Type 0
+BeginsOtherwise octets = (e : Item) (es : List Item) → (elements 0 octets).items ≡ e ∷ es → e.typ ≡ 201 → ⊥
+
+-- The octets are a state vector, and this is the vector that its entries tell.
+pub record IsVector (roster : List (List Component)) (octets vector : List ℕ) : Type 0 where
+  pub entries : List Entry
+  pub begins : Begins roster octets (Ok entries)
+  pub told : vector ≡ vector_told roster entries
+
+-- The first fault of octets that are none.
+abbrev pub IsFault : List (List Component) → List ℕ → VectorFault → Type 0
+IsFault roster octets fault = (BeginsOtherwise octets × (fault ≡ BadVector 0)) ⊎ Begins roster octets (Err fault)

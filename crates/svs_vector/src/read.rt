@@ -1,0 +1,102 @@
+ghost use Rattle.std.specs.Prelude.{◌≡◌, ◌+◌, ◌^◌, ◌<◌, ◌⊎◌, length, replicate, MatchResult, IfOk, IfErr, Ok, Err};
+ghost use Rattle.ndn_tlv.specs.Elements.{item, elements};
+ghost use Rattle.svs_vector.specs.StateVector.{with_entry, vector_in, vector_among, vector_of};
+
+use crate::entry::{entry_in, fault_in};
+use crate::roster::Roster;
+use crate::vector::Vector;
+use crate::vector_fault::VectorFault;
+use ndn_tlv::{Element, FieldReader, Place, Reader};
+use std::alloc::Global;
+
+#[derive(Clone, Copy, Debug)]
+pub(crate) enum VectorField {
+    Entry,
+}
+
+const STATE_VECTOR: [Place<VectorField>; 1] = [Place {
+    typ: 202,
+    field: VectorField::Entry,
+    repeats: true,
+}];
+
+impl Vector {
+    /// The state vector that the octets begin with, of the members of a roster.
+    ///
+    /// Entries come in any order, and a node's greatest number counts. Nodes that are no members
+    /// are passed over.
+    pub fn read(alloc: Global, octets: &[u8], roster: &Roster) -> Result<Vector, VectorFault>
+        ensures ok { IfOk result (λ vector. vector_of roster.now octets.now ≡ Ok vector) }
+        ensures fault { IfErr result (λ fault.
+            (vector_of roster.now octets.now ≡ Err fault) ⊎ (fault ≡ VectorFault.NoMemory)) }
+    {
+        let element = match vector_element(octets) {
+            Ok(element) => element,
+            Err(fault) => return Err(fault),
+        };
+        let mut vector = match Vector::new(alloc, roster.len()) {
+            Ok(vector) => vector,
+            Err(_) => return Err(VectorFault::NoMemory),
+        };
+        match vector.take_entries(element, roster) {
+            Ok(()) => Ok(vector),
+            Err(fault) => Err(fault),
+        }
+    }
+
+    // Takes the entries of a state vector into one that knows nothing.
+    fn take_entries(&mut self, element: Element<'_>, roster: &Roster) -> Result<(), VectorFault>
+        requires fits { element.value_start + length element.value.now < 2 ^ 64 }
+        requires empty { self.old ≡ replicate (length roster.now) 0 }
+        ensures { MatchResult result
+            (λ _. vector_in roster.now (item element.entry) ≡ Ok self.new)
+            (λ fault. vector_in roster.now (item element.entry) ≡ Err fault) }
+    {
+        let elements = Reader::new(element.value, element.value_start);
+        let mut fields = FieldReader::new(elements, &STATE_VECTOR);
+        loop {
+            match fields.next() {
+                Ok(Some(next)) => self.take_entry(next.0, next.1, roster)?,
+                Ok(None) => return Ok(()),
+                Err(fault) => return Err(fault_in(element, fault)),
+            }
+        }
+    }
+
+    fn take_entry(
+        &mut self,
+        field: VectorField,
+        element: Element<'_>,
+        roster: &Roster,
+    ) -> Result<(), VectorFault>
+        requires fits { element.value_start + length element.value.now < 2 ^ 64 }
+        requires width { length self.old ≡ length roster.now }
+        ensures taken { MatchResult result
+            (λ _. with_entry roster.now self.old (field, item element.entry) ≡ Ok self.new)
+            (λ fault. with_entry roster.now self.old (field, item element.entry) ≡ Err fault) }
+        ensures width { length self.new ≡ length self.old }
+    {
+        let (name, number) = entry_in(element)?;
+        let Some(member) = roster.find(&name) else {
+            return Ok(());
+        };
+        let Ok(n) = u16::try_from(number) else {
+            return Err(VectorFault::NumberTooLarge { member, number });
+        };
+        self.raise(member, n);
+        Ok(())
+    }
+}
+
+// The element of a state vector that the octets begin with.
+fn vector_element(octets: &[u8]) -> Result<Element<'_>, VectorFault>
+    ensures read { MatchResult result
+        (λ e. vector_among (elements 0 octets.now).items ≡ Ok (item e))
+        (λ fault. vector_among (elements 0 octets.now).items ≡ Err fault) }
+    ensures fits { IfOk result (λ e. e.value_start + length e.value.now < 2 ^ 64) }
+{
+    match Reader::new(octets, 0).next() {
+        Ok(Some(element)) if element.typ == 201 => Ok(element),
+        _ => Err(VectorFault::BadVector { at: 0 }),
+    }
+}

@@ -1,0 +1,43 @@
+ghost use Rattle.std.specs.Prelude.{◌≡◌, ◌^◌, ◌<◌, ℕ, List, Ok, Err, length};
+ghost use Rattle.std.specs.List.{All};
+ghost use Rattle.std.specs.List.Sorted.{IsPermutation, IsStrictlySortedBy};
+ghost use Rattle.std.specs.Map.{keys_of};
+ghost use Rattle.ndn_name.specs.Names.{Component};
+ghost use Rattle.ndn_name.specs.CanonicalOrder.{canonical_cmp};
+ghost use Rattle.svs_vector.specs.declared.vector_fault.VectorFault.{VectorFault};
+ghost use Rattle.svs_vector.specs.Rosters.{IsRoster};
+ghost use Rattle.svs_vector.specs.StateVector.{Entry, vector_of};
+ghost use Rattle.svs_vector.specs.ToldVector.{vector_told, HaveSameEntries, IsVector, IsFault};
+ghost use Rattle.svs_vector.specs.WrittenVector.{in_canonical_order, known_entries, written_vector};
+
+/// What is read as a state vector is what its entries tell: the greatest number of each member.
+/// What is refused has this fault first, in reading order.
+pub fn state_vectors_tell_their_entries()
+    ensures vector { (roster : List (List Component)) (octets vector : List ℕ) → IsRoster roster
+        → vector_of roster octets ≡ Ok vector → IsVector roster octets vector }
+    ensures fault { (roster : List (List Component)) (octets : List ℕ) (fault : VectorFault)
+        → vector_of roster octets ≡ Err fault → IsFault roster octets fault }
+{}
+
+/// The entries that are written are those of the members of whom something is known, and their
+/// names rise in canonical order.
+pub fn entries_are_written_in_canonical_order()
+    ensures rises { (entries : List Entry)
+        → IsStrictlySortedBy canonical_cmp (keys_of (in_canonical_order entries)) }
+    ensures same { (roster : List (List Component)) (vector : List ℕ) → IsRoster roster
+        → IsPermutation (known_entries roster vector)
+        (in_canonical_order (known_entries roster vector)) }
+{}
+
+/// In which order entries stand, and how often each does, doesn't matter.
+pub fn entries_tell_the_same_in_any_order()
+    ensures { (roster : List (List Component)) (a b : List Entry) → HaveSameEntries a b
+        → vector_told roster a ≡ vector_told roster b }
+{}
+
+/// The state vector that was written is read back, with the numbers that were given.
+pub fn written_vectors_are_read_back()
+    ensures { (roster : List (List Component)) (vector : List ℕ) → IsRoster roster
+        → length vector ≡ length roster → All (λ n. n < 2 ^ 16) vector
+        → vector_of roster (written_vector roster vector) ≡ Ok vector }
+{}
