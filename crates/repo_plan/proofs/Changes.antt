@@ -12,7 +12,6 @@ use Rattle.repo_plan.specs.declared.part.Part.{Part}
 use Rattle.repo_plan.specs.SortedList.{Rises, keys, contains, insert_key, value_of, with_value}
 use Rattle.repo_plan.specs.Parts.{Pair, Shape, pair_cmp, part_cmp, pair_of, part_of, record_of}
 use Rattle.repo_plan.specs.Plan.{Holdings, opening, no_claims, knows, holds, hides, shape_of, attempts_of, claim_of, is_claim_of, is_claimed, is_claim_in, claims_part_in, can_be_asked, is_asked, is_wanted, is_unclaimed, unclaimed, known_parts, first, raises, with_shape, holds_too, with_claim, without_claims, is_in, hides_too, with_attempts}
-use Rattle.repo_plan.specs.Calls.{Call, Raise, Hold, Claim, Release, EndClaims, Hide, AddAttempts, after_claim, after, after_all, IsAllowed, AreAllowed, CallsKeepSound}
 use Rattle.repo_plan.specs.Sound.{IsHeldRightly, IsSound, CanBeHeld}
 use Rattle.repo_plan.proofs.Orders.{exact_parts, exact_pairs, nat_itself}
 use Rattle.repo_plan.proofs.Sets.{rises_insert, rises_filter, eq_same, eq_itself, contains-insert_key, contains-filter, rises_with_value, value_of-with_value, rises_keys_filter, value_of-filter}
@@ -60,11 +59,25 @@ held_kept : (old new : Holdings) (t : Part) → Keeps old new → IsHeldRightly 
 held_kept old new t k h = record { asked = asked_kept old new t k h.asked; with_record = k.held (record_of t) h.with_record }
 
 -- plans with the same lists are the same
-pub same_holdings : (a b : Holdings) → a.known ≡ b.known → a.held ≡ b.held → a.shapes ≡ b.shapes → a.claims ≡ b.claims → a.hidden ≡ b.hidden → a.attempts ≡ b.attempts → a ≡ b
-same_holdings a b k h s c x t = λ i. record { known = k i; held = h i; shapes = s i; claims = c i; hidden = x i; attempts = t i }
+pub same_holdings : (a b : Holdings) → a.known ≡ b.known → a.held ≡ b.held → a.shapes ≡ b.shapes → a.claims ≡ b.claims → a.hidden ≡ b.hidden → a.attempts ≡ b.attempts → a.spare ≡ b.spare → a ≡ b
+same_holdings a b k h s c x t r = λ i. record { known = k i; held = h i; shapes = s i; claims = c i; hidden = x i; attempts = t i; spare = r i }
+
+-- whatever room there is
+pub sound_room : (n : ℕ) (p : Holdings) → IsSound p → IsSound (record p { spare = n })
+sound_room n p s = record {
+  in_order = record { held = s.in_order.held; shapes = s.in_order.shapes; hidden = s.in_order.hidden; attempts = s.in_order.attempts };
+  publishers = s.publishers;
+  fetchers = s.fetchers;
+  held = λ u h. let r : IsHeldRightly p u = s.held u h in record { asked = r.asked; with_record = r.with_record };
+  shapes = s.shapes;
+  hidden = s.hidden;
+  tried = s.tried;
+  claimed = s.claimed;
+  apart = s.apart;
+}
 
 pub sound_as : (a b : Holdings) → a.known ≡ b.known → a.held ≡ b.held → a.shapes ≡ b.shapes → a.claims ≡ b.claims → a.hidden ≡ b.hidden → a.attempts ≡ b.attempts → IsSound a → IsSound b
-sound_as a b k h s c x t sound = subst IsSound (same_holdings a b k h s c x t) sound
+sound_as a b k h s c x t sound = subst IsSound (same_holdings (record a { spare = b.spare }) b k h s c x t refl) (sound_room b.spare a sound)
 
 -- ---- the start
 
@@ -436,7 +449,7 @@ released_can_be_held f t p s e =
 pub released_unclaimed : (f : ℕ) (t : Part) (p : Holdings) → IsSound p → claim_of p f ≡ Some t → is_unclaimed (with_claim f None p) t ≡ true
 released_unclaimed f t p s e = and_from (is_wanted p t) _ (s.claimed (f - 1) t e) (not_from_false (is_claimed (with_claim f None p) t) (released_free f t p s e))
 
--- ---- lists of calls
+-- ---- the part that is claimed
 
 in_first : (q : Part → Bool) (xs : List Part) (t : Part) → first (filter q xs) ≡ Some t → q t ≡ true
 in_first q [] t h = absurd cc
@@ -450,22 +463,3 @@ sound_first f p None e s = sound_release f p s
 sound_first f p (Some t) e s =
     let both : (is_wanted p t ≡ true) × (not (is_claimed p t) ≡ true) = and_parts (is_wanted p t) _ (in_first (is_unclaimed p) (known_parts p) t (sym e)) in
     sound_claim f t p both.0 (not-true (is_claimed p t) both.1) s
-
-sound_after : (call : Call) (p : Holdings) → IsAllowed p call → IsSound p → IsSound (after call p)
-sound_after (Raise publisher seq) p a s = sound_raises publisher seq p a.1 s
-sound_after (Hold t shape) p a s = sound_holds t shape p a.0 a.1 s
-sound_after (Claim f) p a s = go (claim_of p f) where
-  go : (claim : Option Part) → IsSound (after_claim claim f p)
-  go None = sound_first f p (first (unclaimed p)) refl s
-  go (Some t) = s
-sound_after (Release f) p a s = sound_release f p s
-sound_after EndClaims p a s = sound_end p s
-sound_after (Hide pair) p a s = sound_hides pair p a s
-sound_after (AddAttempts t n) p a s = sound_attempts t n p s
-
-sound_after_all : (calls : List Call) (p : Holdings) → AreAllowed p calls → IsSound p → IsSound (after_all calls p)
-sound_after_all [] p a s = s
-sound_after_all (call ∷ calls) p a s = sound_after_all calls (after call p) a.1 (sound_after call p a.0 s)
-
-pub calls_keep_sound : CallsKeepSound
-calls_keep_sound members calls a = sound_after_all calls (opening members) a (sound_opening members)

@@ -5,3 +5,4 @@ pub mod Changes
 pub mod Known
 pub mod Scans
 pub mod Whole
+pub mod CallLists

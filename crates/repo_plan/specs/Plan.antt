@@ -14,6 +14,7 @@ pub record Holdings : Type 0 where
   pub claims : List (Option Part)  -- by fetcher; the first stands at place 0
   pub hidden : List Pair  -- in order
   pub attempts : List (Part × ℕ)  -- in order, without 0
+  pub spare : ℕ  -- for how many more parts, shapes, hidden publications and tried parts there is room
 
 -- sixteen fetchers that claim nothing
 abbrev pub no_claims : List (Option Part)
@@ -21,7 +22,7 @@ no_claims = replicate 16 None
 
 -- the plan of a member of a group of so many
 abbrev pub opening : ℕ → Holdings
-opening members = record { known = replicate members 0; held = []; shapes = []; claims = no_claims; hidden = []; attempts = [] }
+opening members = record { known = replicate members 0; held = []; shapes = []; claims = no_claims; hidden = []; attempts = []; spare = 0 }
 
 -- ---- readings
 
@@ -168,3 +169,13 @@ hides_too pair p = record p {
 -- so many more attempts for a part
 abbrev pub with_attempts : Part → ℕ → Holdings → Holdings
 with_attempts t n p = if n == 0 then p else record p { attempts = with_value part_cmp t (attempts_of p t + n) p.attempts }
+
+-- ---- room
+
+-- room for at least so many
+abbrev pub with_room : ℕ → Holdings → Holdings
+with_room n p = record p { spare = max p.spare n }
+
+-- room for one less
+abbrev pub uses_room : Holdings → Holdings
+uses_room p = record p { spare = p.spare - 1 }

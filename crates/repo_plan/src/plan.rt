@@ -5,6 +5,7 @@ ghost use Rattle.repo_plan.specs.Parts.{pair_of};
 ghost use Rattle.repo_plan.specs.Sound.{IsSound};
 
 mod claims;
+mod reserved;
 mod wanted;
 
 use crate::part::Part;
@@ -25,31 +26,20 @@ pub struct Plan {
     claims: [Option<Part>; 16],
     hidden: Vec<(u32, u16)>,
     attempts: Vec<(Part, u32)>,
+    // There is room for so many more in each of the four above.
+    spare: usize,
 }
 
 impl Model for Plan {
     ghost use Rattle.repo_plan.specs.Plan.{Holdings};
-    ghost use Rattle.repo_plan.specs.Sound.{IsSound};
 
     ghost Value = { Holdings };
 
-    ghost view = { λ p. record {
-      known = p.known.items;
-      held = p.held.items;
-      shapes = p.shapes.items;
-      claims = p.claims;
-      hidden = p.hidden.items;
-      attempts = p.attempts.items;
-    } };
+    ghost use Rattle.repo_plan.specs.PlanFields.{holdings, IsPlan};
 
-    ghost invariant = { λ p. IsSound (record {
-      known = p.known.items;
-      held = p.held.items;
-      shapes = p.shapes.items;
-      claims = p.claims;
-      hidden = p.hidden.items;
-      attempts = p.attempts.items;
-    }) };
+    ghost view = { holdings };
+
+    ghost invariant = { IsPlan };
 }
 
 impl Plan {
@@ -64,6 +54,7 @@ impl Plan {
             claims: [None; 16],
             hidden: Vec::new(alloc),
             attempts: Vec::new(alloc),
+            spare: 0,
         })
     }
 
@@ -88,18 +79,8 @@ impl Plan {
         ensures ok { OnOk result (self.new ≡ holds_too part segments self.old) }
         ensures err { OnErr result (self.new ≡ self.old) }
     {
-        if self.holds(part) {
-            return Ok(false);
-        }
-        let Some(segments) = segments else {
-            sorted::insert_key(&mut self.held, part)?;
-            return Ok(true);
-        };
-        self.shapes.reserve(1)?;
-        sorted::insert_key(&mut self.held, part)?;
-        // The room is there, so this doesn't fail.
-        let _ = sorted::set_value(&mut self.shapes, (part.publisher, part.seq), segments);
-        Ok(true)
+        self.reserve_one_more()?;
+        Ok(self.hold_reserved(part, segments))
     }
 
     /// Whether the part is held.
@@ -153,10 +134,8 @@ impl Plan {
         ensures ok { OnOk result (self.new ≡ hides_too (publisher, seq) self.old) }
         ensures err { OnErr result (self.new ≡ self.old) }
     {
-        let pair = (publisher, seq);
-        sorted::insert_key(&mut self.hidden, pair)?;
-        self.held.retain(|part| (part.publisher, part.seq) != pair);
-        self.shapes.retain(|shape| shape.0 != pair);
+        self.reserve_one_more()?;
+        self.hide_reserved(publisher, seq);
         Ok(())
     }
 
@@ -173,11 +152,8 @@ impl Plan {
         ensures ok { OnOk result (self.new ≡ with_attempts part n self.old) }
         ensures err { OnErr result (self.new ≡ self.old) }
     {
-        if n == 0 {
-            return Ok(());
-        }
-        let tried = self.attempts(part) + n;
-        sorted::set_value(&mut self.attempts, part, tried)?;
+        self.reserve_one_more()?;
+        self.add_attempts_reserved(part, n);
         Ok(())
     }
 }

@@ -62,6 +62,21 @@ fn claim_segments(rt: &(impl Abort + AllocGlobal), plan: &mut Plan) -> Result<()
     Ok(())
 }
 
+#[test]
+fn calls_in_room_that_was_made(rt: HostRuntime) -> Result<(), Fail> {
+    let mut plan = Plan::new(rt.alloc(), 1)?;
+    plan.raise(0, 1);
+    plan.reserve(4)?;
+    assert!(rt; plan.hold_reserved(part(1, 0), Some(2)));
+    assert!(rt; !plan.hold_reserved(part(1, 0), Some(2)));
+    plan.add_attempts_reserved(part(1, 1), 3);
+    plan.hide_reserved(0, 1);
+    assert!(rt; !plan.holds(part(1, 0)));
+    assert_eq!(rt; plan.attempts(part(1, 1)), 3);
+    assert!(rt; plan.wanted_after(rt.alloc(), None, 10)?.is_empty());
+    Ok(())
+}
+
 // The record of a publication without segments is held.
 fn hold_empty(plan: &mut Plan, seq: u16) -> Result<(), Fail>
     requires from_one { 1 ≤ seq }

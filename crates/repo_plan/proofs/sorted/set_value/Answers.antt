@@ -1,20 +1,22 @@
-use Rattle.std.proofs.Common.{◌∙◌, sym, Ok, Err, rules}
+use Rattle.std.proofs.Common.{◌≡◌, ◌∙◌, sym, refl, Ok, Err, rules}
+use Rattle.std.specs.List.{insert}
 use Rattle.std.proofs.lemmas.List.Sorted.{answers_always}
 use Rattle.repo_plan.proofs.Search.{found, with_value_at, with_value_between}
 use Rattle.repo_plan.proofs.sorted.set_value.Goals as goal
 
-pub returns-in-Ok-clause-ok : goal.returns-in-Ok-clause-ok
-returns-in-Ok-clause-ok g c =
+pub returns-in-Ok-clause-items : goal.returns-in-Ok-clause-items
+returns-in-Ok-clause-items g c =
     let o = g.met.K.Ord.total in
-    let rises = rw (← c.deref.ensures.value) at c.requires in
+    let rises = rw (← c.deref.ensures.value) at c.requires.rises in
     let by_key = c.in-Ok.ensures.position (λ entry. entry.0) (answers_always _ _ _ (λ f a r g called. search rules)) in
     let place = found o (λ entry. entry.0) c.deref.result.now c.args.key (Ok c.in-Ok.place) rises c.in-Ok.ensures.bound by_key in
     sym (rw c.deref.ensures.value at (with_value_at o c.deref.result.now c.args.key c.args.value c.in-Ok.place rises place))
 
-pub returns-in_ok-insert-in-Err-clause-ok : goal.returns-in_ok-insert-in-Err-clause-ok
-returns-in_ok-insert-in-Err-clause-ok g c =
+pub returns-in-Err-clause-items : goal.returns-in-Err-clause-items
+returns-in-Err-clause-items g c =
     let o = g.met.K.Ord.total in
-    let rises = rw (← c.deref.ensures.value) at c.requires in
+    let rises = rw (← c.deref.ensures.value) at c.requires.rises in
     let by_key = c.in-Err.ensures.position (λ entry. entry.0) (answers_always _ _ _ (λ f a r g called. search rules)) in
     let place = found o (λ entry. entry.0) c.deref.result.now c.args.key (Err c.in-Err.place) rises c.in-Err.ensures.bound by_key in
-    c.in_ok-insert-in-Err.ensures.items ∙ sym (rw c.deref.ensures.value at (with_value_between o c.deref.result.now c.args.key c.args.value c.in-Err.place place))
+    let inserted : c.insert.new.self.items ≡ insert c.args.map.now.items c.in-Err.place (c.args.key, c.args.value) = c.insert.ensures.items ∙ rw c.unwrap.ensures refl in
+    inserted ∙ sym (rw c.deref.ensures.value at (with_value_between o c.deref.result.now c.args.key c.args.value c.in-Err.place place))

@@ -11,7 +11,7 @@ pub returns-in_default : goal.returns-in_default
 returns-in_default c =
     let pair : Pair = (c.args.publisher, c.args.seq) in
     let missing = Err c.in_default.field-0 in
-    let found = found_key exact_parts.total c.deref.result.now (part_of pair 0) missing (rw c.deref.ensures.value c.self.invariant.in_order.held) c.in_default.ensures.bound c.in_default.ensures.position in
+    let found = found_key exact_parts.total c.deref.result.now (part_of pair 0) missing (rw c.deref.ensures.value c.self.invariant.sound.in_order.held) c.in_default.ensures.bound c.in_default.ensures.position in
     let off = rw c.deref.ensures.value at (contains_found exact_parts.total c.deref.result.now (part_of pair 0) missing found) in
     sym (ap (λ (q : Holdings). is_complete q pair) (sym c.self.view_is) ∙ no_record (the_view c.self.inside) pair (sym off))
 
@@ -21,7 +21,7 @@ returns-in_default-binary_search c =
     let n = c.in-Some.segments in
     let told = ap (λ (q : Holdings). shape_of q pair) c.self.view_is ∙ sym c.in-Some.ensures in
     let missing = Err c.in_default-binary_search.field-0 in
-    let found = found_key exact_parts.total c.deref-2.result.now (part_of pair n) missing (rw c.deref-2.ensures.value c.self.invariant.in_order.held) c.in_default-binary_search.ensures.bound c.in_default-binary_search.ensures.position in
+    let found = found_key exact_parts.total c.deref-2.result.now (part_of pair n) missing (rw c.deref-2.ensures.value c.self.invariant.sound.in_order.held) c.in_default-binary_search.ensures.bound c.in_default-binary_search.ensures.position in
     let off = rw c.deref-2.ensures.value at (contains_found exact_parts.total c.deref-2.result.now (part_of pair n) missing found) in
     sym (ap (λ (q : Holdings). is_complete q pair) (sym c.self.view_is) ∙ not_complete (the_view c.self.inside) pair n told n (omega arith) (sym off))
 
@@ -29,7 +29,7 @@ pub returns : goal.returns
 returns c =
     let pair : Pair = (c.args.publisher, c.args.seq) in
     let n = c.in-Some.segments in
-    let rises = c.self.invariant.in_order.held in
+    let rises = c.self.invariant.sound.in_order.held in
     let told = ap (λ (q : Holdings). shape_of q pair) c.self.view_is ∙ sym c.in-Some.ensures in
     let first = found_key exact_parts.total c.deref.result.now (part_of pair 0) (Ok c.in-Ok.first) (rw c.deref.ensures.value rises) c.in-Ok.ensures.bound c.in-Ok.ensures.position in
     let last = found_key exact_parts.total c.deref-2.result.now (part_of pair n) (Ok c.in-Ok-binary_search.last) (rw c.deref-2.ensures.value rises) c.in-Ok-binary_search.ensures.bound c.in-Ok-binary_search.ensures.position in

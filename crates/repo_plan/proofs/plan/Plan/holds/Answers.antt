@@ -1,4 +1,4 @@
 use Rattle.repo_plan.proofs.plan.Plan.holds.Goals as goal
 
 pub contains-requires : goal.contains-requires
-contains-requires c = rw c.deref.ensures.value c.self.invariant.in_order.held
+contains-requires c = rw c.deref.ensures.value c.self.invariant.sound.in_order.held

@@ -1,9 +1,15 @@
-use Rattle.std.proofs.Common.{refl, sym}
+use Rattle.std.proofs.Common.{refl, sym, arith}
 use Rattle.repo_plan.specs.Plan.{opening}
 use Rattle.repo_plan.proofs.Changes.{sound_as, sound_opening}
 use Rattle.repo_plan.proofs.plan.Plan.new.Goals as goal
 
 pub invariant_of-result : goal.invariant_of-result
 invariant_of-result c =
-    sound_as (opening c.args.members) _ (sym (c.in_ok-vec.ensures.items_if_clones_equal (λ y e. e))) (sym c.new.ensures.items) (sym c.new-2.ensures.items) refl (sym c.new-3.ensures.items) (sym c.new-4.ensures.items)
-    (sound_opening c.args.members)
+    let known = c.in_ok-vec.ensures.items_if_clones_equal (λ y e. e) in
+    record {
+      sound = sound_as (opening c.args.members) _ (sym known) (sym c.new.ensures.items) (sym c.new-2.ensures.items) refl (sym c.new-3.ensures.items) (sym c.new-4.ensures.items) (sound_opening c.args.members);
+      held = omega (arith, c.new.ensures.len);
+      shapes = omega (arith, c.new-2.ensures.len);
+      hidden = omega (arith, c.new-3.ensures.len);
+      attempts = omega (arith, c.new-4.ensures.len);
+    }

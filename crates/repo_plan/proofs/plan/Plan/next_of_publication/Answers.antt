@@ -7,7 +7,7 @@ use Rattle.repo_plan.proofs.Whole.{complete_none}
 use Rattle.repo_plan.proofs.plan.Plan.next_of_publication.Goals as goal
 
 pub contains-requires : goal.contains-requires
-contains-requires c = rw c.deref.ensures.value c.self.invariant.in_order.hidden
+contains-requires c = rw c.deref.ensures.value c.self.invariant.sound.in_order.hidden
 
 pub returns-then-contains : goal.returns-then-contains
 returns-then-contains c =

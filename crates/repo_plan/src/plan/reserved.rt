@@ -1,0 +1,90 @@
+ghost use Rattle.std.specs.Prelude.{◌≡◌, ◌+◌, ◌<◌, ◌==◌, true, false, not, is_some, OnOk, OnErr};
+ghost use Rattle.repo_plan.specs.Plan.{holds, hides, is_asked, is_claimed, claims_part_in, attempts_of};
+ghost use Rattle.repo_plan.specs.Plan.{holds_too, hides_too, with_attempts, with_room, uses_room};
+ghost use Rattle.repo_plan.specs.Parts.{pair_of};
+
+use super::Plan;
+use crate::part::Part;
+use crate::sorted;
+use std::alloc::AllocError;
+
+impl Plan {
+    /// Makes room for `n` calls that end in `_reserved`, unless there is room for so many already.
+    ///
+    /// Each such call does what the call without this ending does, takes no memory, and uses up the room for one, also
+    /// where it finds nothing to do. What is spare stays so in all other calls.
+    pub fn reserve(&mut self, n: usize) -> Result<(), AllocError>
+        ensures ok { OnOk result (self.new ≡ with_room n self.old) }
+        ensures err { OnErr result (self.new ≡ self.old) }
+    {
+        if self.spare < n {
+            self.held.reserve(n)?;
+            self.shapes.reserve(n)?;
+            self.hidden.reserve(n)?;
+            self.attempts.reserve(n)?;
+            self.spare = n;
+        }
+        Ok(())
+    }
+
+    // Makes room for one more than there is room for.
+    pub(super) fn reserve_one_more(&mut self) -> Result<(), AllocError>
+        ensures ok { OnOk result (self.new ≡ with_room (self.old.spare + 1) self.old) }
+        ensures err { OnErr result (self.new ≡ self.old) }
+    {
+        let Some(room) = self.spare.checked_add(1) else {
+            return Err(AllocError);
+        };
+        self.reserve(room)
+    }
+
+    /// The part is held from now on, and no more wanted, as after `hold`.
+    ///
+    /// The answer is `false` where the part was held already.
+    pub fn hold_reserved(&mut self, part: Part, segments: Option<u8>) -> bool
+        requires spare { 0 < self.old.spare }
+        requires segments { is_some segments ≡ (part.part == 0) }
+        requires asked { is_asked self.old part ≡ true }
+        requires not_hidden { hides self.old (pair_of part) ≡ false }
+        requires not_claimed { is_claimed self.old part ≡ false }
+        ensures fresh { result ≡ not (holds self.old part) }
+        ensures new { self.new ≡ uses_room (holds_too part segments self.old) }
+    {
+        let held = self.holds(part);
+        self.spare -= 1;
+        if held {
+            return false;
+        }
+        sorted::insert_key(&mut self.held, part);
+        if let Some(segments) = segments {
+            sorted::set_value(&mut self.shapes, (part.publisher, part.seq), segments);
+        }
+        true
+    }
+
+    /// The publication is hidden, as after `hide`.
+    pub fn hide_reserved(&mut self, publisher: u32, seq: u16)
+        requires spare { 0 < self.old.spare }
+        requires not_claimed { claims_part_in self.old (publisher, seq) ≡ false }
+        ensures { self.new ≡ uses_room (hides_too (publisher, seq) self.old) }
+    {
+        let pair = (publisher, seq);
+        self.spare -= 1;
+        sorted::insert_key(&mut self.hidden, pair);
+        self.held.retain(|part| (part.publisher, part.seq) != pair);
+        self.shapes.retain(|shape| shape.0 != pair);
+    }
+
+    /// The part was tried so often more, as after `add_attempts`.
+    pub fn add_attempts_reserved(&mut self, part: Part, n: u32)
+        requires spare { 0 < self.old.spare }
+        requires few { attempts_of self.old part + n < 2097152 }
+        ensures { self.new ≡ uses_room (with_attempts part n self.old) }
+    {
+        let tried = self.attempts(part) + n;
+        self.spare -= 1;
+        if n > 0 {
+            sorted::set_value(&mut self.attempts, part, tried);
+        }
+    }
+}
