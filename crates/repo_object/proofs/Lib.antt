@@ -1,0 +1,11 @@
+pub mod Sizes
+pub mod NameLemmas
+pub mod DigestLemmas
+pub mod RecordLemmas
+pub mod Written
+pub mod PacketSizes
+pub mod Publications
+pub mod Packing
+pub mod Asking
+pub mod CutLemmas
+pub mod Passing

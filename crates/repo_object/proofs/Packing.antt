@@ -1,0 +1,79 @@
+-- Packets and records, written one after another.
+use Rattle.std.proofs.Common.{◌≡◌, ℕ, ◌+◌, ◌<◌, ◌≤◌, List, [], ◌∷◌, ◌++◌, length, map, drop, append_assoc, get_or, Vec, Global, Result, Err, refl, sym, ap, subst, ◌∙◌, arith}
+use Rattle.std.specs.List.{All, flat_map}
+use Rattle.std.proofs.lemmas.List.{append-nil, at_drop_more, at_drop_all, length-map, get_or-map}
+use Rattle.std.proofs.lemmas.List.Folds.{flat_map-map}
+use Rattle.std.proofs.lemmas.Simd.{map-map}
+use Rattle.std.proofs.lemmas.List.Elements.{All-get_or}
+use Rattle.sha2.specs.Sha256.{sha256}
+use Rattle.ndn_tlv.specs.Spelling.{element}
+use Rattle.ndn_tlv.specs.NumberField.{number_field}
+use Rattle.ndn_name.specs.declared.fault.PacketWriteFault.{PacketWriteFault}
+use Rattle.ndn_name.specs.declared.fault.PacketWriteFault.TheVariants.{TooLong, NoMemory}
+use Rattle.ndn_name.specs.Names.{Component, encoding}
+use Rattle.repo_object.specs.Objects.{NamedContents, IsContent, Publisher, key_name}
+use Rattle.repo_object.specs.Publication.{record_content, segment_packet, segment_packets_from, segment_packets, published_segments, published_listing}
+use Rattle.repo_object.specs.Records.{listed}
+
+abbrev pub items : Vec ℕ Global → List ℕ
+items v = v.items
+
+-- what is left of the refusals of a packet that is within the limit
+pub only_memory_of_packet : {A : Type 0} (r : Result A PacketWriteFault) (len : ℕ) → ((n : ℕ) → r ≡ Err (TooLong n) → 8800 < len) → len ≤ 8800
+    → (e : PacketWriteFault) → r ≡ Err e → e ≡ NoMemory
+only_memory_of_packet r len long short (TooLong n) is = absurd (omega (arith, long n is))
+only_memory_of_packet r len long short NoMemory is = refl
+
+pub content_is : (contents : List (Vec ℕ Global)) (i : ℕ) (content : Vec ℕ Global) → i < length contents → content ≡ get_or contents i content → get_or (map items contents) i content.items ≡ content.items
+content_is contents i content low is = get_or-map items contents i content content.items low ∙ ap items (sym is)
+
+-- the content at a place is within its limit
+pub content_at : (contents : List (Vec ℕ Global)) (i : ℕ) (content : Vec ℕ Global) → i < length contents → content ≡ get_or contents i content → All IsContent (map items contents) → IsContent content.items
+content_at contents i content low is all =
+    subst IsContent (content_is contents i content low is) (All-get_or IsContent (map items contents) i content.items (omega (arith, length-map contents items)) all)
+
+-- ---- segments
+
+module _ (keyed : List Component) (key : List ℕ) (name : List Component) (last : ℕ) (contents : List (List ℕ)) (made whole : List (List ℕ)) where
+  pub segments_more : (i : ℕ) (content packet : List ℕ) → i < length contents → get_or contents i content ≡ content → packet ≡ segment_packet keyed key name last i content
+      → made ++ segment_packets_from keyed key name last i (drop i contents) ≡ whole
+      → (made ++ packet ∷ []) ++ segment_packets_from keyed key name last (i + 1) (drop (i + 1) contents) ≡ whole
+  unfolding segment_packets_from
+  segments_more i content packet low at is so_far =
+      let rest = segment_packets_from keyed key name last (i + 1) (drop (i + 1) contents) in
+      append_assoc made (packet ∷ []) rest
+      ∙ ap (λ (p : List ℕ). made ++ p ∷ rest) (is ∙ ap (segment_packet keyed key name last i) (sym at))
+      ∙ ap (λ (ps : List (List ℕ)). made ++ ps) (sym (at_drop_more (segment_packets_from keyed key name last i) contents i content low))
+      ∙ so_far
+
+  pub segments_end : (i : ℕ) → length contents ≤ i → made ++ segment_packets_from keyed key name last i (drop i contents) ≡ whole → made ≡ whole
+  unfolding segment_packets_from
+  segments_end i past so_far =
+      sym (append-nil made) ∙ ap (λ (ps : List (List ℕ)). made ++ ps) (sym (at_drop_all (segment_packets_from keyed key name last i) contents i past)) ∙ so_far
+
+-- ---- a record's content
+
+abbrev digest_of : Vec ℕ Global → List ℕ
+digest_of segment = sha256 segment.items
+
+pub content_written : (name : List Component) (segments : List (Vec ℕ Global)) (written : List ℕ) (i : ℕ) → length segments ≤ i
+    → written ++ flat_map (λ (segment : Vec ℕ Global). element 0x83 (sha256 segment.items)) (drop i segments)
+    ≡ (element 0x07 (encoding name) ++ element 0x81 (number_field (length segments))) ++ flat_map (λ (segment : Vec ℕ Global). element 0x83 (sha256 segment.items)) segments
+    → written ≡ record_content (listed name (map digest_of segments))
+content_written name segments written i past so_far =
+    let each = λ (segment : Vec ℕ Global). element 0x83 (sha256 segment.items) in
+    let digests = map digest_of segments in
+    sym (append-nil written)
+    ∙ ap (λ (ds : List ℕ). written ++ ds) (sym (at_drop_all (flat_map each) segments i past))
+    ∙ so_far
+    ∙ ap (λ (n : ℕ). (element 0x07 (encoding name) ++ element 0x81 (number_field n)) ++ flat_map each segments) (sym (length-map segments digest_of))
+    ∙ ap (λ (ds : List ℕ). (element 0x07 (encoding name) ++ element 0x81 (number_field (length digests))) ++ ds) (sym (flat_map-map (element 0x83) digest_of segments))
+
+-- ---- the record
+
+-- what the record of packets lists that were written
+pub listing_is : (publisher : Publisher) (object : NamedContents) (keyed name : List Component) (packets : List (Vec ℕ Global)) → keyed ≡ key_name publisher.node → name ≡ object.name
+    → map items packets ≡ segment_packets keyed publisher.key object → listed name (map digest_of packets) ≡ published_listing publisher object
+listing_is publisher object keyed name packets key_is name_is packets_are =
+    let all : map digest_of packets ≡ map sha256 (published_segments publisher object) = sym (map-map sha256 items packets) ∙ ap (map sha256) (packets_are ∙ ap (λ (k : List Component). segment_packets k publisher.key object) key_is) in
+    ap (λ (n : List Component). listed n (map digest_of packets)) name_is ∙ ap (listed object.name) all

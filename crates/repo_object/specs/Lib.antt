@@ -1,0 +1,14 @@
+pub use Rattle.ndn_tlv.specs.Spelling
+pub use Rattle.ndn_tlv.specs.NumberField
+pub use Rattle.ndn_name.specs.Names
+pub use Rattle.ndn_sign.specs.Ring
+pub use Rattle.ndn_data.specs.Data
+pub use Rattle.ndn_data.specs.WrittenData
+pub use Rattle.ndn_interest.specs.WrittenInterest
+pub use Rattle.repo_plan.specs.Parts
+pub mod Objects
+pub mod Publication
+pub mod Records
+pub mod Wants
+pub mod Verdict
+pub mod Cuts

@@ -1,0 +1,119 @@
+-- Whether octets pass for a wanted part, and else the first reason why not.
+use Rattle.std.specs.Prelude.{◌≡◌, ℕ, ◌&&◌, ◌||◌, not, Bool, true, false, IsSome, IfSome, List, [], ◌++◌, Option, Some, None, is_some, unwrap_or, slice_get, Result, Ok, Err, IsOk, ◌==◌, if◌then◌else◌}
+use Rattle.std.specs.Str.{bytes_eq}
+use Rattle.sha2.specs.Sha256.{sha256}
+use Rattle.ndn_tlv.specs.Spelling.{element}
+use Rattle.ndn_tlv.specs.Listing.{◌>>=◌}
+use Rattle.ndn_name.specs.declared.fault.PacketFault.{PacketFault}
+use Rattle.ndn_name.specs.Names.{Component, encoding}
+use Rattle.ndn_sign.specs.Hmac.{hmac}
+use Rattle.ndn_sign.specs.Ring.{Pair, pair}
+use Rattle.ndn_data.specs.Data.{Data, data_of, IsAllSigned}
+use Rattle.repo_object.specs.declared.part_refusal.PartRefusal.{PartRefusal}
+use Rattle.repo_object.specs.declared.part_refusal.PartRefusal.TheVariants.{Packet, UnsignedOctets, OtherName, OtherDigest, UnknownKey, BadSignature, BadRecord}
+use Rattle.repo_object.specs.Publication.{Listed}
+use Rattle.repo_object.specs.Records.{listing_of}
+use Rattle.repo_object.specs.Wants.{WantedPart}
+
+-- The packet has no octets but those that are signed, and the signature behind them.
+abbrev pub is_all_signed : Data → Bool
+is_all_signed d = bytes_eq d.value (d.signed ++ element 0x17 d.signature)
+
+-- Names are the same exactly where their octets are.
+abbrev pub has_name : List Component → Data → Bool
+has_name name d = bytes_eq (encoding d.name) (encoding name)
+
+-- The octets have the digest, where one is known.
+abbrev pub has_digest : Option (List ℕ) → List ℕ → Bool
+has_digest None octets = true
+has_digest (Some digest) octets = bytes_eq (sha256 octets) digest
+
+-- The locator is the name of these octets.
+abbrev pub locates : List ℕ → Option (List Component) → Bool
+locates key_name None = false
+locates key_name (Some name) = bytes_eq (encoding name) key_name
+
+-- The packet says that it is signed by HMAC with SHA-256 under the key of the name of these octets.
+abbrev pub names_key : List ℕ → Data → Bool
+names_key key_name d = d.signature_type == 4 && locates key_name d.locator
+
+-- The signature is the mac of what is signed.
+abbrev pub is_signed_by : List ℕ → Data → Bool
+is_signed_by key d = bytes_eq (hmac key d.signed) d.signature
+
+-- A record's content is a record.
+abbrev pub lists_if_record : ℕ → Data → Bool
+lists_if_record part d = not (part == 0) || is_some (listing_of d.content)
+
+-- The packet, where it passes for the want under the publisher's key of that name, or the first
+-- reason why not.
+abbrev pub packet_verdict : WantedPart → List ℕ → List ℕ → List ℕ → Data → Result Data PartRefusal
+packet_verdict want key_name key octets d =
+    if not (is_all_signed d) then Err UnsignedOctets
+    else if not (has_name want.name d) then Err OtherName
+    else if not (has_digest want.digest octets) then Err OtherDigest
+    else if not (names_key key_name d) then Err UnknownKey
+    else if not (is_signed_by key d) then Err BadSignature
+    else if not (lists_if_record want.part.part d) then Err BadRecord
+    else Ok d
+
+abbrev pub read_packet : Result Data PacketFault → Result Data PartRefusal
+read_packet (Ok d) = Ok d
+read_packet (Err fault) = Err (Packet fault)
+
+-- Octets pass for a wanted part, as the packet that they are, or this is the first reason why not.
+abbrev pub part_verdict : WantedPart → List ℕ → List ℕ → List ℕ → Result Data PartRefusal
+part_verdict want key_name key octets =
+    read_packet (data_of octets) >>= packet_verdict want key_name key octets
+
+-- What it means that octets pass, as the packet `d`.
+pub record Passes (want : WantedPart) (key_name key octets : List ℕ) (d : Data) : Type 0 where
+  pub read : data_of octets ≡ Ok d
+  pub all_signed : IsAllSigned d
+  pub name : encoding d.name ≡ encoding want.name
+  pub digest : IfSome want.digest (λ digest. sha256 octets ≡ digest)
+  pub signature_type : d.signature_type ≡ 4
+  pub locator : List Component
+  pub located : d.locator ≡ Some locator
+  pub key_named : encoding locator ≡ key_name
+  pub signature : d.signature ≡ hmac key d.signed
+  pub listing : want.part.part ≡ 0 → IsSome (listing_of d.content)
+
+-- ---- what a check gives
+
+-- A part that passed a check: its want, its packet's octets, and the name and key of its publisher.
+pub record CheckedPart : Type 0 where
+  pub want : WantedPart
+  pub octets : List ℕ
+  pub key_name : List ℕ
+  pub key : List ℕ
+
+-- It passes for its want under its publisher's key.
+abbrev pub IsChecked : CheckedPart → Type 0
+IsChecked c = IsOk (part_verdict c.want c.key_name c.key c.octets)
+
+-- The key of the want's publisher, by its number in the ring.
+abbrev pub publisher_key : List Pair → WantedPart → Pair
+publisher_key ring want = unwrap_or (slice_get ring want.part.publisher) (pair [] [])
+
+abbrev pub checked_part : WantedPart → List Pair → List ℕ → CheckedPart
+checked_part want ring octets =
+    record {
+      want = want;
+      octets = octets;
+      key_name = (publisher_key ring want).name;
+      key = (publisher_key ring want).key;
+    }
+
+-- The verdict under the key that the ring has at the publisher's number.
+abbrev pub ring_verdict : WantedPart → List Pair → List ℕ → Result Data PartRefusal
+ring_verdict want ring octets =
+    part_verdict want (publisher_key ring want).name (publisher_key ring want).key octets
+
+abbrev pub listing_within : Result Data PacketFault → Option Listed
+listing_within (Ok d) = listing_of d.content
+listing_within (Err fault) = None
+
+-- What the record that the octets are lists.
+abbrev pub listing_in : List ℕ → Option Listed
+listing_in octets = listing_within (data_of octets)

@@ -1,0 +1,84 @@
+ghost use Rattle.std.specs.Prelude.{◌≡◌, ◌<◌, length, MatchResult, IfOk, IsOk, Err};
+ghost use Rattle.repo_object.specs.Verdict.{ring_verdict, checked_part, IsChecked};
+
+use crate::part_refusal::PartRefusal;
+use crate::verdict::judge;
+use crate::want::Want;
+use ndn_data::DataView;
+use ndn_sign::KeyRing;
+use repo_plan::Part;
+use std::marker::Model;
+
+/// A packet that passed every check for a want, under the key of the want's publisher.
+///
+/// Only [`check_part`] makes one.
+#[derive(Debug, Drop)]
+pub struct Checked<'p> {
+    want: &'p Want,
+    octets: &'p [u8],
+    key_name: &'p [u8],
+    key: &'p [u8],
+}
+
+impl<'p> Model for Checked<'p> {
+    ghost use Rattle.repo_object.specs.Verdict.{CheckedPart, IsChecked};
+
+    ghost Value = { CheckedPart };
+
+    ghost view = { λ c. record {
+      want = c.want.now;
+      octets = c.octets.now;
+      key_name = c.key_name.now;
+      key = c.key.now;
+    } };
+
+    ghost invariant = { λ c. IsChecked (record {
+      want = c.want.now;
+      octets = c.octets.now;
+      key_name = c.key_name.now;
+      key = c.key.now;
+    }) };
+}
+
+/// The octets as a packet that passes for the want under the key that the ring has at its publisher's
+/// number, or the first reason why they don't. It takes no memory.
+pub fn check_part<'p>(
+    want: &'p Want,
+    octets: &'p [u8],
+    ring: &'p KeyRing,
+) -> Result<Checked<'p>, PartRefusal>
+    requires { want.now.part.publisher < length ring.now }
+    ensures verdict { MatchResult result
+        (λ _. IsOk (ring_verdict want.now ring.now octets.now))
+        (λ refusal. ring_verdict want.now ring.now octets.now ≡ Err refusal) }
+    ensures checked { IfOk result (λ checked. checked ≡ checked_part want.now ring.now octets.now) }
+{
+    let publisher = want.part().publisher;
+    let key_name = ring.name(publisher);
+    let key = ring.key(publisher);
+    let data = DataView::read(octets)?;
+    judge(want, key_name, key, octets, &data)?;
+    Ok(Checked {
+        want,
+        octets,
+        key_name,
+        key,
+    })
+}
+
+impl<'p> Checked<'p> {
+    /// The packet.
+    pub fn octets(&self) -> &'p [u8]
+        ensures same { result.now ≡ self.now.octets }
+        ensures passed { IsChecked self.now }
+    {
+        self.octets
+    }
+
+    pub fn part(&self) -> Part
+        ensures same { result ≡ self.now.want.part }
+        ensures passed { IsChecked self.now }
+    {
+        self.want.part()
+    }
+}

@@ -1,0 +1,70 @@
+ghost use Rattle.std.specs.Prelude.{◌≡◌, ◌+◌, ◌≤◌, ◌++◌, length, IfOk, OnOk};
+ghost use Rattle.ndn_name.specs.Names.{encoding};
+ghost use Rattle.repo_object.specs.Objects.{key_name, record_name, segment_name};
+
+use ndn_name::{NAME_LIMIT, Name, NameFault, NameView};
+use ndn_tlv::Reader;
+use std::alloc::{AllocError, Global};
+
+/// How many octets of value the name of a node or a group may have.
+pub const NODE_NAME_LIMIT: usize = 200;
+
+/// The name of a node's key, which packets of the node name in their key locators.
+pub fn key_name(node: &Name) -> Result<Name, AllocError>
+    requires { length (encoding node.now) ≤ NODE_NAME_LIMIT }
+    ensures { IfOk result (λ name. name ≡ key_name node.now) }
+{
+    let mut name = node.clone()?;
+    name.push(8, b"KEY").map_err(only_memory)?;
+    Ok(name)
+}
+
+// The name of the record of a publication of that number.
+pub(crate) fn record_name(node: &Name, group: &Name, seq: u16) -> Result<Name, AllocError>
+    requires node { length (encoding node.now) ≤ NODE_NAME_LIMIT }
+    requires group { length (encoding group.now) ≤ NODE_NAME_LIMIT }
+    ensures { IfOk result (λ name. name ≡ record_name node.now group.now seq) }
+{
+    let mut name = node.clone()?;
+    append(&mut name, group)?;
+    name.push_number(0x3a, u64::from(seq)).map_err(only_memory)?;
+    Ok(name)
+}
+
+// The name of an object's segment.
+pub(crate) fn segment_name(object: &Name, i: u8) -> Result<Name, AllocError>
+    requires { length (encoding object.now) ≤ 400 }
+    ensures { IfOk result (λ name. name ≡ segment_name object.now i) }
+{
+    let mut name = object.clone()?;
+    name.push_number(0x32, u64::from(i)).map_err(only_memory)?;
+    Ok(name)
+}
+
+// The name of a view, with octets of its own.
+pub(crate) fn owned_name(alloc: Global, view: &NameView<'_>) -> Result<Name, AllocError>
+    requires { length (encoding view.now) ≤ NAME_LIMIT }
+    ensures { IfOk result (λ name. name ≡ view.now) }
+{
+    Name::from_view(alloc, view).map_err(only_memory)
+}
+
+// Appends the components of another name.
+fn append(name: &mut Name, more: &Name) -> Result<(), AllocError>
+    requires { length (encoding name.old) + length (encoding more.now) ≤ NAME_LIMIT }
+    ensures { OnOk result (name.new ≡ name.old ++ more.now) }
+{
+    let mut components = Reader::new(more.octets(), 0);
+    while let Ok(Some(component)) = components.next() {
+        name.push(component.typ as u16, component.value)
+            .map_err(only_memory)?;
+    }
+    Ok(())
+}
+
+// Want of memory, which is all that a name within the limit can meet.
+pub(crate) fn only_memory(fault: NameFault) -> AllocError
+    requires { fault ≡ NameFault.NoMemory }
+{
+    AllocError
+}

@@ -1,0 +1,103 @@
+ghost use Rattle.std.specs.Prelude.{◌≡◌, ◌≤◌, length, map, nat_lt, IfOk, IsTrue};
+ghost use Rattle.std.specs.List.{All, list_all};
+ghost use Rattle.ndn_name.specs.Names.{encoding};
+ghost use Rattle.repo_object.specs.Objects.{is_object_name, IsContent, IsObject};
+
+use ndn_name::{Name, NameView};
+use ndn_tlv::Reader;
+use std::alloc::{AllocError, Global};
+use std::marker::Model;
+
+/// How many octets of value an object's name may have.
+pub const OBJECT_NAME_LIMIT: usize = 400;
+
+/// How many segments an object may have.
+pub const SEGMENT_LIMIT: usize = 200;
+
+/// How many octets the content of a segment may have.
+pub const CONTENT_LIMIT: usize = 8_000;
+
+/// A named object: the contents of its segments, in order.
+///
+/// Its name has 1 to 400 octets of value and no component that is a digest, and it has at most 200
+/// contents of 1 to 8,000 octets.
+#[derive(Debug, Drop)]
+pub struct Object {
+    name: Name,
+    contents: Vec<Vec<u8>>,
+}
+
+// An object is seen as its name and the list of its contents.
+impl Model for Object {
+    ghost use Rattle.std.specs.Prelude.{map};
+    ghost use Rattle.repo_object.specs.Objects.{NamedContents, IsObject};
+
+    ghost Value = { NamedContents };
+
+    ghost view = { λ o. record { name = o.name; contents = map (λ c. c.items) o.contents.items } };
+
+    ghost invariant = { λ o. IsObject (record {
+      name = o.name;
+      contents = map (λ c. c.items) o.contents.items;
+    }) };
+}
+
+impl Object {
+    /// The object of this name and these contents, which are copied.
+    pub fn new(alloc: Global, name: &Name, contents: &[Vec<u8>]) -> Result<Object, AllocError>
+        requires name { IsTrue (is_object_name name.now) }
+        requires few { length contents.now ≤ SEGMENT_LIMIT }
+        requires contents { All (λ c. IsContent c.items) contents.now }
+        ensures { IfOk result (λ object. object
+            ≡ record { name = name.now; contents = map (λ c. c.items) contents.now }) }
+    {
+        // Its clause says that the components are a name's.
+        let _octets = name.octets();
+        let mut copies = Vec::with_capacity(alloc, contents.len())?;
+        for content in contents {
+            copies.push(content.to_vec(alloc)?)?;
+        }
+        Ok(Object {
+            name: name.clone()?,
+            contents: copies,
+        })
+    }
+
+    pub fn name(&self) -> &Name
+        ensures same { result.now ≡ self.now.name }
+        ensures within { IsObject self.now }
+    {
+        &self.name
+    }
+
+    /// The contents of the segments, in order.
+    pub fn contents(&self) -> &[Vec<u8>]
+        ensures same { map (λ c. c.items) result.now ≡ self.now.contents }
+        ensures within { IsObject self.now }
+    {
+        &self.contents
+    }
+}
+
+/// Whether an object may have this name: 1 to 400 octets of value, and no component that is a digest
+/// (types 1 and 2).
+pub fn is_object_name(name: &NameView<'_>) -> bool
+    ensures test { result ≡ is_object_name name.now }
+    ensures short { IsTrue result → length (encoding name.now) ≤ OBJECT_NAME_LIMIT }
+{
+    let octets = name.octets().len();
+    0 < octets && octets <= OBJECT_NAME_LIMIT && has_no_digest(name)
+}
+
+// Whether no component of the name is a digest.
+fn has_no_digest(name: &NameView<'_>) -> bool
+    ensures { result ≡ list_all (λ c. nat_lt 2 c.0) name.now }
+{
+    let mut components = Reader::new(name.octets(), 0);
+    while let Ok(Some(component)) = components.next() {
+        if component.typ <= 2 {
+            return false;
+        }
+    }
+    true
+}

@@ -1,0 +1,269 @@
+ghost use Rattle.std.specs.Prelude.{◌≡◌, ◌<◌, ◌≤◌, length, IfOk, IsTrue};
+ghost use Rattle.ndn_name.specs.Names.{encoding};
+ghost use Rattle.repo_object.specs.Objects.{is_object_name};
+
+mod contents;
+mod hostile;
+mod worked;
+
+use super::*;
+use contents::CONTENTS;
+use hostile::{FOR_THE_RECORD, FOR_THE_SEGMENT};
+use ndn_data::DataView;
+use ndn_name::{Name, NameFault};
+use ndn_sign::{KeyRing, digest};
+use ndn_tlv::Writer;
+use repo_plan::Part;
+use std::alloc::{AllocError, Global};
+use std::process::Abort;
+use std::test::*;
+use worked::{RECORD, RECORD_DIGEST, RECORD_INTEREST, SEGMENT, SEGMENT_INTEREST};
+
+const KEY: &[u8] = b"k1";
+
+// The name of a node or a group.
+fn short_name(rt: &impl Abort, alloc: Global, text: &str) -> Result<Name, NameFault>
+    ensures { IfOk result (λ name. length (encoding name) ≤ 200) }
+{
+    let name = Name::from_uri(alloc, text)?;
+    assert!(rt; name.octets().len() <= NODE_NAME_LIMIT);
+    Ok(name)
+}
+
+// The object of this name whose content is cut into segments of that size.
+fn object(alloc: Global, name: &Name, content: &[u8], size: usize) -> Result<Object, CutFault>
+    requires name { IsTrue (is_object_name name.now) }
+    requires some { 0 < size }
+    requires size { size ≤ 8000 }
+{
+    let contents = cut(alloc, content, size)?;
+    Ok(Object::new(alloc, name, &contents)?)
+}
+
+// The packets of a publication, whatever they are.
+fn published(
+    alloc: Global,
+    object: &Object,
+    seq: u16,
+    node: &Name,
+    group: &Name,
+    key: &[u8],
+) -> Result<Vec<Vec<u8>>, AllocError>
+    requires node { length (encoding node.now) ≤ 200 }
+    requires group { length (encoding group.now) ≤ 200 }
+{
+    packets_of(alloc, object, seq, node, group, key)
+}
+
+// A ring with the node's key.
+fn ring_of(alloc: Global, node: &Name, key: &[u8]) -> Result<KeyRing, Fail>
+    requires { length (encoding node.now) ≤ 200 }
+    ensures { IfOk result (λ ring. 0 < length ring) }
+{
+    let mut ring = KeyRing::new(alloc);
+    ring.add(key_name(node)?.octets(), key)?;
+    Ok(ring)
+}
+
+fn record_want(alloc: Global, seq: u16, node: &Name, group: &Name) -> Result<Want, AllocError>
+    requires node { length (encoding node.now) ≤ 200 }
+    requires group { length (encoding group.now) ≤ 200 }
+    ensures { IfOk result (λ want. want.part.publisher ≡ 0) }
+{
+    let part = Part {
+        publisher: 0,
+        seq,
+        part: 0,
+    };
+    want_record(alloc, part, node, group)
+}
+
+fn segment_want(
+    rt: &impl Abort,
+    alloc: Global,
+    seq: u16,
+    part: u8,
+    listing: &Listing,
+) -> Result<Want, AllocError>
+    ensures { IfOk result (λ want. want.part.publisher ≡ 0) }
+{
+    let part = Part {
+        publisher: 0,
+        seq,
+        part,
+    };
+    assert!(rt; 0 < part.part && usize::from(part.part) <= listing.digests.len());
+    assert!(rt; listing.name.octets().len() <= OBJECT_NAME_LIMIT);
+    want_segment(alloc, part, listing)
+}
+
+// Checks octets for a want, each with the refusal that comes, if one does.
+fn check_all(rt: &impl Abort, want: &Want, ring: &KeyRing, cases: &[(&[u8], Option<PartRefusal>)])
+    requires { want.now.part.publisher < length ring.now }
+{
+    for (octets, refusal) in cases {
+        assert_eq!(rt;
+            check_part(want, octets, ring).err(),
+            *refusal,
+            "{octets:?}"
+        );
+    }
+}
+
+#[test]
+fn worked_publication_is_written(rt: HostRuntime) -> Result<(), Fail> {
+    let alloc = rt.alloc();
+    let alice = short_name(&rt, alloc, "/alice")?;
+    let group = short_name(&rt, alloc, "/g")?;
+    let name = Name::from_uri(alloc, "/doc")?;
+    assert!(rt; is_object_name(&name.view()));
+    let object = object(alloc, &name, b"abc", 10)?;
+    let packets = published(alloc, &object, 1, &alice, &group, KEY)?;
+    assert_eq!(rt; packets.len(), 2);
+    assert_eq!(rt; packets[0].as_slice(), RECORD.as_slice());
+    assert_eq!(rt; packets[1].as_slice(), SEGMENT.as_slice());
+    Ok(())
+}
+
+#[test]
+fn worked_record_is_checked(rt: HostRuntime) -> Result<(), Fail> {
+    let alloc = rt.alloc();
+    let alice = short_name(&rt, alloc, "/alice")?;
+    let group = short_name(&rt, alloc, "/g")?;
+    let ring = ring_of(alloc, &alice, KEY)?;
+    let want = record_want(alloc, 1, &alice, &group)?;
+    assert_eq!(rt; want.interest(), RECORD_INTEREST.as_slice());
+    check_all(&rt, &want, &ring, &FOR_THE_RECORD);
+    Ok(())
+}
+
+#[test]
+fn worked_segment_is_checked(rt: HostRuntime) -> Result<(), Fail> {
+    let alloc = rt.alloc();
+    let ring = ring_of(alloc, &short_name(&rt, alloc, "/alice")?, KEY)?;
+    let listing = read_record(alloc, DataView::read(&RECORD)?.content)?;
+    let want = segment_want(&rt, alloc, 1, 1, &listing)?;
+    assert_eq!(rt; want.interest(), SEGMENT_INTEREST.as_slice());
+    check_all(&rt, &want, &ring, &FOR_THE_SEGMENT);
+    Ok(())
+}
+
+#[test]
+fn contents_are_read_as_records(rt: HostRuntime) {
+    for (content, segments) in CONTENTS {
+        assert_eq!(rt; is_record(content), segments.is_some(), "{content:?}");
+        let read = read_record(rt.alloc(), content).map(|listing| listing.digests.len());
+        assert_eq!(rt; read, segments.ok_or(RecordFault::BadRecord), "{content:?}");
+    }
+}
+
+// The content of a record with a name of one component of so many octets, and so many digests.
+fn listing_content(alloc: Global, component: &[u8], digests: u64) -> Result<Vec<u8>, AllocError> {
+    let mut name = Writer::new(alloc);
+    name.put(8, component)?;
+    let mut writer = Writer::new(alloc);
+    writer.put(0x07, name.octets())?;
+    writer.put_number(0x81, digests)?;
+    for _ in 0..digests {
+        writer.put(0x83, &[7; 32])?;
+    }
+    Ok(writer.finish())
+}
+
+#[test]
+fn records_have_limits(rt: HostRuntime) -> Result<(), Fail> {
+    let octets = [b'a'; 397];
+    let cases = [
+        (&octets[..396], 0, true),
+        (&octets, 0, false),
+        (&octets[..1], 200, true),
+        (&octets[..1], 201, false),
+    ];
+    for (component, digests, is) in cases {
+        let content = listing_content(rt.alloc(), component, digests)?;
+        assert_eq!(rt; is_record(&content), is, "{digests}");
+        assert_eq!(rt; read_record(rt.alloc(), &content).is_ok(), is, "{digests}");
+    }
+    Ok(())
+}
+
+// Contents of so many octets, the size of a piece, how many pieces come, and how long the last is.
+const CUTS: [(usize, usize, usize, usize); 8] = [
+    (0, 10, 0, 0),
+    (3, 1, 3, 1),
+    (3, 2, 2, 1),
+    (3, 10, 1, 3),
+    (4, 4, 1, 4),
+    (5, 4, 2, 1),
+    (800, 4, 200, 4),
+    (8_000, 8_000, 1, 8_000),
+];
+
+#[test]
+fn contents_are_cut(rt: HostRuntime) -> Result<(), Fail> {
+    let content = [b'A'; 8_000];
+    for (octets, size, count, last) in CUTS {
+        assert!(rt; octets <= 8_000 && 0 < size);
+        let pieces = cut(rt.alloc(), &content[..octets], size)?;
+        assert_eq!(rt; pieces.len(), count, "{octets}");
+        assert_eq!(rt;
+            pieces.last().map_or(0, |piece| piece.len()),
+            last,
+            "{octets}"
+        );
+    }
+    let too_many = CutFault::TooMany { segments: 201 };
+    assert_eq!(rt; cut(rt.alloc(), &content[..801], 4).err(), Some(too_many));
+    Ok(())
+}
+
+// A value that may go to another thread and be let go there.
+fn goes_anywhere<T: Send + Drop>(_: T) {}
+
+#[test]
+fn publications_at_the_limits_pass(rt: HostRuntime) -> Result<(), Fail> {
+    let alloc = rt.alloc();
+    let octets = [b'a'; 396];
+    let mut node = Name::new(alloc);
+    node.push(8, &octets[..198])?;
+    let mut name = Name::new(alloc);
+    name.push(8, &octets)?;
+    let key = [b'k'; 128];
+    assert!(rt; node.octets().len() <= NODE_NAME_LIMIT && is_object_name(&name.view()));
+    let object = object(alloc, &name, &[b'A'; 200], 1)?;
+    let packets = published(alloc, &object, 65_535, &node, &node, &key)?;
+    let ring = ring_of(alloc, &node, &key)?;
+    let want = record_want(alloc, 65_535, &node, &node)?;
+    pass(&rt, alloc, &packets, &want, &ring)
+}
+
+// Sees that a record of the greatest publication passes, and each segment that it lists.
+fn pass(
+    rt: &impl Abort,
+    alloc: Global,
+    packets: &[Vec<u8>],
+    want: &Want,
+    ring: &KeyRing,
+) -> Result<(), Fail>
+    requires publisher { want.now.part.publisher < length ring.now }
+    requires some { 0 < length ring.now }
+{
+    let [record, segments @ ..] = packets else {
+        return Err("a record".into());
+    };
+    assert_eq!(rt; (record.len(), segments.len()), (7_871, 200));
+    assert_eq!(rt; digest(record), RECORD_DIGEST);
+    goes_anywhere(check_part(want, record, ring)?);
+    let listing = read_record(alloc, DataView::read(record)?.content)?;
+    let mut part = 0u8;
+    for segment in segments {
+        part = part.saturating_add(1);
+        let want = segment_want(rt, alloc, 65_535, part, &listing)?;
+        let checked = check_part(&want, segment, ring)?;
+        assert_eq!(rt;
+            (checked.part().part, checked.octets()),
+            (part, segment.as_slice())
+        );
+    }
+    Ok(())
+}

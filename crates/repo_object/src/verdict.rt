@@ -1,0 +1,85 @@
+ghost use Rattle.std.specs.Prelude.{◌≡◌, MatchResult, Ok, Err};
+ghost use Rattle.ndn_data.specs.Data.{packet};
+ghost use Rattle.repo_object.specs.Verdict.{is_all_signed, locates, names_key, is_signed_by, lists_if_record, packet_verdict};
+
+use crate::listing::is_record;
+use crate::part_refusal::PartRefusal;
+use crate::want::Want;
+use ndn_data::DataView;
+use ndn_name::NameView;
+use ndn_sign::hmac;
+
+// HMAC with SHA-256, as a signature type.
+const HMAC_WITH_SHA256: u64 = 4;
+
+// Whether octets that are this packet pass for the want, under the publisher's key of that name.
+pub(crate) fn judge(
+    want: &Want,
+    key_name: &[u8],
+    key: &[u8],
+    octets: &[u8],
+    view: &DataView<'_>,
+) -> Result<(), PartRefusal>
+    ensures { MatchResult result
+        (λ _. packet_verdict want.now key_name.now key.now octets.now (packet view.now)
+        ≡ Ok (packet view.now))
+        (λ refusal. packet_verdict want.now key_name.now key.now octets.now (packet view.now)
+        ≡ Err refusal) }
+{
+    if !is_all_signed(view) {
+        return Err(PartRefusal::UnsignedOctets);
+    }
+    if !want.has_name(view) {
+        return Err(PartRefusal::OtherName);
+    }
+    if !want.has_digest(octets) {
+        return Err(PartRefusal::OtherDigest);
+    }
+    if !names_key(key_name, view) {
+        return Err(PartRefusal::UnknownKey);
+    }
+    if !is_signed_by(key, view) {
+        return Err(PartRefusal::BadSignature);
+    }
+    if !lists_if_record(want, view) {
+        return Err(PartRefusal::BadRecord);
+    }
+    Ok(())
+}
+
+// Whether the packet has no octets but those that are signed, and the signature behind them.
+fn is_all_signed(view: &DataView<'_>) -> bool
+    ensures { result ≡ is_all_signed (packet view.now) }
+{
+    view.all_signed()
+}
+
+// Whether the packet says that it is signed by HMAC with SHA-256 under the key of that name.
+fn names_key(key_name: &[u8], view: &DataView<'_>) -> bool
+    ensures { result ≡ names_key key_name.now (packet view.now) }
+{
+    view.signature_type == HMAC_WITH_SHA256 && locates(key_name, &view.locator)
+}
+
+fn locates(key_name: &[u8], locator: &Option<NameView<'_>>) -> bool
+    ensures { result ≡ locates key_name.now locator.now }
+{
+    match locator {
+        Some(name) => name.octets() == key_name,
+        None => false,
+    }
+}
+
+// Whether the signature is the mac of what is signed.
+fn is_signed_by(key: &[u8], view: &DataView<'_>) -> bool
+    ensures { result ≡ is_signed_by key.now (packet view.now) }
+{
+    hmac(key, view.signed_portion(), &[]).as_slice() == view.signature
+}
+
+// Whether the content is a record, where a record is wanted.
+fn lists_if_record(want: &Want, view: &DataView<'_>) -> bool
+    ensures { result ≡ lists_if_record want.now.part.part (packet view.now) }
+{
+    want.part().part != 0 || is_record(view.content)
+}
