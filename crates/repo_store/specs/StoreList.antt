@@ -1,0 +1,31 @@
+-- Packets by their parts, as a list in order of the parts.
+use Rattle.std.specs.Prelude.{ℕ, not, List, IsOk, if◌then◌else◌}
+use Rattle.std.specs.List.{All, filter}
+use Rattle.ndn_data.specs.Data.{data_of}
+use Rattle.repo_plan.specs.declared.part.Part.{Part}
+use Rattle.repo_plan.specs.SortedList.{Rises, keys, contains, with_value}
+use Rattle.repo_plan.specs.Parts.{Pair, part_cmp}
+use Rattle.repo_plan.specs.Plan.{is_in}
+
+-- What is stored, and for how many packets more there is room.
+pub record StoreList : Type 0 where
+  pub packets : List (Part × List ℕ)
+  pub spare : ℕ
+
+-- The packets with one more, unless there is one of its part.
+abbrev pub with_packet : Part → List ℕ → List (Part × List ℕ) → List (Part × List ℕ)
+with_packet part octets packets =
+    if contains part_cmp (keys packets) part then packets
+    else with_value part_cmp part octets packets
+
+-- The packets of a publication's parts, and the others.
+abbrev pub packets_in : Pair → List (Part × List ℕ) → List (Part × List ℕ)
+packets_in pair packets = filter (λ e. is_in pair e.0) packets
+
+abbrev pub packets_outside : Pair → List (Part × List ℕ) → List (Part × List ℕ)
+packets_outside pair packets = filter (λ e. not (is_in pair e.0)) packets
+
+-- What every store keeps: its parts are in order, each once, and its packets read as Data.
+pub record IsSound (packets : List (Part × List ℕ)) : Type 0 where
+  pub in_order : Rises part_cmp (keys packets)
+  pub are_data : All (λ e. IsOk (data_of e.1)) packets

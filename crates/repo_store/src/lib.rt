@@ -1,0 +1,17 @@
+//! The packets that a member of a repository group holds, by their parts, and which of them answers
+//! an Interest.
+#![tactic(auto)]
+
+mod laws;
+mod name_index;
+mod packet;
+mod store;
+
+pub use laws::{
+    dropped_parts_are_gone, got_packets_are_data, put_packet_is_got, put_part_is_among_the_parts,
+    satisfying_is_decided, served_packet_is_of_its_part, served_part_is_the_least,
+};
+pub use store::Store;
+
+#[cfg(test)]
+mod tests;
