@@ -1,0 +1,15 @@
+pub mod Lists
+pub mod Parts
+pub mod Plans
+pub mod Members
+pub mod Gains
+pub mod Deletions
+pub mod Settles
+pub mod Worlds
+pub mod Runs
+pub mod Wants
+pub mod Catalogues
+pub mod Lasting
+pub mod Machines
+pub mod Tries
+pub mod Limits

@@ -1,0 +1,197 @@
+-- What each change of a member keeps.
+use Rattle.std.proofs.Common.{◌≡◌, ◌≢◌, ◌⊎◌, inl, inr, ℕ, suc, zero, ◌-◌, ◌≤◌, max, Bool, true, false, cond, List, [], ◌∷◌, length, get_or, set, refl, sym, ap, ◌∙◌, subst, arith, Option, Some, None}
+use Rattle.std.proofs.lemmas.List.{length-set}
+use Rattle.repo_plan.specs.declared.part.Part.{Part}
+use Rattle.repo_plan.specs.SortedList.{contains}
+use Rattle.repo_plan.specs.Parts.{Pair, pair_cmp, pair_of, record_of}
+use Rattle.repo_plan.specs.Plan.{is_wanted, is_claimed}
+use Rattle.repo_plan.proofs.Changes.{unclaimed_at}
+use Rattle.svs_vector.specs.Vectors.{join, covers}
+use Rattle.svs_vector.proofs.JoinLemmas.{join-at, length-join}
+use Rattle.svs_sync.specs.KeptVector.{Keeper, steady_kept, hears_kept}
+use Rattle.group_model.specs.Publications.{Logs, last_of, count}
+use Rattle.group_model.specs.Processes.{Process}
+use Rattle.group_model.specs.Member.{Member, holds, plan_of}
+use Rattle.group_model.specs.Changes.{learns, with_claim}
+use Rattle.group_model.specs.Sound.{SoundMember, IsPublished, IsKnown, TellsNoMore, IsTrueVector, HeardTruly, IsHeldRightly, IsHiddenRightly}
+use Rattle.group_model.proofs.Plans.{IsWanted, wanted_parts, wanted_from}
+
+pub known_published : (ls : Logs) (v : List ℕ) (pair : Pair) → TellsNoMore ls v → IsKnown v pair → IsPublished ls pair
+known_published ls v pair t k = record { from_one = k.from_one; to_last = let h : get_or v pair.0 0 ≤ last_of ls pair.0 = t pair.0 in omega (arith, h, k.to_known) }
+
+pub known_more : (old new : List ℕ) (pair : Pair) → ((p : ℕ) → get_or old p 0 ≤ get_or new p 0) → IsKnown old pair → IsKnown new pair
+known_more old new pair more k = let h : get_or old pair.0 0 ≤ get_or new pair.0 0 = more pair.0 in record { from_one = k.from_one; to_known = omega (arith, h, k.to_known) }
+
+-- ---- more is published
+
+pub record Grows (old new : Logs) : Type 0 where
+  pub width : length new ≡ length old
+  pub last : (p : ℕ) → last_of old p ≤ last_of new p
+  pub counts : (pair : Pair) → IsPublished old pair → count new pair ≡ count old pair
+
+pub no_more_grown : (old new : Logs) (v : List ℕ) → Grows old new → TellsNoMore old v → TellsNoMore new v
+no_more_grown old new v g t p = let a : get_or v p 0 ≤ last_of old p = t p in let b : last_of old p ≤ last_of new p = g.last p in omega (arith, a, b)
+
+pub true_grown : (old new : Logs) (v : List ℕ) → Grows old new → IsTrueVector old v → IsTrueVector new v
+true_grown old new v g t = record { width = t.width ∙ sym g.width; no_more = no_more_grown old new v g t.no_more }
+
+heard_grown : (old new : Logs) (heard : Option (List ℕ)) → Grows old new → HeardTruly old heard → HeardTruly new heard
+heard_grown old new None g h = tt
+heard_grown old new (Some v) g h = true_grown old new v g h
+
+-- ---- a wanted part stays wanted until it is held
+
+-- what a change keeps: no number goes down, no part goes, no publication is hidden
+pub record Keeps (old new : Member) : Type 0 where
+  pub knows : (p : ℕ) → get_or old.known p 0 ≤ get_or new.known p 0
+  pub held : (t : Part) → holds old t ≡ true → holds new t ≡ true
+  pub hidden : new.hidden ≡ old.hidden
+
+pub wanted_kept : (ls more : Logs) (old new : Member) (t : Part) → Keeps old new → count more (pair_of t) ≡ count ls (pair_of t) → is_wanted (plan_of ls old) t ≡ true → holds new t ≡ false → is_wanted (plan_of more new) t ≡ true
+wanted_kept ls more old new t k same h out =
+    let w : IsWanted ls old t = wanted_parts ls old t h in
+    wanted_from more new t (record {
+      known = known_more old.known new.known (pair_of t) k.knows w.known;
+      counted = subst (λ (n : ℕ). t.part ≤ n) (sym same) w.counted;
+      with_record = elim w.with_record [ inl e ↦ inl e | inr r ↦ inr (k.held (record_of t) r) ];
+      not_held = out;
+      not_hidden = subst (λ (x : List Pair). contains pair_cmp x (pair_of t) ≡ false) (sym k.hidden) w.not_hidden;
+    })
+
+-- ---- a change of other members
+
+pub grown : (old new : Logs) (j : ℕ) (m : Member) → Grows old new → last_of new j ≡ last_of old j → SoundMember old j m → SoundMember new j m
+grown old new j m g own s = record {
+  width = s.width ∙ sym g.width;
+  fetchers = s.fetchers;
+  in_order = s.in_order;
+  known = no_more_grown old new m.known g s.known;
+  own = s.own ∙ sym own;
+  heard = heard_grown old new m.machine.heard g s.heard;
+  held = λ t h. let r : IsHeldRightly old m.known m.held t = s.held t h in record {
+    known = r.known;
+    counted = subst (λ (n : ℕ). t.part ≤ n) (sym (g.counts (pair_of t) (known_published old m.known (pair_of t) s.known r.known))) r.counted;
+    with_record = r.with_record;
+  };
+  hidden = s.hidden;
+  own_held = λ n p.
+      let there : IsPublished old (j, n) = record { from_one = p.from_one; to_last = subst (λ (k : ℕ). n ≤ k) own p.to_last } in
+      elim (s.own_held n there) [ inl h ↦ inl h | inr f ↦ inr (λ x le. f x (subst (λ (k : ℕ). x ≤ k) (g.counts (j, n) there) le)) ];
+  claimed = λ f t e.
+      let w : IsWanted old m t = wanted_parts old m t (s.claimed f t e) in
+      wanted_kept old new m m t (record { knows = λ p. omega arith; held = λ u h. h; hidden = refl }) (g.counts (pair_of t) (known_published old m.known (pair_of t) s.known w.known)) (s.claimed f t e) w.not_held;
+  apart = s.apart;
+}
+
+-- ---- what soundness doesn't speak of
+
+-- a change of the machine and of insertion processes alone
+pub with_machine : (ls : Logs) (j : ℕ) (m : Member) (machine : Keeper) (processes : List (ℕ × Process)) (next : ℕ) → SoundMember ls j m → HeardTruly ls machine.heard → SoundMember ls j (record m { machine = machine; processes = processes; next_process = next })
+with_machine ls j m machine processes next s h = record {
+  width = s.width;
+  fetchers = s.fetchers;
+  in_order = record { held = s.in_order.held; hidden = s.in_order.hidden; attempts = s.in_order.attempts; tried = s.in_order.tried };
+  known = s.known;
+  own = s.own;
+  heard = h;
+  held = s.held;
+  hidden = λ pair h. let r : IsHiddenRightly m pair = s.hidden pair h in record { known = r.known; none_held = r.none_held };
+  own_held = s.own_held;
+  claimed = s.claimed;
+  apart = s.apart;
+}
+
+-- ---- a member is told of a vector
+
+pub no_more_join : (ls : Logs) (v w : List ℕ) → TellsNoMore ls v → TellsNoMore ls w → TellsNoMore ls (join v w)
+no_more_join ls v w a b p = let x : get_or v p 0 ≤ last_of ls p = a p in let y : get_or w p 0 ≤ last_of ls p = b p in let e : get_or (join v w) p 0 ≡ max (get_or v p 0) (get_or w p 0) = join-at v w p in omega (arith, x, y, e)
+
+pub join_more : (v w : List ℕ) (p : ℕ) → get_or v p 0 ≤ get_or (join v w) p 0
+join_more v w p = let e : get_or (join v w) p 0 ≡ max (get_or v p 0) (get_or w p 0) = join-at v w p in omega (arith, e)
+
+pub true_join : (ls : Logs) (v w : List ℕ) → IsTrueVector ls v → IsTrueVector ls w → IsTrueVector ls (join v w)
+true_join ls v w a b = record { width = length-join v w (a.width ∙ sym b.width) ∙ a.width; no_more = no_more_join ls v w a.no_more b.no_more }
+
+heard_hears : (ls : Logs) (moment draw : ℕ) (told known : List ℕ) (k : Keeper) (heard : Option (List ℕ)) → IsTrueVector ls told → HeardTruly ls heard → HeardTruly ls (hears_kept moment told known draw k heard).heard
+heard_hears ls moment draw told known k None t h = go (covers told known) _ _ where
+  go : (b : Bool) (deadline draws : ℕ) → HeardTruly ls (cond b (steady_kept moment draw k) (record k { heard = Some told; deadline = deadline; draws = draws })).heard
+  go true deadline draws = tt
+  go false deadline draws = t
+heard_hears ls moment draw told known k (Some v) t h = true_join ls v told h t
+
+pub sound_learns : (draw moment : ℕ) (ls : Logs) (j : ℕ) (told : List ℕ) (m : Member) → IsTrueVector ls told → SoundMember ls j m → SoundMember ls j (learns draw moment told m)
+sound_learns draw moment ls j told m t s =
+    let new : Member = learns draw moment told m in
+    let more : (p : ℕ) → get_or m.known p 0 ≤ get_or (join m.known told) p 0 = join_more m.known told in
+    let keeps : Keeps m new = record { knows = more; held = λ t h. h; hidden = refl } in
+    record {
+      width = length-join m.known told (s.width ∙ sym t.width) ∙ s.width;
+      fetchers = s.fetchers;
+      in_order = record { held = s.in_order.held; hidden = s.in_order.hidden; attempts = s.in_order.attempts; tried = s.in_order.tried };
+      known = no_more_join ls m.known told s.known t.no_more;
+      own =
+          let a : get_or m.known j 0 ≡ last_of ls j = s.own in
+          let b : get_or told j 0 ≤ last_of ls j = t.no_more j in
+          let c : get_or (join m.known told) j 0 ≡ max (get_or m.known j 0) (get_or told j 0) = join-at m.known told j in
+          omega (arith, a, b, c);
+      heard = heard_hears ls moment draw told m.known m.machine m.machine.heard t s.heard;
+      held = λ u h. let r : IsHeldRightly ls m.known m.held u = s.held u h in record { known = known_more m.known _ (pair_of u) more r.known; counted = r.counted; with_record = r.with_record };
+      hidden = λ pair h. let r : IsHiddenRightly m pair = s.hidden pair h in record { known = known_more m.known _ pair more r.known; none_held = r.none_held };
+      own_held = s.own_held;
+      claimed = λ f u e. wanted_kept ls ls m new u keeps refl (s.claimed f u e) (wanted_parts ls m u (s.claimed f u e)).not_held;
+      apart = s.apart;
+    }
+
+-- ---- claims
+
+pub at_set : (xs : List (Option Part)) (f g : ℕ) (x : Option Part) (t : Part) → get_or (set xs f x) g None ≡ Some t → ((g ≡ f) × (x ≡ Some t)) ⊎ ((g ≢ f) × (get_or xs g None ≡ Some t))
+at_set [] f g x t e = absurd cc
+at_set (y ∷ ys) zero zero x t e = inl (refl, e)
+at_set (y ∷ ys) zero (suc g) x t e = inr (λ p. cc, e)
+at_set (y ∷ ys) (suc f) zero x t e = inr (λ p. cc, e)
+at_set (y ∷ ys) (suc f) (suc g) x t e = elim (at_set ys f g x t e) [ inl r ↦ inl (ap suc r.0, r.1) | inr r ↦ inr (λ p. r.0 (omega (arith, p)), r.1) ]
+
+pub sound_claims : (ls : Logs) (j f : ℕ) (t : Part) (m : Member) → is_wanted (plan_of ls m) t ≡ true → is_claimed (plan_of ls m) t ≡ false → SoundMember ls j m → SoundMember ls j (with_claim f (Some t) m)
+sound_claims ls j f t m wanted free s = record {
+  width = s.width;
+  fetchers = length-set m.claims (f - 1) (Some t) ∙ s.fetchers;
+  in_order = record { held = s.in_order.held; hidden = s.in_order.hidden; attempts = s.in_order.attempts; tried = s.in_order.tried };
+  known = s.known;
+  own = s.own;
+  heard = s.heard;
+  held = s.held;
+  hidden = λ pair h. let r : IsHiddenRightly m pair = s.hidden pair h in record { known = r.known; none_held = r.none_held };
+  own_held = s.own_held;
+  claimed = λ g u e. elim (at_set m.claims (f - 1) g (Some t) u e) [
+    | inl r ↦ let same : t ≡ u = cc in subst (λ (v : Part). is_wanted (plan_of ls m) v ≡ true) same wanted
+    | inr r ↦ s.claimed g u r.1
+  ];
+  apart = λ g h u a b. elim (at_set m.claims (f - 1) g (Some t) u a) [
+    | inl p ↦ elim (at_set m.claims (f - 1) h (Some t) u b) [
+      | inl q ↦ p.0 ∙ sym q.0
+      | inr q ↦ absurd (unclaimed_at t m.claims h free (q.1 ∙ sym p.1))
+    ]
+    | inr p ↦ elim (at_set m.claims (f - 1) h (Some t) u b) [
+      | inl q ↦ absurd (unclaimed_at t m.claims g free (p.1 ∙ sym q.1))
+      | inr q ↦ s.apart g h u p.1 q.1
+    ]
+  ];
+}
+
+pub sound_loses : (ls : Logs) (j f : ℕ) (m : Member) → SoundMember ls j m → SoundMember ls j (with_claim f None m)
+sound_loses ls j f m s = record {
+  width = s.width;
+  fetchers = length-set m.claims (f - 1) None ∙ s.fetchers;
+  in_order = record { held = s.in_order.held; hidden = s.in_order.hidden; attempts = s.in_order.attempts; tried = s.in_order.tried };
+  known = s.known;
+  own = s.own;
+  heard = s.heard;
+  held = s.held;
+  hidden = λ pair h. let r : IsHiddenRightly m pair = s.hidden pair h in record { known = r.known; none_held = r.none_held };
+  own_held = s.own_held;
+  claimed = λ g u e. elim (at_set m.claims (f - 1) g None u e) [ inl r ↦ absurd cc | inr r ↦ s.claimed g u r.1 ];
+  apart = λ g h u a b. elim (at_set m.claims (f - 1) g None u a) [
+    | inl p ↦ absurd cc
+    | inr p ↦ elim (at_set m.claims (f - 1) h None u b) [ inl q ↦ absurd cc | inr q ↦ s.apart g h u p.1 q.1 ]
+  ];
+}

@@ -1,0 +1,95 @@
+-- What a member wants and claims.
+use Rattle.std.proofs.Common.{◌≡◌, ◌≢◌, inl, inr, true, false, not, List, [], ◌∷◌, refl, sym, ◌∙◌, subst, arith, Some, None}
+use Rattle.std.proofs.lemmas.Bool.{true≢false, and_parts, and_from, not-true, not_from_false, true_from_ne_false, cases_eq}
+use Rattle.std.specs.declared.cmp.Ordering.TheVariants.{Less}
+use Rattle.repo_plan.specs.declared.part.Part.{Part}
+use Rattle.repo_plan.specs.SortedList.{Rises}
+use Rattle.repo_plan.specs.Parts.{part_cmp}
+use Rattle.repo_plan.specs.Plan.{is_wanted, is_claimed, unclaimed, first}
+use Rattle.repo_plan.proofs.Orders.{exact_parts}
+use Rattle.repo_plan.proofs.Sets.{In, contains_in, in_contains, each_before}
+use Rattle.repo_plan.proofs.Known.{contains-wanted, contains-unclaimed, unclaimed_rises}
+use Rattle.group_model.specs.Publications.{Logs}
+use Rattle.group_model.specs.Member.{Member, plan_of}
+use Rattle.group_model.specs.World.{member, logs}
+use Rattle.group_model.specs.Steps.{open_at}
+use Rattle.group_model.specs.Wanted.{IsWantedPart, WantsThose, ClaimsFirst, ClaimsNoneWhere}
+use Rattle.group_model.proofs.Plans.{IsWanted, wanted_parts, wanted_from}
+
+-- ---- wanted parts
+
+in_words : (ls : Logs) (m : Member) (t : Part) → is_wanted (plan_of ls m) t ≡ true → IsWantedPart ls m t
+in_words ls m t h =
+    let w : IsWanted ls m t = wanted_parts ls m t h in
+    record {
+      known = w.known;
+      part = elim w.with_record [
+        | inl z ↦ inl z
+        | inr r ↦ elim (cases_eq t.part 0) [ inl z ↦ inl z | inr p ↦ inr (record { from_one = omega (arith, p); counted = w.counted; with_record = r }) ]
+      ];
+      not_held = w.not_held;
+      not_hidden = w.not_hidden;
+    }
+
+from_words : (ls : Logs) (m : Member) (t : Part) → IsWantedPart ls m t → is_wanted (plan_of ls m) t ≡ true
+from_words ls m t w = wanted_from ls m t (record {
+  known = w.known;
+  counted = elim w.part [ inl z ↦ omega (arith, z) | inr s ↦ s.counted ];
+  with_record = elim w.part [ inl z ↦ inl z | inr s ↦ inr s.with_record ];
+  not_held = w.not_held;
+  not_hidden = w.not_hidden;
+})
+
+pub wants_those : WantsThose
+wants_those ls m t = (λ h. in_words ls m t (sym (contains-wanted (plan_of ls m) t) ∙ h), λ w. contains-wanted (plan_of ls m) t ∙ from_words ls m t w)
+
+-- ---- the first that nobody claims
+
+is_open : (ls : Logs) (m : Member) (t : Part) → IsWantedPart ls m t → is_claimed (plan_of ls m) t ≡ false → In t (unclaimed (plan_of ls m))
+is_open ls m t w free =
+    let p = plan_of ls m in
+    in_contains exact_parts (unclaimed p) t (contains-unclaimed p t ∙ and_from (is_wanted p t) _ (from_words ls m t w) (not_from_false (is_claimed p t) free))
+
+from_open : (ls : Logs) (m : Member) (t : Part) → In t (unclaimed (plan_of ls m)) → IsWantedPart ls m t × (is_claimed (plan_of ls m) t ≡ false)
+from_open ls m t i =
+    let p = plan_of ls m in
+    let r : (is_wanted p t ≡ true) × (not (is_claimed p t) ≡ true) = and_parts (is_wanted p t) _ (sym (contains-unclaimed p t) ∙ contains_in exact_parts (unclaimed p) t i) in
+    (in_words ls m t r.0, not-true (is_claimed p t) r.1)
+
+-- the first of a list in order, and the others
+record IsFirstOf (ts : List Part) (t : Part) : Type 0 where
+  among : In t ts
+  before : (u : Part) → In u ts → u ≢ t → part_cmp t u ≡ Less
+
+first_of : (ts : List Part) (t : Part) → Rises part_cmp ts → first ts ≡ Some t → IsFirstOf ts t
+first_of [] t r e = absurd cc
+first_of (x ∷ xs) t r e =
+    let same : x ≡ t = cc in
+    subst (IsFirstOf (x ∷ xs)) same (record {
+      among = inl refl;
+      before = λ u i d. elim i [ inl q ↦ absurd (d q) | inr k ↦ each_before exact_parts.total x xs r.0 u k ];
+    })
+
+pub claims_first : ClaimsFirst
+claims_first w j t e =
+    let ls : Logs = logs w in
+    let m : Member = member w j in
+    let f : IsFirstOf (open_at w j) t = first_of (open_at w j) t (unclaimed_rises (plan_of ls m)) e in
+    let o : IsWantedPart ls m t × (is_claimed (plan_of ls m) t ≡ false) = from_open ls m t f.among in
+    record { wanted = o.0; unclaimed = o.1; first = λ u wu free d. f.before u (is_open ls m u wu free) d }
+
+none_first : (ts : List Part) → first ts ≡ None → (t : Part) → In t ts → ⊥
+none_first [] e t i = i
+none_first (x ∷ xs) e t i = absurd cc
+
+first_none : (ts : List Part) → ((t : Part) → In t ts → ⊥) → first ts ≡ None
+first_none [] h = refl
+first_none (x ∷ xs) h = absurd (h x (inl refl))
+
+pub claims_none_where : ClaimsNoneWhere
+claims_none_where w j =
+    let ls : Logs = logs w in
+    let m : Member = member w j in (
+      λ e t want. true_from_ne_false (is_claimed (plan_of ls m) t) (λ free. none_first (open_at w j) e t (is_open ls m t want free)),
+      λ each. first_none (open_at w j) (λ t i. let o : IsWantedPart ls m t × (is_claimed (plan_of ls m) t ≡ false) = from_open ls m t i in true≢false (sym (each t o.0) ∙ o.1)),
+    )

@@ -1,0 +1,55 @@
+-- What each kind of event makes of the member at which it happens. Draws come in as values, and the moment is in
+-- milliseconds.
+use Rattle.std.specs.Prelude.{ℕ, ◌+◌, ◌-◌, List, [], ◌∷◌, ◌++◌, length, Option, None, slice_set}
+use Rattle.std.specs.Ordering.{nat_cmp}
+use Rattle.ndn_name.specs.Names.{Component}
+use Rattle.repo_plan.specs.declared.part.Part.{Part}
+use Rattle.repo_plan.specs.SortedList.{with_value}
+use Rattle.repo_plan.specs.Parts.{parts_of}
+use Rattle.svs_vector.specs.Vectors.{join}
+use Rattle.svs_sync.specs.KeptVector.{steady_kept, hears_kept}
+use Rattle.repo_object.specs.Objects.{NamedContents}
+use Rattle.group_model.specs.Processes.{Process, starting}
+use Rattle.group_model.specs.Member.{Member, gains, insert_keys, without_claims}
+
+-- The machine is Steady again.
+abbrev pub resets : (draw moment : ℕ) → Member → Member
+resets draw moment m = record m { machine = steady_kept moment draw m.machine }
+
+-- The member, whose number is given, publishes an object under its next number and holds all its parts.
+abbrev pub publishes : (draw moment number : ℕ) → NamedContents → Member → Member
+publishes draw moment number o m =
+    let seq = length m.log + 1 in
+    record m {
+      log = m.log ++ o ∷ [];
+      known = slice_set m.known number seq;
+      held = insert_keys (parts_of (number, seq) (length o.contents)) m.held;
+      machine = steady_kept moment draw m.machine;
+    }
+
+-- The member is told of a vector.
+abbrev pub learns : (draw moment : ℕ) → List ℕ → Member → Member
+learns draw moment told m = record m {
+  known = join m.known told;
+  machine = hears_kept moment told m.known draw m.machine m.machine.heard;
+}
+
+-- Claims and insertion processes end. Numbers of processes go on.
+abbrev pub restarts : (draw moment : ℕ) → Member → Member
+restarts draw moment m = resets draw moment (record (without_claims m) { processes = [] })
+
+-- A fetcher claims a part, or nothing.
+abbrev pub with_claim : ℕ → Option Part → Member → Member
+with_claim f claim m = record m { claims = slice_set m.claims (f - 1) claim }
+
+-- The part that a fetcher claims is held, and the claim is over.
+abbrev pub takes : ℕ → Part → Member → Member
+takes f t m = with_claim f None (gains (t ∷ []) m)
+
+abbrev pub with_process : ℕ → Process → Member → Member
+with_process number p m = record m { processes = with_value nat_cmp number p m.processes }
+
+-- An insertion process begins under the next number.
+abbrev pub starts : List Component → (first last : ℕ) → Member → Member
+starts name first last m =
+    record (with_process m.next_process (starting name first last) m) { next_process = m.next_process + 1 }

@@ -1,0 +1,333 @@
+-- Small groups, with what happens to them and what they reply. The definitions compute the replies.
+use Rattle.std.specs.Prelude.{ℕ, ◌≡◌, ◌==◌, true, false, List, [], ◌∷◌, map, codes, replicate, Option, Some, None, Ok, Err, if◌then◌else◌}
+use Rattle.sha2.specs.Sha256.{sha256}
+use Rattle.ndn_name.specs.Names.{Component}
+use Rattle.repo_plan.specs.declared.part.Part.{Part}
+use Rattle.repo_plan.specs.SortedList.{contains}
+use Rattle.repo_plan.specs.Parts.{part_cmp, part_of}
+use Rattle.repo_catalog.specs.declared.entry.Entry.{Entry}
+use Rattle.svs_sync.specs.declared.mode.Mode.TheVariants.{Steady, Suppressed}
+use Rattle.repo_object.specs.Objects.{NamedContents}
+use Rattle.group_model.specs.Publications.{Logs, join_of}
+use Rattle.group_model.specs.Commands.{only}
+use Rattle.group_model.specs.Commands.Command.{Insert, Check, Delete}
+use Rattle.group_model.specs.Events.{Came, Found, Event}
+use Rattle.group_model.specs.Events.Came.{Nothing, Its}
+use Rattle.group_model.specs.Events.Found.{NoPacket, Packet}
+use Rattle.group_model.specs.Events.Event.{Publish, Deliver, Sync, Advance, Fire, Restart, Vector, Catalogue, Claim, Lose, Answer, Fetch, Settle, Dump, Hear, Ask, Feed, Order, Issue, Block, Summary, Traffic}
+use Rattle.group_model.specs.Replies.{Reply}
+use Rattle.group_model.specs.Replies.Reply.{Published, Delivered, Synced, Advanced, Early, Quiet, Sent, Restarted, Numbers, Entries, Claimed, Lost, Answered, Fetched, Settled, Dumped, Heard, HearRefused, OwnNumberAhead, Asked, Fed, Commanded, NoBlock, BlockKept, BlockLate, BlockPublished, Summed, Counted}
+use Rattle.group_model.specs.World.{Outside, opening, logs}
+use Rattle.group_model.specs.Steps.{replies, after_all}
+
+-- ---- what is given
+
+-- A member gives what it holds.
+abbrev pub gives_held : Logs → List Part → Part → Came
+gives_held logs held t = if contains part_cmp held t then Its else Nothing
+
+-- Every draw is 100, the network passes all, and a record has 118 octets and a segment 79.
+abbrev pub plain : Outside
+plain = record {
+  draw = λ _ _. 100;
+  passes = λ _ _ _ _. true;
+  serves = gives_held;
+  size = λ _ t. if t.part == 0 then 118 else 79;
+}
+
+-- The network passes third attempts alone.
+abbrev pub third : Outside
+third = record plain { passes = λ _ _ attempt _. attempt == 3 }
+
+-- Events with their replies, from the opening on.
+abbrev pub Plays : Outside → ℕ → List (Event × Reply) → Type 0
+Plays out members lines = replies out (opening out members) (map (λ l. l.0) lines) ≡ map (λ l. l.1) lines
+
+-- ---- words for the lines
+
+abbrev pub named_by : List ℕ → List Component
+named_by text = (8, text) ∷ []
+
+abbrev pub abc : List ℕ
+abc = codes "abc"
+
+abbrev pub doc : List Component
+doc = named_by (codes "doc")
+
+-- An object in one segment.
+abbrev pub whole : List Component → List ℕ → NamedContents
+whole name content = record { name = name; contents = content ∷ [] }
+
+-- The three octets of `abc`, each a segment.
+abbrev pub pieces : NamedContents
+pieces = record { name = doc; contents = codes "a" ∷ codes "b" ∷ codes "c" ∷ [] }
+
+abbrev pub entry : ℕ → ℕ → List Component → ℕ → ℕ → List ℕ → Entry
+entry publisher seq name segments octets content = record {
+  publisher = publisher;
+  seq = seq;
+  name = name;
+  segments = segments;
+  octets = octets;
+  digest = sha256 content;
+}
+
+abbrev pub part : ℕ → ℕ → ℕ → Option Part
+part publisher seq x = Some (part_of (publisher, seq) x)
+
+-- An Interest that the record of the first member's first publication satisfies.
+abbrev pub finds_record : Logs → List Part → Found
+finds_record logs held =
+    if contains part_cmp held (part_of (0, 1) 0) then Packet (part_of (0, 1) 0) else NoPacket
+
+-- A fetcher of the second member claims a part of the first one's publication, and gets it from the first.
+abbrev pub comes : ℕ → List (Event × Reply) → List (Event × Reply)
+comes x later = (Claim 1 1, Claimed (part 0 1 x)) ∷ (Answer 1 1 0, Answered true) ∷ later
+
+-- ---- publications, vectors and settles
+
+abbrev pub NothingHappens : Type 0
+NothingHappens = Plays plain 1 []
+
+abbrev pub Settles : Type 0
+Settles = Plays plain 2 (
+    (Publish 0 (whole doc abc), Published 1 1 1)
+    ∷ (Settle, Settled 2 2)
+    ∷ (Catalogue 0, Entries (entry 0 1 doc 1 3 abc ∷ []))
+    ∷ (Catalogue 1, Entries (entry 0 1 doc 1 3 abc ∷ []))
+    ∷ (Traffic, Counted 3 2 0 2 197)
+    ∷ []
+    )
+
+abbrev pub Delivers : Type 0
+Delivers = Plays plain 2 (
+    (Publish 0 (whole doc abc), Published 1 1 1)
+    ∷ (Deliver 1 1, Delivered Steady)
+    ∷ (Vector 1, Numbers (1 ∷ 0 ∷ []))
+    ∷ (Catalogue 1, Entries [])
+    ∷ []
+    )
+
+abbrev pub OldRepeats : Type 0
+OldRepeats = Plays plain 2 (
+    (Publish 0 (whole (named_by (codes "a")) abc), Published 1 1 1)
+    ∷ (Publish 0 (whole (named_by (codes "b")) abc), Published 2 1 2)
+    ∷ (Deliver 2 1, Delivered Steady)
+    ∷ (Deliver 1 1, Delivered Suppressed)
+    ∷ (Deliver 1 1, Delivered Suppressed)
+    ∷ (Deliver 1 1, Delivered Suppressed)
+    ∷ (Vector 1, Numbers (2 ∷ 0 ∷ []))
+    ∷ []
+    )
+
+abbrev pub PartByPart : Type 0
+PartByPart = Plays plain 2 (
+    (Publish 0 pieces, Published 1 3 1)
+    ∷ (Deliver 1 1, Delivered Steady)
+    ∷ comes 0 (comes 1 (comes 2 (
+    (Catalogue 1, Entries [])
+    ∷ comes 3 ((Catalogue 1, Entries (entry 0 1 doc 3 3 abc ∷ [])) ∷ [])
+    )))
+    )
+
+abbrev pub SameObjectTwice : Type 0
+SameObjectTwice = Plays plain 2 (
+    (Publish 0 (whole doc abc), Published 1 1 1)
+    ∷ (Publish 0 (whole doc abc), Published 2 1 2)
+    ∷ (Settle, Settled 2 4)
+    ∷ (Catalogue 1, Entries (entry 0 1 doc 1 3 abc ∷ entry 0 2 doc 1 3 abc ∷ []))
+    ∷ (Dump 1 (part_of (0, 1) 1), Dumped (part 0 1 1))
+    ∷ (Dump 1 (part_of (0, 2) 1), Dumped (part 0 2 1))
+    ∷ (Dump 1 (part_of (0, 3) 0), Dumped None)
+    ∷ (Traffic, Counted 4 2 0 4 394)
+    ∷ []
+    )
+
+abbrev pub ThreeMembers : Type 0
+ThreeMembers = Plays plain 3 (
+    (Publish 0 (whole doc abc), Published 1 1 1)
+    ∷ (Publish 1 (whole doc (codes "hello")), Published 1 1 2)
+    ∷ (Settle, Settled 3 8)
+    ∷ (Catalogue 2, Entries (entry 0 1 doc 1 3 abc ∷ entry 1 1 doc 1 5 (codes "hello") ∷ []))
+    ∷ (Summary, Summed (replicate 3 (record { entries = 2; segments = 2; octets = 8 })))
+    ∷ []
+    )
+
+abbrev pub SegmentCounts : Type 0
+SegmentCounts = Plays plain 1 (
+    (Publish 0 (record { name = doc; contents = [] }), Published 1 0 1)
+    ∷ (Catalogue 0, Entries (entry 0 1 doc 0 0 [] ∷ []))
+    ∷ (Publish 0 (whole doc (codes "abcd")), Published 2 1 2)
+    ∷ (Publish 0 (record { name = doc; contents = codes "abcd" ∷ codes "e" ∷ [] }), Published 3 2 3)
+    ∷ (Publish 0 (record { name = doc; contents = replicate 200 (codes "AAAA") }), Published 4 200 4)
+    ∷ (Summary, Summed (record { entries = 4; segments = 203; octets = 809 } ∷ []))
+    ∷ []
+    )
+
+abbrev pub SettleEndsClaims : Type 0
+SettleEndsClaims = Plays plain 2 (
+    (Publish 0 pieces, Published 1 3 1)
+    ∷ (Deliver 1 1, Delivered Steady)
+    ∷ comes 0 (comes 1 (
+    (Claim 1 1, Claimed (part 0 1 2))
+    ∷ (Settle, Settled 2 2)
+    ∷ (Catalogue 1, Entries (entry 0 1 doc 3 3 abc ∷ []))
+    ∷ (Claim 1 1, Claimed None)
+    ∷ []
+    ))
+    )
+
+abbrev pub Timers : Type 0
+Timers = Plays plain 2 (
+    (Fire 1, Early)
+    ∷ (Publish 0 (whole doc abc), Published 1 1 1)
+    ∷ (Publish 0 (whole doc abc), Published 2 1 2)
+    ∷ (Deliver 2 1, Delivered Steady)
+    ∷ (Deliver 1 1, Delivered Suppressed)
+    ∷ (Deliver 2 1, Delivered Suppressed)
+    ∷ (Advance 100, Advanced 100)
+    ∷ (Fire 1, Quiet)
+    ∷ (Deliver 1 1, Delivered Suppressed)
+    ∷ (Advance 100, Advanced 200)
+    ∷ (Fire 1, Sent 3)
+    ∷ (Sync 3, Synced (record { sender = 1; vector = 2 ∷ 0 ∷ [] }))
+    ∷ []
+    )
+
+-- ---- fetches
+
+abbrev pub Fetches : Type 0
+Fetches = Plays plain 2 (
+    (Publish 0 pieces, Published 1 3 1)
+    ∷ (Deliver 1 1, Delivered Steady)
+    ∷ (Fetch 1 16 0, Fetched 1 1 1)
+    ∷ (Fetch 1 16 0, Fetched 3 3 3)
+    ∷ (Catalogue 1, Entries (entry 0 1 doc 3 3 abc ∷ []))
+    ∷ []
+    )
+
+-- Attempts are counted from fetch to fetch.
+abbrev pub ThirdAttempts : Type 0
+ThirdAttempts = Plays third 2 (
+    (Publish 0 pieces, Published 1 3 1)
+    ∷ (Deliver 1 1, Delivered Steady)
+    ∷ (Fetch 1 2 500, Fetched 1 0 2)
+    ∷ (Fetch 1 16 500, Fetched 1 1 1)
+    ∷ (Fetch 1 16 500, Fetched 3 3 9)
+    ∷ (Traffic, Counted 1 1 12 4 355)
+    ∷ []
+    )
+
+-- ---- what comes from outside
+
+abbrev pub FromOutside : Type 0
+FromOutside = Plays plain 2 (
+    (Publish 0 (whole doc abc), Published 1 1 1)
+    ∷ (Hear 1 None, HearRefused)
+    ∷ (Hear 1 (Some (record { sender = 0; vector = 1 ∷ 5 ∷ [] })), OwnNumberAhead 0 5)
+    ∷ (Hear 1 (Some (record { sender = 0; vector = 1 ∷ 0 ∷ [] })), Heard Steady)
+    ∷ (Claim 1 1, Claimed (part 0 1 0))
+    ∷ (Feed 1 1 (λ _ _. Nothing), Fed false)
+    ∷ (Feed 1 1 (λ _ _. Its), Fed true)
+    ∷ (Ask 1 finds_record, Asked (Packet (part_of (0, 1) 0)))
+    ∷ (Claim 1 1, Claimed (part 0 1 1))
+    ∷ (Answer 1 1 1, Answered false)
+    ∷ (Lose 1 1, Lost (part 0 1 1))
+    ∷ (Traffic, Counted 1 1 1 1 118)
+    ∷ []
+    )
+
+-- ---- restarts, deletions and insertions
+
+abbrev pub dropped : ℕ → Reply
+dropped packets = Commanded (record (only 200) { deleted = Some packets })
+
+abbrev pub inserted : ℕ → ℕ → Reply
+inserted code blocks = Commanded (record (only code) { inserted = Some blocks })
+
+abbrev pub started : ℕ → Reply
+started process = Commanded (record (only 100) { process = Some process })
+
+abbrev pub RestartKeepsNumbers : Type 0
+RestartKeepsNumbers = Plays plain 2 (
+    (Publish 0 pieces, Published 1 3 1)
+    ∷ (Deliver 1 1, Delivered Steady)
+    ∷ comes 0 (
+    (Restart 1, Restarted)
+    ∷ (Claim 1 1, Claimed (part 0 1 1))
+    ∷ (Publish 1 (whole doc abc), Published 1 1 2)
+    ∷ (Issue 0 0 (Delete doc), dropped 4)
+    ∷ (Restart 0, Restarted)
+    ∷ (Publish 0 (whole doc abc), Published 2 1 3)
+    ∷ []
+    )
+    )
+
+abbrev pub Insertion : Type 0
+Insertion = Plays plain 2 (
+    (Issue 0 0 (Insert doc 5 6), started 1)
+    ∷ (Issue 0 0 (Check 1), inserted 300 0)
+    ∷ (Block 0 1 5 (codes "ab"), BlockKept)
+    ∷ (Issue 0 0 (Check 1), inserted 300 1)
+    ∷ (Block 0 1 6 (codes "c"), BlockPublished 1 1)
+    ∷ (Issue 0 0 (Check 1), inserted 200 2)
+    ∷ (Issue 0 0 (Check 9), Commanded (only 404))
+    ∷ (Settle, Settled 2 3)
+    ∷ (Issue 0 0 (Delete doc), dropped 3)
+    ∷ (Issue 0 0 (Delete doc), Commanded (only 404))
+    ∷ (Settle, Settled 2 0)
+    ∷ (Catalogue 0, Entries [])
+    ∷ (Catalogue 1, Entries (entry 0 1 doc 2 3 abc ∷ []))
+    ∷ []
+    )
+
+abbrev pub Blocks : Type 0
+Blocks = Plays plain 1 (
+    (Order 0 (Err 401), Commanded (only 401))
+    ∷ (Order 0 (Ok (0, Insert doc 5 6)), started 1)
+    ∷ (Block 0 1 6 (codes "c"), BlockKept)
+    ∷ (Block 0 1 6 (codes "x"), BlockKept)
+    ∷ (Block 0 1 7 (codes "x"), NoBlock)
+    ∷ (Block 0 2 5 (codes "x"), NoBlock)
+    ∷ (Block 0 1 5 (codes "ab"), BlockPublished 1 1)
+    ∷ (Block 0 1 5 (codes "x"), BlockLate)
+    ∷ (Catalogue 0, Entries (entry 0 1 doc 2 3 abc ∷ []))
+    ∷ (Restart 0, Restarted)
+    ∷ (Block 0 1 5 (codes "x"), NoBlock)
+    ∷ (Issue 0 0 (Insert doc 0 0), started 2)
+    ∷ []
+    )
+
+abbrev pub DeletedBefore : Type 0
+DeletedBefore = Plays plain 2 (
+    (Publish 0 (whole doc abc), Published 1 1 1)
+    ∷ (Issue 0 0 (Delete doc), dropped 2)
+    ∷ (Settle, Settled 2 0)
+    ∷ (Catalogue 1, Entries [])
+    ∷ (Claim 1 1, Claimed (part 0 1 0))
+    ∷ []
+    )
+
+-- ---- all are told of all, and nothing is wanted in the end
+
+abbrev pub told_of_all : List (Event × Reply) → List (Event × Reply)
+told_of_all later =
+    (Publish 0 pieces, Published 1 3 1)
+    ∷ (Deliver 1 0, Delivered Steady)
+    ∷ (Deliver 1 1, Delivered Steady)
+    ∷ (Claim 1 1, Claimed (part 0 1 0))
+    ∷ (Lose 1 1, Lost (part 0 1 0))
+    ∷ (Deliver 1 1, Delivered Steady)
+    ∷ comes 0 (comes 1 (comes 2 (comes 3 later)))
+
+abbrev pub ToldOfAll : Type 0
+ToldOfAll = Plays plain 2 (told_of_all (
+    (Catalogue 0, Entries (entry 0 1 doc 3 3 abc ∷ []))
+    ∷ (Catalogue 1, Entries (entry 0 1 doc 3 3 abc ∷ []))
+    ∷ (Claim 1 1, Claimed None)
+    ∷ []
+    ))
+
+abbrev pub JoinOfThem : Type 0
+JoinOfThem =
+    join_of (logs (after_all plain (opening plain 2) (map (λ l. l.0) (told_of_all [])))) ≡ entry 0 1 doc 3 3 abc ∷ []

@@ -1,0 +1,102 @@
+-- What one member of a group has published, knows, holds, hides and claims.
+use Rattle.std.specs.Prelude.{ℕ, ◌+◌, Bool, not, List, [], ◌∷◌, map, filter, Option, unwrap_or, ◌==◌, if◌then◌else◌}
+use Rattle.std.specs.List.{list_all}
+use Rattle.ndn_name.specs.Names.{Component}
+use Rattle.repo_plan.specs.declared.part.Part.{Part}
+use Rattle.repo_plan.specs.SortedList.{contains, insert_key, value_of, with_value}
+use Rattle.repo_plan.specs.Parts.{Pair, Shape, pair_cmp, part_cmp, pair_of}
+use Rattle.repo_plan.specs.Plan.{Holdings, no_claims, is_in}
+use Rattle.svs_sync.specs.KeptVector.{Keeper}
+use Rattle.repo_object.specs.Objects.{NamedContents}
+use Rattle.repo_catalog.specs.declared.entry.Entry.{Entry}
+use Rattle.group_model.specs.Publications.{Logs, Publication, count, pair_in, parts_in, published, entry_of}
+use Rattle.group_model.specs.Processes.{Process}
+use Rattle.group_model.specs.Commands.{is_name}
+
+pub record Member : Type 0 where
+  pub log : List NamedContents  -- what it published, in order
+  pub known : List ℕ  -- its vector: one number a member
+  pub held : List Part  -- in order
+  pub hidden : List Pair  -- what it deleted, in order
+  pub claims : List (Option Part)  -- by fetcher; the first stands at place 0
+  pub attempts : List (Part × ℕ)  -- in order, without 0
+  pub machine : Keeper
+  pub processes : List (ℕ × Process)  -- insertion processes, by number
+  pub next_process : ℕ
+
+abbrev pub holds : Member → Part → Bool
+holds m t = contains part_cmp m.held t
+
+abbrev pub hides : Member → Pair → Bool
+hides m pair = contains pair_cmp m.hidden pair
+
+-- ---- wanted parts
+
+-- What the held records tell: how many segments their publications have.
+abbrev pub told_by : Logs → List Part → List (Pair × Shape)
+told_by logs held = map (λ t. (pair_of t, count logs (pair_of t))) (filter (λ t. t.part == 0) held)
+
+-- The fetch plan of a member. What it wants and what its fetchers claim is read there.
+abbrev pub plan_of : Logs → Member → Holdings
+plan_of logs m = record {
+  known = m.known;
+  held = m.held;
+  shapes = told_by logs m.held;
+  claims = m.claims;
+  hidden = m.hidden;
+  attempts = m.attempts;
+  spare = 0;
+}
+
+-- ---- the catalogue
+
+-- Every part of the publication is held.
+abbrev pub holds_all : Member → Publication → Bool
+holds_all m p = list_all (holds m) (parts_in p)
+
+-- The publications that are wholly held, in order.
+abbrev pub catalogued : Logs → Member → List Publication
+catalogued logs m = filter (holds_all m) (published logs)
+
+abbrev pub catalogue : Logs → Member → List Entry
+catalogue logs m = map entry_of (catalogued logs m)
+
+-- Those of one object name.
+abbrev pub named : Logs → Member → List Component → List Publication
+named logs m name = filter (λ p. is_name p.object.name name) (catalogued logs m)
+
+-- ---- changes
+
+-- The set with these keys too.
+abbrev pub insert_keys : List Part → List Part → List Part
+insert_keys [] held = held
+insert_keys (t ∷ ts) held = insert_keys ts (insert_key part_cmp t held)
+
+abbrev pub gains : List Part → Member → Member
+gains ts m = record m { held = insert_keys ts m.held }
+
+-- A publication is hidden for good, and none of its parts is held.
+abbrev pub hides_too : Pair → Member → Member
+hides_too pair m = record m {
+  held = filter (λ t. not (is_in pair t)) m.held;
+  hidden = insert_key pair_cmp pair m.hidden;
+}
+
+abbrev pub hides_all : List Publication → Member → Member
+hides_all [] m = m
+hides_all (p ∷ ps) m = hides_all ps (hides_too (pair_in p) m)
+
+-- How often a part was tried, and so many attempts more.
+abbrev pub attempts_of : List (Part × ℕ) → Part → ℕ
+attempts_of tried t = unwrap_or (value_of part_cmp tried t) 0
+
+abbrev pub with_attempts : Part → ℕ → List (Part × ℕ) → List (Part × ℕ)
+with_attempts t n tried = if n == 0 then tried else with_value part_cmp t (attempts_of tried t + n) tried
+
+abbrev pub with_each_tried : (Part → ℕ) → List Part → List (Part × ℕ) → List (Part × ℕ)
+with_each_tried more [] tried = tried
+with_each_tried more (t ∷ ts) tried = with_each_tried more ts (with_attempts t (more t) tried)
+
+-- No fetcher claims a part.
+abbrev pub without_claims : Member → Member
+without_claims m = record m { claims = no_claims }

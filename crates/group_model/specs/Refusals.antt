@@ -1,0 +1,120 @@
+-- Which events are refused, and which are foreign: octets that pass their checks and that nobody of the group made.
+use Rattle.std.specs.Prelude.{ℕ, ◌≡◌, ◌<◌, ◌≤◌, Bool, not, List, [], ◌∷◌, length, Option, Some, None, Result, Ok, Err, nat_le, ◌==◌, ◌&&◌, if◌then◌else◌}
+use Rattle.std.specs.List.{list_any}
+use Rattle.std.specs.Str.{bytes_eq}
+use Rattle.repo_plan.specs.declared.part.Part.{Part}
+use Rattle.group_model.specs.Processes.{BlockState}
+use Rattle.group_model.specs.Processes.BlockState.{Whole}
+use Rattle.group_model.specs.Commands.{Command, is_command}
+use Rattle.group_model.specs.Events.{SyncInterest, Came, Event}
+use Rattle.group_model.specs.Events.Came.{Another}
+use Rattle.group_model.specs.World.{World, Outside, member}
+use Rattle.group_model.specs.Steps.{claim_at, came_from, came_as, tells_too_much, block_at, after}
+
+pub data Refusal : Type 0 where
+  NoSuchPacket : Refusal
+  FetcherBusy : Refusal
+  FetcherIdle : Refusal
+  Foreign : Refusal
+  NumbersSpent : Refusal
+
+-- ---- foreign octets
+
+abbrev pub was_sent : World → SyncInterest → Bool
+was_sent w sync = list_any (λ s. s.sender == sync.sender && bytes_eq s.vector sync.vector) w.sent
+
+abbrev pub was_issued : World → ℕ → ℕ × Command → Bool
+was_issued w j order = list_any (λ i. i.member == j && (i.client == order.0 && is_command i.command order.1)) w.issued
+
+-- ---- what refuses an event
+
+abbrev pub unless : Bool → Refusal → Option Refusal
+unless holds refusal = if holds then None else Some refusal
+
+-- Sync Interests are numbered from 1.
+abbrev pub unless_sent : World → ℕ → Option Refusal
+unless_sent w k = unless (nat_le 1 k && nat_le k (length w.sent)) Refusal.NoSuchPacket
+
+abbrev pub if_busy : Option Part → Option Refusal
+if_busy None = None
+if_busy (Some t) = Some Refusal.FetcherBusy
+
+abbrev pub if_idle : Option Part → Option Refusal
+if_idle None = Some Refusal.FetcherIdle
+if_idle (Some t) = None
+
+-- There is no claim that it came for, or it passes its checks and isn't the publisher's packet.
+abbrev pub if_idle_or_foreign : Option Part → Came → Option Refusal
+if_idle_or_foreign None came = Some Refusal.FetcherIdle
+if_idle_or_foreign (Some t) Another = Some Refusal.Foreign
+if_idle_or_foreign (Some t) _ = None
+
+-- A vector that tells too much of the member itself is told of before.
+abbrev pub if_unsent : World → ℕ → Option SyncInterest → Option Refusal
+if_unsent w j None = None
+if_unsent w j (Some sync) = if tells_too_much w j sync then None else unless (was_sent w sync) Refusal.Foreign
+
+abbrev pub if_unissued : World → ℕ → Result (ℕ × Command) ℕ → Option Refusal
+if_unissued w j (Ok order) = unless (was_issued w j order) Refusal.Foreign
+if_unissued w j (Err code) = None
+
+-- A member has at most 65,535 publications.
+abbrev pub if_spent : World → ℕ → Option Refusal
+if_spent w j = unless (not (nat_le 65535 (length (member w j).log))) Refusal.NumbersSpent
+
+abbrev pub if_whole : World → ℕ → BlockState → Option Refusal
+if_whole w j (Whole p) = if_spent w j
+if_whole w j _ = None
+
+abbrev pub refusal : Outside → World → Event → Option Refusal
+refusal out w (Event.Publish j o) = if_spent w j
+refusal out w (Event.Deliver k j) = unless_sent w k
+refusal out w (Event.Sync k) = unless_sent w k
+refusal out w (Event.Claim j f) = if_busy (claim_at w j f)
+refusal out w (Event.Lose j f) = if_idle (claim_at w j f)
+refusal out w (Event.Answer j f q) = if_idle_or_foreign (claim_at w j f) (came_from out w q (claim_at w j f))
+refusal out w (Event.Hear j read) = if_unsent w j read
+refusal out w (Event.Feed j f read) = if_idle_or_foreign (claim_at w j f) (came_as w read (claim_at w j f))
+refusal out w (Event.Order j read) = if_unissued w j read
+refusal out w (Event.Block j process index content) = if_whole w j (block_at w j process index content)
+refusal out w _ = None
+
+-- ---- events that are taken
+
+-- There is such a member, and such a fetcher.
+abbrev pub IsFetcherOf : World → ℕ → ℕ → Type 0
+IsFetcherOf w j f = (j < length w.members) × (1 ≤ f) × (f ≤ 16)
+
+-- The members and fetchers that an event names are there.
+abbrev pub NamesThose : World → Event → Type 0
+NamesThose w (Event.Publish j o) = j < length w.members
+NamesThose w (Event.Deliver k j) = j < length w.members
+NamesThose w (Event.Sync k) = Unit {0}
+NamesThose w (Event.Advance ms) = Unit {0}
+NamesThose w (Event.Fire j) = j < length w.members
+NamesThose w (Event.Restart j) = j < length w.members
+NamesThose w (Event.Vector j) = j < length w.members
+NamesThose w (Event.Catalogue j) = j < length w.members
+NamesThose w (Event.Claim j f) = IsFetcherOf w j f
+NamesThose w (Event.Lose j f) = IsFetcherOf w j f
+NamesThose w (Event.Answer j f q) = IsFetcherOf w j f × (q < length w.members)
+NamesThose w (Event.Fetch j tries loss) = j < length w.members
+NamesThose w Event.Settle = Unit {0}
+NamesThose w (Event.Dump j t) = j < length w.members
+NamesThose w (Event.Hear j read) = j < length w.members
+NamesThose w (Event.Ask j find) = j < length w.members
+NamesThose w (Event.Feed j f read) = IsFetcherOf w j f
+NamesThose w (Event.Order j read) = j < length w.members
+NamesThose w (Event.Issue j client command) = j < length w.members
+NamesThose w (Event.Block j process index content) = j < length w.members
+NamesThose w Event.Summary = Unit {0}
+NamesThose w Event.Traffic = Unit {0}
+
+pub record IsTaken (out : Outside) (w : World) (e : Event) : Type 0 where
+  pub named : NamesThose w e
+  pub taken : refusal out w e ≡ None
+
+-- Each event of a list is taken when its turn comes.
+abbrev pub AreTaken : Outside → World → List Event → Type 0
+AreTaken out w [] = Unit {0}
+AreTaken out w (e ∷ es) = IsTaken out w e × AreTaken out (after out w e) es

@@ -1,0 +1,355 @@
+-- What each event makes of a group, and what is told of it.
+use Rattle.std.specs.Prelude.{ℕ, ◌+◌, ◌-◌, ◌*◌, Bool, true, false, not, List, [], ◌∷◌, ◌++◌, map, length, take, Option, Some, None, is_some, unwrap_or, Result, Ok, Err, slice_index, slice_set, nat_le, nat_lt, ◌==◌, ◌&&◌, if◌then◌else◌, filter, find, sum_by}
+use Rattle.std.specs.Ordering.{nat_cmp}
+use Rattle.repo_plan.specs.declared.part.Part.{Part}
+use Rattle.repo_plan.specs.SortedList.{value_of}
+use Rattle.repo_plan.specs.Parts.{pair_of, record_of, numbers_from}
+use Rattle.repo_plan.specs.Plan.{claim_of, unclaimed, first}
+use Rattle.svs_vector.specs.Vectors.{join_all}
+use Rattle.svs_sync.specs.declared.fired.Fired.{Fired}
+use Rattle.svs_sync.specs.declared.fired.Fired.TheVariants.{Early, Quiet, Send}
+use Rattle.svs_sync.specs.declared.mode.Mode.{Mode}
+use Rattle.svs_sync.specs.Suppression.{mode_of}
+use Rattle.svs_sync.specs.KeptVector.{fires_kept}
+use Rattle.repo_object.specs.Objects.{NamedContents}
+use Rattle.repo_catalog.specs.declared.entry.Entry.{Entry}
+use Rattle.group_model.specs.Publications.{Logs, all_parts}
+use Rattle.group_model.specs.Processes.{Process, BlockState, present, object_of, closed, block_state}
+use Rattle.group_model.specs.Processes.BlockState.{Unknown, Already, Waiting, Whole}
+use Rattle.group_model.specs.Commands.{Command, Answer, only}
+use Rattle.group_model.specs.Commands.Command.{Insert, Check, Delete}
+use Rattle.group_model.specs.Member.{Member, holds, hides, plan_of, named, gains, hides_all, attempts_of, with_each_tried, without_claims}
+use Rattle.group_model.specs.Changes.{resets, publishes, learns, restarts, with_claim, takes, with_process, starts}
+use Rattle.group_model.specs.Events.{SyncInterest, Came, Event}
+use Rattle.group_model.specs.Events.Came.{Nothing, Its, Another}
+use Rattle.group_model.specs.Replies.{Totals, Reply}
+use Rattle.group_model.specs.World.{Issued, World, Outside, no_member, member, with_member, logs, sent_at, catalogue_at, someone_holds}
+
+-- ---- claims
+
+-- What a fetcher of a member claims.
+abbrev pub claim_at : World → ℕ → ℕ → Option Part
+claim_at w j f = claim_of (plan_of (logs w) (member w j)) f
+
+-- The wanted parts of a member that none of its fetchers claims, in order. A fetcher claims the first.
+abbrev pub open_at : World → ℕ → List Part
+open_at w j = unclaimed (plan_of (logs w) (member w j))
+
+abbrev pub to_claim : World → ℕ → Option Part
+to_claim w j = first (open_at w j)
+
+abbrev pub after_claim : World → ℕ → ℕ → Option Part → World
+after_claim w j f None = w
+after_claim w j f (Some t) = with_member w j (with_claim f (Some t) (member w j))
+
+-- ---- sync
+
+-- The member's sync Interest is sent.
+abbrev pub with_sync : World → ℕ → World
+with_sync w j = record w { sent = w.sent ++ record { sender = j; vector = (member w j).known } ∷ [] }
+
+-- What the timer of a member says.
+abbrev pub timer_at : World → ℕ → Fired
+timer_at w j = fires_kept w.moment (member w j).known (member w j).machine
+
+-- A vector tells of more publications of the member than there are.
+abbrev pub tells_too_much : World → ℕ → SyncInterest → Bool
+tells_too_much w j sync = nat_lt (length (member w j).log) (slice_index sync.vector j)
+
+-- ---- parts that come
+
+abbrev pub passes_checks : Came → Bool
+passes_checks Nothing = false
+passes_checks Its = true
+passes_checks Another = true
+
+-- What member q gives for a claim.
+abbrev pub came_from : Outside → World → ℕ → Option Part → Came
+came_from out w q None = Nothing
+came_from out w q (Some t) = out.serves (logs w) (member w q).held t
+
+-- What octets are for a claim.
+abbrev pub came_as : World → (Logs → Part → Came) → Option Part → Came
+came_as w read None = Nothing
+came_as w read (Some t) = read (logs w) t
+
+abbrev pub tried_once : World → World
+tried_once w = record w { tally = record w.tally { attempts = w.tally.attempts + 1 } }
+
+abbrev pub after_part : Outside → World → ℕ → ℕ → Part → World
+after_part out w j f t = record (with_member w j (takes f t (member w j))) {
+  tally = record w.tally { parts = w.tally.parts + 1; octets = w.tally.octets + out.size (logs w) t };
+}
+
+-- The claim is over where what came for it passes its checks.
+abbrev pub after_came : Outside → World → ℕ → ℕ → Option Part → Came → World
+after_came out w j f None came = w
+after_came out w j f (Some t) Nothing = w
+after_came out w j f (Some t) Its = after_part out w j f t
+after_came out w j f (Some t) Another = after_part out w j f t
+
+-- ---- a settle
+
+-- The vector of every member afterwards.
+abbrev pub settled_vector : World → List ℕ
+settled_vector w = join_all (map (λ m. m.known) w.members)
+
+-- A part that is told of then, isn't hidden, is held by someone, with its record, and isn't held yet.
+abbrev pub comes_to : World → Member → Part → Bool
+comes_to w m t =
+    nat_le t.seq (slice_index (settled_vector w) t.publisher)
+    && (not (hides m (pair_of t))
+    && (someone_holds w.members t && (someone_holds w.members (record_of t) && not (holds m t))))
+
+abbrev pub new_parts : World → Member → List Part
+new_parts w m = filter (comes_to w m) (all_parts (logs w))
+
+abbrev pub settle_gains : World → ℕ
+settle_gains w = sum_by (λ m. length (new_parts w m)) w.members
+
+-- The sync Interests of the members from a member on.
+abbrev pub syncs_of : ℕ → List Member → List SyncInterest
+syncs_of j [] = []
+syncs_of j (m ∷ ms) = record { sender = j; vector = m.known } ∷ syncs_of (j + 1) ms
+
+-- ---- a fetch
+
+abbrev pub planned : World → ℕ → List Part
+planned w j = take 4096 (open_at w j)
+
+abbrev pub others_of : World → ℕ → List Member
+others_of w j = slice_set w.members j no_member
+
+-- The first of so many attempts that the network passes, where another member holds the part.
+abbrev pub attempt : Outside → World → (j tries loss : ℕ) → Part → Option ℕ
+attempt out w j tries loss t =
+    if someone_holds (others_of w j) t
+    then find (λ a. out.passes j t (attempts_of (member w j).attempts t + a) loss) (numbers_from 1 tries)
+    else None
+
+abbrev pub fetched : Outside → World → (j tries loss : ℕ) → List Part
+fetched out w j tries loss = filter (λ t. is_some (attempt out w j tries loss t)) (planned w j)
+
+-- How many attempts a part takes.
+abbrev pub attempts_for : Outside → World → (j tries loss : ℕ) → Part → ℕ
+attempts_for out w j tries loss t = unwrap_or (attempt out w j tries loss t) tries
+
+abbrev pub attempts_made : Outside → World → (j tries loss : ℕ) → ℕ
+attempts_made out w j tries loss = sum_by (attempts_for out w j tries loss) (planned w j)
+
+abbrev pub fetches : Outside → World → (j tries loss : ℕ) → Member → Member
+fetches out w j tries loss m = record (gains (fetched out w j tries loss) m) {
+  attempts = with_each_tried (attempts_for out w j tries loss) (planned w j) m.attempts;
+}
+
+-- ---- commands
+
+-- Numbers of processes end at 4,294,967,295.
+abbrev pub can_start : Member → Bool
+can_start m = nat_le m.next_process 4294967295
+
+abbrev pub after_command : World → ℕ → Command → World
+after_command w j (Insert name first last) =
+    if can_start (member w j) then with_member w j (starts name first last (member w j)) else w
+after_command w j (Check process) = w
+after_command w j (Delete name) =
+    with_member w j (hides_all (named (logs w) (member w j) name) (member w j))
+
+-- How many packets a deletion drops.
+abbrev pub dropped : World → ℕ → Command → ℕ
+dropped w j command = length (member w j).held - length (member (after_command w j command) j).held
+
+abbrev pub check_answer : Option Process → Answer
+check_answer None = only 404
+check_answer (Some p) = record (only (if p.published then 200 else 300)) { inserted = Some (present p) }
+
+abbrev pub answer_of : World → ℕ → Command → Answer
+answer_of w j (Insert name first last) =
+    if can_start (member w j) then record (only 100) { process = Some (member w j).next_process } else only 403
+answer_of w j (Check process) = check_answer (value_of nat_cmp (member w j).processes process)
+answer_of w j (Delete name) =
+    if length (named (logs w) (member w j) name) == 0 then only 404
+    else record (only 200) { deleted = Some (dropped w j (Delete name)) }
+
+abbrev pub after_order : World → ℕ → Result (ℕ × Command) ℕ → World
+after_order w j (Ok order) = after_command w j order.1
+after_order w j (Err code) = w
+
+abbrev pub order_answer : World → ℕ → Result (ℕ × Command) ℕ → Answer
+order_answer w j (Ok order) = answer_of w j order.1
+order_answer w j (Err code) = only code
+
+abbrev pub after_issue : World → ℕ → ℕ → Command → World
+after_issue w j client command =
+    let made : Issued = record { member = j; client = client; command = command } in
+    after_command (record w { issued = w.issued ++ made ∷ [] }) j command
+
+-- ---- blocks
+
+abbrev pub block_at : World → ℕ → (process index : ℕ) → List ℕ → BlockState
+block_at w j process index content = block_state (member w j).processes process index content
+
+abbrev pub with_process_at : World → ℕ → ℕ → Process → World
+with_process_at w j number p = with_member w j (with_process number p (member w j))
+
+-- ---- draws
+
+module _ (out : Outside) where
+  -- The next draw of a member.
+  abbrev pub drawn : World → ℕ → ℕ
+  drawn w j = out.draw j (member w j).machine.draws
+
+  abbrev pub after_publish : World → ℕ → NamedContents → World
+  after_publish w j o = with_sync (with_member w j (publishes (drawn w j) w.moment j o (member w j))) j
+
+  abbrev pub after_block : World → ℕ → ℕ → BlockState → World
+  after_block w j process Unknown = w
+  after_block w j process Already = w
+  after_block w j process (Waiting p) = with_process_at w j process p
+  after_block w j process (Whole p) = after_publish (with_process_at w j process (closed p)) j (object_of p)
+
+  abbrev pub after_deliver : World → ℕ → List ℕ → World
+  after_deliver w j told = record (with_member w j (learns (drawn w j) w.moment told (member w j))) {
+    tally = record w.tally { delivered = w.tally.delivered + 1 };
+  }
+
+  -- Octets that are refused, or that tell too much, change nothing.
+  abbrev pub after_hear : World → ℕ → Option SyncInterest → World
+  after_hear w j None = w
+  after_hear w j (Some sync) = if tells_too_much w j sync then w else after_deliver w j sync.vector
+
+  abbrev pub after_reset : World → ℕ → World
+  after_reset w j = with_member w j (resets (drawn w j) w.moment (member w j))
+
+  abbrev pub after_fire : World → ℕ → Fired → World
+  after_fire w j Early = w
+  after_fire w j Quiet = after_reset w j
+  after_fire w j Send = with_sync (after_reset w j) j
+
+  abbrev pub after_restart : World → ℕ → World
+  after_restart w j = with_member w j (restarts (drawn w j) w.moment (member w j))
+
+  abbrev pub settles : World → ℕ → Member → Member
+  settles w j m = resets (out.draw j m.machine.draws) w.moment
+      (record (gains (new_parts w m) (without_claims m)) { known = settled_vector w })
+
+  abbrev pub settle_each : World → ℕ → List Member → List Member
+  settle_each w j [] = []
+  settle_each w j (m ∷ ms) = settles w j m ∷ settle_each w (j + 1) ms
+
+  abbrev pub after_settle : World → World
+  after_settle w = record w {
+    members = settle_each w 0 w.members;
+    sent = w.sent ++ syncs_of 0 w.members;
+    tally = record w.tally {
+      delivered = w.tally.delivered + length w.members * (length w.members - 1);
+      parts = w.tally.parts + settle_gains w;
+      octets = w.tally.octets + sum_by (λ m. sum_by (out.size (logs w)) (new_parts w m)) w.members;
+    };
+  }
+
+  abbrev pub after_fetch : World → (j tries loss : ℕ) → World
+  after_fetch w j tries loss = record (with_member w j (fetches out w j tries loss (member w j))) {
+    tally = record w.tally {
+      attempts = w.tally.attempts + attempts_made out w j tries loss;
+      parts = w.tally.parts + length (fetched out w j tries loss);
+      octets = w.tally.octets + sum_by (out.size (logs w)) (fetched out w j tries loss);
+    };
+  }
+
+  -- ---- any event
+
+  abbrev pub after : World → Event → World
+  after w (Event.Publish j o) = after_publish w j o
+  after w (Event.Deliver k j) = after_deliver w j (sent_at w k).vector
+  after w (Event.Sync k) = w
+  after w (Event.Advance ms) = record w { moment = w.moment + ms }
+  after w (Event.Fire j) = after_fire w j (timer_at w j)
+  after w (Event.Restart j) = after_restart w j
+  after w (Event.Vector j) = w
+  after w (Event.Catalogue j) = w
+  after w (Event.Claim j f) = after_claim w j f (to_claim w j)
+  after w (Event.Lose j f) = with_member w j (with_claim f None (member w j))
+  after w (Event.Answer j f q) = after_came out (tried_once w) j f (claim_at w j f) (came_from out w q (claim_at w j f))
+  after w (Event.Fetch j tries loss) = after_fetch w j tries loss
+  after w Event.Settle = after_settle w
+  after w (Event.Dump j t) = w
+  after w (Event.Hear j read) = after_hear w j read
+  after w (Event.Ask j find) = w
+  after w (Event.Feed j f read) = after_came out w j f (claim_at w j f) (came_as w read (claim_at w j f))
+  after w (Event.Order j read) = after_order w j read
+  after w (Event.Issue j client command) = after_issue w j client command
+  after w (Event.Block j process index content) = after_block w j process (block_at w j process index content)
+  after w Event.Summary = w
+  after w Event.Traffic = w
+
+  abbrev pub after_all : World → List Event → World
+  after_all w [] = w
+  after_all w (e ∷ es) = after_all (after w e) es
+
+-- ---- replies
+
+abbrev pub mode_at : World → ℕ → Mode
+mode_at w j = mode_of (member w j).machine.heard
+
+abbrev pub totals_of : List Entry → Totals
+totals_of entries = record {
+  entries = length entries;
+  segments = sum_by (λ e. e.segments) entries;
+  octets = sum_by (λ e. e.octets) entries;
+}
+
+abbrev pub next_seq : World → ℕ → ℕ
+next_seq w j = length (member w j).log + 1
+
+-- The number of the next sync Interest.
+abbrev pub next_sync : World → ℕ
+next_sync w = length w.sent + 1
+
+abbrev pub fire_reply : World → Fired → Reply
+fire_reply w Early = Reply.Early
+fire_reply w Quiet = Reply.Quiet
+fire_reply w Send = Reply.Sent (next_sync w)
+
+abbrev pub hear_reply : Outside → World → ℕ → Option SyncInterest → Reply
+hear_reply out w j None = Reply.HearRefused
+hear_reply out w j (Some sync) =
+    if tells_too_much w j sync then Reply.OwnNumberAhead (length (member w j).log) (slice_index sync.vector j)
+    else Reply.Heard (mode_at (after_deliver out w j sync.vector) j)
+
+abbrev pub block_reply : World → ℕ → BlockState → Reply
+block_reply w j Unknown = Reply.NoBlock
+block_reply w j Already = Reply.BlockLate
+block_reply w j (Waiting p) = Reply.BlockKept
+block_reply w j (Whole p) = Reply.BlockPublished (next_seq w j) (next_sync w)
+
+abbrev pub reply_to : Outside → World → Event → Reply
+reply_to out w (Event.Publish j o) = Reply.Published (next_seq w j) (length o.contents) (next_sync w)
+reply_to out w (Event.Deliver k j) = Reply.Delivered (mode_at (after_deliver out w j (sent_at w k).vector) j)
+reply_to out w (Event.Sync k) = Reply.Synced (sent_at w k)
+reply_to out w (Event.Advance ms) = Reply.Advanced (w.moment + ms)
+reply_to out w (Event.Fire j) = fire_reply w (timer_at w j)
+reply_to out w (Event.Restart j) = Reply.Restarted
+reply_to out w (Event.Vector j) = Reply.Numbers (member w j).known
+reply_to out w (Event.Catalogue j) = Reply.Entries (catalogue_at w j)
+reply_to out w (Event.Claim j f) = Reply.Claimed (to_claim w j)
+reply_to out w (Event.Lose j f) = Reply.Lost (claim_at w j f)
+reply_to out w (Event.Answer j f q) = Reply.Answered (passes_checks (came_from out w q (claim_at w j f)))
+reply_to out w (Event.Fetch j tries loss) =
+    Reply.Fetched (length (planned w j)) (length (fetched out w j tries loss)) (attempts_made out w j tries loss)
+reply_to out w Event.Settle = Reply.Settled (length w.members) (settle_gains w)
+reply_to out w (Event.Dump j t) = Reply.Dumped (if holds (member w j) t then Some t else None)
+reply_to out w (Event.Hear j read) = hear_reply out w j read
+reply_to out w (Event.Ask j find) = Reply.Asked (find (logs w) (member w j).held)
+reply_to out w (Event.Feed j f read) = Reply.Fed (passes_checks (came_as w read (claim_at w j f)))
+reply_to out w (Event.Order j read) = Reply.Commanded (order_answer w j read)
+reply_to out w (Event.Issue j client command) = Reply.Commanded (answer_of w j command)
+reply_to out w (Event.Block j process index content) = block_reply w j (block_at w j process index content)
+reply_to out w Event.Summary =
+    Reply.Summed (map (λ j. totals_of (catalogue_at w j)) (numbers_from 0 (length w.members)))
+reply_to out w Event.Traffic =
+    Reply.Counted (length w.sent) w.tally.delivered w.tally.attempts w.tally.parts w.tally.octets
+
+abbrev pub replies : Outside → World → List Event → List Reply
+replies out w [] = []
+replies out w (e ∷ es) = reply_to out w e ∷ replies out (after out w e) es

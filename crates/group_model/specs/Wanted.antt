@@ -1,0 +1,47 @@
+-- What a member wants, in the group's own words.
+use Rattle.std.specs.Prelude.{ℕ, ◌≡◌, ◌≢◌, ◌≤◌, ◌⊎◌, ◌↔◌, true, false, Some, None}
+use Rattle.std.specs.declared.cmp.Ordering.TheVariants.{Less}
+use Rattle.repo_plan.specs.declared.part.Part.{Part}
+use Rattle.repo_plan.specs.SortedList.{contains}
+use Rattle.repo_plan.specs.Parts.{part_cmp, pair_of, record_of}
+use Rattle.repo_plan.specs.Plan.{is_claimed, wanted}
+use Rattle.group_model.specs.Publications.{Logs, count}
+use Rattle.group_model.specs.Member.{Member, holds, hides, plan_of}
+use Rattle.group_model.specs.World.{World, member, logs}
+use Rattle.group_model.specs.Steps.{to_claim}
+use Rattle.group_model.specs.Sound.{IsKnown}
+
+-- A segment that its publication has, of a held record.
+pub record IsSegmentOfHeld (logs : Logs) (m : Member) (t : Part) : Type 0 where
+  pub from_one : 1 ≤ t.part
+  pub counted : t.part ≤ count logs (pair_of t)
+  pub with_record : holds m (record_of t) ≡ true
+
+-- A record, or such a segment, of a known publication that isn't hidden, and that isn't held.
+pub record IsWantedPart (logs : Logs) (m : Member) (t : Part) : Type 0 where
+  pub known : IsKnown m.known (pair_of t)
+  pub part : (t.part ≡ 0) ⊎ IsSegmentOfHeld logs m t
+  pub not_held : holds m t ≡ false
+  pub not_hidden : hides m (pair_of t) ≡ false
+
+-- The wanted parts are those.
+abbrev pub WantsThose : Type 0
+WantsThose = (logs : Logs) (m : Member) (t : Part)
+    → (contains part_cmp (wanted (plan_of logs m)) t ≡ true) ↔ IsWantedPart logs m t
+
+-- What a fetcher claims is wanted, no fetcher claims it yet, and every other such part comes later.
+pub record IsFirstOpen (logs : Logs) (m : Member) (t : Part) : Type 0 where
+  pub wanted : IsWantedPart logs m t
+  pub unclaimed : is_claimed (plan_of logs m) t ≡ false
+  pub first : (u : Part) → IsWantedPart logs m u → is_claimed (plan_of logs m) u ≡ false → u ≢ t → part_cmp t u ≡ Less
+
+abbrev pub ClaimsFirst : Type 0
+ClaimsFirst = (w : World) (j : ℕ) (t : Part) → to_claim w j ≡ Some t → IsFirstOpen (logs w) (member w j) t
+
+abbrev pub AllClaimed : Logs → Member → Type 0
+AllClaimed logs m = (t : Part) → IsWantedPart logs m t → is_claimed (plan_of logs m) t ≡ true
+
+-- Nothing is claimed exactly where every wanted part is.
+abbrev pub ClaimsNoneWhere : Type 0
+ClaimsNoneWhere = (w : World) (j : ℕ)
+    → (to_claim w j ≡ None) ↔ AllClaimed (logs w) (member w j)

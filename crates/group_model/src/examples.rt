@@ -1,0 +1,24 @@
+ghost use Rattle.group_model.specs.Examples.{Settles, NothingHappens, Delivers, OldRepeats, PartByPart, SameObjectTwice, ThreeMembers, SegmentCounts, SettleEndsClaims, Timers, Fetches, ThirdAttempts, FromOutside, RestartKeepsNumbers, Insertion, Blocks, DeletedBefore, ToldOfAll, JoinOfThem};
+
+/// What small groups reply, event by event, computed from the definitions.
+pub fn groups_reply_so()
+    ensures settles { Settles }
+    ensures nothing { NothingHappens }
+    ensures delivers { Delivers }
+    ensures old_repeats { OldRepeats }
+    ensures part_by_part { PartByPart }
+    ensures same_object_twice { SameObjectTwice }
+    ensures three_members { ThreeMembers }
+    ensures segment_counts { SegmentCounts }
+    ensures settle_ends_claims { SettleEndsClaims }
+    ensures timers { Timers }
+    ensures fetches { Fetches }
+    ensures third_attempts { ThirdAttempts }
+    ensures from_outside { FromOutside }
+    ensures restart_keeps_numbers { RestartKeepsNumbers }
+    ensures insertion { Insertion }
+    ensures blocks { Blocks }
+    ensures deleted_before { DeletedBefore }
+    ensures told_of_all { ToldOfAll }
+    ensures join_of_them { JoinOfThem }
+{}
