@@ -1,5 +1,4 @@
-ghost use Rattle.std.specs.Prelude.{◌≡◌, ◌∷◌, [], not, IfOk};
-ghost use Rattle.std.specs.List.{filter};
+ghost use Rattle.std.specs.Prelude.{◌≡◌, IfOk};
 ghost use Rattle.repo_top.specs.Inspection.{inspect_story, is_space, octets_story, without_spaces};
 ghost use Rattle.repo_top.specs.Story.{refused};
 

@@ -1,4 +1,4 @@
-ghost use Rattle.std.specs.Prelude.{◌≡◌, ◌≢◌, ◌↔◌, ◌⊎◌, ℕ, [], List, None, Some, IfOk, IfSome, map, string_bytes};
+ghost use Rattle.std.specs.Prelude.{◌≡◌, ◌≢◌, ◌↔◌, ◌⊎◌, ℕ, [], None, Some, IfOk, IfSome, map, string_bytes};
 ghost use Rattle.repo_top.specs.Answers.{IsTold, status_of};
 ghost use Rattle.repo_top.specs.Forms.{asked_story, form_of, form_story, known_story};
 ghost use Rattle.repo_top.specs.Outside.{Gains, GainsFront, HasRisen};
