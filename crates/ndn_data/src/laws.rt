@@ -11,6 +11,11 @@ pub fn data_is_spelled()
         → IsSpelled octets d }
 {}
 
+/// The content of a packet is no longer than a packet may be.
+pub fn contents_fit()
+    ensures { (octets : List ℕ) (d : Data) → data_of octets ≡ Ok d → length d.content ≤ 8800 }
+{}
+
 /// A packet that was written is read back: the fields that were given, and a signature that is the
 /// mac of the signed portion under the key.
 pub fn written_data_is_read()

@@ -10,7 +10,7 @@ mod meta_info;
 mod write;
 
 pub use data_view::DataView;
-pub use laws::{data_is_spelled, written_data_is_read};
+pub use laws::{contents_fit, data_is_spelled, written_data_is_read};
 pub use write::write_signed;
 
 #[cfg(test)]
