@@ -1,11 +1,11 @@
 -- What is kept of a member is the join of the vectors that the table lists.
-use Rattle.std.proofs.Common.{◌≡◌, ℕ, ◌+◌, Bool, true, false, List, [], ◌∷◌, ◌++◌, Option, Some, None, ltb, cond, refl, sym, ap, ◌∙◌, if◌then◌else◌}
+use Rattle.std.proofs.Common.{◌≡◌, ℕ, ◌+◌, Bool, true, false, List, [], ◌∷◌, ◌++◌, Option, Some, None, ltb, refl, sym, ap, ◌∙◌, if◌then◌else◌}
 use Rattle.std.specs.Option.{option_map}
 use Rattle.svs_vector.specs.Vectors.{join, covers, join_all}
 use Rattle.svs_vector.proofs.JoinLemmas.{join-[], join_assoc}
 use Rattle.svs_sync.specs.declared.fired.Fired.{Fired}
 use Rattle.svs_sync.specs.declared.fired.Fired.TheVariants.{Early}
-use Rattle.svs_sync.specs.Suppression.{Event, Member, periodic, suppression, steady, hears, due, fires, after, after_all, mode_of}
+use Rattle.svs_sync.specs.Suppression.{Event, Member, suppression, steady, hears, due, fires, after, after_all, mode_of}
 use Rattle.svs_sync.specs.Suppression.Event.{published, heard, fired, reset}
 use Rattle.svs_sync.specs.KeptVector.{Keeper, kept, steady_kept, hears_kept, due_kept, fires_kept, after_kept, after_all_kept}
 

@@ -1,23 +1,14 @@
 -- How many octets a sync Interest has: fewer than a packet may have.
-use Rattle.std.proofs.Common.{◌≡◌, ℕ, ◌+◌, ◌*◌, ◌^◌, ◌<◌, ◌≤◌, List, [], ◌∷◌, ◌++◌, length, length-append, inl, inr, ap, arith}
+use Rattle.std.proofs.Common.{ℕ, ◌+◌, ◌≤◌, List, [], ◌∷◌, length, length-append, ap, arith}
 use Rattle.std.specs.List.{All, flat_map}
-use Rattle.std.specs.Map.{keys_of}
-use Rattle.std.specs.Int.{w8, w16, w32, w64, to_be_bytes}
-use Rattle.std.proofs.lemmas.Bool.{cases_lt, le-ltb, lt-ltb}
-use Rattle.std.proofs.lemmas.List.Elements.{All-head, All-tail, All-weaker}
-use Rattle.sha2.specs.Sha256.{sha256}
-use Rattle.ndn_tlv.specs.Spelling.{number, head, element}
-use Rattle.ndn_tlv.specs.NumberField.{number_field}
-use Rattle.ndn_tlv.proofs.Numbers.{number-narrow, number-16, number-32, number-64}
+use Rattle.std.proofs.lemmas.List.Elements.{All-weaker}
+use Rattle.ndn_tlv.specs.Spelling.{element}
 use Rattle.ndn_name.specs.Names.{Component, encoding}
 use Rattle.ndn_name.proofs.Encodings.{encoding-push}
-use Rattle.ndn_sign.specs.Hmac.{hmac}
 use Rattle.ndn_packet.specs.Written.{written_info}
-use Rattle.ndn_packet.proofs.Lengths.{length-element}
-use Rattle.ndn_interest.specs.WrittenInterest.{written_parameters, written_digested, written_interest}
+use Rattle.ndn_interest.specs.WrittenInterest.{written_digested, written_interest}
 use Rattle.ndn_interest.proofs.WriteLemmas.{name_octets, length-digested, length-with_digest}
-use Rattle.svs_vector.specs.StateVector.{Entry}
-use Rattle.svs_vector.specs.WrittenVector.{entry_value, in_canonical_order, known_entries, written_entry, written_vector}
+use Rattle.svs_vector.specs.WrittenVector.{in_canonical_order, known_entries, written_entry, written_vector}
 use Rattle.svs_vector.proofs.LengthLemmas.{head_short, element_short, body_short, IsWithin}
 use Rattle.svs_sync.specs.SyncInterest.{sync_name, sync_interest, IsNodeName, IsKeyName, key_component}
 

@@ -1,13 +1,12 @@
 -- The names of sync Interests, as octets.
 use Rattle.std.proofs.Common.{◌≡◌, ◌↔◌, ℕ, zero, suc, ◌-◌, Bool, true, false, eqb, List, [], ◌∷◌, ◌++◌, length, length-append, append_assoc, take, drop, take_at, drop_at, slice_get, Option, Some, refl, sym, ap, subst, ◌∙◌, arith}
 use Rattle.std.specs.Option.{option_map_or}
-use Rattle.std.specs.Str.{bytes_eq}
 use Rattle.std.proofs.lemmas.Bool.{and_parts, and_from, false≢true}
 use Rattle.std.proofs.lemmas.Slice.Eq.{bytes_eq-Decides}
 use Rattle.ndn_tlv.specs.Spelling.{number, head, element}
 use Rattle.ndn_tlv.specs.Elements.{IsOctets}
 use Rattle.ndn_name.specs.Names.{Component, IsComponent, IsName, encoding}
-use Rattle.ndn_name.proofs.Encodings.{encoding-append, encoding-push, encoding-same, IsName-append, IsOctets-behind}
+use Rattle.ndn_name.proofs.Encodings.{encoding-push, encoding-same, IsName-append, IsOctets-behind}
 use Rattle.ndn_interest.specs.Interest.{last_component, without_last, ends_in_digest}
 use Rattle.ndn_interest.proofs.LastLemmas.{digest_ends}
 use Rattle.svs_vector.specs.Rosters.{is_same_name}

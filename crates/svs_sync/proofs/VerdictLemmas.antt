@@ -1,26 +1,21 @@
 -- The verdict on a sync Interest that was made.
-use Rattle.std.proofs.Common.{◌≡◌, ℕ, ◌^◌, ◌<◌, ◌≤◌, Bool, true, false, ◌&&◌, List, [], ◌∷◌, ◌++◌, length, slice_get, Option, Some, None, Result, Ok, Err, refl, sym, ap, ◌∙◌, arith}
+use Rattle.std.proofs.Common.{◌≡◌, ℕ, ◌≤◌, true, List, [], ◌∷◌, ◌++◌, length, slice_get, Some, Result, Ok, refl, ap, ◌∙◌}
 use Rattle.std.specs.List.{All}
 use Rattle.std.specs.Str.{bytes_eq}
 use Rattle.std.proofs.lemmas.Slice.Eq.{bytes_eq-Decides}
 use Rattle.sha2.specs.Sha256.{sha256}
 use Rattle.ndn_tlv.specs.Listing.{◌>>=◌}
 use Rattle.ndn_name.specs.declared.fault.PacketFault.{PacketFault}
-use Rattle.ndn_name.specs.Names.{Component, IsComponent, IsName, encoding}
+use Rattle.ndn_name.specs.Names.{Component, IsName, encoding}
 use Rattle.ndn_name.proofs.Encodings.{IsName-append}
 use Rattle.ndn_sign.specs.Hmac.{hmac}
 use Rattle.ndn_sign.specs.Ring.{Pair, number_of, pair}
-use Rattle.ndn_interest.specs.Interest.{Interest, interest_of, last_component}
+use Rattle.ndn_interest.specs.Interest.{Interest}
 use Rattle.ndn_interest.specs.WrittenInterest.{written_parameters, written_digested, read_signed}
 use Rattle.ndn_interest.proofs.ReadBackLemmas.{signed_again}
-use Rattle.svs_vector.specs.declared.vector_fault.VectorFault.{VectorFault}
-use Rattle.svs_vector.specs.Rosters.{IsRoster}
 use Rattle.svs_vector.specs.StateVector.{vector_of}
 use Rattle.svs_vector.specs.WrittenVector.{written_vector}
-use Rattle.svs_vector.proofs.ReadBackLemmas.{read_back}
-use Rattle.svs_sync.specs.declared.sync_refusal.SyncRefusal.{SyncRefusal}
-use Rattle.svs_sync.specs.declared.sync_refusal.SyncRefusal.TheVariants.{WrongGroup, Unsigned, ParamsDigest, UnknownKey, BadSignature}
-use Rattle.svs_sync.specs.SyncInterest.{sync_name, sync_interest, sync_verdict, interest_verdict, ensured, or_refused, packet_or, vector_or, is_sync_name, is_digest_of, has_its_digest, key_of, is_mac, is_signed, IsNodeName, IsKeyName}
+use Rattle.svs_sync.specs.SyncInterest.{sync_name, sync_interest, sync_verdict, interest_verdict, packet_or, IsNodeName, IsKeyName}
 use Rattle.svs_sync.proofs.NameLemmas.{version, last-push, is_sync_name-made}
 use Rattle.svs_sync.proofs.LengthLemmas.{sync_interest_short}
 

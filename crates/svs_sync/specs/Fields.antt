@@ -1,5 +1,5 @@
 -- How a machine keeps its member.
-use Rattle.std.specs.Prelude.{◌≡◌, ℕ, List, Option, Some, None, length}
+use Rattle.std.specs.Prelude.{ℕ, List, Option, Some, None, length}
 use Rattle.svs_sync.specs.declared.mode.Mode.{Mode}
 use Rattle.svs_sync.specs.declared.mode.Mode.TheVariants.{Steady, Suppressed}
 use Rattle.svs_sync.specs.declared.machine.Machine.TheInside.{Inside}

@@ -1,5 +1,5 @@
 -- A member that keeps the vectors heard as one, their join.
-use Rattle.std.specs.Prelude.{ℕ, ◌+◌, Bool, List, [], ◌∷◌, Option, Some, None, nat_lt, if◌then◌else◌}
+use Rattle.std.specs.Prelude.{ℕ, ◌+◌, List, [], ◌∷◌, Option, Some, None, nat_lt, if◌then◌else◌}
 use Rattle.std.specs.Option.{option_map}
 use Rattle.svs_vector.specs.Vectors.{join, covers, join_all}
 use Rattle.svs_sync.specs.declared.fired.Fired.{Fired}

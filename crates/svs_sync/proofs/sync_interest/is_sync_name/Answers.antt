@@ -1,9 +1,9 @@
-use Rattle.std.proofs.Common.{◌≡◌, List, ◌++◌, length, true, eqb, None, Some, sym, ap, ◌∙◌, arith}
+use Rattle.std.proofs.Common.{◌≡◌, ◌++◌, length, eqb, None, Some, sym, ap, ◌∙◌}
 use Rattle.std.proofs.lemmas.Bool.{eqb-true, eq-eqb}
 use Rattle.std.proofs.lemmas.Bool.Decides.{Decides-eqb}
 use Rattle.std.proofs.lemmas.Slice.Eq.{strip_prefix_is}
 use Rattle.ndn_name.specs.Names.{encoding}
-use Rattle.svs_sync.proofs.NameLemmas.{between, is_of_group, has_digest, HasDigest, refused, agreed, behind_same}
+use Rattle.svs_sync.proofs.NameLemmas.{between, is_of_group, has_digest, refused, agreed, behind_same}
 use Rattle.svs_sync.proofs.sync_interest.is_sync_name.Goals as goal
 
 pub returns-in_default : goal.returns-in_default

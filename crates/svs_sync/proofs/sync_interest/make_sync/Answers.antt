@@ -1,6 +1,5 @@
-use Rattle.std.proofs.Common.{◌≡◌, ◌≤◌, length, ap, ◌∙◌, arith}
+use Rattle.std.proofs.Common.{◌≤◌, length, ap, ◌∙◌, arith}
 use Rattle.ndn_interest.specs.WrittenInterest.{written_interest}
-use Rattle.svs_vector.specs.WrittenVector.{written_vector}
 use Rattle.svs_sync.specs.SyncInterest.{sync_name}
 use Rattle.svs_sync.proofs.LengthLemmas.{sync_interest_short}
 use Rattle.svs_sync.proofs.sync_interest.make_sync.Goals as goal
