@@ -1,0 +1,14 @@
+mod GroupLemmas
+mod SortedMaps
+mod RecordLemmas
+mod CatalogueLemmas
+mod HoldingLemmas
+mod ContentLemmas
+mod AskedLemmas
+mod PlanLemmas
+mod WholeLemmas
+mod PublishLemmas
+mod MemberLemmas
+mod OwnLemmas
+mod VectorLemmas
+mod ToldLemmas

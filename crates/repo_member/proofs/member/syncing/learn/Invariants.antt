@@ -1,0 +1,6 @@
+use Rattle.std.proofs.Common.{◌≡◌, take}
+use Rattle.svs_vector.specs.Vectors.{join}
+use Rattle.repo_member.proofs.member.syncing.learn.Given as goal
+
+abbrev pub invariant-loop-member : goal.invariant-loop-member
+invariant-loop-member l = l.plan ≡ record l.initial.plan { known = join l.vector (take l.member l.told) }

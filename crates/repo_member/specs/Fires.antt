@@ -1,0 +1,13 @@
+-- What a member does when its timer fires.
+use Rattle.std.specs.Prelude.{◌≡◌, ℕ, List}
+use Rattle.svs_sync.specs.declared.fired.Fired.{Fired}
+use Rattle.svs_sync.specs.declared.fired.Fired.TheVariants as fired
+use Rattle.repo_member.specs.declared.member.syncing.Fire.{Fire}
+use Rattle.repo_member.specs.declared.member.syncing.Fire.TheVariants.{Early, Quiet, Sent}
+
+-- it does what its machine says, and what it sends are these octets
+abbrev pub TellsFire : Fired → List ℕ → Fire → Type 0
+TellsFire fired.Early octets Early = Unit {0}
+TellsFire fired.Quiet octets Quiet = Unit {0}
+TellsFire fired.Send octets (Sent sync) = sync.items ≡ octets
+TellsFire _ octets _ = ⊥

@@ -1,0 +1,51 @@
+-- What came of a fetch, as a member takes it.
+use Rattle.std.specs.Prelude.{◌≡◌, ℕ, ◌+◌, ◌<◌, true, false, List, [], ◌∷◌, map, Option, Some, None, option_map, IfSome}
+use Rattle.repo_plan.specs.declared.part.Part.{Part}
+use Rattle.repo_plan.specs.Parts.{part_cmp}
+use Rattle.repo_plan.specs.SortedList.{contains}
+use Rattle.repo_plan.specs.Plan.{is_unclaimed, attempts_of}
+use Rattle.repo_object.specs.declared.job.Job.{Job}
+use Rattle.repo_object.specs.Wants.{WantedPart}
+use Rattle.repo_object.specs.Verdict.{CheckedPart, publisher_key}
+use Rattle.repo_member.specs.Groups.{GroupKeys}
+use Rattle.repo_member.specs.Alone.{Alone, Fetched, plan_of, want_of}
+
+-- the job of a part: its attempts go on from those that were made
+abbrev pub planned : GroupKeys → Alone → Part → Job
+planned g a t = record { want = want_of g a.store t; base = attempts_of (plan_of a) t }
+
+-- the jobs, with what came for each and how often it was tried
+abbrev pub fetched : List Job → List (Option CheckedPart) → List ℕ → List Fetched
+fetched (job ∷ jobs) (part ∷ parts) (n ∷ ns) =
+    record { part = job.want.part; packet = option_map (λ c. c.octets) part; attempts = n } ∷ fetched jobs parts ns
+fetched _ _ _ = []
+
+-- no part stands twice in the list
+abbrev pub AreApart : List Part → Type 0
+AreApart [] = Unit {0}
+AreApart (t ∷ ts) = (contains part_cmp ts t ≡ false) × AreApart ts
+
+-- a packet was checked for the want, under the key that the group has for its publisher
+pub record IsCheckedFor (g : GroupKeys) (want : WantedPart) (c : CheckedPart) : Type 0 where
+  pub same : c.want ≡ want
+  pub key_name : c.key_name ≡ (publisher_key g.members.ring want).name
+  pub key : c.key ≡ (publisher_key g.members.ring want).key
+
+-- a job of the member: its part is wanted and unclaimed, its want is the member's, what came was checked for it, and it
+-- was not tried too often
+pub record IsFetched (g : GroupKeys) (a : Alone) (job : Job) (part : Option CheckedPart) (n : ℕ) : Type 0 where
+  pub unclaimed : is_unclaimed (plan_of a) job.want.part ≡ true
+  pub wanted : job.want ≡ want_of g a.store job.want.part
+  pub checked : IfSome part (IsCheckedFor g job.want)
+  pub few : attempts_of (plan_of a) job.want.part + n < 2097152
+
+-- there are as many of each
+abbrev pub AreFetched : GroupKeys → Alone → List Job → List (Option CheckedPart) → List ℕ → Type 0
+AreFetched g a [] [] [] = Unit {0}
+AreFetched g a (job ∷ jobs) (part ∷ parts) (n ∷ ns) = IsFetched g a job part n × AreFetched g a jobs parts ns
+AreFetched g a _ _ _ = ⊥
+
+-- the outcome of a fetch that the member planned, of different parts
+pub record IsOutcome (g : GroupKeys) (a : Alone) (jobs : List Job) (parts : List (Option CheckedPart)) (attempts : List ℕ) : Type 0 where
+  pub apart : AreApart (map (λ (job : Job). job.want.part) jobs)
+  pub each : AreFetched g a jobs parts attempts

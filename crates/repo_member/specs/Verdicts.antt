@@ -1,0 +1,48 @@
+-- What a member answers to a sync Interest and to a packet that it asked for, but for want of memory.
+use Rattle.std.specs.Prelude.{◌≡◌, ℕ, List, Vec, Option, Some, None, Result, Ok, Err, length, slice_index, nat_lt, if◌then◌else◌}
+use Rattle.ndn_data.specs.Data.{Data}
+use Rattle.svs_sync.specs.declared.fired.Fired.{Fired}
+use Rattle.svs_sync.specs.declared.fired.Fired.TheVariants.{Early, Quiet, Send}
+use Rattle.svs_sync.specs.declared.sync_refusal.SyncRefusal.{SyncRefusal}
+use Rattle.svs_sync.specs.SyncInterest.{sync_interest, sync_verdict}
+use Rattle.repo_plan.specs.declared.part.Part.{Part}
+use Rattle.repo_plan.specs.Plan.{claim_of}
+use Rattle.repo_object.specs.declared.part_refusal.PartRefusal.{PartRefusal}
+use Rattle.repo_object.specs.Objects.{key_name}
+use Rattle.repo_object.specs.Verdict.{ring_verdict}
+use Rattle.repo_member.specs.declared.refusals.HearRefusal.{HearRefusal}
+use Rattle.repo_member.specs.declared.refusals.HearRefusal.TheVariants.{Sync, OwnNumberAhead}
+use Rattle.repo_member.specs.declared.refusals.AcceptRefusal.{AcceptRefusal}
+use Rattle.repo_member.specs.declared.refusals.AcceptRefusal.TheVariants.{FetcherIdle, Refused}
+use Rattle.repo_member.specs.Groups.{GroupKeys, node_of, key_of}
+use Rattle.repo_member.specs.Alone.{Alone, plan_of, want_of}
+
+-- the sync Interest by which a member tells a vector
+abbrev pub sync_of : GroupKeys → ℕ → List ℕ → List ℕ
+sync_of g number vector =
+    sync_interest g.name vector g.members.names (key_name (node_of g number)) (key_of g number)
+
+-- a vector that is told, unless it tells of more publications of the member than it made
+abbrev pub told_verdict : Alone → Result (ℕ × List ℕ) SyncRefusal → Result (List ℕ) HearRefusal
+told_verdict a (Err refusal) = Err (Sync refusal)
+told_verdict a (Ok told) =
+    if nat_lt (length a.log) (slice_index told.1 a.number)
+    then Err (OwnNumberAhead (length a.log) (slice_index told.1 a.number))
+    else Ok told.1
+
+-- the vector that octets tell the member, or why they are refused
+abbrev pub hear_verdict : GroupKeys → Alone → List ℕ → Result (List ℕ) HearRefusal
+hear_verdict g a octets = told_verdict a (sync_verdict g.name g.members.names g.members.ring octets)
+
+-- a part, where a packet passes for it
+abbrev pub passed : Part → Result Data PartRefusal → Result Part AcceptRefusal
+passed t (Ok d) = Ok t
+passed t (Err refusal) = Err (Refused refusal)
+
+abbrev pub claim_verdict : GroupKeys → Alone → List ℕ → Option Part → Result Part AcceptRefusal
+claim_verdict g a octets None = Err FetcherIdle
+claim_verdict g a octets (Some t) = passed t (ring_verdict (want_of g a.store t) g.members.ring octets)
+
+-- the part that a fetcher's octets are taken for, or why they are refused
+abbrev pub accept_verdict : GroupKeys → Alone → ℕ → List ℕ → Result Part AcceptRefusal
+accept_verdict g a f octets = claim_verdict g a octets (claim_of (plan_of a) f)

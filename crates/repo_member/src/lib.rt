@@ -1,0 +1,17 @@
+//! One member of a repository group: what it published, which parts it holds, wants and fetches, and its catalogue; and
+//! the group with its members' and clients' keys.
+#![tactic(auto)]
+
+mod group;
+mod group_fault;
+mod holding;
+mod listing;
+mod member;
+mod nodes;
+mod refusals;
+
+pub use group::Group;
+pub use group_fault::GroupFault;
+pub use member::{Fire, Member, Published};
+pub use refusals::{AcceptRefusal, HearRefusal, PublishRefusal, WantFault};
+

@@ -1,0 +1,161 @@
+ghost use Rattle.std.specs.Prelude.{◌≡◌, ◌<◌, ◌^◌, length, option_map, Ok, Err, IfOk, MatchResult};
+ghost use Rattle.svs_sync.specs.Suppression.{mode_of};
+ghost use Rattle.repo_plan.specs.SortedList.{value_of};
+ghost use Rattle.repo_plan.specs.Parts.{part_cmp};
+ghost use Rattle.repo_store.specs.Served.{served};
+ghost use Rattle.repo_member.specs.Listed.{catalogue_alone};
+ghost use Rattle.repo_member.specs.Alone.{IsAlone, opening_alone, ends_claims, resets};
+
+mod fetching;
+mod publishing;
+mod syncing;
+
+pub use publishing::Published;
+pub use syncing::Fire;
+
+use crate::group::Group;
+use ndn_name::PacketFault;
+use repo_catalog::Catalogue;
+use repo_object::Object;
+use repo_plan::{Part, Plan};
+use repo_store::Store;
+use std::alloc::{AllocError, Global};
+use std::marker::Model;
+use svs_sync::{Machine, Mode};
+use svs_vector::Vector;
+
+/// One member of a group: its publications, the numbers that it knows, the packets that it holds, the claims of its
+/// sixteen fetchers, its suppression machine and its catalogue.
+///
+/// A call that is refused has changed nothing, want of memory included.
+#[derive(Drop)]
+pub struct Member {
+    number: u32,
+    log: Vec<Object>,
+    vector: Vector,
+    machine: Machine,
+    plan: Plan,
+    store: Store,
+    catalogue: Catalogue,
+}
+
+// A member is seen as what it has. Its plan's held parts and its catalogue follow from the packets that it stores.
+impl Model for Member {
+    ghost use Rattle.repo_member.specs.Alone.{Alone};
+
+    ghost Value = { Alone };
+
+    ghost use Rattle.repo_member.specs.Members.{alone, IsMember};
+
+    ghost view = { alone };
+
+    ghost invariant = { IsMember };
+}
+
+impl Member {
+    /// The member of that number, which has nothing yet, with its first draw.
+    pub fn new(
+        alloc: Global,
+        g: &Group,
+        number: u32,
+        now: u64,
+        draw: u32,
+    ) -> Result<Member, AllocError>
+        requires number { number < length g.now.members.names }
+        requires early { now < 2 ^ 62 }
+        ensures { IfOk result (λ member.
+            member ≡ opening_alone (length g.now.members.names) number now draw) }
+    {
+        let members = g.roster().len();
+        Ok(Member {
+            number,
+            log: Vec::new(alloc),
+            vector: Vector::new(alloc, members)?,
+            machine: Machine::new(alloc, members, now, draw)?,
+            plan: Plan::new(alloc, members)?,
+            store: Store::new(alloc),
+            catalogue: Catalogue::new(alloc),
+        })
+    }
+
+    /// The objects that the member published or wholly fetched.
+    pub fn catalogue(&self) -> &Catalogue
+        ensures { result.now.entries ≡ catalogue_alone self.now.store }
+    {
+        &self.catalogue
+    }
+
+    /// The numbers that the member knows.
+    //
+    // A caller sees the value alone, so `sound` states what holds of every member.
+    pub fn vector(&self) -> &Vector
+        ensures known { result.now ≡ self.now.known }
+        ensures sound { IsAlone self.now }
+    {
+        &self.vector
+    }
+
+    pub fn mode(&self) -> Mode
+        ensures { result ≡ mode_of self.now.machine.heard }
+    {
+        self.machine.mode()
+    }
+
+    /// How many draws were used, which is the number of the next one.
+    pub fn next_draw(&self) -> u64
+        ensures { result ≡ self.now.machine.draws }
+    {
+        self.machine.next_draw()
+    }
+
+    /// How many objects the member published: at most 65,535.
+    pub fn log_len(&self) -> u32
+        ensures len { result ≡ length self.now.log }
+        ensures small { result < 2 ^ 16 }
+    {
+        u32::from(self.vector.get(self.number))
+    }
+
+    /// The packet of a part that the member holds. It takes no memory.
+    pub fn packet(&self, part: Part) -> Option<&[u8]>
+        ensures { option_map (λ octets. octets.now) result ≡ value_of part_cmp self.now.store part }
+    {
+        self.store.get(part)
+    }
+
+    /// What the member answers to an Interest: the packet of the least part that satisfies it. It takes no memory.
+    pub fn serve(&self, interest: &[u8]) -> Result<Option<&[u8]>, PacketFault>
+        ensures { MatchResult result
+            (λ found. served interest.now self.now.store ≡ Ok (option_map (λ octets. octets.now) found))
+            (λ fault. served interest.now self.now.store ≡ Err fault) }
+    {
+        self.store.serve(interest)
+    }
+
+    /// Every fetcher's claim ends. It takes no memory.
+    pub fn end_claims(&mut self)
+        ensures { self.new ≡ ends_claims self.old }
+    {
+        self.plan.end_claims();
+    }
+
+    /// The machine starts again, with one draw. It takes no memory.
+    pub fn reset(&mut self, now: u64, draw: u32)
+        requires early { now < 2 ^ 62 }
+        requires few { self.old.machine.draws < 2 ^ 62 }
+        ensures { self.new ≡ resets now draw self.old }
+    {
+        self.machine.reset(now, draw);
+    }
+
+    /// The member starts again: claims end, and the machine is reset. What it published, knows, holds and hid stays, and
+    /// so do the attempts. It takes no memory.
+    pub fn restart(&mut self, now: u64, draw: u32)
+        requires early { now < 2 ^ 62 }
+        requires few { self.old.machine.draws < 2 ^ 62 }
+        ensures { self.new ≡ resets now draw (ends_claims self.old) }
+    {
+        self.end_claims();
+        self.reset(now, draw);
+    }
+}

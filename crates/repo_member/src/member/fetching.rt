@@ -1,0 +1,245 @@
+ghost use Rattle.std.specs.Prelude.{◌≡◌, ◌⊎◌, ◌↔◌, Ok, Err, Some, None, IsSome, IsOk, IsErr, IsSomeAnd, IfSome, IfOk, IfErr, OnOk, OnErr, true, map, take};
+ghost use Rattle.std.specs.List.{All, filter};
+ghost use Rattle.repo_plan.specs.Plan.{claim_of, unclaimed, first, is_after, is_asked, is_wanted};
+ghost use Rattle.repo_plan.specs.Calls.{IsFetcher};
+ghost use Rattle.ndn_data.specs.Data.{data_of};
+ghost use Rattle.repo_object.specs.Verdict.{listing_in, ring_verdict};
+ghost use Rattle.repo_member.specs.Alone.{IsOf, plan_of, claims_part, want_of, accepts};
+ghost use Rattle.repo_member.specs.Verdicts.{passed, accept_verdict};
+ghost use Rattle.repo_member.specs.Holding.{IsArrival};
+ghost use Rattle.repo_member.specs.Listings.{IsStored, IsListingFor};
+ghost use Rattle.repo_member.specs.Outcomes.{planned};
+
+use super::Member;
+use crate::group::Group;
+use crate::holding::{Arrival, gain_listed, make_room};
+use crate::listing::read_listing;
+use crate::refusals::{AcceptRefusal, WantFault};
+use repo_object::{Job, Listing, Want, check_part, want_record, want_segment};
+use repo_plan::{FetcherBusy, FetcherIdle, Part};
+use std::alloc::{AllocError, Global};
+
+// What the stored record of a publication lists.
+#[derive(Drop)]
+pub(super) struct StoredListing {
+    pair: (u32, u16),
+    listing: Listing,
+}
+
+impl Member {
+    /// The fetcher claims the least part that is wanted and that no fetcher claims, or none where there is none. It takes
+    /// no memory.
+    pub fn claim(&mut self, f: u8) -> Result<Option<Part>, FetcherBusy>
+        requires { IsFetcher f }
+        ensures idle { IsOk result ↔ (claim_of (plan_of self.old) f ≡ None) }
+        ensures busy { IfErr result (λ e. claim_of (plan_of self.old) f ≡ Some e.part) }
+        ensures part { IfOk result (λ claim. claim ≡ first (unclaimed (plan_of self.old))) }
+        ensures new { IfOk result (λ claim. self.new ≡ claims_part f claim self.old) }
+        ensures err { OnErr result (self.new ≡ self.old) }
+    {
+        self.plan.claim(f)
+    }
+
+    /// The fetcher's claim ends, and its part can be claimed again. It takes no memory.
+    pub fn lose(&mut self, f: u8) -> Result<Part, FetcherIdle>
+        requires { IsFetcher f }
+        ensures busy { IfOk result (λ part. claim_of (plan_of self.old) f ≡ Some part) }
+        ensures idle { IsErr result ↔ (claim_of (plan_of self.old) f ≡ None) }
+        ensures ok { OnOk result (self.new ≡ claims_part f None self.old) }
+        ensures err { OnErr result (self.new ≡ self.old) }
+    {
+        self.plan.release(f)
+    }
+
+    /// The want of the fetcher's part, with the Interest that asks for it.
+    pub fn want(&self, alloc: Global, g: &Group, f: u8) -> Result<Want, WantFault>
+        requires fetcher { IsFetcher f }
+        requires group { IsOf g.now self.now }
+        ensures want { IfOk result (λ want. IsSomeAnd (claim_of (plan_of self.now) f)
+            (λ part. want ≡ want_of g.now self.now.store part)) }
+        ensures idle { (result ≡ Err WantFault.FetcherIdle) ↔ (claim_of (plan_of self.now) f ≡ None) }
+    {
+        let Some(part) = self.claimed(f) else {
+            return Err(WantFault::FetcherIdle);
+        };
+        let listing = self.listing_for(alloc, part, None)?;
+        Ok(self.want_of(alloc, g, part, &listing)?)
+    }
+
+    /// The octets are taken for the part that the fetcher claims, if they pass for it: the part is held from now on, the
+    /// claim is over, and an object of which no part is missing any more is catalogued.
+    pub fn accept(&mut self, g: &Group, f: u8, octets: &[u8]) -> Result<Part, AcceptRefusal>
+        requires fetcher { IsFetcher f }
+        requires group { IsOf g.now self.old }
+        ensures part { IfOk result (λ part. accept_verdict g.now self.old f octets.now ≡ Ok part) }
+        ensures ok { IfOk result (λ part. self.new ≡ accepts f part octets.now self.old) }
+        ensures refused { IfErr result (λ refusal. (refusal ≡ AcceptRefusal.NoMemory)
+            ⊎ (accept_verdict g.now self.old f octets.now ≡ Err refusal)) }
+        ensures err { OnErr result (self.new ≡ self.old) }
+    {
+        let Some(part) = self.claimed(f) else {
+            return Err(AcceptRefusal::FetcherIdle);
+        };
+        let arrival = self.arrival(g, part, octets)?;
+        make_room(&mut self.plan, &mut self.store, &mut self.catalogue, 1)?;
+        let _ = self.plan.release(f);
+        gain_listed(&mut self.plan, &mut self.store, &mut self.catalogue, part, arrival);
+        Ok(part)
+    }
+
+    /// The least parts that are wanted, that no fetcher claims and that are greater than `after`, at most `most` of them,
+    /// as jobs whose attempts go on from those that were made.
+    pub fn plan(
+        &self,
+        alloc: Global,
+        g: &Group,
+        after: Option<Part>,
+        most: usize,
+    ) -> Result<Vec<Job>, AllocError>
+        requires { IsOf g.now self.now }
+        ensures { IfOk result (λ jobs. jobs.items ≡ map (planned g.now self.now)
+            (take most (filter (is_after after) (unclaimed (plan_of self.now))))) }
+    {
+        let parts = self.plan.wanted_after(alloc, after, most)?;
+        self.jobs(alloc, g, &parts)
+    }
+
+    // The part that the fetcher claims. It is wanted, and so not held.
+    fn claimed(&self, f: u8) -> Option<Part>
+        requires { IsFetcher f }
+        ensures claim { result ≡ claim_of (plan_of self.now) f }
+        ensures wanted { IfSome result (λ part. is_wanted (plan_of self.now) part ≡ true) }
+    {
+        let part = self.plan.claimed(f)?;
+        let held = self.plan.holds(part);
+        prove!(!held);
+        Some(part)
+    }
+
+    // The jobs of these parts. The listing of a record is read once for segments in a row.
+    fn jobs(&self, alloc: Global, g: &Group, parts: &[Part]) -> Result<Vec<Job>, AllocError>
+        requires group { IsOf g.now self.now }
+        requires asked { All (λ part. is_asked (plan_of self.now) part ≡ true) parts.now }
+        ensures { IfOk result (λ jobs. jobs.items ≡ map (planned g.now self.now) parts.now) }
+    {
+        let mut jobs = Vec::with_capacity(alloc, parts.len())?;
+        let mut listing = None;
+        for part in parts {
+            listing = self.listing_for(alloc, *part, listing)?;
+            let want = self.want_of(alloc, g, *part, &listing)?;
+            let base = self.plan.attempts(*part);
+            jobs.push(Job { want, base })?;
+        }
+        Ok(jobs)
+    }
+
+    // What the stored record of a segment's publication lists, which may have been read last. A record needs none.
+    pub(super) fn listing_for(
+        &self,
+        alloc: Global,
+        part: Part,
+        last: Option<StoredListing>,
+    ) -> Result<Option<StoredListing>, AllocError>
+        requires asked { is_asked (plan_of self.now) part ≡ true }
+        requires last { IsStored self.now.store last }
+        ensures stored { IfOk result (IsStored self.now.store) }
+        ensures own { IfOk result (IsListingFor part) }
+    {
+        let store = &self.store;
+        if part.part == 0 {
+            return Ok(last);
+        }
+        let pair = (part.publisher, part.seq);
+        if let Some(stored) = &last {
+            if stored.pair == pair {
+                return Ok(last);
+            }
+        }
+        let record = Part { part: 0, ..part };
+        match store.get(record) {
+            Some(octets) => {
+                let listing = read_listing(alloc, octets)?;
+                Ok(Some(StoredListing { pair, listing }))
+            }
+            None => unreachable!(),
+        }
+    }
+
+    // The want of a part that is asked for.
+    fn want_of(
+        &self,
+        alloc: Global,
+        g: &Group,
+        part: Part,
+        listing: &Option<StoredListing>,
+    ) -> Result<Want, AllocError>
+        requires group { IsOf g.now self.now }
+        requires asked { is_asked (plan_of self.now) part ≡ true }
+        requires stored { IsStored self.now.store listing.now }
+        requires own { IsListingFor part listing.now }
+        ensures { IfOk result (λ want. want ≡ want_of g.now self.now.store part) }
+    {
+        if part.part == 0 {
+            return want_record(alloc, part, g.roster().name(part.publisher), g.name());
+        }
+        match listing {
+            Some(stored) => want_segment(alloc, part, &stored.listing),
+            None => unreachable!(),
+        }
+    }
+
+    // The packet that came for a part, if the octets pass for it.
+    fn arrival(&self, g: &Group, part: Part, octets: &[u8]) -> Result<Arrival, AcceptRefusal>
+        requires group { IsOf g.now self.now }
+        requires asked { is_asked (plan_of self.now) part ≡ true }
+        ensures passed { IfOk result (λ _. passed part (ring_verdict (want_of g.now self.now.store part)
+            g.now.members.ring octets.now) ≡ Ok part) }
+        ensures octets { IfOk result (λ arrival. arrival.octets.items ≡ octets.now) }
+        ensures arrival { IfOk result (λ arrival.
+            IsArrival self.now.store part arrival.octets.items arrival.segments arrival.name) }
+        ensures refused { IfErr result (λ refusal. (refusal ≡ AcceptRefusal.NoMemory)
+            ⊎ (passed part (ring_verdict (want_of g.now self.now.store part)
+            g.now.members.ring octets.now) ≡ Err refusal)) }
+    {
+        let alloc = *self.log.allocator();
+        let listing = self.listing_for(alloc, part, None)?;
+        let want = self.want_of(alloc, g, part, &listing)?;
+        check_part(&want, octets, g.members())?;
+        Ok(self.arrived(part, octets, &listing)?)
+    }
+
+    // The packet that came for a part and passed for it.
+    pub(super) fn arrived(
+        &self,
+        part: Part,
+        octets: &[u8],
+        listing: &Option<StoredListing>,
+    ) -> Result<Arrival, AllocError>
+        requires data { IsOk (data_of octets.now) }
+        requires record_part { part.part ≡ 0 → IsSome (listing_in octets.now) }
+        requires stored { IsStored self.now.store listing.now }
+        requires own { IsListingFor part listing.now }
+        ensures octets { IfOk result (λ arrival. arrival.octets.items ≡ octets.now) }
+        ensures arrival { IfOk result (λ arrival.
+            IsArrival self.now.store part arrival.octets.items arrival.segments arrival.name) }
+    {
+        let alloc = *self.log.allocator();
+        let copy = octets.to_vec(alloc)?;
+        if part.part == 0 {
+            let listing = read_listing(alloc, octets)?;
+            return Ok(Arrival {
+                octets: copy,
+                segments: Some(listing.digests.len() as u8),
+                name: listing.name,
+            });
+        }
+        match listing {
+            Some(stored) => Ok(Arrival {
+                octets: copy,
+                segments: None,
+                name: stored.listing.name.clone()?,
+            }),
+            None => unreachable!(),
+        }
+    }
+}

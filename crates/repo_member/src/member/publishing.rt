@@ -1,0 +1,191 @@
+ghost use Rattle.std.specs.Prelude.{◌≡◌, ◌<◌, ◌≤◌, ◌^◌, ◌↔◌, ℕ, Err, IsTrue, IfOk, OnOk, OnErr, length, map, option_map, slice_get, vec_len};
+ghost use Rattle.std.specs.List.{All};
+ghost use Rattle.repo_object.specs.Objects.{is_object_name, IsObject, IsPublisher};
+ghost use Rattle.repo_member.specs.Groups.{publisher_of};
+ghost use Rattle.repo_member.specs.Alone.{IsOf, as_parts, with_packets, next_seq, publishes, logged};
+ghost use Rattle.repo_member.specs.Holding.{AreTied, KeepsOthers};
+ghost use Rattle.repo_member.specs.Verdicts.{sync_of};
+ghost use Rattle.repo_member.specs.Publishing.{IsPrepared, ArePackets, IsNew};
+
+use super::Member;
+use super::syncing::sync_of;
+use crate::group::Group;
+use crate::holding::{gain, make_room};
+use crate::listing::list_if_whole;
+use crate::refusals::PublishRefusal;
+use ndn_name::Name;
+use repo_object::{CONTENT_LIMIT, Object, SEGMENT_LIMIT, packets_of};
+use repo_plan::{Part, Plan};
+use repo_store::Store;
+use std::alloc::AllocError;
+
+/// How many objects a member may publish.
+const LOG_LIMIT: u32 = 65_535;
+
+/// An object that was published.
+#[derive(Debug, Drop)]
+pub struct Published {
+    /// Its number: those of a member are 1, 2, 3 and so on.
+    pub seq: u16,
+    /// The sync Interest that tells of it.
+    pub sync: Vec<u8>,
+}
+
+// An object that is to be published, with all that its publication makes.
+#[derive(Drop)]
+struct Prepared {
+    object: Object,
+    name: Name,
+    packets: Vec<Vec<u8>>,
+    sync: Vec<u8>,
+}
+
+impl Member {
+    /// The member publishes an object under its next number, and holds all its packets.
+    pub fn publish(
+        &mut self,
+        g: &Group,
+        name: &Name,
+        contents: &[Vec<u8>],
+        now: u64,
+        draw: u32,
+    ) -> Result<Published, PublishRefusal>
+        requires group { IsOf g.now self.old }
+        requires name { IsTrue (is_object_name name.now) }
+        requires few { length contents.now ≤ SEGMENT_LIMIT }
+        requires contents { All (λ c. (0 < vec_len c) × (vec_len c ≤ CONTENT_LIMIT)) contents.now }
+        requires early { now < 2 ^ 62 }
+        requires draws { self.old.machine.draws < 2 ^ 62 }
+        ensures ok { OnOk result (self.new ≡ publishes g.now
+            (record { name = name.now; contents = map (λ c. c.items) contents.now }) now draw self.old) }
+        ensures seq { IfOk result (λ published. published.seq ≡ next_seq self.old) }
+        ensures sync { IfOk result (λ published.
+            published.sync.items ≡ sync_of g.now self.old.number self.new.known) }
+        ensures spent { (log : ℕ) → (result ≡ Err (PublishRefusal.NumbersSpent log))
+            ↔ ((log ≡ length self.old.log) × (LOG_LIMIT ≤ length self.old.log)) }
+        ensures err { OnErr result (self.new ≡ self.old) }
+    {
+        let log = self.log_len();
+        if log >= LOG_LIMIT {
+            return Err(PublishRefusal::NumbersSpent { log });
+        }
+        let seq = log as u16 + 1;
+        let number = self.number;
+        let record = Part {
+            publisher: number,
+            seq,
+            part: 0,
+        };
+        let held = self.plan.holds(record);
+        prove!(!held);
+        let prepared = self.prepared(g, seq, name, contents)?;
+        self.log.reserve(1)?;
+        make_room(
+            &mut self.plan,
+            &mut self.store,
+            &mut self.catalogue,
+            prepared.packets.len(),
+        )?;
+        self.plan.raise(number, seq);
+        gain_all(&mut self.plan, &mut self.store, number, seq, prepared.packets);
+        list_if_whole(&self.plan, &self.store, &mut self.catalogue, number, seq, prepared.name);
+        self.log.push(prepared.object).unwrap();
+        self.vector.raise(number, seq);
+        self.machine.published(now, draw);
+        Ok(Published {
+            seq,
+            sync: prepared.sync,
+        })
+    }
+
+    /// The packet of an own part, whether it is still held or not; `None` where no such part was published.
+    pub fn logged(&self, g: &Group, part: Part) -> Result<Option<Vec<u8>>, AllocError>
+        requires { IsOf g.now self.now }
+        ensures { IfOk result (λ packet. option_map (λ p. p.items) packet ≡ logged g.now self.now part) }
+    {
+        if part.publisher != self.number || part.seq == 0 {
+            return Ok(None);
+        }
+        let Some(object) = self.log.get(usize::from(part.seq) - 1) else {
+            return Ok(None);
+        };
+        let alloc = *self.log.allocator();
+        let node = g.roster().name(self.number);
+        let key = g.members().key(self.number);
+        let packets = packets_of(alloc, object, part.seq, node, g.name(), key)?;
+        Ok(packet_at(packets, usize::from(part.part)))
+    }
+
+    // The object of this name and these contents, and all that its publication makes.
+    fn prepared(
+        &self,
+        g: &Group,
+        seq: u16,
+        name: &Name,
+        contents: &[Vec<u8>],
+    ) -> Result<Prepared, AllocError>
+        requires group { IsOf g.now self.now }
+        requires name { IsTrue (is_object_name name.now) }
+        requires few { length contents.now ≤ SEGMENT_LIMIT }
+        requires contents { All (λ c. (0 < vec_len c) × (vec_len c ≤ CONTENT_LIMIT)) contents.now }
+        requires seq { seq ≡ next_seq self.now }
+        ensures within { IfOk result (λ prepared. IsObject prepared.object) }
+        ensures publisher { IfOk result (λ _. IsPublisher (publisher_of g.now self.now.number)) }
+        ensures prepared { IfOk result (λ prepared. IsPrepared g.now self.now
+            (record { name = name.now; contents = map (λ c. c.items) contents.now })
+            prepared.object prepared.name (map (λ p. p.items) prepared.packets.items) prepared.sync.items) }
+    {
+        let alloc = *self.log.allocator();
+        let object = Object::new(alloc, name, contents)?;
+        let node = g.roster().name(self.number);
+        let key = g.members().key(self.number);
+        let packets = packets_of(alloc, &object, seq, node, g.name(), key)?;
+        let mut vector = self.vector.copy(alloc)?;
+        vector.raise(self.number, seq);
+        let sync = sync_of(alloc, g, self.number, &vector)?;
+        let name = name.clone()?;
+        Ok(Prepared {
+            object,
+            name,
+            packets,
+            sync,
+        })
+    }
+}
+
+// The packet at that place.
+fn packet_at(mut packets: Vec<Vec<u8>>, place: usize) -> Option<Vec<u8>>
+    ensures { option_map (λ p. p.items) result ≡ slice_get (map (λ p. p.items) packets.items) place }
+{
+    if place < packets.len() {
+        Some(packets.swap_remove(place))
+    } else {
+        None
+    }
+}
+
+// The parts of a new publication are held from now on, with these packets, for which room was made.
+fn gain_all(plan: &mut Plan, store: &mut Store, publisher: u32, seq: u16, packets: Vec<Vec<u8>>)
+    requires plan_room { vec_len packets ≤ plan.old.spare }
+    requires store_room { vec_len packets ≤ store.old.spare }
+    requires tied { AreTied plan.old store.old.packets }
+    requires new { IsNew plan.old (publisher, seq) }
+    requires packets { ArePackets (map (λ p. p.items) packets.items) }
+    ensures packets { store.new.packets ≡ with_packets
+        (as_parts (publisher, seq) 0 (map (λ p. p.items) packets.items)) store.old.packets }
+    ensures others { KeepsOthers plan.old plan.new }
+    ensures tied { AreTied plan.new store.new.packets }
+{
+    let segments = packets.len() as u8 - 1;
+    let mut x = 0;
+    for octets in packets {
+        let part = Part {
+            publisher,
+            seq,
+            part: x,
+        };
+        let segments = if x == 0 { Some(segments) } else { None };
+        gain(plan, store, part, octets, segments);
+        x += 1;
+    }
+}

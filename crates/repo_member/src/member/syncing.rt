@@ -1,0 +1,161 @@
+ghost use Rattle.std.specs.Prelude.{◌≡◌, ◌<◌, ◌≤◌, ◌^◌, ◌⊎◌, ◌↔◌, Ok, Err, IsFalse, IfOk, IfErr, IsOkAnd, OnOk, OnErr, length, slice_index};
+ghost use Rattle.svs_vector.specs.Vectors.{join};
+ghost use Rattle.svs_sync.specs.Suppression.{mode_of};
+ghost use Rattle.svs_sync.specs.KeptVector.{fires_kept};
+ghost use Rattle.repo_member.specs.Alone.{IsOf, learns, hears, fires};
+ghost use Rattle.repo_member.specs.Verdicts.{sync_of, hear_verdict};
+ghost use Rattle.repo_member.specs.Fires.{TellsFire};
+
+use super::Member;
+use crate::group::Group;
+use crate::refusals::HearRefusal;
+use repo_object::key_name;
+use repo_plan::Plan;
+use std::alloc::{AllocError, Global};
+use svs_sync::{Fired, Mode, SyncRefusal, check_sync, make_sync};
+use svs_vector::Vector;
+
+/// What a member does when its timer fires.
+#[derive(Debug, Drop)]
+pub enum Fire {
+    /// It is not due yet.
+    Early,
+    /// It is due, and others have told what it knows.
+    Quiet,
+    /// It sends this sync Interest.
+    Sent(Vec<u8>),
+}
+
+impl Member {
+    /// The member hears a sync Interest: it knows from now on what it knew and what is told, and its machine is told of
+    /// the vector too.
+    pub fn hear(
+        &mut self,
+        g: &Group,
+        octets: &[u8],
+        now: u64,
+        draw: u32,
+    ) -> Result<Mode, HearRefusal>
+        requires group { IsOf g.now self.old }
+        requires early { now < 2 ^ 62 }
+        requires few { self.old.machine.draws < 2 ^ 62 }
+        ensures ok { OnOk result (IsOkAnd (hear_verdict g.now self.old octets.now)
+            (λ told. self.new ≡ hears told now draw self.old)) }
+        ensures mode { IfOk result (λ mode. mode ≡ mode_of self.new.machine.heard) }
+        ensures refused { IfErr result (λ refusal. (refusal ≡ HearRefusal.NoMemory)
+            ⊎ (hear_verdict g.now self.old octets.now ≡ Err refusal)) }
+        ensures err { OnErr result (self.new ≡ self.old) }
+    {
+        let told = self.told(g, octets)?;
+        let mode = self.machine.heard(now, &told, &self.vector, draw);
+        learn(&mut self.vector, &mut self.plan, &told);
+        Ok(mode)
+    }
+
+    /// The member learns what a sync Interest tells, as `hear` does, and its machine isn't told of it.
+    ///
+    /// The answer is whether the member knows of more than before.
+    pub fn join_from(&mut self, g: &Group, octets: &[u8]) -> Result<bool, HearRefusal>
+        requires group { IsOf g.now self.old }
+        ensures ok { OnOk result (IsOkAnd (hear_verdict g.now self.old octets.now)
+            (λ told. self.new ≡ learns told self.old)) }
+        ensures changed { IfOk result (λ changed. IsFalse changed ↔ (self.new.known ≡ self.old.known)) }
+        ensures refused { IfErr result (λ refusal. (refusal ≡ HearRefusal.NoMemory)
+            ⊎ (hear_verdict g.now self.old octets.now ≡ Err refusal)) }
+        ensures err { OnErr result (self.new ≡ self.old) }
+    {
+        let told = self.told(g, octets)?;
+        Ok(learn(&mut self.vector, &mut self.plan, &told))
+    }
+
+    /// The member's timer fires.
+    pub fn fire(&mut self, g: &Group, now: u64, draw: u32) -> Result<Fire, AllocError>
+        requires group { IsOf g.now self.old }
+        requires early { now < 2 ^ 62 }
+        requires few { self.old.machine.draws < 2 ^ 62 }
+        ensures fire { IfOk result (TellsFire (fires_kept now self.old.known self.old.machine)
+            (sync_of g.now self.old.number self.old.known)) }
+        ensures ok { OnOk result (self.new ≡ fires now draw self.old) }
+        ensures err { OnErr result (self.new ≡ self.old) }
+    {
+        if self.machine.deadline() > now {
+            return Ok(Fire::Early);
+        }
+        let sync = self.sync(*self.log.allocator(), g)?;
+        match self.machine.fired(now, &self.vector, draw) {
+            Fired::Early => Ok(Fire::Early),
+            Fired::Quiet => Ok(Fire::Quiet),
+            Fired::Send => Ok(Fire::Sent(sync)),
+        }
+    }
+
+    /// The sync Interest that tells what the member knows now.
+    pub fn sync(&self, alloc: Global, g: &Group) -> Result<Vec<u8>, AllocError>
+        requires { IsOf g.now self.now }
+        ensures { IfOk result (λ sync. sync.items ≡ sync_of g.now self.now.number self.now.known) }
+    {
+        sync_of(alloc, g, self.number, &self.vector)
+    }
+
+    // The vector that octets tell the member.
+    fn told(&self, g: &Group, octets: &[u8]) -> Result<Vector, HearRefusal>
+        requires { IsOf g.now self.now }
+        ensures told { IfOk result (λ told. hear_verdict g.now self.now octets.now ≡ Ok told) }
+        ensures width { IfOk result (λ told. length told ≡ length self.now.known) }
+        ensures few { IfOk result (λ told. length told ≤ 16) }
+        ensures own { IfOk result (λ told. slice_index told self.now.number ≤ length self.now.log) }
+        ensures refused { IfErr result (λ refusal. (refusal ≡ HearRefusal.NoMemory)
+            ⊎ (hear_verdict g.now self.now octets.now ≡ Err refusal)) }
+    {
+        let alloc = *self.log.allocator();
+        let roster = g.roster();
+        let told = match check_sync(alloc, octets, g.name(), roster, g.members()) {
+            Ok((_, told)) => told,
+            Err(SyncRefusal::NoMemory) => return Err(HearRefusal::NoMemory),
+            Err(refusal) => return Err(HearRefusal::Sync(refusal)),
+        };
+        let members = roster.len();
+        let width = told.members();
+        prove!(width == members);
+        let own = self.vector.get(self.number);
+        let ahead = told.get(self.number);
+        if ahead > own {
+            return Err(HearRefusal::OwnNumberAhead {
+                own: u32::from(own),
+                told: u32::from(ahead),
+            });
+        }
+        Ok(told)
+    }
+}
+
+// What is told is known from now on. The answer is whether more is known than before.
+fn learn(vector: &mut Vector, plan: &mut Plan, told: &Vector) -> bool
+    requires width { length told.now ≡ length vector.old }
+    requires few { length told.now ≤ 16 }
+    requires known { plan.old.known ≡ vector.old }
+    ensures vector { vector.new ≡ join vector.old told.now }
+    ensures plan { plan.new ≡ record plan.old { known = join vector.old told.now } }
+    ensures changed { IsFalse result ↔ (vector.new ≡ vector.old) }
+{
+    for member in 0..told.members() as u32 {
+        plan.raise(member, told.get(member));
+    }
+    vector.join(told)
+}
+
+// The sync Interest by which a member tells a vector.
+pub(super) fn sync_of(
+    alloc: Global,
+    g: &Group,
+    number: u32,
+    vector: &Vector,
+) -> Result<Vec<u8>, AllocError>
+    requires member { number < length g.now.members.names }
+    requires width { length vector.now ≡ length g.now.members.names }
+    ensures { IfOk result (λ sync. sync.items ≡ sync_of g.now number vector.now) }
+{
+    let key_name = key_name(g.roster().name(number))?;
+    let key = g.members().key(number);
+    make_sync(alloc, g.name(), vector, g.roster(), &key_name, key)
+}
