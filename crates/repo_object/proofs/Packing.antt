@@ -1,6 +1,6 @@
 -- Packets and records, written one after another.
-use Rattle.std.proofs.Common.{◌≡◌, ℕ, ◌+◌, ◌<◌, ◌≤◌, List, [], ◌∷◌, ◌++◌, length, map, drop, append_assoc, get_or, Vec, Global, Result, Err, refl, sym, ap, subst, ◌∙◌, arith}
-use Rattle.std.specs.List.{All, flat_map}
+use Rattle.std.proofs.Common.{◌≡◌, ℕ, ◌+◌, ◌-◌, ◌<◌, ◌≤◌, zero, suc, List, [], ◌∷◌, ◌++◌, length, map, drop, append_assoc, get_or, Vec, Global, Option, Some, option_map, Result, Err, refl, sym, ap, subst, ◌∙◌, arith}
+use Rattle.std.specs.List.{All, flat_map, slice_get}
 use Rattle.std.proofs.lemmas.List.{append-nil, at_drop_more, at_drop_all, length-map, get_or-map}
 use Rattle.std.proofs.lemmas.List.Folds.{flat_map-map}
 use Rattle.std.proofs.lemmas.Simd.{map-map}
@@ -12,7 +12,7 @@ use Rattle.ndn_name.specs.declared.fault.PacketWriteFault.{PacketWriteFault}
 use Rattle.ndn_name.specs.declared.fault.PacketWriteFault.TheVariants.{TooLong, NoMemory}
 use Rattle.ndn_name.specs.Names.{Component, encoding}
 use Rattle.repo_object.specs.Objects.{NamedContents, IsContent, Publisher, key_name}
-use Rattle.repo_object.specs.Publication.{record_content, segment_packet, segment_packets_from, segment_packets, published_segments, published_listing}
+use Rattle.repo_object.specs.Publication.{record_content, packet_at, segment_packet, segment_packets_from, segment_packets, published_segments, published_listing}
 use Rattle.repo_object.specs.Records.{listed}
 
 abbrev pub items : Vec ℕ Global → List ℕ
@@ -50,6 +50,30 @@ module _ (keyed : List Component) (key : List ℕ) (name : List Component) (last
   unfolding segment_packets_from
   segments_end i past so_far =
       sym (append-nil made) ∙ ap (λ (ps : List (List ℕ)). made ++ ps) (sym (at_drop_all (segment_packets_from keyed key name last i) contents i past)) ∙ so_far
+
+-- the packet of the segment at a place, alone
+segment_at : (keyed : List Component) (key : List ℕ) (name : List Component) (last j : ℕ) (contents : List (List ℕ)) (i : ℕ)
+    → slice_get (segment_packets_from keyed key name last j contents) i ≡ option_map (segment_packet keyed key name last (j + i)) (slice_get contents i)
+unfolding segment_packets_from
+segment_at keyed key name last j [] i = refl
+segment_at keyed key name last j (content ∷ contents) zero =
+    let same : j ≡ j + 0 = omega arith in
+    ap (λ (n : ℕ). Some (segment_packet keyed key name last n content)) same
+segment_at keyed key name last j (content ∷ contents) (suc i) =
+    let same : j + 1 + i ≡ j + suc i = omega arith in
+    segment_at keyed key name last (j + 1) contents i
+    ∙ ap (λ (n : ℕ). option_map (segment_packet keyed key name last n) (slice_get contents i)) same
+
+pub packet_behind : (publisher : Publisher) (seq : ℕ) (object : NamedContents) (x : ℕ) → (x ≡ 0 → ⊥)
+    → packet_at publisher seq object x
+    ≡ option_map (segment_packet (key_name publisher.node) publisher.key object.name (length object.contents - 1) (x - 1)) (slice_get object.contents (x - 1))
+packet_behind publisher seq object zero behind = absurd (behind refl)
+packet_behind publisher seq object (suc i) behind =
+    let packet_at_number : ℕ → ℕ → Option (List ℕ) = λ n k. option_map (segment_packet (key_name publisher.node) publisher.key object.name (length object.contents - 1) n) (slice_get object.contents k) in
+    let from_none : 0 + i ≡ suc i - 1 = omega arith in
+    let same : i ≡ suc i - 1 = omega arith in
+    segment_at (key_name publisher.node) publisher.key object.name (length object.contents - 1) 0 object.contents i
+    ∙ ap (λ (n : ℕ). packet_at_number n i) from_none ∙ ap (packet_at_number (suc i - 1)) same
 
 -- ---- a record's content
 

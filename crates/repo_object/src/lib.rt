@@ -27,7 +27,7 @@ pub use laws::{
 pub use listing::{Listing, is_record, read_record};
 pub use names::{NODE_NAME_LIMIT, key_name};
 pub use object::{CONTENT_LIMIT, OBJECT_NAME_LIMIT, Object, SEGMENT_LIMIT, is_object_name};
-pub use packets::packets_of;
+pub use packets::{packet_of, packets_of};
 pub use part_refusal::PartRefusal;
 pub use record_fault::RecordFault;
 pub use want::{Want, want_record, want_segment};

@@ -122,6 +122,11 @@ fn worked_publication_is_written(rt: HostRuntime) -> Result<(), Fail> {
     assert_eq!(rt; packets.len(), 2);
     assert_eq!(rt; packets[0].as_slice(), RECORD.as_slice());
     assert_eq!(rt; packets[1].as_slice(), SEGMENT.as_slice());
+    let alone = [Some(RECORD.as_slice()), Some(SEGMENT.as_slice()), None];
+    for (part, packet) in alone.into_iter().enumerate() {
+        let made = packet_of(alloc, &object, 1, part as u8, &alice, &group, KEY)?;
+        assert_eq!(rt; made.as_deref(), packet);
+    }
     Ok(())
 }
 

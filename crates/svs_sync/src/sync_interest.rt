@@ -65,10 +65,11 @@ pub fn check_sync(
     roster: &Roster,
     ring: &KeyRing,
 ) -> Result<(u32, Vector), SyncRefusal>
-    ensures { MatchResult result
+    ensures verdict { MatchResult result
         (λ told. sync_verdict group.now roster.now ring.now octets.now ≡ Ok (told.0, told.1))
         (λ refusal. (sync_verdict group.now roster.now ring.now octets.now ≡ Err refusal)
         ⊎ (refusal ≡ SyncRefusal.NoMemory)) }
+    ensures width { IfOk result (λ told. length told.1 ≡ length roster.now) }
 {
     let interest = InterestView::read(octets)?;
     if !is_sync_name(&interest.name, group) {

@@ -1,4 +1,4 @@
-ghost use Rattle.std.specs.Prelude.{◌≡◌, ◌+◌, ◌^◌, ◌<◌, ◌⊎◌, length, replicate, MatchResult, IfOk, IfErr, Ok, Err};
+ghost use Rattle.std.specs.Prelude.{◌≡◌, ◌+◌, ◌^◌, ◌<◌, ◌⊎◌, length, replicate, MatchResult, IfOk, IfErr, OnOk, Ok, Err};
 ghost use Rattle.ndn_tlv.specs.Elements.{item, elements};
 ghost use Rattle.svs_vector.specs.StateVector.{with_entry, vector_in, vector_among, vector_of};
 
@@ -27,6 +27,7 @@ impl Vector {
     /// are passed over.
     pub fn read(alloc: Global, octets: &[u8], roster: &Roster) -> Result<Vector, VectorFault>
         ensures ok { IfOk result (λ vector. vector_of roster.now octets.now ≡ Ok vector) }
+        ensures width { IfOk result (λ vector. length vector ≡ length roster.now) }
         ensures fault { IfErr result (λ fault.
             (vector_of roster.now octets.now ≡ Err fault) ⊎ (fault ≡ VectorFault.NoMemory)) }
     {
@@ -48,9 +49,10 @@ impl Vector {
     fn take_entries(&mut self, element: Element<'_>, roster: &Roster) -> Result<(), VectorFault>
         requires fits { element.value_start + length element.value.now < 2 ^ 64 }
         requires empty { self.old ≡ replicate (length roster.now) 0 }
-        ensures { MatchResult result
+        ensures taken { MatchResult result
             (λ _. vector_in roster.now (item element.entry) ≡ Ok self.new)
             (λ fault. vector_in roster.now (item element.entry) ≡ Err fault) }
+        ensures width { OnOk result (length self.new ≡ length roster.now) }
     {
         let elements = Reader::new(element.value, element.value_start);
         let mut fields = FieldReader::new(elements, &STATE_VECTOR);

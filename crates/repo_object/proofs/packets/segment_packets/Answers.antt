@@ -1,34 +1,18 @@
-use Rattle.std.proofs.Common.{ℕ, ◌+◌, ◌++◌, ◌∷◌, [], List, length, map, drop, Some, ap, subst, sym, get_or, ◌∙◌, arith}
+use Rattle.std.proofs.Common.{ℕ, ◌+◌, ◌++◌, ◌∷◌, [], List, length, map, drop, ap, subst, sym, get_or, ◌∙◌, arith}
 use Rattle.std.specs.List.{All}
 use Rattle.std.proofs.lemmas.List.{length-map, map-append}
 use Rattle.ndn_name.specs.Names.{Component}
-use Rattle.ndn_data.specs.WrittenData.{written_data}
-use Rattle.repo_object.specs.Objects.{IsContent, segment_name}
+use Rattle.repo_object.specs.Objects.{IsContent}
 use Rattle.repo_object.specs.Publication.{segment_packet, segment_packets, segment_packets_from}
-use Rattle.repo_object.proofs.Sizes.{named_short}
-use Rattle.repo_object.proofs.PacketSizes.{segment-size}
 use Rattle.repo_object.proofs.Packing.{items, content_at, content_is, segments_more, segments_end}
 use Rattle.repo_object.proofs.packets.segment_packets.Goals as goal
 
-pub write_packet-requires : goal.write_packet-requires
-write_packet-requires c =
-    let object = c.args.object.now in
+pub segment_packet-requires-clause-content : goal.segment_packet-requires-clause-content
+segment_packet-requires-clause-content c =
     let contents = c.contents-contents.result.now in
-    let within = c.contents-contents.ensures.within in
-    let content = c.index-contents-i.result in
-    let i = c.loop-i.i in
-    let last = c.saturating_sub-last.result in
-    let keyed = c.args.key_name.now in
-    let key = c.args.key.now in
-    let all = subst (All IsContent) (sym c.contents-contents.ensures.same) within.contents in
-    let count = length-map contents items in
-    let fewer = ap length c.contents-contents.ensures.same in
-    let small = content_at contents i content (omega arith) c.index-contents-i.is all in
-    let name = c.in_ok-name.ensures ∙ ap (λ (n : List Component). segment_name n i) c.name.ensures.same in
-    let short = segment-size keyed key object.name last i content.items c.requires (named_short object.name within.named) (omega (arith, within.few, count, fewer)) (omega (arith, within.few, count, fewer)) small.1 in
-    let named = ap (λ (n : List Component). length (written_data n (Some last) c.deref.result.now keyed key)) name in
-    let filled = ap (λ (o : List ℕ). length (written_data (segment_name object.name i) (Some last) o keyed key)) c.deref.ensures.value in
-    omega (arith, named, filled, short)
+    let all = subst (All IsContent) (sym c.contents-contents.ensures.same) c.contents-contents.ensures.within.contents in
+    let small = content_at contents c.loop-i.i c.index-contents-i.result (omega arith) c.index-contents-i.is all in
+    omega (arith, ap (λ (o : List ℕ). length o) c.deref.ensures.value, small.1)
 
 pub loop-i-preserved : goal.loop-i-preserved
 loop-i-preserved c =
@@ -43,9 +27,8 @@ loop-i-preserved c =
     let packet = c.in_ok-packet.packet in
     let count = length-map contents items in
     let fewer = ap length c.contents-contents.ensures.same in
-    let name = c.in_ok-name.ensures ∙ ap (λ (n : List Component). segment_name n i) c.name.ensures.same in
     let at = ap (λ (cs : List (List ℕ)). get_or cs i content.items) (sym c.contents-contents.ensures.same) ∙ content_is contents i content (omega arith) c.index-contents-i.is in
-    let written = c.in_ok-packet.ensures ∙ ap (λ (n : List Component). written_data n (Some last) c.deref.result.now keyed key) name ∙ ap (segment_packet keyed key object.name last i) c.deref.ensures.value in
+    let written = c.in_ok-packet.ensures ∙ ap (λ (n : List Component). segment_packet keyed key n last i c.deref.result.now) c.name.ensures.same ∙ ap (segment_packet keyed key object.name last i) c.deref.ensures.value in
     let more = segments_more keyed key object.name last object.contents made (segment_packets keyed key object) i content.items packet.items (omega (arith, count, fewer)) at written c.loop-i.invariant in
     ap (λ (ps : List (List ℕ)). ps ++ segment_packets_from keyed key object.name last (i + 1) (drop (i + 1) object.contents)) (ap (map items) c.in_ok-push.ensures.items ∙ map-append items c.loop-i.packets.items (packet ∷ [])) ∙ more
 

@@ -20,13 +20,13 @@ loop-next-init c = record {
   width = ap length c.requires.empty ∙ length-replicate (length c.args.roster.now) 0;
 }
 
-pub returns-in-Err : goal.returns-in-Err
-returns-in-Err c =
+pub returns-in-Err-clause-taken : goal.returns-in-Err-clause-taken
+returns-in-Err-clause-taken c =
     let err : VectorFault → Result (List ℕ) VectorFault = λ f. Err f in
     ends_at_fault (with_entry c.args.roster.now) (fault_in (item c.args.element)) c.loop-next.self c.loop-next.fields (vector_in c.args.roster.now (item c.args.element)) c.loop-next.invariant.so_far c.in-Err.fault c.in-Err.ensures.fault ∙ ap err (sym c.fault_in.ensures)
 
-pub returns-in_err-take_entry-in-Ok-Some : goal.returns-in_err-take_entry-in-Ok-Some
-returns-in_err-take_entry-in-Ok-Some c =
+pub returns-in_err-take_entry-in-Ok-Some-clause-taken : goal.returns-in_err-take_entry-in-Ok-Some-clause-taken
+returns-in_err-take_entry-in-Ok-Some-clause-taken c =
     let p = err_from_is_err_and c.from_residual.result c.from_residual.ensures.1 in
     let seen = rw c.in-Ok-Some.field-0-is at c.in-Ok-Some.ensures.ok in
     rw (p.1, p.2) (ends_at_step (with_entry c.args.roster.now) (fault_in (item c.args.element)) c.loop-next.self c.loop-next.fields (vector_in c.args.roster.now (item c.args.element)) c.loop-next.invariant.so_far (c.in-Ok-Some.next.0, item c.in-Ok-Some.next.1) c.next.new.self c.in_err-take_entry-in-Ok-Some.field-0.0 seen c.in_err-take_entry-in-Ok-Some.ensures.taken)
@@ -43,7 +43,7 @@ loop-next-preserved c =
       width = c.take_entry.ensures.width ∙ c.loop-next.invariant.width;
     }
 
-pub returns-in-Ok-None : goal.returns-in-Ok-None
-returns-in-Ok-None c =
+pub returns-in-Ok-None-clause-taken : goal.returns-in-Ok-None-clause-taken
+returns-in-Ok-None-clause-taken c =
     let seen = rw c.in-Ok-None.field-0-is at c.in-Ok-None.ensures.ok in
     all_gathered (with_entry c.args.roster.now) (fault_in (item c.args.element)) c.loop-next.self c.loop-next.fields (vector_in c.args.roster.now (item c.args.element)) c.loop-next.invariant.so_far seen.0
