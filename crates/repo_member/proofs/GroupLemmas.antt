@@ -29,9 +29,9 @@ take-pair ring i name key inside is_name is_key =
 pub have_keys_too : (nodes : NodeKeys) (node : List Component) (key : List ℕ) → HaveKeys nodes → IsNodeName node → IsKey key → length nodes.names < 16 → HaveKeys (with_node node key nodes)
 have_keys_too nodes node key have is_node is_key room = record {
   keys =
-    map-append (λ (p : Pair). p.name) nodes.ring (pair (encoding (key_name node)) key ∷ [])
-    ∙ ap (λ (names : List (List ℕ)). names ++ encoding (key_name node) ∷ []) have.keys
-    ∙ sym (map-append (λ (n : List Component). encoding (key_name n)) nodes.names (node ∷ []));
+      map-append (λ (p : Pair). p.name) nodes.ring (pair (encoding (key_name node)) key ∷ [])
+      ∙ ap (λ (names : List (List ℕ)). names ++ encoding (key_name node) ∷ []) have.keys
+      ∙ sym (map-append (λ (n : List Component). encoding (key_name n)) nodes.names (node ∷ []));
   few = omega (arith, room, length-append nodes.names (node ∷ []));
   node_names = All-push IsNodeName nodes.names node have.node_names is_node;
   short_keys = All-push (λ (p : Pair). IsKey p.key) nodes.ring (pair (encoding (key_name node)) key) have.short_keys is_key;

@@ -11,4 +11,3 @@ mod PublishLemmas
 mod MemberLemmas
 mod OwnLemmas
 mod VectorLemmas
-mod ToldLemmas

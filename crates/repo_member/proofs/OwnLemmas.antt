@@ -100,26 +100,26 @@ next_is_new m plan after is sound same raised =
       not_held = λ x. false_from_ne_true (holds m.plan (part_of (m.number, seq) x)) (λ h. past (asked_known_up_to m.plan (part_of (m.number, seq) x) (sound.held (part_of (m.number, seq) x) h).asked));
       not_hidden = false_from_ne_true (hides m.plan (m.number, seq)) (λ h. past_known (known_up_to (plan_of (alone m)) (m.number, seq) (is.alone.hidden (m.number, seq) h)));
       not_claimed = λ x. false_from_ne_true (is_claimed m.plan (part_of (m.number, seq) x)) (λ h.
-        let claim = any_claim (part_of (m.number, seq) x) m.plan.claims h in
-        past (asked_known_up_to m.plan (part_of (m.number, seq) x) (wanted_is_asked m.plan (part_of (m.number, seq) x) (sound.claimed claim.0 (part_of (m.number, seq) x) claim.1))));
+          let claim = any_claim (part_of (m.number, seq) x) m.plan.claims h in
+          past (asked_known_up_to m.plan (part_of (m.number, seq) x) (wanted_is_asked m.plan (part_of (m.number, seq) x) (sound.claimed claim.0 (part_of (m.number, seq) x) claim.1))));
     }) where
-  seq : ℕ
-  seq = length m.log.items + 1
+      seq : ℕ
+      seq = length m.log.items + 1
 
-  own : slice_index m.plan.known m.number ≡ length m.log.items
-  own = ap (λ (known : List ℕ). slice_index known m.number) is.known ∙ is.alone.own
+      own : slice_index m.plan.known m.number ≡ length m.log.items
+      own = ap (λ (known : List ℕ). slice_index known m.number) is.known ∙ is.alone.own
 
-  inside : m.number < length m.plan.known
-  inside = omega (arith, is.alone.member, ap (λ (known : List ℕ). length known) is.known)
+      inside : m.number < length m.plan.known
+      inside = omega (arith, is.alone.member, ap (λ (known : List ℕ). length known) is.known)
 
-  at : slice_index (slice_set m.plan.known m.number (max (slice_index m.plan.known m.number) seq)) m.number ≡ max (slice_index m.plan.known m.number) seq
-  at = get_or-set_same m.plan.known m.number (max (slice_index m.plan.known m.number) seq) 0 inside
+      at : slice_index (slice_set m.plan.known m.number (max (slice_index m.plan.known m.number) seq)) m.number ≡ max (slice_index m.plan.known m.number) seq
+      at = get_or-set_same m.plan.known m.number (max (slice_index m.plan.known m.number) seq) 0 inside
 
-  past : seq ≤ slice_index m.plan.known m.number → ⊥
-  past h = omega (arith, own, h)
+      past : seq ≤ slice_index m.plan.known m.number → ⊥
+      past h = omega (arith, own, h)
 
-  past_known : seq ≤ slice_index m.vector m.number → ⊥
-  past_known h = omega (arith, is.alone.own, h)
+      past_known : seq ≤ slice_index m.vector m.number → ⊥
+      past_known h = omega (arith, is.alone.own, h)
 
 -- ---- the member afterwards
 
@@ -198,9 +198,9 @@ pub published_kept : (stored after : List Packet) (pair : Pair) (made : List (Li
 published_kept stored after pair made entries listed plan absent order tied puts was is = record {
   tied = tied;
   listed =
-    let rises : Rises part_cmp (keys (with_packets (as_parts pair 0 made) stored)) = subst (λ (p : List Packet). Rises part_cmp (keys p)) puts tied.in_order in
-    is ∙ ap (with_listed (entry_at after pair)) was ∙ ap (λ (p : List Packet). with_listed (entry_at p pair) (catalogue_alone stored)) puts
-    ∙ sym (relisted_publication stored pair [] [] absent made order rises) ∙ ap catalogue_alone (sym puts);
+      let rises : Rises part_cmp (keys (with_packets (as_parts pair 0 made) stored)) = subst (λ (p : List Packet). Rises part_cmp (keys p)) puts tied.in_order in
+      is ∙ ap (with_listed (entry_at after pair)) was ∙ ap (λ (p : List Packet). with_listed (entry_at p pair) (catalogue_alone stored)) puts
+      ∙ sym (relisted_publication stored pair [] [] absent made order rises) ∙ ap catalogue_alone (sym puts);
 }
 
 -- one object more in a log

@@ -95,7 +95,7 @@ module _ (start plan : Holdings) (pair : Pair) (segments x : ℕ) (new : IsNew s
         let above : 0 < x = omega (arith, e) in
         ap (λ (s : Option Shape). can_be_asked plan.held s (part_of pair (suc n))) (so_far.told above)
         ∙ or_right (suc n == 0) (nat_le (suc n) segments && contains part_cmp plan.held (part_of pair 0))
-          (and_from (nat_le (suc n) segments) (contains part_cmp plan.held (part_of pair 0)) (le-leb (suc n) segments (omega (arith, e, counted))) (so_far.record_held above))
+        (and_from (nat_le (suc n) segments) (contains part_cmp plan.held (part_of pair 0)) (le-leb (suc n) segments (omega (arith, e, counted))) (so_far.record_held above))
 
   pub not_hidden : hides plan pair ≡ false
   not_hidden = ap (λ (hidden : List Pair). contains pair_cmp hidden pair) so_far.others.hidden ∙ new.not_hidden

@@ -99,8 +99,8 @@ packet_in publisher t object = slice_get (packets publisher t.seq object) t.part
 abbrev pub logged : GroupKeys → Alone → Part → Option (List ℕ)
 logged g a t =
     if t.publisher == a.number then
-      if t.seq == 0 then None
-      else option_and_then (packet_in (publisher_of g a.number) t) (slice_get a.log (t.seq - 1))
+    if t.seq == 0 then None
+    else option_and_then (packet_in (publisher_of g a.number) t) (slice_get a.log (t.seq - 1))
     else None
 
 -- ---- hearing

@@ -106,7 +106,8 @@ impl Group {
         ensures names { result.now ≡ self.now.members.names }
         ensures sound { IsGroup self.now }
     {
-        let _ = self.clients.names();
+        // Read for its clause alone: `sound` speaks of the clients too.
+        let _clients = self.clients.names();
         self.members.names()
     }
 

@@ -14,4 +14,3 @@ pub use group::Group;
 pub use group_fault::GroupFault;
 pub use member::{Fire, Member, Published};
 pub use refusals::{AcceptRefusal, HearRefusal, PublishRefusal, WantFault};
-

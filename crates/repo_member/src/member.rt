@@ -10,11 +10,9 @@ mod fetching;
 mod publishing;
 mod syncing;
 
-pub use publishing::Published;
-pub use syncing::Fire;
-
 use crate::group::Group;
 use ndn_name::PacketFault;
+pub use publishing::Published;
 use repo_catalog::Catalogue;
 use repo_object::Object;
 use repo_plan::{Part, Plan};
@@ -23,6 +21,7 @@ use std::alloc::{AllocError, Global};
 use std::marker::Model;
 use svs_sync::{Machine, Mode};
 use svs_vector::Vector;
+pub use syncing::Fire;
 
 /// One member of a group: its publications, the numbers that it knows, the packets that it holds, the claims of its
 /// sixteen fetchers, its suppression machine and its catalogue.

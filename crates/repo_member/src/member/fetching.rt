@@ -83,7 +83,13 @@ impl Member {
         let arrival = self.arrival(g, part, octets)?;
         make_room(&mut self.plan, &mut self.store, &mut self.catalogue, 1)?;
         let _ = self.plan.release(f);
-        gain_listed(&mut self.plan, &mut self.store, &mut self.catalogue, part, arrival);
+        gain_listed(
+            &mut self.plan,
+            &mut self.store,
+            &mut self.catalogue,
+            part,
+            arrival,
+        );
         Ok(part)
     }
 

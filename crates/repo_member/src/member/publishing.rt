@@ -14,7 +14,7 @@ use crate::holding::{gain, make_room};
 use crate::listing::list_if_whole;
 use crate::refusals::PublishRefusal;
 use ndn_name::Name;
-use repo_object::{CONTENT_LIMIT, Object, SEGMENT_LIMIT, packets_of};
+use repo_object::{CONTENT_LIMIT, Object, SEGMENT_LIMIT, packet_of, packets_of};
 use repo_plan::{Part, Plan};
 use repo_store::Store;
 use std::alloc::AllocError;
@@ -87,8 +87,21 @@ impl Member {
             prepared.packets.len(),
         )?;
         self.plan.raise(number, seq);
-        gain_all(&mut self.plan, &mut self.store, number, seq, prepared.packets);
-        list_if_whole(&self.plan, &self.store, &mut self.catalogue, number, seq, prepared.name);
+        gain_all(
+            &mut self.plan,
+            &mut self.store,
+            number,
+            seq,
+            prepared.packets,
+        );
+        list_if_whole(
+            &self.plan,
+            &self.store,
+            &mut self.catalogue,
+            number,
+            seq,
+            prepared.name,
+        );
         self.log.push(prepared.object).unwrap();
         self.vector.raise(number, seq);
         self.machine.published(now, draw);
@@ -112,8 +125,7 @@ impl Member {
         let alloc = *self.log.allocator();
         let node = g.roster().name(self.number);
         let key = g.members().key(self.number);
-        let packets = packets_of(alloc, object, part.seq, node, g.name(), key)?;
-        Ok(packet_at(packets, usize::from(part.part)))
+        packet_of(alloc, object, part.seq, part.part, node, g.name(), key)
     }
 
     // The object of this name and these contents, and all that its publication makes.
@@ -150,17 +162,6 @@ impl Member {
             packets,
             sync,
         })
-    }
-}
-
-// The packet at that place.
-fn packet_at(mut packets: Vec<Vec<u8>>, place: usize) -> Option<Vec<u8>>
-    ensures { option_map (λ p. p.items) result ≡ slice_get (map (λ p. p.items) packets.items) place }
-{
-    if place < packets.len() {
-        Some(packets.swap_remove(place))
-    } else {
-        None
     }
 }
 

@@ -114,9 +114,6 @@ impl Member {
             Err(SyncRefusal::NoMemory) => return Err(HearRefusal::NoMemory),
             Err(refusal) => return Err(HearRefusal::Sync(refusal)),
         };
-        let members = roster.len();
-        let width = told.members();
-        prove!(width == members);
         let own = self.vector.get(self.number);
         let ahead = told.get(self.number);
         if ahead > own {

@@ -22,10 +22,10 @@ returns-clause-kept c =
     record {
       tied = c.gain.ensures.tied;
       listed =
-        c.list_if_whole.ensures.entries
-        ∙ ap (λ (s : StoreList). with_listed (entry_at s.packets (pair_of c.args.part)) c.args.catalogue.now.entries) c.gain.ensures.store
-        ∙ ap (with_listed entry) c.requires.kept.listed ∙ sym relisted
-        ∙ ap (λ (s : StoreList). catalogue_alone s.packets) (sym c.gain.ensures.store);
+          c.list_if_whole.ensures.entries
+          ∙ ap (λ (s : StoreList). with_listed (entry_at s.packets (pair_of c.args.part)) c.args.catalogue.now.entries) c.gain.ensures.store
+          ∙ ap (with_listed entry) c.requires.kept.listed ∙ sym relisted
+          ∙ ap (λ (s : StoreList). catalogue_alone s.packets) (sym c.gain.ensures.store);
     }
 
 pub returns-clause-others : goal.returns-clause-others

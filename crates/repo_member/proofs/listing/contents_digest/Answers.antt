@@ -12,8 +12,8 @@ loop-x-preserved c =
     let so_far = contents_joined packets pair c.loop-x.x in
     let more = joined_more packets pair c.loop-x.x in
     let content : c.content_of-content.result.now ≡ content_at packets pair (c.loop-x.x + 1) =
-        c.content_of-content.ensures.exact
-        ∙ ap content_of (ap (λ (b : Bor (List ℕ)). b.now) c.unwrap_or.ensures ∙ lent_or c.get.result _ ∙ ap (λ (o : Option (List ℕ)). unwrap_or o []) c.get.ensures.found) in
+    c.content_of-content.ensures.exact
+    ∙ ap content_of (ap (λ (b : Bor (List ℕ)). b.now) c.unwrap_or.ensures ∙ lent_or c.get.result _ ∙ ap (λ (o : Option (List ℕ)). unwrap_or o []) c.get.ensures.found) in
     let whole : so_far ++ c.content_of-content.result.now ≡ contents_joined packets pair (c.loop-x.x + 1) = ap (λ (m : List ℕ). so_far ++ m) content ∙ sym more in
     let long = length-append so_far c.content_of-content.result.now in
     let all = ap (λ (m : List ℕ). length m) whole in

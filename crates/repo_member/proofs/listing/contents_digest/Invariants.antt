@@ -7,5 +7,5 @@ abbrev pub invariant-loop-x : goal.invariant-loop-x
 invariant-loop-x l = record {
   octets : l.octets ≡ length (contents_joined l.store.packets (l.publisher, l.seq) l.x);
   digest : Holds256 l.digest (contents_joined l.store.packets (l.publisher, l.seq) l.x);
-  small : l.octets ≤ 8800 * l.x
+  small : l.octets ≤ 8800 * l.x;
 }

@@ -9,9 +9,9 @@ use Rattle.repo_member.proofs.listing.list_if_whole.Goals as goal
 pub returns-then-complete-clause-entries : goal.returns-then-complete-clause-entries
 returns-then-complete-clause-entries c =
     let entry = listed_whole c.args.plan.now c.args.store.now.packets (c.args.publisher, c.args.seq) c.requires.tied c.args.name c.unwrap_or-segments.result _ _ c.requires.named
-        (sym c.complete.ensures ∙ c.if-complete.true)
-        (c.unwrap_or-segments.ensures ∙ ap (λ (o : Option ℕ). unwrap_or o 0) c.segments.ensures)
-        c.contents_digest-octets.ensures.octets c.contents_digest-octets.ensures.digest in
+    (sym c.complete.ensures ∙ c.if-complete.true)
+    (c.unwrap_or-segments.ensures ∙ ap (λ (o : Option ℕ). unwrap_or o 0) c.segments.ensures)
+    c.contents_digest-octets.ensures.octets c.contents_digest-octets.ensures.digest in
     c.add_reserved.ensures.entries
     ∙ ap (λ (n : ℕ). with_entry (record {
       publisher = c.args.publisher;

@@ -7,6 +7,6 @@ use Rattle.repo_member.proofs.member.Member.accept.Goals as goal
 pub gain_listed-requires-clause-not_claimed : goal.gain_listed-requires-clause-not_claimed
 gain_listed-requires-clause-not_claimed c =
     let claim =
-        ap (λ (p : Holdings). claim_of p c.args.f) c.make_room.ensures.plan ∙ ap (λ (a : Alone). claim_of (plan_of a) c.args.f) c.self.view_is
-        ∙ sym c.in-Some.ensures.claim in
+    ap (λ (p : Holdings). claim_of p c.args.f) c.make_room.ensures.plan ∙ ap (λ (a : Alone). claim_of (plan_of a) c.args.f) c.self.view_is
+    ∙ sym c.in-Some.ensures.claim in
     (ended_claim c.release.result _ c.release.new.self c.args.f c.in-Some.part c.release.ensures.busy c.release.ensures.free c.release.ensures.ok c.release.ensures.idle claim).0.not_claimed

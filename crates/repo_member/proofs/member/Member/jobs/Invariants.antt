@@ -6,5 +6,5 @@ use Rattle.repo_member.proofs.member.Member.jobs.Given as goal
 abbrev pub invariant-loop-part : goal.invariant-loop-part
 invariant-loop-part l = record {
   made : l.jobs.items ≡ map (planned l.g l.self) (take l.part-index l.parts);
-  stored : IsStored l.self.store l.listing
+  stored : IsStored l.self.store l.listing;
 }

@@ -37,8 +37,8 @@ returns-then-eq-clause-own c = λ not_record.
     let seq : stored.pair.1 ≡ c.args.part.seq = eqb-true _ _ both.1 in
     let same : (stored.pair.0, stored.pair.1) ≡ (c.args.part.publisher, c.args.part.seq) = cc in
     let known : IsStored c.self.inside.store.packets (Some stored) =
-        subst (λ (last : Option StoredListing). IsStored c.self.inside.store.packets last) c.in-Some.is
-        (subst (λ (a : Alone). IsStored a.store c.args.last) (sym c.self.view_is) c.requires.last) in
+    subst (λ (last : Option StoredListing). IsStored c.self.inside.store.packets last) c.in-Some.is
+    (subst (λ (a : Alone). IsStored a.store c.args.last) (sym c.self.view_is) c.requires.last) in
     subst (λ (last : Option StoredListing). IsOfPart c.args.part last) (sym c.in-Some.is) (record {
       same = same;
       counted = counted_by c.self.inside c.args.part stored.listing segment (ap (listing_at c.self.inside.store.packets) (sym same) ∙ known.listed);

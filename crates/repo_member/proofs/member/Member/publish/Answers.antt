@@ -30,8 +30,8 @@ list_if_whole-requires-clause-named c =
     let prepared = c.in_ok-prepared.ensures.prepared in
     let pair : Pair = (c.self.inside.number, c.log_len-log.result + 1) in
     let absent : contains part_cmp (keys c.make_room.new.store.packets) (part_of pair 0) ≡ false =
-        ap (λ (p : List Packet). contains part_cmp (keys p) (part_of pair 0)) c.make_room.ensures.store
-        ∙ ap (λ (ts : List Part). contains part_cmp ts (part_of pair 0)) (sym c.self.invariant.kept.tied.held) ∙ sym c.holds-held.ensures.held ∙ c.if-prove.false in
+    ap (λ (p : List Packet). contains part_cmp (keys p) (part_of pair 0)) c.make_room.ensures.store
+    ∙ ap (λ (ts : List Part). contains part_cmp ts (part_of pair 0)) (sym c.self.invariant.kept.tied.held) ∙ sym c.holds-held.ensures.held ∙ c.if-prove.false in
     publication_named (publisher_of c.args.g.now c.args.self.now.number) _ (next_seq c.args.self.now) _ c.make_room.new.store.packets c.gain_all.new.store.packets pair c.in_ok-prepared.prepared.name
     c.in_ok-prepared.ensures.publisher (subst IsObject prepared.same c.in_ok-prepared.ensures.within) low prepared.packed absent c.gain_all.ensures.packets prepared.named
 
@@ -39,8 +39,8 @@ pub invariant_of-self-2 : goal.invariant_of-self-2
 invariant_of-self-2 c =
     let pair : Pair = (c.self.inside.number, c.log_len-log.result + 1) in
     let absent : contains part_cmp (keys c.make_room.new.store.packets) (part_of pair 0) ≡ false =
-        ap (λ (p : List Packet). contains part_cmp (keys p) (part_of pair 0)) c.make_room.ensures.store
-        ∙ ap (λ (ts : List Part). contains part_cmp ts (part_of pair 0)) (sym c.self.invariant.kept.tied.held) ∙ sym c.holds-held.ensures.held ∙ c.if-prove.false in
+    ap (λ (p : List Packet). contains part_cmp (keys p) (part_of pair 0)) c.make_room.ensures.store
+    ∙ ap (λ (ts : List Part). contains part_cmp ts (part_of pair 0)) (sym c.self.invariant.kept.tied.held) ∙ sym c.holds-held.ensures.held ∙ c.if-prove.false in
     let order : Rises part_cmp (keys c.make_room.new.store.packets) = subst (λ (p : List Packet). Rises part_cmp (keys p)) (sym c.make_room.ensures.store) c.self.invariant.kept.tied.in_order in
     let listed = c.make_room.ensures.catalogue ∙ c.self.invariant.kept.listed ∙ ap catalogue_alone (sym c.make_room.ensures.store) in
     let kept = published_kept c.make_room.new.store.packets c.gain_all.new.store.packets pair (map (λ p. p.items) c.in_ok-prepared.prepared.packets.items) c.make_room.new.catalogue.entries c.list_if_whole.new.catalogue.entries c.gain_all.new.plan absent order c.gain_all.ensures.tied c.gain_all.ensures.packets listed c.list_if_whole.ensures.entries in
@@ -53,7 +53,7 @@ invariant_of-self-2 c =
     let longer = log_longer c.self.inside.log.items c.push.new.self.items object (is_ok c.push.result) pushed added in
     let vector = c.raise-2.ensures ∙ ap (λ (n : ℕ). slice_set known number (max (slice_index known number) (n + 1))) long in
     let planned =
-        c.gain_all.ensures.others.known ∙ ap (λ (p : Holdings). p.known) c.raise.ensures ∙ ap (λ (p : Holdings). (raises number (c.log_len-log.result + 1) p).known) c.make_room.ensures.plan
-        ∙ ap (λ (n : ℕ). (raises number (n + 1) c.self.inside.plan).known) long in
+    c.gain_all.ensures.others.known ∙ ap (λ (p : Holdings). p.known) c.raise.ensures ∙ ap (λ (p : Holdings). (raises number (c.log_len-log.result + 1) p).known) c.make_room.ensures.plan
+    ∙ ap (λ (n : ℕ). (raises number (n + 1) c.self.inside.plan).known) long in
     let hidden = c.gain_all.ensures.others.hidden ∙ ap (λ (p : Holdings). p.hidden) c.raise.ensures ∙ ap (λ (p : Holdings). p.hidden) c.make_room.ensures.plan in
     published_is c.self.inside c.self.invariant _ refl longer vector (ap (λ (k : Keeper). k.members) c.published.ensures) planned hidden kept

@@ -35,8 +35,8 @@ loop-octets-preserved c =
     let later = octets_of (into_iter_items c.next.new.self) in
     record {
       stored =
-        ap (λ (s : StoreList). with_packets (as_parts (c.args.publisher, c.args.seq) (c.loop-octets.x + 1) later) s.packets) c.gain.ensures.store
-        ∙ sym (ap (λ (r : List (List ℕ)). with_packets (as_parts (c.args.publisher, c.args.seq) c.loop-octets.x r) c.loop-octets.store.packets) rest) ∙ inv.stored;
+          ap (λ (s : StoreList). with_packets (as_parts (c.args.publisher, c.args.seq) (c.loop-octets.x + 1) later) s.packets) c.gain.ensures.store
+          ∙ sym (ap (λ (r : List (List ℕ)). with_packets (as_parts (c.args.publisher, c.args.seq) c.loop-octets.x r) c.loop-octets.store.packets) rest) ∙ inv.stored;
       tied = c.gain.ensures.tied;
       gained = gained_more _ _ (c.args.publisher, c.args.seq) _ c.loop-octets.x c.requires.new inv.gained c.if-x-eq0.segments _ (shape_of_part c) c.gain.ensures.plan;
       plan_room = omega (arith, fewer, inv.plan_room, ap (λ (p : Holdings). p.spare) c.gain.ensures.plan, room_kept (part_of (c.args.publisher, c.args.seq) c.loop-octets.x) c.if-x-eq0.segments c.loop-octets.plan);

@@ -21,5 +21,5 @@ invariant-loop-octets l =
       store_room : length rest ≤ l.store.spare;
       read : All (λ octets. IsOk (data_of octets)) rest;
       count : l.x + length rest ≡ l.segments + 1;
-      told : TellsTheRest l.segments l.x rest
+      told : TellsTheRest l.segments l.x rest;
     }
