@@ -5,6 +5,7 @@
 mod group;
 mod group_fault;
 mod holding;
+mod laws;
 mod listing;
 mod member;
 mod nodes;
@@ -12,6 +13,6 @@ mod refusals;
 
 pub use group::Group;
 pub use group_fault::GroupFault;
+pub use laws::changes_are_the_groups;
 pub use member::{Fire, Member, Published};
 pub use refusals::{AcceptRefusal, HearRefusal, PublishRefusal, WantFault};
-

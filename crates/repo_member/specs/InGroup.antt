@@ -1,0 +1,103 @@
+-- A member by itself and the same member as its group has it.
+use Rattle.std.specs.Prelude.{◌≡◌, ℕ, ◌<◌, List, [], map, filter, Option, is_some}
+use Rattle.std.specs.List.{All}
+use Rattle.svs_vector.specs.Vectors.{join}
+use Rattle.svs_sync.specs.declared.fired.Fired.{Fired}
+use Rattle.svs_sync.specs.declared.fired.Fired.TheVariants as fired
+use Rattle.svs_sync.specs.KeptVector.{fires_kept}
+use Rattle.repo_plan.specs.declared.part.Part.{Part}
+use Rattle.repo_plan.specs.Parts.{part_cmp}
+use Rattle.repo_plan.specs.SortedList.{keys, Rises}
+use Rattle.repo_object.specs.Objects.{NamedContents}
+use Rattle.group_model.specs.Member.{Member, gains, with_each_tried, without_claims}
+use Rattle.group_model.specs.Changes as group
+use Rattle.group_model.specs.World.{Outside, member, opening}
+use Rattle.repo_member.specs.Groups.{GroupKeys}
+use Rattle.repo_member.specs.Alone.{Alone, Fetched, opening_alone, publishes, learns, hears, fires, claims_part, accepts, takes, ends_claims, resets}
+
+-- The member as its group has it: it holds the parts whose packets it stores. It takes no commands, so it has no
+-- insertion processes.
+abbrev pub in_group : Alone → Member
+in_group a = record {
+  log = a.log;
+  known = a.known;
+  held = keys a.store;
+  hidden = a.hidden;
+  claims = a.claims;
+  attempts = a.attempts;
+  machine = a.machine;
+  processes = [];
+  next_process = 1;
+}
+
+-- What is stored is in order of the parts, each once.
+abbrev pub StoresInOrder : Alone → Type 0
+StoresInOrder a = Rises part_cmp (keys a.store)
+
+-- ---- changes
+
+-- A member begins as each does in a group in which nothing has happened.
+abbrev pub BeginsAlike : Type 0
+BeginsAlike = (out : Outside) (n j : ℕ) → j < n → in_group (opening_alone n j 0 (out.draw j 0)) ≡ member (opening out n) j
+
+abbrev pub PublishesAlike : Type 0
+PublishesAlike = (g : GroupKeys) (object : NamedContents) (moment draw : ℕ) (a : Alone) → StoresInOrder a
+    → in_group (publishes g object moment draw a) ≡ group.publishes draw moment a.number object (in_group a)
+
+abbrev pub HearsAlike : Type 0
+HearsAlike = (told : List ℕ) (moment draw : ℕ) (a : Alone)
+    → in_group (hears told moment draw a) ≡ group.learns draw moment told (in_group a)
+
+-- A vector that the machine isn't told of, as in a settle.
+abbrev pub LearnsAlike : Type 0
+LearnsAlike = (told : List ℕ) (a : Alone)
+    → in_group (learns told a) ≡ record (in_group a) { known = join (in_group a).known told }
+
+-- What the timer makes of a member, by what it says.
+abbrev pub after_timer : Fired → (draw moment : ℕ) → Member → Member
+after_timer fired.Early draw moment m = m
+after_timer fired.Quiet draw moment m = group.resets draw moment m
+after_timer fired.Send draw moment m = group.resets draw moment m
+
+abbrev pub FiresAlike : Type 0
+FiresAlike = (moment draw : ℕ) (a : Alone)
+    → in_group (fires moment draw a)
+    ≡ after_timer (fires_kept moment (in_group a).known (in_group a).machine) draw moment (in_group a)
+
+abbrev pub ClaimsAlike : Type 0
+ClaimsAlike = (f : ℕ) (claim : Option Part) (a : Alone)
+    → in_group (claims_part f claim a) ≡ group.with_claim f claim (in_group a)
+
+abbrev pub AcceptsAlike : Type 0
+AcceptsAlike = (f : ℕ) (t : Part) (octets : List ℕ) (a : Alone) → StoresInOrder a
+    → in_group (accepts f t octets a) ≡ group.takes f t (in_group a)
+
+-- The parts that a fetch asked for, and those of them that came.
+abbrev pub asked_for : List Fetched → List Part
+asked_for xs = map (λ x. x.part) xs
+
+abbrev pub that_came : List Fetched → List Part
+that_came xs = asked_for (filter (λ x. is_some x.packet) xs)
+
+-- Each part was tried so often.
+abbrev pub AreTries : (Part → ℕ) → List Fetched → Type 0
+AreTries tries xs = All (λ x. x.attempts ≡ tries x.part) xs
+
+-- The outcome of a fetch: the parts that came are held, and the attempts of each count.
+abbrev pub TakesAlike : Type 0
+TakesAlike = (tries : Part → ℕ) (xs : List Fetched) (a : Alone) → StoresInOrder a → AreTries tries xs
+    → in_group (takes xs a)
+    ≡ record (gains (that_came xs) (in_group a)) {
+      attempts = with_each_tried tries (asked_for xs) (in_group a).attempts;
+    }
+
+abbrev pub EndsClaimsAlike : Type 0
+EndsClaimsAlike = (a : Alone) → in_group (ends_claims a) ≡ without_claims (in_group a)
+
+abbrev pub ResetsAlike : Type 0
+ResetsAlike = (moment draw : ℕ) (a : Alone)
+    → in_group (resets moment draw a) ≡ group.resets draw moment (in_group a)
+
+abbrev pub RestartsAlike : Type 0
+RestartsAlike = (moment draw : ℕ) (a : Alone)
+    → in_group (resets moment draw (ends_claims a)) ≡ group.restarts draw moment (in_group a)

@@ -1,0 +1,16 @@
+ghost use Rattle.repo_member.specs.InGroup.{BeginsAlike, PublishesAlike, HearsAlike, LearnsAlike, FiresAlike, ClaimsAlike, AcceptsAlike, TakesAlike, EndsClaimsAlike, ResetsAlike, RestartsAlike};
+
+/// A member by itself begins as its group has it, and each change of it is the group's change of that member.
+pub fn changes_are_the_groups()
+    ensures begins { BeginsAlike }
+    ensures publishes { PublishesAlike }
+    ensures hears { HearsAlike }
+    ensures learns { LearnsAlike }
+    ensures fires { FiresAlike }
+    ensures claims { ClaimsAlike }
+    ensures accepts { AcceptsAlike }
+    ensures takes { TakesAlike }
+    ensures ends_claims { EndsClaimsAlike }
+    ensures resets { ResetsAlike }
+    ensures restarts { RestartsAlike }
+{}
