@@ -13,3 +13,5 @@ mod OwnLemmas
 mod VectorLemmas
 mod ToldLemmas
 mod ChangeLemmas
+mod TruePackets
+mod GroupViews

@@ -1,19 +1,24 @@
 -- A member by itself and the same member as its group has it.
-use Rattle.std.specs.Prelude.{◌≡◌, ℕ, ◌<◌, List, [], map, filter, Option, is_some}
+use Rattle.std.specs.Prelude.{◌≡◌, ℕ, ◌<◌, ◌≤◌, true, List, [], map, filter, length, Option, Some, is_some}
 use Rattle.std.specs.List.{All}
 use Rattle.svs_vector.specs.Vectors.{join}
 use Rattle.svs_sync.specs.declared.fired.Fired.{Fired}
 use Rattle.svs_sync.specs.declared.fired.Fired.TheVariants as fired
 use Rattle.svs_sync.specs.KeptVector.{fires_kept}
 use Rattle.repo_plan.specs.declared.part.Part.{Part}
-use Rattle.repo_plan.specs.Parts.{part_cmp}
-use Rattle.repo_plan.specs.SortedList.{keys, Rises}
-use Rattle.repo_object.specs.Objects.{NamedContents}
-use Rattle.group_model.specs.Member.{Member, gains, with_each_tried, without_claims}
+use Rattle.repo_plan.specs.Parts.{part_cmp, pair_of}
+use Rattle.repo_plan.specs.SortedList.{keys, value_of, Rises}
+use Rattle.repo_object.specs.Objects.{NamedContents, IsObject}
+use Rattle.repo_object.specs.Publication.{packet_at}
+use Rattle.group_model.specs.Publications.{Logs, object_at}
+use Rattle.group_model.specs.Member.{Member, holds, catalogue, gains, with_each_tried, without_claims}
+use Rattle.group_model.specs.Member as group_member
+use Rattle.group_model.specs.Sound.{IsPublished, SoundMember}
 use Rattle.group_model.specs.Changes as group
 use Rattle.group_model.specs.World.{Outside, member, opening}
-use Rattle.repo_member.specs.Groups.{GroupKeys}
-use Rattle.repo_member.specs.Alone.{Alone, Fetched, opening_alone, publishes, learns, hears, fires, claims_part, accepts, takes, ends_claims, resets}
+use Rattle.repo_member.specs.Groups.{GroupKeys, IsGroup, publisher_of}
+use Rattle.repo_member.specs.Listed.{catalogue_alone}
+use Rattle.repo_member.specs.Alone.{Alone, Fetched, plan_of, opening_alone, publishes, learns, hears, fires, claims_part, accepts, takes, ends_claims, resets}
 
 -- The member as its group has it: it holds the parts whose packets it stores. It takes no commands, so it has no
 -- insertion processes.
@@ -101,3 +106,43 @@ ResetsAlike = (moment draw : ℕ) (a : Alone)
 abbrev pub RestartsAlike : Type 0
 RestartsAlike = (moment draw : ℕ) (a : Alone)
     → in_group (resets moment draw (ends_claims a)) ≡ group.restarts draw moment (in_group a)
+
+-- ---- what is stored and what was published
+
+-- What the members of a group can have published: as many logs as there are members, of objects within the limits, and
+-- no more of them than there are numbers.
+pub record AreLogs (g : GroupKeys) (logs : Logs) : Type 0 where
+  pub group : IsGroup g
+  pub width : length logs ≡ length g.members.names
+  pub objects : All (All IsObject) logs
+  pub few : All (λ log. length log ≤ 65535) logs
+
+-- The packet of a part, as its publisher makes it.
+abbrev pub packet_of : GroupKeys → Logs → Part → Option (List ℕ)
+packet_of g logs t = packet_at (publisher_of g t.publisher) t.seq (object_at logs (pair_of t)) t.part
+
+-- Each stored packet is that of its part.
+abbrev pub AreItsPackets : GroupKeys → Logs → Alone → Type 0
+AreItsPackets g logs a = (t : Part) (octets : List ℕ) → value_of part_cmp a.store t ≡ Some octets
+    → packet_of g logs t ≡ Some octets
+
+-- The member stores parts of what was published, in order, and of each the packet that its publisher made.
+pub record StoresTruly (g : GroupKeys) (logs : Logs) (a : Alone) : Type 0 where
+  pub in_order : StoresInOrder a
+  pub published : (t : Part) → holds (in_group a) t ≡ true → IsPublished logs (pair_of t)
+  pub packets : AreItsPackets g logs a
+
+-- A member that is as each is in a group that events can reach stores truly, where the packets are those of their parts.
+abbrev pub SoundStoresTruly : Type 0
+SoundStoresTruly = (g : GroupKeys) (logs : Logs) (a : Alone) → SoundMember logs a.number (in_group a)
+    → AreItsPackets g logs a → StoresTruly g logs a
+
+-- The plan of the member by itself, which reads what the stored records list, is the group's plan of that member.
+abbrev pub PlansAlike : Type 0
+PlansAlike = (g : GroupKeys) (logs : Logs) (a : Alone) → AreLogs g logs → StoresTruly g logs a
+    → plan_of a ≡ group_member.plan_of logs (in_group a)
+
+-- Its catalogue, which reads the stored packets, is the group's catalogue of that member.
+abbrev pub ListsAlike : Type 0
+ListsAlike = (g : GroupKeys) (logs : Logs) (a : Alone) → AreLogs g logs → StoresTruly g logs a
+    → catalogue_alone a.store ≡ catalogue logs (in_group a)

@@ -19,6 +19,7 @@ pub use Rattle.group_model.specs.Publications
 pub use Rattle.group_model.specs.Member
 pub use Rattle.group_model.specs.Changes
 pub use Rattle.group_model.specs.World
+pub use Rattle.group_model.specs.Sound
 pub mod Groups
 pub mod KeptValues
 pub mod Records

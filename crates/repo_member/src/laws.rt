@@ -1,4 +1,4 @@
-ghost use Rattle.repo_member.specs.InGroup.{BeginsAlike, PublishesAlike, HearsAlike, LearnsAlike, FiresAlike, ClaimsAlike, AcceptsAlike, TakesAlike, EndsClaimsAlike, ResetsAlike, RestartsAlike};
+ghost use Rattle.repo_member.specs.InGroup.{BeginsAlike, PublishesAlike, HearsAlike, LearnsAlike, FiresAlike, ClaimsAlike, AcceptsAlike, TakesAlike, EndsClaimsAlike, ResetsAlike, RestartsAlike, SoundStoresTruly, PlansAlike, ListsAlike};
 
 /// A member by itself begins as its group has it, and each change of it is the group's change of that member.
 pub fn changes_are_the_groups()
@@ -13,4 +13,10 @@ pub fn changes_are_the_groups()
     ensures ends_claims { EndsClaimsAlike }
     ensures resets { ResetsAlike }
     ensures restarts { RestartsAlike }
+{}
+
+/// Where each stored packet is that of its part, a member's plan is its group's plan of it, and so it wants the same parts.
+pub fn members_want_what_the_group_says()
+    ensures stores { SoundStoresTruly }
+    ensures plans { PlansAlike }
 {}
