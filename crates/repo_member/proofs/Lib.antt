@@ -14,4 +14,5 @@ mod VectorLemmas
 mod ToldLemmas
 mod ChangeLemmas
 mod TruePackets
-mod GroupViews
+mod GroupPlans
+mod GroupCatalogues

@@ -20,3 +20,8 @@ pub fn members_want_what_the_group_says()
     ensures stores { SoundStoresTruly }
     ensures plans { PlansAlike }
 {}
+
+/// Where each stored packet is that of its part, a member's catalogue is its group's catalogue of it.
+pub fn members_list_what_the_group_says()
+    ensures { ListsAlike }
+{}

@@ -1,4 +1,4 @@
-use Rattle.repo_member.proofs.GroupViews.{sound_stores_truly, plans_alike}
+use Rattle.repo_member.proofs.GroupPlans.{sound_stores_truly, plans_alike}
 use Rattle.repo_member.proofs.laws.members_want_what_the_group_says.Goals as goal
 
 pub returns-clause-stores : goal.returns-clause-stores

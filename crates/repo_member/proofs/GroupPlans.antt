@@ -1,4 +1,4 @@
--- The plan and the catalogue of a member by itself are its group's.
+-- The plan of a member by itself is its group's plan of it.
 use Rattle.std.proofs.Common.{◌≡◌, inl, inr, ℕ, Bool, true, false, cond, ◌==◌, List, [], ◌∷◌, map, Option, Some, option_map, refl, ap, ◌∙◌, arith}
 use Rattle.std.specs.Prelude.{filter}
 use Rattle.std.proofs.lemmas.Bool.{eqb-true}
@@ -45,7 +45,7 @@ shapes_alike logs (e ∷ es) h = go (e.0.part == 0) refl (shapes_alike logs es (
   go false p rest = rest
 
 module _ (g : GroupKeys) (logs : Logs) (a : Alone) (are : AreLogs g logs) (truly : StoresTruly g logs a) where
-  stored_published : (e : Packet) → In e a.store → IsPublished logs (pair_of e.0)
+  pub stored_published : (e : Packet) → In e a.store → IsPublished logs (pair_of e.0)
   stored_published e i = truly.published e.0 (contains_in exact_parts (keys a.store) e.0 (in_map (λ (x : Packet). x.0) a.store e i))
 
   shapes_told : shapes_in a.store ≡ told_by logs (keys a.store)
