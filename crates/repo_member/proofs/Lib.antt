@@ -16,3 +16,4 @@ mod ChangeLemmas
 mod TruePackets
 mod GroupPlans
 mod GroupCatalogues
+mod LastingPackets

@@ -1,5 +1,5 @@
 -- A member by itself and the same member as its group has it.
-use Rattle.std.specs.Prelude.{◌≡◌, ℕ, ◌<◌, ◌≤◌, true, List, [], map, filter, length, Option, Some, is_some}
+use Rattle.std.specs.Prelude.{◌≡◌, ℕ, ◌<◌, ◌≤◌, true, List, [], map, filter, length, take, Option, Some, None, is_some, slice_index_or, slice_set}
 use Rattle.std.specs.List.{All}
 use Rattle.svs_vector.specs.Vectors.{join}
 use Rattle.svs_sync.specs.declared.fired.Fired.{Fired}
@@ -10,7 +10,7 @@ use Rattle.repo_plan.specs.Parts.{part_cmp, pair_of}
 use Rattle.repo_plan.specs.SortedList.{keys, value_of, Rises}
 use Rattle.repo_object.specs.Objects.{NamedContents, IsObject}
 use Rattle.repo_object.specs.Publication.{packet_at}
-use Rattle.group_model.specs.Publications.{Logs, object_at}
+use Rattle.group_model.specs.Publications.{Logs, object_at, last_of}
 use Rattle.group_model.specs.Member.{Member, holds, catalogue, gains, with_each_tried, without_claims}
 use Rattle.group_model.specs.Member as group_member
 use Rattle.group_model.specs.Sound.{IsPublished, SoundMember}
@@ -146,3 +146,47 @@ PlansAlike = (g : GroupKeys) (logs : Logs) (a : Alone) → AreLogs g logs → St
 abbrev pub ListsAlike : Type 0
 ListsAlike = (g : GroupKeys) (logs : Logs) (a : Alone) → AreLogs g logs → StoresTruly g logs a
     → catalogue_alone a.store ≡ catalogue logs (in_group a)
+
+-- ---- what lasts
+
+-- A packet is that of the part, of a publication that there is.
+pub record IsItsPacket (g : GroupKeys) (logs : Logs) (t : Part) (octets : List ℕ) : Type 0 where
+  pub published : IsPublished logs (pair_of t)
+  pub packet : packet_of g logs t ≡ Some octets
+
+-- So is the packet that came for a part, if one did.
+abbrev pub CameTruly : GroupKeys → Logs → Part → Option (List ℕ) → Type 0
+CameTruly g logs t None = Unit {0}
+CameTruly g logs t (Some octets) = IsItsPacket g logs t octets
+
+-- What was published stays under its number, and there may be more.
+abbrev pub GrowInto : Logs → Logs → Type 0
+GrowInto logs later = (p : ℕ) → take (last_of logs p) (slice_index_or later p []) ≡ slice_index_or logs p []
+
+abbrev pub BeginsTruly : Type 0
+BeginsTruly = (g : GroupKeys) (logs : Logs) (members number moment draw : ℕ)
+    → StoresTruly g logs (opening_alone members number moment draw)
+
+-- Others may publish more.
+abbrev pub GrowsTruly : Type 0
+GrowsTruly = (g : GroupKeys) (logs later : Logs) (a : Alone) → GrowInto logs later → StoresTruly g logs a
+    → StoresTruly g later a
+
+-- The member's log, which is the group's of its number, has the object too from now on.
+abbrev pub PublishesTruly : Type 0
+PublishesTruly = (g : GroupKeys) (object : NamedContents) (moment draw : ℕ) (logs : Logs) (a : Alone)
+    → a.number < length logs → slice_index_or logs a.number [] ≡ a.log → StoresTruly g logs a →
+    let published = publishes g object moment draw a in
+    StoresTruly g (slice_set logs a.number published.log) published
+
+abbrev pub AcceptsTruly : Type 0
+AcceptsTruly = (g : GroupKeys) (logs : Logs) (f : ℕ) (t : Part) (octets : List ℕ) (a : Alone)
+    → IsItsPacket g logs t octets → StoresTruly g logs a → StoresTruly g logs (accepts f t octets a)
+
+abbrev pub TakesTruly : Type 0
+TakesTruly = (g : GroupKeys) (logs : Logs) (xs : List Fetched) (a : Alone)
+    → All (λ x. CameTruly g logs x.part x.packet) xs → StoresTruly g logs a → StoresTruly g logs (takes xs a)
+
+-- All other changes store nothing.
+abbrev pub StaysTrue : Type 0
+StaysTrue = (g : GroupKeys) (logs : Logs) (a b : Alone) → b.store ≡ a.store → StoresTruly g logs a → StoresTruly g logs b

@@ -1,4 +1,4 @@
-ghost use Rattle.repo_member.specs.InGroup.{BeginsAlike, PublishesAlike, HearsAlike, LearnsAlike, FiresAlike, ClaimsAlike, AcceptsAlike, TakesAlike, EndsClaimsAlike, ResetsAlike, RestartsAlike, SoundStoresTruly, PlansAlike, ListsAlike};
+ghost use Rattle.repo_member.specs.InGroup.{BeginsAlike, PublishesAlike, HearsAlike, LearnsAlike, FiresAlike, ClaimsAlike, AcceptsAlike, TakesAlike, EndsClaimsAlike, ResetsAlike, RestartsAlike, SoundStoresTruly, PlansAlike, ListsAlike, BeginsTruly, GrowsTruly, PublishesTruly, AcceptsTruly, TakesTruly, StaysTrue};
 
 /// A member by itself begins as its group has it, and each change of it is the group's change of that member.
 pub fn changes_are_the_groups()
@@ -24,4 +24,15 @@ pub fn members_want_what_the_group_says()
 /// Where each stored packet is that of its part, a member's catalogue is its group's catalogue of it.
 pub fn members_list_what_the_group_says()
     ensures { ListsAlike }
+{}
+
+/// Stored packets are those of their parts from the start on, and stay so: where others publish, where the member publishes,
+/// and where packets come that are those of their parts.
+pub fn truly_stored_lasts()
+    ensures begins { BeginsTruly }
+    ensures grows { GrowsTruly }
+    ensures publishes { PublishesTruly }
+    ensures accepts { AcceptsTruly }
+    ensures takes { TakesTruly }
+    ensures others { StaysTrue }
 {}
