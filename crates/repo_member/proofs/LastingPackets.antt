@@ -1,16 +1,17 @@
 -- Stored packets stay those of their parts.
 use Rattle.std.proofs.Common.{◌≡◌, inl, inr, ℕ, suc, ◌+◌, ◌-◌, ◌≤◌, ◌<◌, Bool, true, false, cond, List, [], ◌∷◌, ◌++◌, length, length-take, get_or, take, Option, Some, None, slice_get, refl, sym, ap, ◌∙◌, subst, arith}
-use Rattle.std.specs.Prelude.{is_some, slice_set}
+use Rattle.std.specs.Prelude.{is_some, slice_set, replicate}
+use Rattle.std.specs.List.{All}
 use Rattle.std.specs.Ordering.{eq_by_cmp}
 use Rattle.std.proofs.lemmas.Bool.{or_cases, cases_eq}
-use Rattle.std.proofs.lemmas.List.{get_or-take, get_or-set_same, get_or-set_other, get_or_push, length_push, take_at, take_all}
-use Rattle.std.proofs.lemmas.List.Elements.{All-head, All-tail}
+use Rattle.std.proofs.lemmas.List.{get_or-take, get_or-set_same, get_or-set_other, get_or_push, length_push, take_at, take_all, length-set, length-replicate, get_or-replicate}
+use Rattle.std.proofs.lemmas.List.Elements.{All-nil, All-push, All-head, All-tail}
 use Rattle.repo_plan.specs.declared.part.Part.{Part}
 use Rattle.repo_plan.specs.SortedList.{keys, contains, value_of, with_value, insert_key}
 use Rattle.repo_plan.specs.Parts.{Pair, part_cmp, pair_of, part_of}
 use Rattle.repo_plan.proofs.Orders.{exact_parts}
 use Rattle.repo_plan.proofs.Sets.{eq_same, contains-insert_key}
-use Rattle.repo_object.specs.Objects.{NamedContents}
+use Rattle.repo_object.specs.Objects.{NamedContents, IsObject}
 use Rattle.repo_object.specs.Publication.{packets, packet_at}
 use Rattle.repo_store.specs.StoreList.{with_packet}
 use Rattle.group_model.specs.Publications.{Logs, no_object, object_at, last_of}
@@ -18,7 +19,7 @@ use Rattle.group_model.specs.Sound.{IsPublished}
 use Rattle.repo_member.specs.Records.{Packet}
 use Rattle.repo_member.specs.Groups.{GroupKeys, publisher_of}
 use Rattle.repo_member.specs.Alone.{Alone, Fetched, publishes, accepts, as_parts, with_packets, next_seq, with_fetched, with_tries}
-use Rattle.repo_member.specs.InGroup.{StoresTruly, IsItsPacket, CameTruly, packet_of, GrowInto, BeginsTruly, GrowsTruly, PublishesTruly, AcceptsTruly, TakesTruly, StaysTrue}
+use Rattle.repo_member.specs.InGroup.{StoresTruly, IsItsPacket, CameTruly, packet_of, GrowInto, BeginsTruly, GrowsTruly, PublishesTruly, AcceptsTruly, TakesTruly, StaysTrue, LogsBegin, LogsGrow}
 use Rattle.repo_member.proofs.HoldingLemmas.{contains-value, value_of-put}
 use Rattle.repo_member.proofs.ChangeLemmas.{keys_put, rises_put}
 
@@ -152,3 +153,33 @@ publishes_truly g object moment draw logs a inside own s =
     } in
     stays_true g later_logs (with_store a (with_packets (as_parts pair 0 made) a.store)) (publishes g object moment draw a) refl
     (puts_truly g later_logs pair 0 made a its (grows_truly g logs later_logs a (published_grows logs a.number a.log object inside own) s))
+
+-- ---- what can have been published
+
+pub logs_begin : LogsBegin
+logs_begin g is =
+    let nothing : Logs = replicate (length g.members.names) [] in
+    let each : (P : List NamedContents → Type 0) → P [] → All P nothing = λ P none k d inside.
+    subst P (sym (get_or-replicate (length g.members.names) k [] d (subst (λ (n : ℕ). k < n) (length-replicate (length g.members.names) []) inside))) none in
+    record {
+      group = is;
+      width = length-replicate (length g.members.names) [];
+      objects = each (All IsObject) (All-nil IsObject);
+      few = each (λ (log : List NamedContents). length log ≤ 65535) (omega arith);
+    }
+
+pub logs_grow : LogsGrow
+logs_grow g logs j object are inside is room =
+    let log : List NamedContents = get_or logs j [] in
+    let grown : List NamedContents = log ++ object ∷ [] in
+    let each : (P : List NamedContents → Type 0) → All P logs → P grown → All P (slice_set logs j grown) = λ P all new k d within.
+    elim (cases_eq k j) [
+      | inl same ↦ subst P (sym (ap (λ (i : ℕ). get_or (slice_set logs j grown) i d) same ∙ get_or-set_same logs j grown d inside)) new
+      | inr other ↦ subst P (sym (get_or-set_other logs j k grown d other)) (all k d (subst (λ (n : ℕ). k < n) (length-set logs j grown) within))
+    ] in
+    record {
+      group = are.group;
+      width = length-set logs j grown ∙ are.width;
+      objects = each (All IsObject) are.objects (All-push IsObject log object (are.objects j [] inside) is);
+      few = each (λ (l : List NamedContents). length l ≤ 65535) are.few (omega (arith, room, length_push log object));
+    }

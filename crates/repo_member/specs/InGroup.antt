@@ -1,5 +1,5 @@
 -- A member by itself and the same member as its group has it.
-use Rattle.std.specs.Prelude.{◌≡◌, ℕ, ◌<◌, ◌≤◌, true, List, [], map, filter, length, take, Option, Some, None, is_some, slice_index_or, slice_set}
+use Rattle.std.specs.Prelude.{◌≡◌, ℕ, ◌<◌, ◌≤◌, true, List, [], ◌∷◌, ◌++◌, map, filter, length, take, replicate, Option, Some, None, is_some, slice_index_or, slice_set}
 use Rattle.std.specs.List.{All}
 use Rattle.svs_vector.specs.Vectors.{join}
 use Rattle.svs_sync.specs.declared.fired.Fired.{Fired}
@@ -190,3 +190,13 @@ TakesTruly = (g : GroupKeys) (logs : Logs) (xs : List Fetched) (a : Alone)
 -- All other changes store nothing.
 abbrev pub StaysTrue : Type 0
 StaysTrue = (g : GroupKeys) (logs : Logs) (a b : Alone) → b.store ≡ a.store → StoresTruly g logs a → StoresTruly g logs b
+
+-- A group begins with nothing published.
+abbrev pub LogsBegin : Type 0
+LogsBegin = (g : GroupKeys) → IsGroup g → AreLogs g (replicate (length g.members.names) [])
+
+-- A member publishes one object more.
+abbrev pub LogsGrow : Type 0
+LogsGrow = (g : GroupKeys) (logs : Logs) (j : ℕ) (object : NamedContents) → AreLogs g logs → j < length logs
+    → IsObject object → last_of logs j < 65535
+    → AreLogs g (slice_set logs j (slice_index_or logs j [] ++ object ∷ []))

@@ -1,4 +1,4 @@
-ghost use Rattle.repo_member.specs.InGroup.{BeginsAlike, PublishesAlike, HearsAlike, LearnsAlike, FiresAlike, ClaimsAlike, AcceptsAlike, TakesAlike, EndsClaimsAlike, ResetsAlike, RestartsAlike, SoundStoresTruly, PlansAlike, ListsAlike, BeginsTruly, GrowsTruly, PublishesTruly, AcceptsTruly, TakesTruly, StaysTrue};
+ghost use Rattle.repo_member.specs.InGroup.{BeginsAlike, PublishesAlike, HearsAlike, LearnsAlike, FiresAlike, ClaimsAlike, AcceptsAlike, TakesAlike, EndsClaimsAlike, ResetsAlike, RestartsAlike, SoundStoresTruly, PlansAlike, ListsAlike, BeginsTruly, GrowsTruly, PublishesTruly, AcceptsTruly, TakesTruly, StaysTrue, LogsBegin, LogsGrow};
 
 /// A member by itself begins as its group has it, and each change of it is the group's change of that member.
 pub fn changes_are_the_groups()
@@ -35,4 +35,6 @@ pub fn truly_stored_lasts()
     ensures accepts { AcceptsTruly }
     ensures takes { TakesTruly }
     ensures others { StaysTrue }
+    ensures logs_begin { LogsBegin }
+    ensures logs_grow { LogsGrow }
 {}
