@@ -17,3 +17,4 @@ mod TruePackets
 mod GroupPlans
 mod GroupCatalogues
 mod LastingPackets
+mod EventLemmas

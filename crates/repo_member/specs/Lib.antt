@@ -20,6 +20,8 @@ pub use Rattle.group_model.specs.Member
 pub use Rattle.group_model.specs.Changes
 pub use Rattle.group_model.specs.World
 pub use Rattle.group_model.specs.Sound
+pub use Rattle.group_model.specs.Events
+pub use Rattle.group_model.specs.Steps
 pub mod Groups
 pub mod KeptValues
 pub mod Records
@@ -33,3 +35,4 @@ pub mod Listings
 pub mod Outcomes
 pub mod Members
 pub mod InGroup
+pub mod InEvents

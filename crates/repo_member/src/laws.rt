@@ -1,3 +1,4 @@
+ghost use Rattle.repo_member.specs.InEvents.{PublishIsEvent, DeliverIsEvent, HearIsEvent, FireIsEvent, RestartIsEvent, ClaimIsEvent, LoseIsEvent, AnswerIsEvent, FeedIsEvent, FetchIsEvent, OpenPartsAlike, CataloguesAlike};
 ghost use Rattle.repo_member.specs.InGroup.{BeginsAlike, PublishesAlike, HearsAlike, LearnsAlike, FiresAlike, ClaimsAlike, AcceptsAlike, TakesAlike, EndsClaimsAlike, ResetsAlike, RestartsAlike, SoundStoresTruly, PlansAlike, ListsAlike, BeginsTruly, GrowsTruly, PublishesTruly, AcceptsTruly, TakesTruly, StaysTrue, LogsBegin, LogsGrow};
 
 /// A member by itself begins as its group has it, and each change of it is the group's change of that member.
@@ -37,4 +38,21 @@ pub fn truly_stored_lasts()
     ensures others { StaysTrue }
     ensures logs_begin { LogsBegin }
     ensures logs_grow { LogsGrow }
+{}
+
+/// Each change of a member by itself is what an event makes of it in any world in which it is a member, and what the world
+/// says of it there is what the member says.
+pub fn calls_are_events()
+    ensures publish { PublishIsEvent }
+    ensures deliver { DeliverIsEvent }
+    ensures hear { HearIsEvent }
+    ensures fire { FireIsEvent }
+    ensures restart { RestartIsEvent }
+    ensures claim { ClaimIsEvent }
+    ensures lose { LoseIsEvent }
+    ensures answer { AnswerIsEvent }
+    ensures feed { FeedIsEvent }
+    ensures fetch { FetchIsEvent }
+    ensures open_parts { OpenPartsAlike }
+    ensures catalogue { CataloguesAlike }
 {}
