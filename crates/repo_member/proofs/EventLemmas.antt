@@ -1,5 +1,5 @@
 -- What an event of a group makes of a member by itself.
-use Rattle.std.proofs.Common.{◌≡◌, ℕ, ◌-◌, Bool, true, false, cond, List, length, get_or, set, Option, Some, None, refl, sym, ap, ◌∙◌}
+use Rattle.std.proofs.Common.{◌≡◌, ℕ, ◌-◌, Bool, true, false, cond, List, [], ◌∷◌, length, get_or, set, Option, Some, None, refl, sym, ap, ◌∙◌}
 use Rattle.std.specs.Prelude.{nat_lt, slice_index}
 use Rattle.std.proofs.lemmas.List.{get_or-set_same, set-get_or}
 use Rattle.svs_sync.specs.declared.fired.Fired.{Fired}
@@ -7,17 +7,18 @@ use Rattle.svs_sync.specs.declared.fired.Fired.TheVariants.{Early, Quiet, Send}
 use Rattle.svs_vector.specs.Vectors.{covers}
 use Rattle.svs_sync.specs.KeptVector.{steady_kept, due_kept, fires_kept}
 use Rattle.repo_plan.specs.declared.part.Part.{Part}
-use Rattle.repo_plan.specs.Plan.{claim_of, unclaimed, first}
+use Rattle.repo_plan.specs.Plan.{claim_of, unclaimed, first, no_claims}
 use Rattle.group_model.specs.Member.{Member, catalogue, gains, with_each_tried}
 use Rattle.group_model.specs.Member as group_member
 use Rattle.group_model.specs.Changes as group
 use Rattle.group_model.specs.Events.{Came}
 use Rattle.group_model.specs.Events.Came.{Nothing, Its, Another}
 use Rattle.group_model.specs.World.{Outside, World, no_member, member, logs, sent_at}
-use Rattle.group_model.specs.Steps.{drawn, timer_at, claim_at, passes_checks, came_from, came_as, tried_once, planned, attempts_for, fetches, after_deliver, after_fire, after_claim, after_came}
-use Rattle.repo_member.specs.Alone.{Alone, plan_of, hears, fires, claims_part, accepts}
-use Rattle.repo_member.specs.InGroup.{in_group, StoresInOrder, that_came, after_timer}
-use Rattle.repo_member.specs.InEvents.{IsMemberOf, PublishIsEvent, DeliverIsEvent, HearIsEvent, FireIsEvent, RestartIsEvent, ClaimIsEvent, LoseIsEvent, AnswerIsEvent, FeedIsEvent, FetchIsEvent, OpenPartsAlike, CataloguesAlike}
+use Rattle.group_model.specs.Steps.{drawn, timer_at, claim_at, passes_checks, came_from, came_as, tried_once, planned, attempts_for, fetches, settled_vector, new_parts, after_deliver, after_fire, after_claim, after_came}
+use Rattle.group_model.proofs.Settles.{member_settled}
+use Rattle.repo_member.specs.Alone.{Alone, plan_of, learns, hears, fires, claims_part, accepts, takes, ends_claims, resets}
+use Rattle.repo_member.specs.InGroup.{in_group, StoresInOrder, asked_for, that_came, after_timer}
+use Rattle.repo_member.specs.InEvents.{IsMemberOf, PublishIsEvent, DeliverIsEvent, HearIsEvent, FireIsEvent, RestartIsEvent, ClaimIsEvent, LoseIsEvent, AnswerIsEvent, FeedIsEvent, FetchIsEvent, SettleIsEvent, learns_all, OpenPartsAlike, CataloguesAlike}
 use Rattle.repo_member.proofs.ChangeLemmas.{publishes_alike, accepts_alike, takes_alike}
 use Rattle.repo_member.proofs.GroupPlans.{plans_alike}
 use Rattle.repo_member.proofs.GroupCatalogues.{lists_alike}
@@ -111,3 +112,28 @@ fetch_is_event out w j tries loss xs a is r outcome =
     changed w j a is (fetches out w j tries loss)
     ∙ ap (λ (came : List Part). after_it came (planned w j)) (sym outcome.came) ∙ ap (after_it (that_came xs)) (sym outcome.asked)
     ∙ sym (takes_alike (attempts_for out w j tries loss) xs a r outcome.tried)
+
+-- ---- a settle
+
+learnt : (vectors : List (List ℕ)) (a : Alone) (claims : List (Option Part)) → learns_all vectors (record a { claims = claims }) ≡ record a { claims = claims; known = (learns_all vectors a).known }
+learnt [] a claims = refl
+learnt (told ∷ vectors) a claims = learnt vectors (learns told a) claims
+
+none_tried : (ts : List Part) (tried : List (Part × ℕ)) → with_each_tried (λ t. 0) ts tried ≡ tried
+none_tried [] tried = refl
+none_tried (t ∷ ts) tried = none_tried ts tried
+
+pub settle_is_event : SettleIsEvent
+settle_is_event out w j vectors xs a is r settling =
+    let draw : ℕ = drawn out w j in
+    let settled : Member → List Part → List ℕ → Member = λ m gained known. group.resets draw w.moment (record (gains gained (group_member.without_claims m)) { known = known }) in
+    let known : List ℕ = (learns_all vectors a).known in
+    let told : Alone = record (ends_claims a) { known = known } in
+    let tried : List (Part × ℕ) → Member = λ attempts. record (settled (in_group a) (that_came xs) known) { attempts = attempts } in
+    member_settled out w j is.there
+    ∙ ap (λ (m : Member). settled m (new_parts w (member w j)) (settled_vector w)) is.same
+    ∙ ap (λ (gained : List Part). settled (in_group a) gained (settled_vector w)) (sym settling.came)
+    ∙ ap (settled (in_group a) (that_came xs)) (sym settling.known)
+    ∙ ap tried (sym (none_tried (asked_for xs) a.attempts))
+    ∙ ap (group.resets draw w.moment) (sym (takes_alike (λ t. 0) xs told r settling.tried))
+    ∙ ap (λ (b : Alone). in_group (resets w.moment draw (takes xs b))) (sym (learnt vectors a no_claims))

@@ -1,15 +1,15 @@
 -- Each change of a member by itself is what an event of its group makes of it.
-use Rattle.std.specs.Prelude.{◌≡◌, ℕ, ◌<◌, List, Some, None, length, slice_index, nat_lt, if◌then◌else◌}
+use Rattle.std.specs.Prelude.{◌≡◌, ℕ, ◌<◌, [], ◌∷◌, List, Some, None, length, slice_index, nat_lt, if◌then◌else◌}
 use Rattle.repo_plan.specs.declared.part.Part.{Part}
 use Rattle.repo_plan.specs.Plan.{claim_of, unclaimed, first}
 use Rattle.repo_object.specs.Objects.{NamedContents}
 use Rattle.group_model.specs.Publications.{Logs}
 use Rattle.group_model.specs.Events.{SyncInterest, Came, Event}
 use Rattle.group_model.specs.World.{Outside, World, member, logs, sent_at, catalogue_at}
-use Rattle.group_model.specs.Steps.{drawn, open_at, passes_checks, came_from, came_as, planned, fetched, attempts_for, after}
+use Rattle.group_model.specs.Steps.{drawn, open_at, passes_checks, came_from, came_as, planned, fetched, attempts_for, settled_vector, new_parts, after}
 use Rattle.repo_member.specs.Groups.{GroupKeys}
 use Rattle.repo_member.specs.Listed.{catalogue_alone}
-use Rattle.repo_member.specs.Alone.{Alone, Fetched, plan_of, publishes, hears, fires, claims_part, accepts, takes, ends_claims, resets}
+use Rattle.repo_member.specs.Alone.{Alone, Fetched, plan_of, publishes, learns, hears, fires, claims_part, accepts, takes, ends_claims, resets}
 use Rattle.repo_member.specs.InGroup.{in_group, StoresInOrder, AreLogs, StoresTruly, asked_for, that_came, AreTries}
 
 -- The member of that number is this one.
@@ -87,6 +87,25 @@ abbrev pub FetchIsEvent : Type 0
 FetchIsEvent = (out : Outside) (w : World) (j tries loss : ℕ) (xs : List Fetched) (a : Alone)
     → IsMemberOf w j a → StoresInOrder a → IsOutcomeIn out w j tries loss xs
     → member (after out w (Event.Fetch j tries loss)) j ≡ in_group (takes xs a)
+
+-- ---- a settle
+
+-- What vectors make of a member of which its machine isn't told.
+abbrev pub learns_all : List (List ℕ) → Alone → Alone
+learns_all [] a = a
+learns_all (told ∷ others) a = learns_all others (learns told a)
+
+-- The member comes to know what the group settles on, the parts come that it gains there, and none is counted as tried.
+pub record IsSettling (w : World) (j : ℕ) (a : Alone) (vectors : List (List ℕ)) (xs : List Fetched) : Type 0 where
+  pub known : (learns_all vectors a).known ≡ settled_vector w
+  pub came : that_came xs ≡ new_parts w (member w j)
+  pub tried : AreTries (λ t. 0) xs
+
+abbrev pub SettleIsEvent : Type 0
+SettleIsEvent = (out : Outside) (w : World) (j : ℕ) (vectors : List (List ℕ)) (xs : List Fetched) (a : Alone)
+    → IsMemberOf w j a → StoresInOrder a → IsSettling w j a vectors xs
+    → member (after out w Event.Settle) j
+    ≡ in_group (resets w.moment (drawn out w j) (takes xs (learns_all vectors (ends_claims a))))
 
 -- ---- what is told
 

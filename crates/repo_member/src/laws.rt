@@ -1,4 +1,4 @@
-ghost use Rattle.repo_member.specs.InEvents.{PublishIsEvent, DeliverIsEvent, HearIsEvent, FireIsEvent, RestartIsEvent, ClaimIsEvent, LoseIsEvent, AnswerIsEvent, FeedIsEvent, FetchIsEvent, OpenPartsAlike, CataloguesAlike};
+ghost use Rattle.repo_member.specs.InEvents.{PublishIsEvent, DeliverIsEvent, HearIsEvent, FireIsEvent, RestartIsEvent, ClaimIsEvent, LoseIsEvent, AnswerIsEvent, FeedIsEvent, FetchIsEvent, SettleIsEvent, OpenPartsAlike, CataloguesAlike};
 ghost use Rattle.repo_member.specs.InGroup.{BeginsAlike, PublishesAlike, HearsAlike, LearnsAlike, FiresAlike, ClaimsAlike, AcceptsAlike, TakesAlike, EndsClaimsAlike, ResetsAlike, RestartsAlike, SoundStoresTruly, PlansAlike, ListsAlike, BeginsTruly, GrowsTruly, PublishesTruly, AcceptsTruly, TakesTruly, StaysTrue, LogsBegin, LogsGrow};
 
 /// A member by itself begins as its group has it, and each change of it is the group's change of that member.
@@ -53,6 +53,7 @@ pub fn calls_are_events()
     ensures answer { AnswerIsEvent }
     ensures feed { FeedIsEvent }
     ensures fetch { FetchIsEvent }
+    ensures settle { SettleIsEvent }
     ensures open_parts { OpenPartsAlike }
     ensures catalogue { CataloguesAlike }
 {}

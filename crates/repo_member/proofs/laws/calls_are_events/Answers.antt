@@ -1,4 +1,4 @@
-use Rattle.repo_member.proofs.EventLemmas.{publish_is_event, deliver_is_event, hear_is_event, fire_is_event, restart_is_event, claim_is_event, lose_is_event, answer_is_event, feed_is_event, fetch_is_event, open_parts_alike, catalogues_alike}
+use Rattle.repo_member.proofs.EventLemmas.{publish_is_event, deliver_is_event, hear_is_event, fire_is_event, restart_is_event, claim_is_event, lose_is_event, answer_is_event, feed_is_event, fetch_is_event, settle_is_event, open_parts_alike, catalogues_alike}
 use Rattle.repo_member.proofs.laws.calls_are_events.Goals as goal
 
 pub returns-clause-publish : goal.returns-clause-publish
@@ -30,6 +30,9 @@ returns-clause-feed c = feed_is_event
 
 pub returns-clause-fetch : goal.returns-clause-fetch
 returns-clause-fetch c = fetch_is_event
+
+pub returns-clause-settle : goal.returns-clause-settle
+returns-clause-settle c = settle_is_event
 
 pub returns-clause-open_parts : goal.returns-clause-open_parts
 returns-clause-open_parts c = open_parts_alike
