@@ -1,23 +1,25 @@
 -- The plan of a member by itself is its group's plan of it.
-use Rattle.std.proofs.Common.{◌≡◌, inl, inr, ℕ, Bool, true, false, cond, ◌==◌, List, [], ◌∷◌, map, Option, Some, option_map, refl, ap, ◌∙◌, arith}
-use Rattle.std.specs.Prelude.{filter}
+use Rattle.std.proofs.Common.{◌≡◌, inl, inr, ℕ, Bool, true, false, cond, ◌==◌, List, [], ◌∷◌, map, Option, Some, option_map, refl, sym, ap, ◌∙◌, subst, arith}
+use Rattle.std.specs.Prelude.{filter, ◌↔◌}
 use Rattle.std.proofs.lemmas.Bool.{eqb-true}
 use Rattle.repo_plan.specs.declared.part.Part.{Part}
-use Rattle.repo_plan.specs.SortedList.{keys}
-use Rattle.repo_plan.specs.Parts.{Pair, Shape, pair_of}
-use Rattle.repo_plan.specs.Plan.{Holdings}
+use Rattle.repo_plan.specs.SortedList.{keys, contains}
+use Rattle.repo_plan.specs.Parts.{Pair, Shape, part_cmp, pair_of}
+use Rattle.repo_plan.specs.Plan.{Holdings, wanted}
 use Rattle.repo_plan.proofs.Orders.{exact_parts}
 use Rattle.repo_plan.proofs.Sets.{In, in_map, contains_in}
 use Rattle.repo_object.specs.Verdict.{listing_in}
 use Rattle.group_model.specs.Publications.{Logs, count, object_at}
 use Rattle.group_model.specs.Member.{told_by}
 use Rattle.group_model.specs.Sound.{IsPublished}
+use Rattle.group_model.specs.Wanted.{IsWantedPart}
+use Rattle.group_model.proofs.Wants.{wants_those}
 use Rattle.repo_member.specs.KeptValues.{with_kept, kept_values}
 use Rattle.repo_member.specs.Records.{Packet, records_in}
 use Rattle.repo_member.specs.Listed.{shape, shapes_in}
 use Rattle.repo_member.specs.Groups.{GroupKeys, publisher_of}
 use Rattle.repo_member.specs.Alone.{Alone, plan_of}
-use Rattle.repo_member.specs.InGroup.{AreLogs, StoresTruly, packet_of, SoundStoresTruly, PlansAlike}
+use Rattle.repo_member.specs.InGroup.{AreLogs, StoresTruly, packet_of, in_group, SoundStoresTruly, PlansAlike, WantsAlike}
 use Rattle.repo_member.proofs.TruePackets.{value_in, record_lists, listing_counts, published_object, published_by, published_low}
 
 pub sound_stores_truly : SoundStoresTruly
@@ -60,3 +62,7 @@ module _ (g : GroupKeys) (logs : Logs) (a : Alone) (are : AreLogs g logs) (truly
 
 pub plans_alike : PlansAlike
 plans_alike g logs a are truly = ap (λ (shapes : List (Pair × Shape)). let p : Holdings = record (plan_of a) { shapes = shapes } in p) (shapes_told g logs a are truly)
+
+pub wants_alike : WantsAlike
+wants_alike g logs a t are truly =
+    subst (λ (p : Holdings). (contains part_cmp (wanted p) t ≡ true) ↔ IsWantedPart logs (in_group a) t) (sym (plans_alike g logs a are truly)) (wants_those logs (in_group a) t)

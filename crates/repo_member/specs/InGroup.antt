@@ -1,5 +1,5 @@
 -- A member by itself and the same member as its group has it.
-use Rattle.std.specs.Prelude.{◌≡◌, ℕ, ◌<◌, ◌≤◌, true, List, [], ◌∷◌, ◌++◌, map, filter, length, take, replicate, Option, Some, None, is_some, slice_index_or, slice_set}
+use Rattle.std.specs.Prelude.{◌≡◌, ℕ, ◌<◌, ◌≤◌, ◌↔◌, true, List, [], ◌∷◌, ◌++◌, map, filter, length, take, replicate, Option, Some, None, is_some, slice_index_or, slice_set}
 use Rattle.std.specs.List.{All}
 use Rattle.svs_vector.specs.Vectors.{join}
 use Rattle.svs_sync.specs.declared.fired.Fired.{Fired}
@@ -7,13 +7,15 @@ use Rattle.svs_sync.specs.declared.fired.Fired.TheVariants as fired
 use Rattle.svs_sync.specs.KeptVector.{fires_kept}
 use Rattle.repo_plan.specs.declared.part.Part.{Part}
 use Rattle.repo_plan.specs.Parts.{part_cmp, pair_of}
-use Rattle.repo_plan.specs.SortedList.{keys, value_of, Rises}
+use Rattle.repo_plan.specs.SortedList.{keys, contains, value_of, Rises}
+use Rattle.repo_plan.specs.Plan.{wanted}
 use Rattle.repo_object.specs.Objects.{NamedContents, IsObject}
 use Rattle.repo_object.specs.Publication.{packet_at}
 use Rattle.group_model.specs.Publications.{Logs, object_at, last_of}
 use Rattle.group_model.specs.Member.{Member, holds, catalogue, gains, with_each_tried, without_claims}
 use Rattle.group_model.specs.Member as group_member
 use Rattle.group_model.specs.Sound.{IsPublished, SoundMember}
+use Rattle.group_model.specs.Wanted.{IsWantedPart}
 use Rattle.group_model.specs.Changes as group
 use Rattle.group_model.specs.World.{Outside, member, opening}
 use Rattle.repo_member.specs.Groups.{GroupKeys, IsGroup, publisher_of}
@@ -39,16 +41,18 @@ in_group a = record {
 abbrev pub StoresInOrder : Alone → Type 0
 StoresInOrder a = Rises part_cmp (keys a.store)
 
--- ---- changes
+-- ---- changes: each of the member by itself is the group's change of that member
 
 -- A member begins as each does in a group in which nothing has happened.
 abbrev pub BeginsAlike : Type 0
 BeginsAlike = (out : Outside) (n j : ℕ) → j < n → in_group (opening_alone n j 0 (out.draw j 0)) ≡ member (opening out n) j
 
+-- It publishes an object, and stores all its packets.
 abbrev pub PublishesAlike : Type 0
 PublishesAlike = (g : GroupKeys) (object : NamedContents) (moment draw : ℕ) (a : Alone) → StoresInOrder a
     → in_group (publishes g object moment draw a) ≡ group.publishes draw moment a.number object (in_group a)
 
+-- It is told of a vector.
 abbrev pub HearsAlike : Type 0
 HearsAlike = (told : List ℕ) (moment draw : ℕ) (a : Alone)
     → in_group (hears told moment draw a) ≡ group.learns draw moment told (in_group a)
@@ -64,15 +68,18 @@ after_timer fired.Early draw moment m = m
 after_timer fired.Quiet draw moment m = group.resets draw moment m
 after_timer fired.Send draw moment m = group.resets draw moment m
 
+-- Its timer fires.
 abbrev pub FiresAlike : Type 0
 FiresAlike = (moment draw : ℕ) (a : Alone)
     → in_group (fires moment draw a)
     ≡ after_timer (fires_kept moment (in_group a).known (in_group a).machine) draw moment (in_group a)
 
+-- A fetcher claims a part, or nothing.
 abbrev pub ClaimsAlike : Type 0
 ClaimsAlike = (f : ℕ) (claim : Option Part) (a : Alone)
     → in_group (claims_part f claim a) ≡ group.with_claim f claim (in_group a)
 
+-- A packet came for the part that a fetcher claims.
 abbrev pub AcceptsAlike : Type 0
 AcceptsAlike = (f : ℕ) (t : Part) (octets : List ℕ) (a : Alone) → StoresInOrder a
     → in_group (accepts f t octets a) ≡ group.takes f t (in_group a)
@@ -96,13 +103,16 @@ TakesAlike = (tries : Part → ℕ) (xs : List Fetched) (a : Alone) → StoresIn
       attempts = with_each_tried tries (asked_for xs) (in_group a).attempts;
     }
 
+-- All claims end.
 abbrev pub EndsClaimsAlike : Type 0
 EndsClaimsAlike = (a : Alone) → in_group (ends_claims a) ≡ without_claims (in_group a)
 
+-- Its machine is Steady again.
 abbrev pub ResetsAlike : Type 0
 ResetsAlike = (moment draw : ℕ) (a : Alone)
     → in_group (resets moment draw a) ≡ group.resets draw moment (in_group a)
 
+-- It starts again.
 abbrev pub RestartsAlike : Type 0
 RestartsAlike = (moment draw : ℕ) (a : Alone)
     → in_group (resets moment draw (ends_claims a)) ≡ group.restarts draw moment (in_group a)
@@ -142,6 +152,12 @@ abbrev pub PlansAlike : Type 0
 PlansAlike = (g : GroupKeys) (logs : Logs) (a : Alone) → AreLogs g logs → StoresTruly g logs a
     → plan_of a ≡ group_member.plan_of logs (in_group a)
 
+-- So it wants the records of the known publications, and the published segments of those whose records it holds, that it
+-- neither holds nor hides.
+abbrev pub WantsAlike : Type 0
+WantsAlike = (g : GroupKeys) (logs : Logs) (a : Alone) (t : Part) → AreLogs g logs → StoresTruly g logs a
+    → (contains part_cmp (wanted (plan_of a)) t ≡ true) ↔ IsWantedPart logs (in_group a) t
+
 -- Its catalogue, which reads the stored packets, is the group's catalogue of that member.
 abbrev pub ListsAlike : Type 0
 ListsAlike = (g : GroupKeys) (logs : Logs) (a : Alone) → AreLogs g logs → StoresTruly g logs a
@@ -163,6 +179,7 @@ CameTruly g logs t (Some octets) = IsItsPacket g logs t octets
 abbrev pub GrowInto : Logs → Logs → Type 0
 GrowInto logs later = (p : ℕ) → take (last_of logs p) (slice_index_or later p []) ≡ slice_index_or logs p []
 
+-- A member that has just begun stores nothing.
 abbrev pub BeginsTruly : Type 0
 BeginsTruly = (g : GroupKeys) (logs : Logs) (members number moment draw : ℕ)
     → StoresTruly g logs (opening_alone members number moment draw)
@@ -179,10 +196,12 @@ PublishesTruly = (g : GroupKeys) (object : NamedContents) (moment draw : ℕ) (l
     let published = publishes g object moment draw a in
     StoresTruly g (slice_set logs a.number published.log) published
 
+-- The packet that is accepted is that of its part.
 abbrev pub AcceptsTruly : Type 0
 AcceptsTruly = (g : GroupKeys) (logs : Logs) (f : ℕ) (t : Part) (octets : List ℕ) (a : Alone)
     → IsItsPacket g logs t octets → StoresTruly g logs a → StoresTruly g logs (accepts f t octets a)
 
+-- So is each that a fetch brought.
 abbrev pub TakesTruly : Type 0
 TakesTruly = (g : GroupKeys) (logs : Logs) (xs : List Fetched) (a : Alone)
     → All (λ x. CameTruly g logs x.part x.packet) xs → StoresTruly g logs a → StoresTruly g logs (takes xs a)

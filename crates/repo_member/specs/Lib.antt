@@ -20,6 +20,7 @@ pub use Rattle.group_model.specs.Member
 pub use Rattle.group_model.specs.Changes
 pub use Rattle.group_model.specs.World
 pub use Rattle.group_model.specs.Sound
+pub use Rattle.group_model.specs.Wanted
 pub use Rattle.group_model.specs.Events
 pub use Rattle.group_model.specs.Steps
 pub mod Groups
