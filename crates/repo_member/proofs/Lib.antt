@@ -11,3 +11,9 @@ mod PublishLemmas
 mod MemberLemmas
 mod OwnLemmas
 mod VectorLemmas
+mod ChangeLemmas
+mod TruePackets
+mod GroupPlans
+mod GroupCatalogues
+mod LastingPackets
+mod EventLemmas

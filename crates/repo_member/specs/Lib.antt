@@ -15,6 +15,14 @@ pub use Rattle.repo_object.specs.Verdict
 pub use Rattle.repo_store.specs.StoreList
 pub use Rattle.repo_store.specs.Served
 pub use Rattle.repo_catalog.specs.Entries
+pub use Rattle.group_model.specs.Publications
+pub use Rattle.group_model.specs.Member
+pub use Rattle.group_model.specs.Changes
+pub use Rattle.group_model.specs.World
+pub use Rattle.group_model.specs.Sound
+pub use Rattle.group_model.specs.Wanted
+pub use Rattle.group_model.specs.Events
+pub use Rattle.group_model.specs.Steps
 pub mod Groups
 pub mod KeptValues
 pub mod Records
@@ -27,3 +35,5 @@ pub mod Publishing
 pub mod Listings
 pub mod Outcomes
 pub mod Members
+pub mod InGroup
+pub mod InEvents

@@ -5,6 +5,7 @@
 mod group;
 mod group_fault;
 mod holding;
+mod laws;
 mod listing;
 mod member;
 mod nodes;
@@ -12,5 +13,9 @@ mod refusals;
 
 pub use group::Group;
 pub use group_fault::GroupFault;
+pub use laws::{
+    calls_are_events, changes_are_the_groups, members_list_what_the_group_says,
+    members_want_what_the_group_says, truly_stored_lasts,
+};
 pub use member::{Fire, Member, Published};
 pub use refusals::{AcceptRefusal, HearRefusal, PublishRefusal, WantFault};

@@ -1,0 +1,139 @@
+-- What an event of a group makes of a member by itself.
+use Rattle.std.proofs.Common.{◌≡◌, ℕ, ◌-◌, Bool, true, false, cond, List, [], ◌∷◌, length, get_or, set, Option, Some, None, refl, sym, ap, ◌∙◌}
+use Rattle.std.specs.Prelude.{nat_lt, slice_index}
+use Rattle.std.proofs.lemmas.List.{get_or-set_same, set-get_or}
+use Rattle.svs_sync.specs.declared.fired.Fired.{Fired}
+use Rattle.svs_sync.specs.declared.fired.Fired.TheVariants.{Early, Quiet, Send}
+use Rattle.svs_vector.specs.Vectors.{covers}
+use Rattle.svs_sync.specs.KeptVector.{steady_kept, due_kept, fires_kept}
+use Rattle.repo_plan.specs.declared.part.Part.{Part}
+use Rattle.repo_plan.specs.Plan.{claim_of, unclaimed, first, no_claims}
+use Rattle.group_model.specs.Member.{Member, catalogue, gains, with_each_tried}
+use Rattle.group_model.specs.Member as group_member
+use Rattle.group_model.specs.Changes as group
+use Rattle.group_model.specs.Events.{Came}
+use Rattle.group_model.specs.Events.Came.{Nothing, Its, Another}
+use Rattle.group_model.specs.World.{Outside, World, no_member, member, logs, sent_at}
+use Rattle.group_model.specs.Steps.{drawn, timer_at, claim_at, passes_checks, came_from, came_as, tried_once, planned, attempts_for, fetches, settled_vector, new_parts, after_deliver, after_fire, after_claim, after_came}
+use Rattle.group_model.proofs.Settles.{member_settled}
+use Rattle.repo_member.specs.Alone.{Alone, plan_of, learns, hears, fires, claims_part, accepts, takes, ends_claims, resets}
+use Rattle.repo_member.specs.InGroup.{in_group, StoresInOrder, asked_for, that_came, after_timer}
+use Rattle.repo_member.specs.InEvents.{IsMemberOf, PublishIsEvent, DeliverIsEvent, HearIsEvent, FireIsEvent, RestartIsEvent, ClaimIsEvent, LoseIsEvent, AnswerIsEvent, FeedIsEvent, FetchIsEvent, SettleIsEvent, learns_all, OpenPartsAlike, CataloguesAlike}
+use Rattle.repo_member.proofs.ChangeLemmas.{publishes_alike, accepts_alike, takes_alike}
+use Rattle.repo_member.proofs.GroupPlans.{plans_alike}
+use Rattle.repo_member.proofs.GroupCatalogues.{lists_alike}
+
+module _ (w : World) (j : ℕ) (a : Alone) (is : IsMemberOf w j a) where
+  -- the member after a change of it
+  changed : (change : Member → Member) → get_or (set w.members j (change (member w j))) j no_member ≡ change (in_group a)
+  changed change = get_or-set_same w.members j (change (member w j)) no_member is.there ∙ ap change is.same
+
+pub publish_is_event : PublishIsEvent
+publish_is_event out w j g object a is r =
+    changed w j a is (group.publishes (drawn out w j) w.moment j object)
+    ∙ ap (λ (n : ℕ). group.publishes (drawn out w j) w.moment n object (in_group a)) (sym is.number) ∙ sym (publishes_alike g object w.moment (drawn out w j) a r)
+
+pub deliver_is_event : DeliverIsEvent
+deliver_is_event out w k j a is = changed w j a is (group.learns (drawn out w j) w.moment (sent_at w k).vector)
+
+pub hear_is_event : HearIsEvent
+hear_is_event out w j sync a is = ap (λ (b : Bool). member (cond b w (after_deliver out w j sync.vector)) j) test ∙ go (nat_lt (length a.log) (slice_index sync.vector a.number)) where
+  test : nat_lt (length (member w j).log) (slice_index sync.vector j) ≡ nat_lt (length a.log) (slice_index sync.vector a.number)
+  test = ap (λ (m : Member). nat_lt (length m.log) (slice_index sync.vector j)) is.same ∙ ap (λ (n : ℕ). nat_lt (length a.log) (slice_index sync.vector n)) (sym is.number)
+
+  go : (b : Bool) → member (cond b w (after_deliver out w j sync.vector)) j ≡ in_group (cond b a (hears sync.vector w.moment (drawn out w j) a))
+  go true = is.same
+  go false = changed w j a is (group.learns (drawn out w j) w.moment sync.vector)
+
+fires_alike : (moment draw : ℕ) (a : Alone) → in_group (fires moment draw a) ≡ after_timer (fires_kept moment a.known a.machine) draw moment (in_group a)
+fires_alike moment draw a = go (nat_lt moment a.machine.deadline) where
+  due : (heard : Option (List ℕ)) → group.resets draw moment (in_group a) ≡ after_timer (due_kept a.known heard) draw moment (in_group a)
+  due None = refl
+  due (Some vector) = covered (covers vector a.known) where
+    covered : (b : Bool) → group.resets draw moment (in_group a) ≡ after_timer (cond b Quiet Send) draw moment (in_group a)
+    covered true = refl
+    covered false = refl
+
+  go : (b : Bool) → in_group (record a { machine = cond b a.machine (steady_kept moment draw a.machine) }) ≡ after_timer (cond b Early (due_kept a.known a.machine.heard)) draw moment (in_group a)
+  go true = refl
+  go false = due a.machine.heard
+
+pub fire_is_event : FireIsEvent
+fire_is_event out w j a is =
+    go (timer_at w j) ∙ ap (λ (m : Member). after_timer (fires_kept w.moment m.known m.machine) (drawn out w j) w.moment m) is.same ∙ sym (fires_alike w.moment (drawn out w j) a) where
+      go : (x : Fired) → member (after_fire out w j x) j ≡ after_timer x (drawn out w j) w.moment (member w j)
+      go Early = refl
+      go Quiet = get_or-set_same w.members j (group.resets (drawn out w j) w.moment (member w j)) no_member is.there
+      go Send = get_or-set_same w.members j (group.resets (drawn out w j) w.moment (member w j)) no_member is.there
+
+pub restart_is_event : RestartIsEvent
+restart_is_event out w j a is = changed w j a is (group.restarts (drawn out w j) w.moment)
+
+pub open_parts_alike : OpenPartsAlike
+open_parts_alike w j g a is truly = ap (λ (m : Member). unclaimed (group_member.plan_of (logs w) m)) is.same ∙ ap unclaimed (sym (plans_alike g (logs w) a truly.published truly.stores))
+
+pub catalogues_alike : CataloguesAlike
+catalogues_alike w j g a is truly = ap (catalogue (logs w)) is.same ∙ sym (lists_alike g (logs w) a truly.published truly.stores)
+
+pub claim_is_event : ClaimIsEvent
+claim_is_event out w j f g a is truly idle = ap (λ (ts : List Part). member (after_claim w j f (first ts)) j) (open_parts_alike w j g a is truly) ∙ go (first (unclaimed (plan_of a))) where
+  with_claims : List (Option Part) → Member
+  with_claims claims = record (in_group a) { claims = claims }
+
+  go : (x : Option Part) → member (after_claim w j f x) j ≡ in_group (claims_part f x a)
+  go None = is.same ∙ ap with_claims (sym (ap (set a.claims (f - 1)) (sym idle) ∙ set-get_or a.claims (f - 1) None))
+  go (Some t) = changed w j a is (group.with_claim f (Some t))
+
+pub lose_is_event : LoseIsEvent
+lose_is_event out w j f a is = changed w j a is (group.with_claim f None)
+
+claimed_alike : (w : World) (j f : ℕ) (t : Part) (a : Alone) → IsMemberOf w j a → claim_of (plan_of a) f ≡ Some t → claim_at w j f ≡ Some t
+claimed_alike w j f t a is claim = ap (λ (m : Member). get_or m.claims (f - 1) None) is.same ∙ claim
+
+came_is_event : (out : Outside) (w : World) (j f : ℕ) (t : Part) (octets : List ℕ) (a : Alone) (came : Came) → IsMemberOf w j a → StoresInOrder a
+    → member (after_came out w j f (Some t) came) j ≡ in_group (cond (passes_checks came) (accepts f t octets a) a)
+came_is_event out w j f t octets a Nothing is r = is.same
+came_is_event out w j f t octets a Its is r = changed w j a is (group.takes f t) ∙ sym (accepts_alike f t octets a r)
+came_is_event out w j f t octets a Another is r = changed w j a is (group.takes f t) ∙ sym (accepts_alike f t octets a r)
+
+pub answer_is_event : AnswerIsEvent
+answer_is_event out w j f q t octets a is r claim =
+    ap (λ (x : Option Part). member (after_came out (tried_once w) j f x (came_from out w q x)) j) (claimed_alike w j f t a is claim)
+    ∙ came_is_event out (tried_once w) j f t octets a (came_from out w q (Some t)) (record { there = is.there; number = is.number; same = is.same }) r
+
+pub feed_is_event : FeedIsEvent
+feed_is_event out w j f read t octets a is r claim =
+    ap (λ (x : Option Part). member (after_came out w j f x (came_as w read x)) j) (claimed_alike w j f t a is claim)
+    ∙ came_is_event out w j f t octets a (came_as w read (Some t)) is r
+
+pub fetch_is_event : FetchIsEvent
+fetch_is_event out w j tries loss xs a is r outcome =
+    let after_it : List Part → List Part → Member = λ came asked. record (gains came (in_group a)) { attempts = with_each_tried (attempts_for out w j tries loss) asked a.attempts } in
+    changed w j a is (fetches out w j tries loss)
+    ∙ ap (λ (came : List Part). after_it came (planned w j)) (sym outcome.came) ∙ ap (after_it (that_came xs)) (sym outcome.asked)
+    ∙ sym (takes_alike (attempts_for out w j tries loss) xs a r outcome.tried)
+
+-- ---- a settle
+
+learnt : (vectors : List (List ℕ)) (a : Alone) (claims : List (Option Part)) → learns_all vectors (record a { claims = claims }) ≡ record a { claims = claims; known = (learns_all vectors a).known }
+learnt [] a claims = refl
+learnt (told ∷ vectors) a claims = learnt vectors (learns told a) claims
+
+none_tried : (ts : List Part) (tried : List (Part × ℕ)) → with_each_tried (λ t. 0) ts tried ≡ tried
+none_tried [] tried = refl
+none_tried (t ∷ ts) tried = none_tried ts tried
+
+pub settle_is_event : SettleIsEvent
+settle_is_event out w j vectors xs a is r settling =
+    let draw : ℕ = drawn out w j in
+    let settled : Member → List Part → List ℕ → Member = λ m gained known. group.resets draw w.moment (record (gains gained (group_member.without_claims m)) { known = known }) in
+    let known : List ℕ = (learns_all vectors a).known in
+    let told : Alone = record (ends_claims a) { known = known } in
+    let tried : List (Part × ℕ) → Member = λ attempts. record (settled (in_group a) (that_came xs) known) { attempts = attempts } in
+    member_settled out w j is.there
+    ∙ ap (λ (m : Member). settled m (new_parts w (member w j)) (settled_vector w)) is.same
+    ∙ ap (λ (gained : List Part). settled (in_group a) gained (settled_vector w)) (sym settling.came)
+    ∙ ap (settled (in_group a) (that_came xs)) (sym settling.known)
+    ∙ ap tried (sym (none_tried (asked_for xs) a.attempts))
+    ∙ ap (group.resets draw w.moment) (sym (takes_alike (λ t. 0) xs told r settling.tried))
+    ∙ ap (λ (b : Alone). in_group (resets w.moment draw (takes xs b))) (sym (learnt vectors a no_claims))

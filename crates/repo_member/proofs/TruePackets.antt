@@ -1,0 +1,106 @@
+-- Packets that are those of what was published: what they list, and their contents.
+use Rattle.std.proofs.Common.{◌≡◌, inl, inr, ℕ, zero, suc, ◌+◌, ◌-◌, ◌^◌, ◌<◌, Bool, cond, List, [], ◌∷◌, length, get_or, Option, Some, Ok, slice_get, sym, ap, ◌∙◌, subst, arith}
+use Rattle.std.specs.Ordering.{is_eq}
+use Rattle.std.specs.declared.cmp.Ordering.{Ordering}
+use Rattle.std.proofs.lemmas.Bool.{cases_lt}
+use Rattle.std.proofs.lemmas.List.{length-map, get_or_past}
+use Rattle.sha2.specs.Sha256.{sha256}
+use Rattle.ndn_name.specs.Names.{Component}
+use Rattle.ndn_data.specs.Data.{data_of}
+use Rattle.ndn_data.specs.WrittenData.{read_back}
+use Rattle.ndn_data.proofs.ReadBackLemmas.{data_again}
+use Rattle.repo_plan.specs.SortedList.{keys, Rises, value_of}
+use Rattle.repo_plan.specs.Parts.{Pair}
+use Rattle.repo_plan.proofs.Orders.{Exact, less_back}
+use Rattle.repo_plan.proofs.Sets.{In, in_map, each_before, eq_itself}
+use Rattle.repo_object.specs.Objects.{NamedContents, IsContent, IsObject, Publisher, IsPublisher, key_name, segment_name}
+use Rattle.repo_object.specs.Publication.{segment_packet, segment_packets_from, published_segments, published_listing, record_packet, packet_at}
+use Rattle.repo_object.specs.Verdict.{listing_in}
+use Rattle.repo_object.proofs.Sizes.{named_short}
+use Rattle.repo_object.proofs.NameLemmas.{IsName-number, IsName-key}
+use Rattle.repo_object.proofs.PacketSizes.{key_name-size, segment-size}
+use Rattle.repo_object.proofs.Publications.{packets-length, record_listed}
+use Rattle.group_model.specs.Publications.{Logs, no_object, object_at, last_of}
+use Rattle.group_model.specs.Sound.{IsPublished}
+use Rattle.repo_member.specs.Groups.{GroupKeys, publisher_of}
+use Rattle.repo_member.specs.Listed.{shape, content_read, content_of}
+use Rattle.repo_member.specs.InGroup.{AreLogs}
+use Rattle.repo_member.proofs.OwnLemmas.{is_publisher}
+
+-- ---- entries of maps
+
+-- what stands in a map in order is found
+pub value_in : {K V : Type 0} {R : K → K → Ordering} (e : Exact R) (es : List (K × V)) (x : K × V) → Rises R (keys es) → In x es → value_of R es x.0 ≡ Some x.1
+value_in e [] x r i = absurd i
+value_in {K} {V} {R} e (y ∷ ys) x r (inl same) =
+    subst (λ (z : K × V). value_of R (y ∷ ys) z.0 ≡ Some z.1) (sym same) (ap (λ (b : Bool). cond b (Some y.1) (value_of R ys y.0)) (eq_itself e y.0))
+value_in {K} {V} {R} e (y ∷ ys) x r (inr i) =
+    let before = each_before e.total y.0 (keys ys) r.0 x.0 (in_map (λ (z : K × V). z.0) ys x i) in
+    ap (λ (o : Ordering). cond (is_eq o) (Some y.1) (value_of R ys x.0)) (less_back e.total y.0 x.0 before) ∙ value_in e ys x r.1 i
+
+-- ---- the packets of a publication
+
+same_some : (a b : List ℕ) → (let o : Option (List ℕ) = Some a in o) ≡ Some b → a ≡ b
+same_some a b h = cc
+
+module _ (publisher : Publisher) (seq : ℕ) (object : NamedContents) where
+  pub listing_counts : shape (published_listing publisher object) ≡ length object.contents
+  listing_counts = omega (arith, length-map (published_segments publisher object) sha256, packets-length publisher seq object)
+
+  module _ (is_publisher : IsPublisher publisher) (is_object : IsObject object) where
+    -- part 0 is the record
+    pub record_lists : (octets : List ℕ) → seq < 2 ^ 16 → packet_at publisher seq object 0 ≡ Some octets → listing_in octets ≡ Some (published_listing publisher object)
+    record_lists octets low h =
+        ap listing_in (sym (same_some (record_packet publisher seq (published_listing publisher object)) octets h)) ∙ record_listed publisher object is_publisher is_object seq low
+
+-- the packet of a segment at a place
+module _ (keyed : List Component) (key : List ℕ) (name : List Component) (last : ℕ) where
+  segment_at : (i : ℕ) (contents : List (List ℕ)) (k : ℕ) (octets : List ℕ) → slice_get (segment_packets_from keyed key name last i contents) k ≡ Some octets
+      → (k < length contents) × (segment_packet keyed key name last (i + k) (get_or contents k []) ≡ octets)
+  unfolding segment_packets_from
+  segment_at i [] k octets h = absurd cc
+  segment_at i (content ∷ contents) zero octets h =
+      let here : i + 0 ≡ i = omega arith in
+      (omega arith, ap (λ (n : ℕ). segment_packet keyed key name last n content) here ∙ same_some (segment_packet keyed key name last i content) octets h)
+  segment_at i (content ∷ contents) (suc k) octets h =
+      let later : (k < length contents) × (segment_packet keyed key name last ((i + 1) + k) (get_or contents k []) ≡ octets) = segment_at (i + 1) contents k octets h in
+      let there : (i + 1) + k ≡ i + suc k = omega arith in
+      (omega (arith, later.0), ap (λ (n : ℕ). segment_packet keyed key name last n (get_or contents k [])) (sym there) ∙ later.1)
+
+-- the part behind it has the segment's content
+pub segment_content : (publisher : Publisher) (seq : ℕ) (object : NamedContents) (k : ℕ) (octets : List ℕ) → IsPublisher publisher → IsObject object → packet_at publisher seq object (suc k) ≡ Some octets
+    → content_of octets ≡ get_or object.contents k []
+segment_content publisher seq object k octets is_publisher is_object h =
+    let keyed = key_name publisher.node in
+    let last = length object.contents - 1 in
+    let at : (k < length object.contents) × (segment_packet keyed publisher.key object.name last (0 + k) (get_or object.contents k []) ≡ octets) =
+    segment_at keyed publisher.key object.name last 0 object.contents k octets h in
+    let content = get_or object.contents k [] in
+    let is_content : IsContent content = is_object.contents k [] at.0 in
+    let same : 0 + k ≡ k = omega arith in
+    let read : data_of (segment_packet keyed publisher.key object.name last k content) ≡ Ok (read_back (segment_name object.name k) (Some last) content keyed publisher.key) =
+    data_again (segment_name object.name k) keyed (Some last) content publisher.key
+    (IsName-number object.name 0x32 k is_object.name (omega arith) (omega arith) (omega (arith, at.0, is_object.few)))
+    (IsName-key publisher.node is_publisher.node.0)
+    (segment-size keyed publisher.key object.name last k content (key_name-size publisher.node is_publisher.node.1) (named_short object.name is_object.named) (omega (arith, is_object.few)) (omega (arith, at.0, is_object.few)) is_content.1) in
+    ap content_of (sym at.1 ∙ ap (λ (n : ℕ). segment_packet keyed publisher.key object.name last n content) same) ∙ ap content_read read
+
+-- ---- what was published
+
+module _ (g : GroupKeys) (logs : Logs) (are : AreLogs g logs) (pair : Pair) (there : IsPublished logs pair) where
+  log_there : pair.0 < length logs
+  log_there = elim (cases_lt pair.0 (length logs)) [
+    | inl inside ↦ inside
+    | inr past ↦
+        let none : last_of logs pair.0 ≡ 0 = ap (λ (log : List NamedContents). length log) (get_or_past logs pair.0 [] past) in
+        absurd (omega (arith, none, there.from_one, there.to_last))
+  ]
+
+  pub published_object : IsObject (object_at logs pair)
+  published_object = are.objects pair.0 [] log_there (pair.1 - 1) no_object (omega (arith, there.from_one, there.to_last))
+
+  pub published_by : IsPublisher (publisher_of g pair.0)
+  published_by = is_publisher g pair.0 are.group (omega (arith, log_there, are.width))
+
+  pub published_low : pair.1 < 2 ^ 16
+  published_low = omega (arith, there.to_last, are.few pair.0 [] log_there)

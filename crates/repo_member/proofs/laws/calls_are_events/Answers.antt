@@ -1,0 +1,41 @@
+use Rattle.repo_member.proofs.EventLemmas.{publish_is_event, deliver_is_event, hear_is_event, fire_is_event, restart_is_event, claim_is_event, lose_is_event, answer_is_event, feed_is_event, fetch_is_event, settle_is_event, open_parts_alike, catalogues_alike}
+use Rattle.repo_member.proofs.laws.calls_are_events.Goals as goal
+
+pub returns-clause-publish : goal.returns-clause-publish
+returns-clause-publish c = publish_is_event
+
+pub returns-clause-deliver : goal.returns-clause-deliver
+returns-clause-deliver c = deliver_is_event
+
+pub returns-clause-hear : goal.returns-clause-hear
+returns-clause-hear c = hear_is_event
+
+pub returns-clause-fire : goal.returns-clause-fire
+returns-clause-fire c = fire_is_event
+
+pub returns-clause-restart : goal.returns-clause-restart
+returns-clause-restart c = restart_is_event
+
+pub returns-clause-claim : goal.returns-clause-claim
+returns-clause-claim c = claim_is_event
+
+pub returns-clause-lose : goal.returns-clause-lose
+returns-clause-lose c = lose_is_event
+
+pub returns-clause-answer : goal.returns-clause-answer
+returns-clause-answer c = answer_is_event
+
+pub returns-clause-feed : goal.returns-clause-feed
+returns-clause-feed c = feed_is_event
+
+pub returns-clause-fetch : goal.returns-clause-fetch
+returns-clause-fetch c = fetch_is_event
+
+pub returns-clause-settle : goal.returns-clause-settle
+returns-clause-settle c = settle_is_event
+
+pub returns-clause-open_parts : goal.returns-clause-open_parts
+returns-clause-open_parts c = open_parts_alike
+
+pub returns-clause-catalogue : goal.returns-clause-catalogue
+returns-clause-catalogue c = catalogues_alike

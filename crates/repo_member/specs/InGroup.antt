@@ -1,0 +1,221 @@
+-- A member by itself and the same member as its group has it.
+use Rattle.std.specs.Prelude.{◌≡◌, ℕ, ◌<◌, ◌≤◌, ◌↔◌, true, List, [], ◌∷◌, ◌++◌, map, filter, length, take, replicate, Option, Some, None, is_some, slice_index_or, slice_set}
+use Rattle.std.specs.List.{All}
+use Rattle.svs_vector.specs.Vectors.{join}
+use Rattle.svs_sync.specs.declared.fired.Fired.{Fired}
+use Rattle.svs_sync.specs.declared.fired.Fired.TheVariants as fired
+use Rattle.svs_sync.specs.KeptVector.{fires_kept}
+use Rattle.repo_plan.specs.declared.part.Part.{Part}
+use Rattle.repo_plan.specs.Parts.{part_cmp, pair_of}
+use Rattle.repo_plan.specs.SortedList.{keys, contains, value_of, Rises}
+use Rattle.repo_plan.specs.Plan.{wanted}
+use Rattle.repo_object.specs.Objects.{NamedContents, IsObject}
+use Rattle.repo_object.specs.Publication.{packet_at}
+use Rattle.group_model.specs.Publications.{Logs, object_at, last_of}
+use Rattle.group_model.specs.Member.{Member, holds, catalogue, gains, with_each_tried, without_claims}
+use Rattle.group_model.specs.Member as group_member
+use Rattle.group_model.specs.Sound.{IsPublished, SoundMember}
+use Rattle.group_model.specs.Wanted.{IsWantedPart}
+use Rattle.group_model.specs.Changes as group
+use Rattle.group_model.specs.World.{Outside, member, opening}
+use Rattle.repo_member.specs.Groups.{GroupKeys, IsGroup, publisher_of}
+use Rattle.repo_member.specs.Listed.{catalogue_alone}
+use Rattle.repo_member.specs.Alone.{Alone, Fetched, plan_of, opening_alone, publishes, learns, hears, fires, claims_part, accepts, takes, ends_claims, resets}
+
+-- The member as its group has it: it holds the parts whose packets it stores. It takes no commands, so it has no
+-- insertion processes.
+abbrev pub in_group : Alone → Member
+in_group a = record {
+  log = a.log;
+  known = a.known;
+  held = keys a.store;
+  hidden = a.hidden;
+  claims = a.claims;
+  attempts = a.attempts;
+  machine = a.machine;
+  processes = [];
+  next_process = 1;
+}
+
+-- What is stored is in order of the parts, each once.
+abbrev pub StoresInOrder : Alone → Type 0
+StoresInOrder a = Rises part_cmp (keys a.store)
+
+-- ---- changes: each of the member by itself is the group's change of that member
+
+-- A member begins as each does in a group in which nothing has happened.
+abbrev pub BeginsAlike : Type 0
+BeginsAlike = (out : Outside) (n j : ℕ) → j < n → in_group (opening_alone n j 0 (out.draw j 0)) ≡ member (opening out n) j
+
+-- It publishes an object, and stores all its packets.
+abbrev pub PublishesAlike : Type 0
+PublishesAlike = (g : GroupKeys) (object : NamedContents) (moment draw : ℕ) (a : Alone) → StoresInOrder a
+    → in_group (publishes g object moment draw a) ≡ group.publishes draw moment a.number object (in_group a)
+
+-- It is told of a vector.
+abbrev pub HearsAlike : Type 0
+HearsAlike = (told : List ℕ) (moment draw : ℕ) (a : Alone)
+    → in_group (hears told moment draw a) ≡ group.learns draw moment told (in_group a)
+
+-- A vector that the machine isn't told of, as in a settle.
+abbrev pub LearnsAlike : Type 0
+LearnsAlike = (told : List ℕ) (a : Alone)
+    → in_group (learns told a) ≡ record (in_group a) { known = join (in_group a).known told }
+
+-- What the timer makes of a member, by what it says.
+abbrev pub after_timer : Fired → (draw moment : ℕ) → Member → Member
+after_timer fired.Early draw moment m = m
+after_timer fired.Quiet draw moment m = group.resets draw moment m
+after_timer fired.Send draw moment m = group.resets draw moment m
+
+-- Its timer fires.
+abbrev pub FiresAlike : Type 0
+FiresAlike = (moment draw : ℕ) (a : Alone)
+    → in_group (fires moment draw a)
+    ≡ after_timer (fires_kept moment (in_group a).known (in_group a).machine) draw moment (in_group a)
+
+-- A fetcher claims a part, or nothing.
+abbrev pub ClaimsAlike : Type 0
+ClaimsAlike = (f : ℕ) (claim : Option Part) (a : Alone)
+    → in_group (claims_part f claim a) ≡ group.with_claim f claim (in_group a)
+
+-- A packet came for the part that a fetcher claims.
+abbrev pub AcceptsAlike : Type 0
+AcceptsAlike = (f : ℕ) (t : Part) (octets : List ℕ) (a : Alone) → StoresInOrder a
+    → in_group (accepts f t octets a) ≡ group.takes f t (in_group a)
+
+-- The parts that a fetch asked for, and those of them that came.
+abbrev pub asked_for : List Fetched → List Part
+asked_for xs = map (λ x. x.part) xs
+
+abbrev pub that_came : List Fetched → List Part
+that_came xs = asked_for (filter (λ x. is_some x.packet) xs)
+
+-- Each part was tried so often.
+abbrev pub AreTries : (Part → ℕ) → List Fetched → Type 0
+AreTries tries xs = All (λ x. x.attempts ≡ tries x.part) xs
+
+-- The outcome of a fetch: the parts that came are held, and the attempts of each count.
+abbrev pub TakesAlike : Type 0
+TakesAlike = (tries : Part → ℕ) (xs : List Fetched) (a : Alone) → StoresInOrder a → AreTries tries xs
+    → in_group (takes xs a)
+    ≡ record (gains (that_came xs) (in_group a)) {
+      attempts = with_each_tried tries (asked_for xs) (in_group a).attempts;
+    }
+
+-- All claims end.
+abbrev pub EndsClaimsAlike : Type 0
+EndsClaimsAlike = (a : Alone) → in_group (ends_claims a) ≡ without_claims (in_group a)
+
+-- Its machine is Steady again.
+abbrev pub ResetsAlike : Type 0
+ResetsAlike = (moment draw : ℕ) (a : Alone)
+    → in_group (resets moment draw a) ≡ group.resets draw moment (in_group a)
+
+-- It starts again.
+abbrev pub RestartsAlike : Type 0
+RestartsAlike = (moment draw : ℕ) (a : Alone)
+    → in_group (resets moment draw (ends_claims a)) ≡ group.restarts draw moment (in_group a)
+
+-- ---- what is stored and what was published
+
+-- What the members of a group can have published: as many logs as there are members, of objects within the limits, and
+-- no more of them than there are numbers.
+pub record AreLogs (g : GroupKeys) (logs : Logs) : Type 0 where
+  pub group : IsGroup g
+  pub width : length logs ≡ length g.members.names
+  pub objects : All (All IsObject) logs
+  pub few : All (λ log. length log ≤ 65535) logs
+
+-- The packet of a part, as its publisher makes it.
+abbrev pub packet_of : GroupKeys → Logs → Part → Option (List ℕ)
+packet_of g logs t = packet_at (publisher_of g t.publisher) t.seq (object_at logs (pair_of t)) t.part
+
+-- Each stored packet is that of its part.
+abbrev pub AreItsPackets : GroupKeys → Logs → Alone → Type 0
+AreItsPackets g logs a = (t : Part) (octets : List ℕ) → value_of part_cmp a.store t ≡ Some octets
+    → packet_of g logs t ≡ Some octets
+
+-- The member stores parts of what was published, in order, and of each the packet that its publisher made.
+pub record StoresTruly (g : GroupKeys) (logs : Logs) (a : Alone) : Type 0 where
+  pub in_order : StoresInOrder a
+  pub published : (t : Part) → holds (in_group a) t ≡ true → IsPublished logs (pair_of t)
+  pub packets : AreItsPackets g logs a
+
+-- A member that is as each is in a group that events can reach stores truly, where the packets are those of their parts.
+abbrev pub SoundStoresTruly : Type 0
+SoundStoresTruly = (g : GroupKeys) (logs : Logs) (a : Alone) → SoundMember logs a.number (in_group a)
+    → AreItsPackets g logs a → StoresTruly g logs a
+
+-- The plan of the member by itself, which reads what the stored records list, is the group's plan of that member.
+abbrev pub PlansAlike : Type 0
+PlansAlike = (g : GroupKeys) (logs : Logs) (a : Alone) → AreLogs g logs → StoresTruly g logs a
+    → plan_of a ≡ group_member.plan_of logs (in_group a)
+
+-- So it wants the records of the known publications, and the published segments of those whose records it holds, that it
+-- neither holds nor hides.
+abbrev pub WantsAlike : Type 0
+WantsAlike = (g : GroupKeys) (logs : Logs) (a : Alone) (t : Part) → AreLogs g logs → StoresTruly g logs a
+    → (contains part_cmp (wanted (plan_of a)) t ≡ true) ↔ IsWantedPart logs (in_group a) t
+
+-- Its catalogue, which reads the stored packets, is the group's catalogue of that member.
+abbrev pub ListsAlike : Type 0
+ListsAlike = (g : GroupKeys) (logs : Logs) (a : Alone) → AreLogs g logs → StoresTruly g logs a
+    → catalogue_alone a.store ≡ catalogue logs (in_group a)
+
+-- ---- what lasts
+
+-- A packet is that of the part, of a publication that there is.
+pub record IsItsPacket (g : GroupKeys) (logs : Logs) (t : Part) (octets : List ℕ) : Type 0 where
+  pub published : IsPublished logs (pair_of t)
+  pub packet : packet_of g logs t ≡ Some octets
+
+-- So is the packet that came for a part, if one did.
+abbrev pub CameTruly : GroupKeys → Logs → Part → Option (List ℕ) → Type 0
+CameTruly g logs t None = Unit {0}
+CameTruly g logs t (Some octets) = IsItsPacket g logs t octets
+
+-- What was published stays under its number, and there may be more.
+abbrev pub GrowInto : Logs → Logs → Type 0
+GrowInto logs later = (p : ℕ) → take (last_of logs p) (slice_index_or later p []) ≡ slice_index_or logs p []
+
+-- A member that has just begun stores nothing.
+abbrev pub BeginsTruly : Type 0
+BeginsTruly = (g : GroupKeys) (logs : Logs) (members number moment draw : ℕ)
+    → StoresTruly g logs (opening_alone members number moment draw)
+
+-- Others may publish more.
+abbrev pub GrowsTruly : Type 0
+GrowsTruly = (g : GroupKeys) (logs later : Logs) (a : Alone) → GrowInto logs later → StoresTruly g logs a
+    → StoresTruly g later a
+
+-- The member's log, which is the group's of its number, has the object too from now on.
+abbrev pub PublishesTruly : Type 0
+PublishesTruly = (g : GroupKeys) (object : NamedContents) (moment draw : ℕ) (logs : Logs) (a : Alone)
+    → a.number < length logs → slice_index_or logs a.number [] ≡ a.log → StoresTruly g logs a →
+    let published = publishes g object moment draw a in
+    StoresTruly g (slice_set logs a.number published.log) published
+
+-- The packet that is accepted is that of its part.
+abbrev pub AcceptsTruly : Type 0
+AcceptsTruly = (g : GroupKeys) (logs : Logs) (f : ℕ) (t : Part) (octets : List ℕ) (a : Alone)
+    → IsItsPacket g logs t octets → StoresTruly g logs a → StoresTruly g logs (accepts f t octets a)
+
+-- So is each that a fetch brought.
+abbrev pub TakesTruly : Type 0
+TakesTruly = (g : GroupKeys) (logs : Logs) (xs : List Fetched) (a : Alone)
+    → All (λ x. CameTruly g logs x.part x.packet) xs → StoresTruly g logs a → StoresTruly g logs (takes xs a)
+
+-- All other changes store nothing.
+abbrev pub StaysTrue : Type 0
+StaysTrue = (g : GroupKeys) (logs : Logs) (a b : Alone) → b.store ≡ a.store → StoresTruly g logs a → StoresTruly g logs b
+
+-- A group begins with nothing published.
+abbrev pub LogsBegin : Type 0
+LogsBegin = (g : GroupKeys) → IsGroup g → AreLogs g (replicate (length g.members.names) [])
+
+-- A member publishes one object more.
+abbrev pub LogsGrow : Type 0
+LogsGrow = (g : GroupKeys) (logs : Logs) (j : ℕ) (object : NamedContents) → AreLogs g logs → j < length logs
+    → IsObject object → last_of logs j < 65535
+    → AreLogs g (slice_set logs j (slice_index_or logs j [] ++ object ∷ []))

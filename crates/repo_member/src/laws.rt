@@ -1,0 +1,60 @@
+ghost use Rattle.repo_member.specs.InEvents.{PublishIsEvent, DeliverIsEvent, HearIsEvent, FireIsEvent, RestartIsEvent, ClaimIsEvent, LoseIsEvent, AnswerIsEvent, FeedIsEvent, FetchIsEvent, SettleIsEvent, OpenPartsAlike, CataloguesAlike};
+ghost use Rattle.repo_member.specs.InGroup.{BeginsAlike, PublishesAlike, HearsAlike, LearnsAlike, FiresAlike, ClaimsAlike, AcceptsAlike, TakesAlike, EndsClaimsAlike, ResetsAlike, RestartsAlike, SoundStoresTruly, PlansAlike, WantsAlike, ListsAlike, BeginsTruly, GrowsTruly, PublishesTruly, AcceptsTruly, TakesTruly, StaysTrue, LogsBegin, LogsGrow};
+
+/// A member by itself begins as its group has it, and each change of it is the group's change of that member.
+pub fn changes_are_the_groups()
+    ensures begins { BeginsAlike }
+    ensures publishes { PublishesAlike }
+    ensures hears { HearsAlike }
+    ensures learns { LearnsAlike }
+    ensures fires { FiresAlike }
+    ensures claims { ClaimsAlike }
+    ensures accepts { AcceptsAlike }
+    ensures takes { TakesAlike }
+    ensures ends_claims { EndsClaimsAlike }
+    ensures resets { ResetsAlike }
+    ensures restarts { RestartsAlike }
+{}
+
+/// Where each stored packet is that of its part, a member's plan is its group's plan of it, and so it wants the same parts.
+pub fn members_want_what_the_group_says()
+    ensures stores { SoundStoresTruly }
+    ensures plans { PlansAlike }
+    ensures wants { WantsAlike }
+{}
+
+/// Where each stored packet is that of its part, a member's catalogue is its group's catalogue of it.
+pub fn members_list_what_the_group_says()
+    ensures { ListsAlike }
+{}
+
+/// Stored packets are those of their parts from the start on, and stay so: where others publish, where the member publishes,
+/// and where packets come that are those of their parts.
+pub fn truly_stored_lasts()
+    ensures begins { BeginsTruly }
+    ensures grows { GrowsTruly }
+    ensures publishes { PublishesTruly }
+    ensures accepts { AcceptsTruly }
+    ensures takes { TakesTruly }
+    ensures others { StaysTrue }
+    ensures logs_begin { LogsBegin }
+    ensures logs_grow { LogsGrow }
+{}
+
+/// Each change of a member by itself is what an event makes of it in any world in which it is a member, and what the world
+/// says of it there is what the member says.
+pub fn calls_are_events()
+    ensures publish { PublishIsEvent }
+    ensures deliver { DeliverIsEvent }
+    ensures hear { HearIsEvent }
+    ensures fire { FireIsEvent }
+    ensures restart { RestartIsEvent }
+    ensures claim { ClaimIsEvent }
+    ensures lose { LoseIsEvent }
+    ensures answer { AnswerIsEvent }
+    ensures feed { FeedIsEvent }
+    ensures fetch { FetchIsEvent }
+    ensures settle { SettleIsEvent }
+    ensures open_parts { OpenPartsAlike }
+    ensures catalogue { CataloguesAlike }
+{}
