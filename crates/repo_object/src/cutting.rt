@@ -1,9 +1,10 @@
 ghost use Rattle.std.specs.Prelude.{◌≡◌, ◌<◌, ◌≤◌, ◌↔◌, ℕ, length, map, IfOk, Err};
 ghost use Rattle.std.specs.List.{All};
 ghost use Rattle.std.specs.Int.{div_ceil};
+ghost use Rattle.repo_object.specs.Objects.{IsContent};
 ghost use Rattle.repo_object.specs.Cuts.{pieces};
 
-use crate::object::SEGMENT_LIMIT;
+use crate::object::{CONTENT_LIMIT, SEGMENT_LIMIT};
 use std::alloc::{AllocError, Global};
 use thiserror::Error;
 
@@ -37,6 +38,7 @@ pub fn cut(alloc: Global, content: &[u8], size: usize) -> Result<Vec<Vec<u8>>, C
     ensures few { IfOk result (λ made. length made.items ≤ SEGMENT_LIMIT) }
     ensures sizes { IfOk result
         (λ made. All (λ piece. (0 < length piece.items) × (length piece.items ≤ size)) made.items) }
+    ensures contents { size ≤ CONTENT_LIMIT → IfOk result (λ made. All (λ piece. IsContent piece.items) made.items) }
 {
     let segments = content.len().div_ceil(size);
     if segments > SEGMENT_LIMIT {

@@ -1,6 +1,6 @@
-ghost use Rattle.std.specs.Prelude.{◌≡◌, ◌<◌, ◌≤◌, ◌^◌, ◌↔◌, ℕ, Err, IsTrue, IfOk, OnOk, OnErr, length, map, option_map, slice_get, vec_len};
+ghost use Rattle.std.specs.Prelude.{◌≡◌, ◌<◌, ◌≤◌, ◌^◌, ◌↔◌, ℕ, Err, IsTrue, IfOk, OnOk, OnErr, length, map, option_map, vec_len};
 ghost use Rattle.std.specs.List.{All};
-ghost use Rattle.repo_object.specs.Objects.{is_object_name, IsObject, IsPublisher};
+ghost use Rattle.repo_object.specs.Objects.{is_object_name, IsContent, IsObject, IsPublisher};
 ghost use Rattle.repo_member.specs.Groups.{publisher_of};
 ghost use Rattle.repo_member.specs.Alone.{IsOf, as_parts, with_packets, next_seq, publishes, logged};
 ghost use Rattle.repo_member.specs.Holding.{AreTied, KeepsOthers};
@@ -14,7 +14,7 @@ use crate::holding::{gain, make_room};
 use crate::listing::list_if_whole;
 use crate::refusals::PublishRefusal;
 use ndn_name::Name;
-use repo_object::{CONTENT_LIMIT, Object, SEGMENT_LIMIT, packet_of, packets_of};
+use repo_object::{Object, SEGMENT_LIMIT, packet_of, packets_of};
 use repo_plan::{Part, Plan};
 use repo_store::Store;
 use std::alloc::AllocError;
@@ -53,7 +53,7 @@ impl Member {
         requires group { IsOf g.now self.old }
         requires name { IsTrue (is_object_name name.now) }
         requires few { length contents.now ≤ SEGMENT_LIMIT }
-        requires contents { All (λ c. (0 < vec_len c) × (vec_len c ≤ CONTENT_LIMIT)) contents.now }
+        requires contents { All (λ c. IsContent c.items) contents.now }
         requires early { now < 2 ^ 62 }
         requires draws { self.old.machine.draws < 2 ^ 62 }
         ensures ok { OnOk result (self.new ≡ publishes g.now
@@ -139,7 +139,7 @@ impl Member {
         requires group { IsOf g.now self.now }
         requires name { IsTrue (is_object_name name.now) }
         requires few { length contents.now ≤ SEGMENT_LIMIT }
-        requires contents { All (λ c. (0 < vec_len c) × (vec_len c ≤ CONTENT_LIMIT)) contents.now }
+        requires contents { All (λ c. IsContent c.items) contents.now }
         requires seq { seq ≡ next_seq self.now }
         ensures within { IfOk result (λ prepared. IsObject prepared.object) }
         ensures publisher { IfOk result (λ _. IsPublisher (publisher_of g.now self.now.number)) }
