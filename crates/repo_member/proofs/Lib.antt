@@ -12,3 +12,4 @@ mod MemberLemmas
 mod OwnLemmas
 mod VectorLemmas
 mod ToldLemmas
+mod OutcomeLemmas
