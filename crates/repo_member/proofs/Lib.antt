@@ -17,3 +17,4 @@ mod GroupPlans
 mod GroupCatalogues
 mod LastingPackets
 mod EventLemmas
+mod OutcomeLemmas

@@ -1,14 +1,18 @@
 -- What came of a fetch, as a member takes it.
-use Rattle.std.specs.Prelude.{◌≡◌, ℕ, ◌+◌, ◌<◌, true, false, List, [], ◌∷◌, map, Option, Some, None, option_map, IfSome}
+use Rattle.std.specs.Prelude.{◌≡◌, ℕ, ◌+◌, ◌<◌, true, false, List, [], ◌∷◌, map, Option, option_map, IfSome}
+use Rattle.std.specs.List.{All}
 use Rattle.repo_plan.specs.declared.part.Part.{Part}
-use Rattle.repo_plan.specs.Parts.{part_cmp}
+use Rattle.repo_plan.specs.Parts.{part_cmp, pair_of}
 use Rattle.repo_plan.specs.SortedList.{contains}
-use Rattle.repo_plan.specs.Plan.{is_unclaimed, attempts_of}
+use Rattle.repo_plan.specs.Plan.{Holdings, holds, hides, is_asked, is_claimed, is_unclaimed, attempts_of}
 use Rattle.repo_object.specs.declared.job.Job.{Job}
 use Rattle.repo_object.specs.Wants.{WantedPart}
 use Rattle.repo_object.specs.Verdict.{CheckedPart, publisher_key}
 use Rattle.repo_member.specs.Groups.{GroupKeys}
-use Rattle.repo_member.specs.Alone.{Alone, Fetched, plan_of, want_of}
+use Rattle.repo_member.specs.Records.{Packet}
+use Rattle.repo_member.specs.Alone.{Alone, Fetched, plan_of, want_of, with_fetched, with_tries}
+use Rattle.repo_member.specs.Holding.{KeepsOthers, IsArrival}
+use Rattle.repo_member.specs.declared.member.outcome.Tried.{Tried}
 
 -- the job of a part: its attempts go on from those that were made
 abbrev pub planned : GroupKeys → Alone → Part → Job
@@ -49,3 +53,38 @@ AreFetched g a _ _ _ = ⊥
 pub record IsOutcome (g : GroupKeys) (a : Alone) (jobs : List Job) (parts : List (Option CheckedPart)) (attempts : List ℕ) : Type 0 where
   pub apart : AreApart (map (λ (job : Job). job.want.part) jobs)
   pub each : AreFetched g a jobs parts attempts
+
+-- ---- taking it, job after job
+
+-- what came of a tried part
+abbrev pub came : Tried → Fetched
+came x = record { part = x.part; packet = option_map (λ a. a.octets.items) x.arrival; attempts = x.attempts }
+
+-- what came of a tried part can be taken: the part is wanted and unclaimed, the packet is of it, and it was not tried too
+-- often
+pub record CanBeTaken (plan : Holdings) (packets : List Packet) (x : Tried) : Type 0 where
+  pub asked : is_asked plan x.part ≡ true
+  pub not_held : holds plan x.part ≡ false
+  pub not_hidden : hides plan (pair_of x.part) ≡ false
+  pub not_claimed : is_claimed plan x.part ≡ false
+  pub arrived : IfSome x.arrival (λ a. IsArrival packets x.part a.octets.items a.segments a.name)
+  pub few : attempts_of plan x.part + x.attempts < 2097152
+
+-- the same of each of different parts
+pub record AreTakable (plan : Holdings) (packets : List Packet) (xs : List Tried) : Type 0 where
+  pub each : All (CanBeTaken plan packets) xs
+  pub apart : AreApart (map (λ (x : Tried). x.part) xs)
+
+-- stored packets with all that came
+abbrev pub with_all_fetched : List Fetched → List Packet → List Packet
+with_all_fetched [] stored = stored
+with_all_fetched (x ∷ xs) stored = with_all_fetched xs (with_fetched x.part x.packet stored)
+
+-- attempts with all that were made
+abbrev pub with_all_tries : List Fetched → List (Part × ℕ) → List (Part × ℕ)
+with_all_tries [] attempts = attempts
+with_all_tries (x ∷ xs) attempts = with_all_tries xs (with_tries x.part x.attempts attempts)
+
+-- a plan in which nothing changed but what is held and how often parts were tried
+abbrev pub KeepsButTries : Holdings → Holdings → Type 0
+KeepsButTries old new = KeepsOthers old (record new { attempts = old.attempts })

@@ -7,6 +7,7 @@ ghost use Rattle.repo_member.specs.Listed.{catalogue_alone};
 ghost use Rattle.repo_member.specs.Alone.{IsAlone, opening_alone, ends_claims, resets};
 
 mod fetching;
+mod outcome;
 mod publishing;
 mod syncing;
 

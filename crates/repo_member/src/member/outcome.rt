@@ -1,0 +1,134 @@
+ghost use Rattle.std.specs.Prelude.{◌≡◌, ◌+◌, ◌<◌, ◌^◌, ℕ, count_by, is_some, IfOk, OnOk, OnErr, map, vec_len};
+ghost use Rattle.repo_member.specs.Alone.{IsOf, plan_of, takes, with_fetched, with_tries};
+ghost use Rattle.repo_member.specs.Holding.{AreKept, HaveRoom};
+ghost use Rattle.repo_member.specs.Outcomes.{IsOutcome, fetched, came, CanBeTaken, AreTakable};
+ghost use Rattle.repo_member.specs.Outcomes.{KeepsButTries, with_all_fetched, with_all_tries};
+
+use super::Member;
+use crate::group::Group;
+use crate::holding::{Arrival, gain_listed, make_room};
+use repo_catalog::Catalogue;
+use repo_object::{Checked, Job};
+use repo_plan::{Part, Plan};
+use repo_store::Store;
+use std::alloc::AllocError;
+use svs_vector::MEMBER_LIMIT;
+
+// What came of a job: how often its part was tried, and its packet, if one came.
+#[derive(Drop)]
+struct Tried {
+    part: Part,
+    attempts: u32,
+    arrival: Option<Arrival>,
+}
+
+impl Member {
+    /// Takes what came of a fetch that was planned: for each job its packet, if one came, and how often it was tried.
+    ///
+    /// The answer is how many parts are held from now on that were not held.
+    pub fn take_outcome(
+        &mut self,
+        g: &Group,
+        jobs: &[Job],
+        parts: &[Option<Checked<'_>>],
+        attempts: &[u32],
+    ) -> Result<u32, AllocError>
+        requires group { IsOf g.now self.old }
+        requires outcome { IsOutcome g.now self.old jobs.now parts.now attempts.now }
+        ensures ok { OnOk result (self.new ≡ takes (fetched jobs.now parts.now attempts.now) self.old) }
+        ensures kept { IfOk result (λ kept. kept ≡ count_by is_some parts.now) }
+        ensures err { OnErr result (self.new ≡ self.old) }
+    {
+        let all = self.tried(g, jobs, parts, attempts)?;
+        make_room(
+            &mut self.plan,
+            &mut self.store,
+            &mut self.catalogue,
+            all.len(),
+        )?;
+        Ok(take_all(&mut self.plan, &mut self.store, &mut self.catalogue, all))
+    }
+
+    // What came of jobs, with copies of the packets.
+    fn tried(
+        &self,
+        g: &Group,
+        jobs: &[Job],
+        parts: &[Option<Checked<'_>>],
+        attempts: &[u32],
+    ) -> Result<Vec<Tried>, AllocError>
+        requires group { IsOf g.now self.now }
+        requires outcome { IsOutcome g.now self.now jobs.now parts.now attempts.now }
+        ensures came { IfOk result (λ all. map came all.items ≡ fetched jobs.now parts.now attempts.now) }
+        ensures takable { IfOk result (λ all. AreTakable (plan_of self.now) self.now.store all.items) }
+        ensures few { IfOk result (λ all. vec_len all < 2 ^ 32) }
+    {
+        // Each of so few members has fewer than 2^24 parts, so a `u32` counts those that came.
+        let members = g.roster().len();
+        prove!(members <= MEMBER_LIMIT);
+        let alloc = *self.log.allocator();
+        let mut all = Vec::with_capacity(alloc, jobs.len())?;
+        let mut listing = None;
+        for ((job, checked), tries) in jobs.iter().zip(parts).zip(attempts) {
+            let part = job.want.part();
+            let arrival = match checked {
+                Some(checked) => {
+                    listing = self.listing_for(alloc, part, listing)?;
+                    Some(self.arrived(part, checked.octets(), &listing)?)
+                }
+                None => None,
+            };
+            all.push(Tried {
+                part,
+                attempts: *tries,
+                arrival,
+            })?;
+        }
+        Ok(all)
+    }
+}
+
+// Takes what came of jobs, for which room was made. The answer is how many packets came.
+fn take_all(plan: &mut Plan, store: &mut Store, catalogue: &mut Catalogue, all: Vec<Tried>) -> u32
+    requires room { HaveRoom (vec_len all) plan.old store.old catalogue.old }
+    requires kept { AreKept plan.old store.old.packets catalogue.old.entries }
+    requires takable { AreTakable plan.old store.old.packets all.items }
+    requires few { vec_len all < 2 ^ 32 }
+    ensures packets { store.new.packets ≡ with_all_fetched (map came all.items) store.old.packets }
+    ensures attempts { plan.new.attempts ≡ with_all_tries (map came all.items) plan.old.attempts }
+    ensures others { KeepsButTries plan.old plan.new }
+    ensures kept { AreKept plan.new store.new.packets catalogue.new.entries }
+    ensures came { result ≡ count_by (λ x. is_some x.arrival) all.items }
+{
+    let mut kept = 0;
+    for tried in all {
+        kept += u32::from(take_one(plan, store, catalogue, tried));
+    }
+    kept
+}
+
+// Takes what came of one job. The answer is whether a packet came.
+fn take_one(plan: &mut Plan, store: &mut Store, catalogue: &mut Catalogue, tried: Tried) -> bool
+    requires room { HaveRoom 1 plan.old store.old catalogue.old }
+    requires kept { AreKept plan.old store.old.packets catalogue.old.entries }
+    requires takable { CanBeTaken plan.old store.old.packets tried }
+    ensures room { (n : ℕ) → HaveRoom (n + 1) plan.old store.old catalogue.old
+        → HaveRoom n plan.new store.new catalogue.new }
+    ensures packets { store.new.packets ≡ with_fetched tried.part (came tried).packet store.old.packets }
+    ensures attempts { plan.new.attempts ≡ with_tries tried.part tried.attempts plan.old.attempts }
+    ensures others { KeepsButTries plan.old plan.new }
+    ensures kept { AreKept plan.new store.new.packets catalogue.new.entries }
+    ensures came { result ≡ is_some tried.arrival }
+{
+    let Tried {
+        part,
+        attempts,
+        arrival,
+    } = tried;
+    let came = arrival.is_some();
+    if let Some(arrival) = arrival {
+        gain_listed(plan, store, catalogue, part, arrival);
+    }
+    plan.add_attempts_reserved(part, attempts);
+    came
+}
