@@ -75,7 +75,7 @@ module _ (p : Holdings) where
       let there : In (pair_of t) (pairs_from 0 p.known) = subst (λ (q : ℕ). In (q, t.seq) (pairs_from 0 p.known)) same (in_pairs 0 p.known t.publisher t.seq (leb-true 1 t.seq both.0) (leb-true t.seq _ both.1)) in
       in_flat_map (parts_known p) (pairs_from 0 p.known) (pair_of t) t there (in_parts_of (parts_told (shape_of p (pair_of t))) t l)
 
-  counted : (shape : Option Shape) (t : Part) → can_be_asked p.held shape t ≡ true → t.part ≤ parts_told shape
+  pub counted : (shape : Option Shape) (t : Part) → can_be_asked p.held shape t ≡ true → t.part ≤ parts_told shape
   counted None t a = let e : t.part ≡ 0 = eqb-true t.part 0 a in omega (arith, e)
   counted (Some n) t a = elim (or_cases (t.part == 0) _ a) [
     | inl z ↦ let e : t.part ≡ 0 = eqb-true t.part 0 z in omega (arith, e)

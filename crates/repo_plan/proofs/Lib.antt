@@ -5,4 +5,5 @@ pub mod Changes
 pub mod Known
 pub mod Scans
 pub mod Whole
+pub mod Done
 pub mod CallLists

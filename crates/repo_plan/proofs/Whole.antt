@@ -1,5 +1,5 @@
 -- A publication is held whole exactly where its last part stands so far behind its record as it has other parts.
-use Rattle.std.proofs.Common.{◌≡◌, inl, inr, ℕ, suc, zero, ◌+◌, ◌≤◌, ◌<◌, Bool, true, false, not, Option, Some, None, Ok, List, [], ◌∷◌, length, get_or, refl, sym, ap, ◌∙◌, subst, arith}
+use Rattle.std.proofs.Common.{◌≡◌, inl, inr, ℕ, suc, zero, ◌+◌, ◌≤◌, ◌<◌, Bool, true, false, Option, Some, None, Ok, List, [], ◌∷◌, length, get_or, refl, sym, ap, ◌∙◌, subst, arith}
 use Rattle.std.proofs.lemmas.Bool.{true≢false, and_parts, and_from, and_left, and_right, false_from_ne_true, eqb-true, eq-eqb}
 use Rattle.std.proofs.lemmas.Bool.Decides.{nat_tests}
 use Rattle.std.specs.Prelude.{is_some, ◌==◌}
@@ -8,13 +8,12 @@ use Rattle.std.specs.declared.cmp.Ordering.TheVariants.{Less}
 use Rattle.repo_plan.specs.declared.part.Part.{Part}
 use Rattle.repo_plan.specs.SortedList.{Rises, contains}
 use Rattle.repo_plan.specs.Parts.{Pair, Shape, part_cmp, part_of, pair_of, parts_of, parts_told}
-use Rattle.repo_plan.specs.Plan.{Holdings, holds, shape_of, is_asked, is_next, is_complete, parts_known}
+use Rattle.repo_plan.specs.Plan.{Holdings, holds, shape_of, is_complete}
 use Rattle.repo_plan.specs.Sound.{IsSound}
 use Rattle.repo_plan.proofs.Orders.{exact_parts}
 use Rattle.repo_plan.proofs.Sets.{In, contains_in, in_contains, each_before}
 use Rattle.repo_plan.proofs.Search.{Found, at_key}
 use Rattle.repo_plan.proofs.Known.{from_parts_of, in_parts_of}
-use Rattle.repo_plan.proofs.Scans.{first_of, none_pass}
 
 module _ {A : Type 0} where
   all_in : (p : A → Bool) (xs : List A) → ((x : A) → In x xs → p x ≡ true) → list_all p xs ≡ true
@@ -189,8 +188,13 @@ no_record p pair off = false_from_ne_true (is_complete p pair) (λ c. true≢fal
 pub no_shape : (p : Holdings) (pair : Pair) → IsSound p → shape_of p pair ≡ None → is_complete p pair ≡ false
 no_shape p pair s e = no_record p pair (sym (s.shapes pair) ∙ ap is_some e)
 
--- none of its parts is wanted
-pub complete_none : (p : Holdings) (after : Option Part) (pair : Pair) → is_complete p pair ≡ true → first_of (is_next p after) (parts_known p pair) ≡ None
-complete_none p after pair c = none_pass (is_next p after) (parts_known p pair) (λ t i.
-    let held : holds p t ≡ true = each_all (holds p) (parts_known p pair) c t i in
-    and_right _ _ (and_left _ _ (and_right (is_asked p t) _ (and_left (not (holds p t)) _ (ap not held)))))
+-- what a change keeps of it that keeps what its record tells and which parts of it are held
+pub complete_kept : (p q : Holdings) (pair : Pair) → IsSound p → ((n : Shape) → shape_of p pair ≡ Some n → shape_of q pair ≡ Some n) → ((x : ℕ) → holds p (part_of pair x) ≡ true → holds q (part_of pair x) ≡ true) → is_complete p pair ≡ true → is_complete q pair ≡ true
+complete_kept p q pair s shapes held c = go (shape_of p pair) refl where
+  go : (shape : Option Shape) → shape_of p pair ≡ shape → is_complete q pair ≡ true
+  go None e = absurd (true≢false (sym c ∙ no_shape p pair s e))
+  go (Some n) e =
+      whole q pair n (shapes n e) ∙ all_in (holds q) (parts_of pair n) (λ t i.
+      let u : (pair_of t ≡ pair) × (t.part ≤ n) = from_parts_of pair n t i in
+      let is : part_of pair t.part ≡ t = ap (λ (r : Pair). part_of r t.part) (sym u.0) in
+      subst (λ (v : Part). holds q v ≡ true) is (held t.part (each_held p pair n e c t.part u.1)))

@@ -1,5 +1,5 @@
 -- What a plan keeps, which parts it wants, and what each call makes of it.
-use Rattle.std.specs.Prelude.{ℕ, ◌+◌, ◌-◌, Bool, true, false, not, max, List, [], ◌∷◌, ◌++◌, map, Option, Some, None, unwrap_or, slice_index, slice_index_or, slice_set, replicate, ◌==◌, ◌&&◌, ◌||◌, nat_le, if◌then◌else◌}
+use Rattle.std.specs.Prelude.{ℕ, ◌≡◌, ◌≤◌, ◌+◌, ◌-◌, Bool, true, false, not, max, List, [], ◌∷◌, ◌++◌, map, Option, Some, None, unwrap_or, slice_index, slice_index_or, slice_set, replicate, ◌==◌, ◌&&◌, ◌||◌, nat_le, if◌then◌else◌}
 use Rattle.std.specs.List.{flat_map, filter, list_any, list_all}
 use Rattle.std.specs.Ordering.{eq_by_cmp, is_lt}
 use Rattle.repo_plan.specs.declared.part.Part.{Part}
@@ -129,6 +129,14 @@ is_next p after t = is_after after t && is_unclaimed p t
 -- every part of the publication is held
 abbrev pub is_complete : Holdings → Pair → Bool
 is_complete p pair = list_all (holds p) (parts_known p pair)
+
+-- no part of the publication is wanted any more: it is hidden, or every part is held
+abbrev pub is_done : Holdings → Pair → Bool
+is_done p pair = hides p pair || is_complete p pair
+
+-- each publication of a publisher up to a number is done
+abbrev pub AreDone : Holdings → ℕ → ℕ → Type 0
+AreDone p publisher last = (seq : ℕ) → 1 ≤ seq → seq ≤ last → is_done p (publisher, seq) ≡ true
 
 -- ---- changes
 

@@ -5,6 +5,7 @@ ghost use Rattle.repo_plan.specs.Parts.{pair_of};
 ghost use Rattle.repo_plan.specs.Sound.{IsSound};
 
 mod claims;
+mod done;
 mod reserved;
 mod wanted;
 
@@ -28,6 +29,8 @@ pub struct Plan {
     attempts: Vec<(Part, u32)>,
     // There is room for so many more in each of the four above.
     spare: usize,
+    // By publisher, a number up to which every publication is done. A search for wanted parts starts behind it.
+    done: Vec<u16>,
 }
 
 impl Model for Plan {
@@ -55,6 +58,7 @@ impl Plan {
             hidden: Vec::new(alloc),
             attempts: Vec::new(alloc),
             spare: 0,
+            done: vec![in alloc; 0; members]?,
         })
     }
 

@@ -59,6 +59,7 @@ impl Plan {
         if let Some(segments) = segments {
             sorted::set_value(&mut self.shapes, (part.publisher, part.seq), segments);
         }
+        self.advance_done(part.publisher);
         true
     }
 
@@ -73,6 +74,7 @@ impl Plan {
         sorted::insert_key(&mut self.hidden, pair);
         self.held.retain(|part| (part.publisher, part.seq) != pair);
         self.shapes.retain(|shape| shape.0 != pair);
+        self.advance_done(publisher);
     }
 
     /// The part was tried so often more, as after `add_attempts`.

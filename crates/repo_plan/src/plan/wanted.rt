@@ -1,12 +1,11 @@
-ghost use Rattle.std.specs.Prelude.{◌≡◌, ◌<◌, ◌≤◌, true, false, take, slice_index, IfOk};
+ghost use Rattle.std.specs.Prelude.{ℕ, ◌≡◌, ◌<◌, ◌≤◌, true, false, take, length, slice_index, IfOk};
 ghost use Rattle.std.specs.List.{list_any, filter, flat_map};
 ghost use Rattle.repo_plan.specs.declared.part.Part.{Part};
-ghost use Rattle.repo_plan.specs.Parts.{pair_of};
-ghost use Rattle.repo_plan.specs.Plan.{knows, hides, is_asked, is_claim_of, unclaimed, first, is_after, is_next, parts_known, pairs_of};
+ghost use Rattle.repo_plan.specs.Parts.{pair_of, part_of};
+ghost use Rattle.repo_plan.specs.Plan.{knows, holds, hides, is_asked, is_claim_of, unclaimed, first, is_after, is_next, parts_known, pairs_of};
 
 use super::Plan;
 use crate::part::Part;
-use crate::sorted;
 use std::alloc::{AllocError, Global};
 
 impl Plan {
@@ -50,11 +49,13 @@ impl Plan {
 
     // The same among the publications of one publisher.
     fn next_of_publisher(&self, publisher: u32, last: u16, after: Option<Part>) -> Option<Part>
-        requires { last ≡ slice_index self.now.known publisher }
+        requires publisher { publisher < length self.now.known }
+        requires last { last ≡ slice_index self.now.known publisher }
         ensures { result ≡ first (filter (is_next self.now after)
             (flat_map (parts_known self.now) (pairs_of publisher 1 last))) }
     {
-        for s in passed_numbers(publisher, after)..last {
+        let done = self.done[publisher as usize];
+        for s in passed_numbers(publisher, after).max(done)..last {
             let found = self.next_of_publication(publisher, s + 1, after);
             if found.is_some() {
                 return found;
@@ -69,14 +70,11 @@ impl Plan {
         ensures { result ≡ first (filter (is_next self.now after)
             (parts_known self.now (publisher, seq))) }
     {
-        if sorted::contains(&self.hidden, &(publisher, seq)) {
-            return None;
-        }
-        if self.complete(publisher, seq) {
+        if self.is_done(publisher, seq) {
             return None;
         }
         let segments = self.segments(publisher, seq).unwrap_or(0);
-        for x in 0..u16::from(segments) + 1 {
+        for x in self.held_in_front(publisher, seq)..u16::from(segments) + 1 {
             let part = Part {
                 publisher,
                 seq,
@@ -87,6 +85,30 @@ impl Plan {
             }
         }
         None
+    }
+
+    // How many parts of the publication are held in front of the first that isn't.
+    //
+    // Held parts stand in order, so one look-up finds where these begin.
+    fn held_in_front(&self, publisher: u32, seq: u16) -> u16
+        ensures { (x : ℕ) → x < result → holds self.now (part_of (publisher, seq) x) ≡ true }
+    {
+        let record_part = Part {
+            publisher,
+            seq,
+            part: 0,
+        };
+        let Ok(place) = self.held.binary_search(&record_part) else {
+            return 0;
+        };
+        let mut count = 0;
+        for part in &self.held[place..] {
+            if (part.publisher, part.seq, u16::from(part.part)) != (publisher, seq, count) {
+                return count;
+            }
+            count += 1;
+        }
+        count
     }
 
     // Whether a part that is asked for is greater than `after`, not held and claimed by no fetcher.

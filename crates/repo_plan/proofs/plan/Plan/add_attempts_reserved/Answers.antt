@@ -17,4 +17,6 @@ invariant_of-self c =
       shapes = omega (arith, room.shapes);
       hidden = omega (arith, room.hidden);
       attempts = omega (arith, room.attempts, c.requires.spare, c.set_value.ensures.len, c.set_value.ensures.capacity);
+      publishers = room.publishers;
+      done = room.done;
     }

@@ -12,4 +12,4 @@ invariant_of-self c =
     let claim = c.next_unclaimed-claim.ensures ∙ ap first (behind_none (unclaimed c.args.self.now)) ∙ ap (λ (q : Holdings). first (unclaimed q)) (sym c.self.view_is) in
     let sound = subst (λ n. IsSound (with_claim n c.next_unclaimed-claim.result p)) (sym c.from.ensures) (sound_first c.args.f p c.next_unclaimed-claim.result claim c.self.invariant.sound) in
     let room = c.self.invariant in
-    record { sound = sound; held = room.held; shapes = room.shapes; hidden = room.hidden; attempts = room.attempts }
+    record { sound = sound; held = room.held; shapes = room.shapes; hidden = room.hidden; attempts = room.attempts; publishers = room.publishers; done = room.done }

@@ -4,6 +4,7 @@ use Rattle.repo_plan.specs.contracts.plan.Plan.{the_view}
 use Rattle.repo_plan.specs.Plan.{Holdings, holds}
 use Rattle.repo_plan.specs.Sound.{CanBeHeld}
 use Rattle.repo_plan.proofs.Changes.{sound_as, sound_part, with_part}
+use Rattle.repo_plan.proofs.Done.{done_as, done_part}
 use Rattle.repo_plan.proofs.plan.Plan.hold_reserved.Goals as goal
 
 pub invariant_of-self-in_default : goal.invariant_of-self-in_default
@@ -21,6 +22,10 @@ invariant_of-self-in_default c =
       shapes = omega (arith, room.shapes);
       hidden = omega (arith, room.hidden);
       attempts = omega (arith, room.attempts);
+      publishers = room.publishers;
+      done = λ publisher seq low high.
+          done_as (with_part c.args.part None p) _ _ _ c.insert_key.ensures.items refl refl (publisher, seq)
+          (done_part p c.args.part room.sound can fresh None told (publisher, seq) (room.done publisher seq low high));
     }
 
 pub invariant_of-self-in-Some : goal.invariant_of-self-in-Some
@@ -37,4 +42,8 @@ invariant_of-self-in-Some c =
       shapes = omega (arith, room.shapes, c.requires.spare, c.set_value.ensures.len, c.set_value.ensures.capacity);
       hidden = omega (arith, room.hidden);
       attempts = omega (arith, room.attempts);
+      publishers = room.publishers;
+      done = λ publisher seq low high.
+          done_as (with_part c.args.part (Some c.in-Some.segments) p) _ _ _ c.insert_key.ensures.items c.set_value.ensures.items refl (publisher, seq)
+          (done_part p c.args.part room.sound can fresh (Some c.in-Some.segments) told (publisher, seq) (room.done publisher seq low high));
     }

@@ -1,22 +1,22 @@
-use Rattle.std.proofs.Common.{◌+◌, sym, ap, ◌∙◌}
-use Rattle.repo_plan.specs.SortedList.{contains}
-use Rattle.repo_plan.specs.Parts.{Pair, pair_cmp, parts_told}
-use Rattle.repo_plan.specs.Plan.{Holdings, hides, shape_of, is_next}
-use Rattle.repo_plan.proofs.Scans.{part_here, part_later, hidden_none}
-use Rattle.repo_plan.proofs.Whole.{complete_none}
+use Rattle.std.proofs.Common.{◌≡◌, ℕ, ◌+◌, ◌-◌, map, Option, unwrap_or, sym, ap, ◌∙◌, arith}
+use Rattle.repo_plan.specs.Parts.{Pair, Shape, numbers_from, part_of, parts_told}
+use Rattle.repo_plan.specs.Plan.{is_next, shape_of}
+use Rattle.repo_plan.proofs.Scans.{first_of, held_not_next, part_here, part_later, skip_parts, told_or_none}
+use Rattle.repo_plan.proofs.Done.{done_none}
 use Rattle.repo_plan.proofs.plan.Plan.next_of_publication.Goals as goal
 
-pub contains-requires : goal.contains-requires
-contains-requires c = rw c.deref.ensures.value c.self.invariant.sound.in_order.hidden
+pub returns-then-is_done : goal.returns-then-is_done
+returns-then-is_done c = sym (done_none c.args.self.now c.args.after (c.args.publisher, c.args.seq) (sym c.if-is_done.ensures.done))
 
-pub returns-then-contains : goal.returns-then-contains
-returns-then-contains c =
+pub loop-x-init : goal.loop-x-init
+loop-x-init c =
+    let now = c.args.self.now in
     let pair : Pair = (c.args.publisher, c.args.seq) in
-    let hidden = c.if-contains.ensures ∙ ap (λ xs. contains pair_cmp xs pair) c.deref.ensures.value ∙ ap (λ (p : Holdings). hides p pair) c.self.view_is in
-    sym (hidden_none c.args.self.now c.args.after pair (parts_told (shape_of c.args.self.now pair)) (sym hidden))
-
-pub returns-then-complete : goal.returns-then-complete
-returns-then-complete c = sym (complete_none c.args.self.now c.args.after (c.args.publisher, c.args.seq) (sym c.if-complete.ensures))
+    let all = c.from-x-end.result + 1 in
+    let count = c.from-x-end.ensures ∙ c.unwrap_or-segments.ensures ∙ ap (λ (o : Option Shape). unwrap_or o 0) c.segments.ensures ∙ told_or_none (shape_of now pair) in
+    let told : all - 0 ≡ parts_told (shape_of now pair) + 1 = omega (arith, count) in
+    skip_parts (is_next now c.args.after) pair all c.held_in_front-x.result (λ x l. held_not_next now c.args.after (part_of pair x) (c.held_in_front-x.ensures x l))
+    ∙ ap (λ (n : ℕ). first_of (is_next now c.args.after) (map (part_of pair) (numbers_from 0 n))) told
 
 pub loop-x-preserved : goal.loop-x-preserved
 loop-x-preserved c =
