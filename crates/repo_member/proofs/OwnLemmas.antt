@@ -150,6 +150,7 @@ module _ (m : Inside) (is : IsMember m) where
           member = omega (arith, number, wide, is.alone.member);
           own = omega (arith, here, at, own, more);
           width = members ∙ is.alone.width ∙ sym wide;
+          in_order = kept.tied.in_order;
           hidden = λ pair h. knows_more (plan_of (alone m)) (plan_of (alone next)) pair
               (λ p. subst (λ (v : List ℕ). slice_index m.vector p ≤ slice_index v p) (sym vector) (raised_at p))
               (is.alone.hidden pair (ap (λ (pairs : List Pair). hides (record m.plan { hidden = pairs }) pair) (sym hidden) ∙ h));
@@ -166,6 +167,7 @@ module _ (m : Inside) (is : IsMember m) where
       member = omega (arith, number, ap (λ (v : List ℕ). length v) vector, is.alone.member);
       own = ap (λ (v : List ℕ). slice_index v next.number) vector ∙ ap (slice_index m.vector) number ∙ is.alone.own ∙ sym (ap (λ l. length l) log);
       width = ap (λ (k : Keeper). k.members) machine ∙ is.alone.width ∙ sym (ap (λ (v : List ℕ). length v) vector);
+      in_order = kept.tied.in_order;
       hidden = λ pair h. ap (λ (v : List ℕ). nat_le 1 pair.1 && nat_le pair.1 (slice_index v pair.0)) vector
           ∙ is.alone.hidden pair (ap (λ (pairs : List Pair). hides (record m.plan { hidden = pairs }) pair) (sym hidden) ∙ h);
     };
