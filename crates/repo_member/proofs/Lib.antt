@@ -17,3 +17,5 @@ mod GroupPlans
 mod GroupCatalogues
 mod LastingPackets
 mod EventLemmas
+mod CallLogs
+mod CallVectors

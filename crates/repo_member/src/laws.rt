@@ -1,3 +1,4 @@
+ghost use Rattle.repo_member.specs.Calls.{LogsGoOn, PublicationsStay, LoggedPacketsStay, NumbersNeverFall, KnownIsTheJoin};
 ghost use Rattle.repo_member.specs.InEvents.{PublishIsEvent, DeliverIsEvent, HearIsEvent, FireIsEvent, RestartIsEvent, ClaimIsEvent, LoseIsEvent, AnswerIsEvent, FeedIsEvent, FetchIsEvent, SettleIsEvent, OpenPartsAlike, CataloguesAlike};
 ghost use Rattle.repo_member.specs.InGroup.{BeginsAlike, PublishesAlike, HearsAlike, LearnsAlike, FiresAlike, ClaimsAlike, AcceptsAlike, TakesAlike, EndsClaimsAlike, ResetsAlike, RestartsAlike, SoundStoresTruly, PlansAlike, WantsAlike, ListsAlike, BeginsTruly, GrowsTruly, PublishesTruly, AcceptsTruly, TakesTruly, StaysTrue, LogsBegin, LogsGrow};
 
@@ -57,4 +58,19 @@ pub fn calls_are_events()
     ensures settle { SettleIsEvent }
     ensures open_parts { OpenPartsAlike }
     ensures catalogue { CataloguesAlike }
+{}
+
+/// Whatever is called afterwards, a member's log has what it had as its front, a publication keeps its number, which is
+/// one more than how many there were, and the packets of its parts stay what they are.
+pub fn publications_last()
+    ensures log { LogsGoOn }
+    ensures numbers { PublicationsStay }
+    ensures packets { LoggedPacketsStay }
+{}
+
+/// No number that a member knows falls, whatever is called. What it knows is the join of what it knew and of the vectors
+/// that it was told and took; of itself it knows how many objects it published.
+pub fn vectors_only_rise()
+    ensures rise { NumbersNeverFall }
+    ensures join { KnownIsTheJoin }
 {}

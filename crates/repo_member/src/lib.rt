@@ -15,7 +15,7 @@ pub use group::Group;
 pub use group_fault::GroupFault;
 pub use laws::{
     calls_are_events, changes_are_the_groups, members_list_what_the_group_says,
-    members_want_what_the_group_says, truly_stored_lasts,
+    members_want_what_the_group_says, publications_last, truly_stored_lasts, vectors_only_rise,
 };
 pub use member::{Fire, Member, Published};
 pub use refusals::{AcceptRefusal, HearRefusal, PublishRefusal, WantFault};
