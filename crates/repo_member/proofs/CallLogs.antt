@@ -97,7 +97,7 @@ at_front [] ys i x h = absurd cc
 at_front (y ∷ xs) ys zero x h = h
 at_front (y ∷ xs) ys (suc i) x h = at_front xs ys i x h
 
-at_end : {A : Type 0} (xs : List A) (x : A) → slice_get (xs ++ x ∷ []) (length xs) ≡ Some x
+pub at_end : {A : Type 0} (xs : List A) (x : A) → slice_get (xs ++ x ∷ []) (length xs) ≡ Some x
 at_end [] x = refl
 at_end (y ∷ xs) x = at_end xs x
 

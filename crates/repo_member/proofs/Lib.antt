@@ -19,3 +19,9 @@ mod LastingPackets
 mod EventLemmas
 mod CallLogs
 mod CallVectors
+mod ToldWidth
+mod PlanChanges
+mod HeldParts
+mod PublishedParts
+mod FetchedParts
+mod CallReach

@@ -151,3 +151,14 @@ abbrev pub KnownIsTheJoin : Type 0
 KnownIsTheJoin = (g : GroupKeys) (calls : List Call) (a : Alone) → IsAlone a
     → (after_calls g calls a).known
     ≡ slice_set (join_all (a.known ∷ vectors_told g calls a)) a.number (length (after_calls g calls a).log)
+
+-- ---- what is held
+
+-- Each packet of another publisher's part that is stored passes for the want that the member has of that part now.
+abbrev pub OthersPassed : GroupKeys → Alone → Type 0
+OthersPassed g a = (t : Part) (octets : List ℕ) → t.publisher ≢ a.number → value_of part_cmp a.store t ≡ Some octets
+    → IsOk (ring_verdict (want_of g a.store t) g.members.ring octets)
+
+-- Of its own parts a member stores those that it published, and of each the packet that it published.
+abbrev pub OwnStored : GroupKeys → Alone → Type 0
+OwnStored g a = (t : Part) → t.publisher ≡ a.number → value_of part_cmp a.store t ≡ logged g a t

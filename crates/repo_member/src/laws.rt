@@ -1,4 +1,7 @@
-ghost use Rattle.repo_member.specs.Calls.{LogsGoOn, PublicationsStay, LoggedPacketsStay, NumbersNeverFall, KnownIsTheJoin};
+ghost use Rattle.repo_member.specs.Calls.{LogsGoOn, PublicationsStay, LoggedPacketsStay, NumbersNeverFall, KnownIsTheJoin, InEveryMember, OthersPassed, OwnStored};
+ghost use Rattle.repo_member.specs.Alone.{IsAlone, IsOf, plan_of};
+ghost use Rattle.repo_plan.specs.Calls.{ClaimsOnce};
+ghost use Rattle.repo_plan.specs.Sound.{IsSound};
 ghost use Rattle.repo_member.specs.InEvents.{PublishIsEvent, DeliverIsEvent, HearIsEvent, FireIsEvent, RestartIsEvent, ClaimIsEvent, LoseIsEvent, AnswerIsEvent, FeedIsEvent, FetchIsEvent, SettleIsEvent, OpenPartsAlike, CataloguesAlike};
 ghost use Rattle.repo_member.specs.InGroup.{BeginsAlike, PublishesAlike, HearsAlike, LearnsAlike, FiresAlike, ClaimsAlike, AcceptsAlike, TakesAlike, EndsClaimsAlike, ResetsAlike, RestartsAlike, SoundStoresTruly, PlansAlike, WantsAlike, ListsAlike, BeginsTruly, GrowsTruly, PublishesTruly, AcceptsTruly, TakesTruly, StaysTrue, LogsBegin, LogsGrow};
 
@@ -73,4 +76,23 @@ pub fn publications_last()
 pub fn vectors_only_rise()
     ensures rise { NumbersNeverFall }
     ensures join { KnownIsTheJoin }
+{}
+
+/// In every member that calls reach, no two fetchers claim one part, and what is claimed is wanted.
+pub fn claims_differ()
+    ensures { InEveryMember (λ g a. ClaimsOnce (plan_of a)) }
+{}
+
+/// In every member that calls reach, a stored packet of another publisher's part passes for the member's want of that part:
+/// that of a segment lists what the stored record says. Of its own publications it stores each part, as it was published.
+pub fn held_parts_passed_their_checks()
+    ensures others { InEveryMember OthersPassed }
+    ensures own { InEveryMember OwnStored }
+{}
+
+/// Every member that calls reach is one of its group, knows all that it published, and has a sound plan.
+pub fn calls_keep_members_sound()
+    ensures alone { InEveryMember (λ g a. IsAlone a) }
+    ensures group { InEveryMember IsOf }
+    ensures plan { InEveryMember (λ g a. IsSound (plan_of a)) }
 {}
