@@ -25,3 +25,4 @@ mod HeldParts
 mod PublishedParts
 mod FetchedParts
 mod CallReach
+mod CallPackets

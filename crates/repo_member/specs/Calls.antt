@@ -1,24 +1,24 @@
 -- Lists of calls of one member of a group, and what holds after them.
-use Rattle.std.specs.Prelude.{◌≡◌, ◌≢◌, ℕ, ◌<◌, ◌≤◌, true, false, List, [], ◌∷◌, ◌++◌, length, take, Option, Some, None, Result, Ok, Err, slice_index, slice_set, slice_get, nat_lt, if◌then◌else◌, IsOk, IfSome}
+use Rattle.std.specs.Prelude.{◌≡◌, ◌≢◌, ℕ, ◌<◌, ◌≤◌, List, [], ◌∷◌, ◌++◌, length, take, Option, Some, None, Result, Ok, Err, slice_index, slice_set, slice_get, nat_lt, if◌then◌else◌, IsOk, IfSome}
 use Rattle.std.specs.List.{All}
 use Rattle.svs_vector.specs.Vectors.{join_all}
 use Rattle.repo_plan.specs.declared.part.Part.{Part}
 use Rattle.repo_plan.specs.Parts.{part_cmp}
 use Rattle.repo_plan.specs.SortedList.{value_of}
 use Rattle.repo_plan.specs.Plan.{claim_of, unclaimed, first}
-use Rattle.repo_plan.specs.Calls.{IsFetcher, ClaimsOnce}
+use Rattle.repo_plan.specs.Calls.{IsFetcher}
 use Rattle.repo_object.specs.declared.job.Job.{Job}
 use Rattle.repo_object.specs.Objects.{NamedContents, IsObject}
 use Rattle.repo_object.specs.Verdict.{CheckedPart, IsChecked, ring_verdict}
 use Rattle.repo_member.specs.declared.refusals.HearRefusal.{HearRefusal}
 use Rattle.repo_member.specs.declared.refusals.AcceptRefusal.{AcceptRefusal}
 use Rattle.repo_member.specs.Groups.{GroupKeys, IsGroup}
-use Rattle.repo_member.specs.Alone.{Alone, IsAlone, IsOf, plan_of, opening_alone, publishes, logged, learns, hears, fires, claims_part, want_of, accepts, takes, ends_claims, resets}
+use Rattle.repo_member.specs.Alone.{Alone, IsAlone, plan_of, opening_alone, publishes, logged, learns, hears, fires, claims_part, want_of, accepts, takes, ends_claims, resets}
 use Rattle.repo_member.specs.Verdicts.{hear_verdict, accept_verdict}
 use Rattle.repo_member.specs.Outcomes.{fetched, IsOutcome}
 
--- A call that may change a member, with what it is given. One that answers want of memory changes nothing, so it is in no
--- list.
+-- A call that may change a member, with what it is given: octets, fetchers, moments and draws. One that answers want of
+-- memory changes nothing, so it is in no list.
 pub data Call : Type 0 where
   Publish : NamedContents → ℕ → ℕ → Call
   Hear : List ℕ → ℕ → ℕ → Call
@@ -34,31 +34,32 @@ pub data Call : Type 0 where
 
 -- ---- what a call makes of a member: nothing, where it is refused
 
--- what is told is learnt, and the machine hears it
+-- What is told is learnt, and the machine hears it.
 abbrev pub after_hear : ℕ → ℕ → Alone → Result (List ℕ) HearRefusal → Alone
 after_hear moment draw a (Ok told) = hears told moment draw a
 after_hear moment draw a (Err refusal) = a
 
--- what is told is learnt
+-- What is told is learnt.
 abbrev pub after_join : Alone → Result (List ℕ) HearRefusal → Alone
 after_join a (Ok told) = learns told a
 after_join a (Err refusal) = a
 
--- a fetcher that claims nothing claims the first part that is wanted and that nobody claims
+-- A fetcher that claims nothing claims the first part that is wanted and that nobody claims, if there is one.
 abbrev pub after_claim : ℕ → Alone → Option Part → Alone
 after_claim f a None = claims_part f (first (unclaimed (plan_of a))) a
 after_claim f a (Some t) = a
 
--- a fetcher that claims a part gives it up
+-- The claim of a fetcher that has one ends.
 abbrev pub after_lose : ℕ → Alone → Option Part → Alone
 after_lose f a None = a
 after_lose f a (Some t) = claims_part f None a
 
--- a part whose packet passes is held
+-- A fetcher's part is held where the octets pass for it.
 abbrev pub after_accept : ℕ → List ℕ → Alone → Result Part AcceptRefusal → Alone
 after_accept f octets a (Ok t) = accepts f t octets a
 after_accept f octets a (Err refusal) = a
 
+-- The member after a call.
 abbrev pub after_call : GroupKeys → Call → Alone → Alone
 after_call g (Publish object moment draw) a = if nat_lt (length a.log) 65535 then publishes g object moment draw a else a
 after_call g (Hear octets moment draw) a = after_hear moment draw a (hear_verdict g a octets)
@@ -72,14 +73,14 @@ after_call g EndClaims a = ends_claims a
 after_call g (Reset moment draw) a = resets moment draw a
 after_call g (Restart moment draw) a = resets moment draw (ends_claims a)
 
--- the member after a list of calls
+-- The member after a list of calls.
 abbrev pub after_calls : GroupKeys → List Call → Alone → Alone
 after_calls g [] a = a
 after_calls g (call ∷ calls) a = after_calls g calls (after_call g call a)
 
 -- ---- which calls can be made
 
--- The conditions of a call, but for those that keep moments and draws small. What is checked has passed, by its type.
+-- The conditions of a call, but for those that keep moments and draws small. A checked part passed its checks by its type.
 abbrev pub IsTaken : GroupKeys → Alone → Call → Type 0
 IsTaken g a (Publish object moment draw) = IsObject object
 IsTaken g a (Hear octets moment draw) = Unit {0}
@@ -88,17 +89,18 @@ IsTaken g a (Fire moment draw) = Unit {0}
 IsTaken g a (Claim f) = IsFetcher f
 IsTaken g a (Lose f) = IsFetcher f
 IsTaken g a (Accept f octets) = IsFetcher f
-IsTaken g a (TakeOutcome jobs parts attempts) = IsOutcome g a jobs parts attempts × All (λ part. IfSome part IsChecked) parts
+IsTaken g a (TakeOutcome jobs parts attempts) =
+    IsOutcome g a jobs parts attempts × All (λ part. IfSome part IsChecked) parts
 IsTaken g a EndClaims = Unit {0}
 IsTaken g a (Reset moment draw) = Unit {0}
 IsTaken g a (Restart moment draw) = Unit {0}
 
--- each call's conditions hold when its turn comes
+-- Each call's conditions hold when its turn comes.
 abbrev pub AreTaken : GroupKeys → Alone → List Call → Type 0
 AreTaken g a [] = Unit {0}
 AreTaken g a (call ∷ calls) = IsTaken g a call × AreTaken g (after_call g call a) calls
 
--- it holds of every member of a group, from its beginning and after any calls
+-- It holds of every member of a group, from its beginning on and after any calls.
 abbrev pub InEveryMember : (GroupKeys → Alone → Type 0) → Type 0
 InEveryMember P = (g : GroupKeys) (number moment draw : ℕ) (calls : List Call)
     → IsGroup g → number < length g.members.names →
@@ -107,7 +109,7 @@ InEveryMember P = (g : GroupKeys) (number moment draw : ℕ) (calls : List Call)
 
 -- ---- what is published
 
--- a log has the earlier one as its front, and so is no shorter
+-- A log has the earlier one as its front, and so is no shorter.
 pub record GoesOn (earlier log : List NamedContents) : Type 0 where
   pub front : take (length earlier) log ≡ earlier
   pub longer : length earlier ≤ length log
@@ -115,7 +117,7 @@ pub record GoesOn (earlier log : List NamedContents) : Type 0 where
 abbrev pub LogsGoOn : Type 0
 LogsGoOn = (g : GroupKeys) (calls : List Call) (a : Alone) → GoesOn a.log (after_calls g calls a).log
 
--- A publication that is made after `n` others has the number `n + 1`, and stands at place `n` from then on.
+-- The publication that is made after `n` others has the number `n + 1`, and its object stands at place `n` from then on.
 abbrev pub PublicationsStay : Type 0
 PublicationsStay = (g : GroupKeys) (object : NamedContents) (moment draw : ℕ) (calls : List Call) (a : Alone)
     → length a.log < 65535
@@ -132,7 +134,7 @@ abbrev pub NumbersNeverFall : Type 0
 NumbersNeverFall = (g : GroupKeys) (calls : List Call) (a : Alone) (p : ℕ) → IsAlone a
     → slice_index a.known p ≤ slice_index (after_calls g calls a).known p
 
--- the vectors that calls told the member, where it took them, in order
+-- The vector that a call told the member, if it took one.
 abbrev pub vector_told : Result (List ℕ) HearRefusal → List (List ℕ)
 vector_told (Ok told) = told ∷ []
 vector_told (Err refusal) = []
@@ -142,6 +144,7 @@ vector_of_call g a (Hear octets moment draw) = vector_told (hear_verdict g a oct
 vector_of_call g a (JoinFrom octets) = vector_told (hear_verdict g a octets)
 vector_of_call g a _ = []
 
+-- The vectors that calls told it, in order.
 abbrev pub vectors_told : GroupKeys → List Call → Alone → List (List ℕ)
 vectors_told g [] a = []
 vectors_told g (call ∷ calls) a = vector_of_call g a call ++ vectors_told g calls (after_call g call a)
@@ -153,6 +156,11 @@ KnownIsTheJoin = (g : GroupKeys) (calls : List Call) (a : Alone) → IsAlone a
     ≡ slice_set (join_all (a.known ∷ vectors_told g calls a)) a.number (length (after_calls g calls a).log)
 
 -- ---- what is held
+
+-- A packet that is stored stays.
+abbrev pub HeldPacketsStay : Type 0
+HeldPacketsStay = (g : GroupKeys) (calls : List Call) (a : Alone) (t : Part) (octets : List ℕ)
+    → value_of part_cmp a.store t ≡ Some octets → value_of part_cmp (after_calls g calls a).store t ≡ Some octets
 
 -- Each packet of another publisher's part that is stored passes for the want that the member has of that part now.
 abbrev pub OthersPassed : GroupKeys → Alone → Type 0

@@ -1,4 +1,4 @@
-ghost use Rattle.repo_member.specs.Calls.{LogsGoOn, PublicationsStay, LoggedPacketsStay, NumbersNeverFall, KnownIsTheJoin, InEveryMember, OthersPassed, OwnStored};
+ghost use Rattle.repo_member.specs.Calls.{LogsGoOn, PublicationsStay, LoggedPacketsStay, NumbersNeverFall, KnownIsTheJoin, InEveryMember, HeldPacketsStay, OthersPassed, OwnStored};
 ghost use Rattle.repo_member.specs.Alone.{IsAlone, IsOf, plan_of};
 ghost use Rattle.repo_plan.specs.Calls.{ClaimsOnce};
 ghost use Rattle.repo_plan.specs.Sound.{IsSound};
@@ -83,11 +83,13 @@ pub fn claims_differ()
     ensures { InEveryMember (λ g a. ClaimsOnce (plan_of a)) }
 {}
 
-/// In every member that calls reach, a stored packet of another publisher's part passes for the member's want of that part:
-/// that of a segment lists what the stored record says. Of its own publications it stores each part, as it was published.
+/// In every member that calls reach, a stored packet of another publisher's part passes for the want that the member has of
+/// that part now, which for a segment is of what the stored record lists. Of its own parts it stores those that it
+/// published, as they were published. What is stored stays, whatever is called.
 pub fn held_parts_passed_their_checks()
     ensures others { InEveryMember OthersPassed }
     ensures own { InEveryMember OwnStored }
+    ensures stay { HeldPacketsStay }
 {}
 
 /// Every member that calls reach is one of its group, knows all that it published, and has a sound plan.
