@@ -16,7 +16,7 @@ use Rattle.repo_member.specs.Groups.{GroupKeys}
 use Rattle.repo_member.specs.Alone.{Alone, Fetched, plan_of, with_packets, new_packets, publishes, takes, with_fetched, with_tries}
 use Rattle.repo_member.specs.Verdicts.{hear_verdict, accept_verdict}
 use Rattle.repo_member.specs.Outcomes.{fetched}
-use Rattle.repo_member.specs.Calls.{Call, Publish, Hear, JoinFrom, Fire, Claim, Lose, Accept, TakeOutcome, EndClaims, Reset, Restart, after_hear, after_join, after_claim, after_lose, after_accept, after_call, after_calls, HeldPacketsStay}
+use Rattle.repo_member.specs.Calls.{Call, Publish, Hear, JoinFrom, Fire, Claim, Lose, Accept, TakeOutcome, EndClaims, Reset, Restart, after_hear, after_join, after_claim, after_lose, after_accept, after_call, HeldPacketsStay}
 use Rattle.repo_member.proofs.HoldingLemmas.{put_elsewhere}
 use Rattle.repo_member.proofs.HeldParts.{StaysStored, missing_value}
 

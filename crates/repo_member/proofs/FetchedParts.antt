@@ -1,12 +1,12 @@
 -- What a fetch's outcome makes of a member that calls reach.
-use Rattle.std.proofs.Common.{◌≡◌, inl, inr, ℕ, Bool, true, false, not, List, [], ◌∷◌, map, Option, Some, None, option_map, is_some, refl, sym, ap, ◌∙◌, subst}
+use Rattle.std.proofs.Common.{◌≡◌, ℕ, Bool, true, false, not, List, [], ◌∷◌, map, Option, Some, None, option_map, is_some, refl, sym, ap, ◌∙◌, subst}
 use Rattle.std.specs.Prelude.{IsOk, IfSome}
 use Rattle.std.specs.List.{All}
 use Rattle.std.specs.Ordering.{eq_by_cmp}
 use Rattle.std.proofs.lemmas.Bool.{true≢false, and_parts, and_from, or_parts, not-true}
 use Rattle.std.proofs.lemmas.List.Elements.{All-head, All-tail}
 use Rattle.repo_plan.specs.declared.part.Part.{Part}
-use Rattle.repo_plan.specs.SortedList.{keys, contains, value_of}
+use Rattle.repo_plan.specs.SortedList.{contains, value_of}
 use Rattle.repo_plan.specs.Parts.{Pair, Shape, part_cmp}
 use Rattle.repo_plan.specs.Plan.{holds, shape_of, is_wanted, is_claimed, is_unclaimed}
 use Rattle.repo_plan.specs.Sound.{CanBeHeld}
@@ -18,11 +18,10 @@ use Rattle.repo_object.specs.Publication.{Listed}
 use Rattle.repo_object.specs.Wants.{WantedPart}
 use Rattle.repo_object.specs.Verdict.{CheckedPart, IsChecked, part_verdict, ring_verdict, publisher_key}
 use Rattle.repo_store.specs.StoreList.{with_packet}
-use Rattle.repo_member.specs.Records.{Packet}
 use Rattle.repo_member.specs.Listed.{listing_at, shape}
 use Rattle.repo_member.specs.Groups.{GroupKeys}
 use Rattle.repo_member.specs.Alone.{Alone, plan_of, want_of, takes, with_tries}
-use Rattle.repo_member.specs.Outcomes.{fetched, AreApart, IsCheckedFor, IsFetched, AreFetched, IsOutcome}
+use Rattle.repo_member.specs.Outcomes.{fetched, AreApart, IsCheckedFor, AreFetched, IsOutcome}
 use Rattle.repo_member.proofs.HoldingLemmas.{contains-value, put_elsewhere, shape_told}
 use Rattle.repo_member.proofs.PlanChanges.{gains, tied_alone, sound_tried}
 use Rattle.repo_member.proofs.HeldParts.{IsReached, PassesNow, StaysStored, listing_still, want_stays, stays_stored, missing_value, not_there, reached_with, reached_gains}

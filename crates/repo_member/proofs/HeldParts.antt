@@ -1,28 +1,28 @@
 -- What holds of every member that calls reach, and that each change keeps it.
-use Rattle.std.proofs.Common.{◌≡◌, ◌≢◌, inl, inr, ℕ, zero, suc, ◌+◌, ◌-◌, ◌^◌, ◌<◌, ◌≤◌, Bool, true, false, cond, ◌==◌, List, [], ◌∷◌, ◌++◌, length, Option, Some, None, option_map, is_some, Result, Ok, Err, slice_get, refl, sym, ap, ◌∙◌, subst, arith}
-use Rattle.std.specs.Prelude.{nat_le, slice_index, slice_index_or, slice_set, replicate, unwrap_or, IsOk}
+use Rattle.std.proofs.Common.{◌≡◌, ◌≢◌, ℕ, ◌+◌, ◌-◌, ◌^◌, ◌<◌, ◌≤◌, Bool, true, false, cond, ◌==◌, List, [], length, Option, Some, None, option_map, is_some, Result, Ok, Err, slice_get, refl, sym, ap, ◌∙◌, subst, arith}
+use Rattle.std.specs.Prelude.{nat_le, slice_index, slice_index_or, replicate, unwrap_or, IsOk}
 use Rattle.std.specs.List.{All}
 use Rattle.std.specs.Option.{option_and_then}
 use Rattle.std.specs.Ordering.{eq_by_cmp}
-use Rattle.std.proofs.lemmas.Bool.{true≢false, and_parts, leb-true, cases_eq, eq-eqb, ne_eqb, eqb-true}
-use Rattle.std.proofs.lemmas.List.{length-set, length_push, length-map, length-replicate, get_or-replicate, get_or-set_same, get_or-set_other}
-use Rattle.std.proofs.lemmas.List.Elements.{All-nil, All-push}
-use Rattle.std.proofs.lemmas.Option.{slice_get-get_or, get_or_from_slice_get}
+use Rattle.std.proofs.lemmas.Bool.{true≢false, and_parts, leb-true, eq-eqb, ne_eqb, eqb-true}
+use Rattle.std.proofs.lemmas.List.{length-replicate, get_or-replicate}
+use Rattle.std.proofs.lemmas.List.Elements.{All-nil}
+use Rattle.std.proofs.lemmas.Option.{slice_get-get_or}
 use Rattle.svs_vector.specs.Vectors.{join}
 use Rattle.svs_vector.proofs.JoinLemmas.{length-join, join-at}
 use Rattle.svs_sync.specs.KeptVector.{Keeper}
 use Rattle.ndn_data.specs.Data.{Data}
 use Rattle.repo_plan.specs.declared.part.Part.{Part}
 use Rattle.repo_plan.specs.SortedList.{keys, Rises, contains, value_of}
-use Rattle.repo_plan.specs.Parts.{Pair, Shape, part_cmp, pair_of, part_of}
-use Rattle.repo_plan.specs.Plan.{Holdings, knows, holds, is_asked, can_be_asked, shape_of}
+use Rattle.repo_plan.specs.Parts.{Pair, part_cmp, pair_of, part_of}
+use Rattle.repo_plan.specs.Plan.{knows, holds, is_asked, can_be_asked, shape_of}
 use Rattle.repo_plan.specs.Sound.{IsSound, CanBeHeld}
 use Rattle.repo_plan.proofs.Orders.{exact_parts}
-use Rattle.repo_plan.proofs.Sets.{eq_same, eq_itself}
+use Rattle.repo_plan.proofs.Sets.{eq_same}
 use Rattle.repo_plan.proofs.Changes.{sound_opening}
 use Rattle.repo_object.specs.declared.part_refusal.PartRefusal.{PartRefusal}
 use Rattle.repo_object.specs.Objects.{NamedContents, IsObject, Publisher, IsPublisher}
-use Rattle.repo_object.specs.Publication.{Listed, published_segments, published_listing, record_packet, packets}
+use Rattle.repo_object.specs.Publication.{Listed, published_listing, packets}
 use Rattle.repo_object.specs.Wants.{WantedPart, want_record, want_segment}
 use Rattle.repo_object.specs.Verdict.{listing_in, listing_within, ring_verdict, publisher_key}
 use Rattle.repo_object.proofs.Passing.{passes}
@@ -33,8 +33,8 @@ use Rattle.repo_member.specs.Listed.{stored_at, listing_at, shape}
 use Rattle.repo_member.specs.Groups.{GroupKeys, IsGroup, node_of, publisher_of}
 use Rattle.repo_member.specs.Alone.{Alone, IsAlone, IsOf, plan_of, opening_alone, logged, packet_in, nothing_listed, want_of, learns}
 use Rattle.repo_member.specs.Holding.{told_shape}
-use Rattle.repo_member.proofs.HoldingLemmas.{contains-value, put_here, put_elsewhere, value_of-put, shape_told}
-use Rattle.repo_member.proofs.AskedLemmas.{IsListedSegment, asked_segment}
+use Rattle.repo_member.proofs.HoldingLemmas.{contains-value, put_elsewhere, value_of-put}
+use Rattle.repo_member.proofs.AskedLemmas.{asked_segment}
 use Rattle.repo_member.proofs.MemberLemmas.{knows_more, want_part}
 use Rattle.repo_member.proofs.OwnLemmas.{is_publisher}
 use Rattle.repo_member.proofs.ChangeLemmas.{rises_put}

@@ -1,18 +1,16 @@
 -- What each change of a member makes of its plan, and that the plan stays sound.
-use Rattle.std.proofs.Common.{◌≡◌, inl, inr, ℕ, suc, ◌+◌, ◌-◌, ◌^◌, ◌<◌, ◌≤◌, Bool, true, false, cond, ◌==◌, List, [], ◌∷◌, length, Option, Some, None, option_map, is_some, refl, sym, ap, ◌∙◌, subst, arith}
+use Rattle.std.proofs.Common.{◌≡◌, inl, inr, ℕ, ◌+◌, ◌-◌, ◌^◌, ◌≤◌, Bool, true, false, cond, ◌==◌, List, [], ◌∷◌, length, Some, None, option_map, is_some, refl, sym, ap, ◌∙◌, subst, arith}
 use Rattle.std.specs.Prelude.{slice_index}
 use Rattle.std.proofs.lemmas.Bool.{cases_lt, eqb-true}
 use Rattle.std.proofs.lemmas.List.{get_or_past}
 use Rattle.repo_plan.specs.declared.part.Part.{Part}
-use Rattle.repo_plan.specs.SortedList.{keys, Rises, value_of, with_value}
-use Rattle.repo_plan.specs.Parts.{Pair, Shape, part_cmp, part_of}
-use Rattle.repo_plan.specs.Plan.{Holdings, holds, with_shape, holds_too, uses_room, with_attempts, attempts_of}
-use Rattle.repo_plan.specs.SortedList.{insert_key}
+use Rattle.repo_plan.specs.SortedList.{keys, Rises, with_value}
+use Rattle.repo_plan.specs.Parts.{Pair, part_cmp, part_of}
+use Rattle.repo_plan.specs.Plan.{Holdings, holds, holds_too, uses_room, attempts_of}
 use Rattle.repo_plan.specs.Sound.{IsSound, CanBeHeld}
 use Rattle.repo_plan.proofs.Changes.{Keeps, IsWanted, wanted_parts, wanted_from, asked_kept, same_holdings, sound_room, sound_holds, sound_attempts}
 use Rattle.repo_object.specs.Verdict.{listing_in}
 use Rattle.repo_store.specs.StoreList.{with_packet}
-use Rattle.repo_member.specs.Records.{Packet}
 use Rattle.repo_member.specs.Listed.{shape}
 use Rattle.repo_member.specs.Alone.{Alone, plan_of, as_parts, with_packets, with_tries}
 use Rattle.repo_member.specs.Holding.{AreTied, told_shape}

@@ -1,5 +1,5 @@
 -- What a new publication makes of a member that calls reach.
-use Rattle.std.proofs.Common.{◌≡◌, ◌≢◌, inl, inr, ℕ, zero, suc, ◌+◌, ◌-◌, ◌^◌, ◌<◌, ◌≤◌, max, Bool, true, false, cond, ◌==◌, List, [], ◌∷◌, ◌++◌, length, Option, Some, None, option_map, slice_get, refl, sym, ap, ◌∙◌, subst, arith}
+use Rattle.std.proofs.Common.{◌≡◌, ◌≢◌, inl, inr, ℕ, zero, suc, ◌+◌, ◌-◌, ◌<◌, ◌≤◌, max, Bool, true, false, cond, ◌==◌, List, [], ◌∷◌, ◌++◌, length, Option, None, slice_get, refl, sym, ap, ◌∙◌, subst, arith}
 use Rattle.std.specs.Prelude.{slice_index, slice_set, unwrap_or, IsOk}
 use Rattle.std.specs.Option.{option_and_then}
 use Rattle.std.specs.Ordering.{eq_by_cmp}
@@ -9,17 +9,15 @@ use Rattle.std.proofs.lemmas.List.Elements.{All-push}
 use Rattle.repo_plan.specs.declared.part.Part.{Part}
 use Rattle.repo_plan.specs.SortedList.{keys, contains, value_of}
 use Rattle.repo_plan.specs.Parts.{Pair, part_cmp, pair_of, part_of}
-use Rattle.repo_plan.specs.Plan.{holds}
 use Rattle.repo_plan.specs.Sound.{IsSound}
 use Rattle.repo_plan.proofs.Orders.{exact_parts}
 use Rattle.repo_plan.proofs.Sets.{eq_same}
 use Rattle.repo_object.specs.Objects.{NamedContents, IsObject, Publisher}
-use Rattle.repo_object.specs.Publication.{Listed, published_segments, packets}
+use Rattle.repo_object.specs.Publication.{published_segments, packets}
 use Rattle.repo_object.specs.Wants.{WantedPart, want_record, want_segment}
 use Rattle.repo_object.specs.Verdict.{listing_in, ring_verdict}
 use Rattle.repo_store.specs.StoreList.{with_packet}
 use Rattle.repo_member.specs.Records.{Packet}
-use Rattle.repo_member.specs.Listed.{listing_at}
 use Rattle.repo_member.specs.Groups.{GroupKeys, node_of, publisher_of}
 use Rattle.repo_member.specs.Alone.{Alone, plan_of, next_seq, as_parts, with_packets, publishes, logged, packet_in, nothing_listed, want_of}
 use Rattle.repo_member.specs.Publishing.{IsNew}
@@ -30,7 +28,7 @@ use Rattle.repo_member.proofs.OwnLemmas.{is_publisher, packets_are, next_to_last
 use Rattle.repo_member.proofs.ChangeLemmas.{rises_puts}
 use Rattle.repo_member.proofs.CallLogs.{at_end}
 use Rattle.repo_member.proofs.PlanChanges.{sound_known, sound_puts}
-use Rattle.repo_member.proofs.HeldParts.{IsReached, PassesNow, logged_own, missing_value, not_there}
+use Rattle.repo_member.proofs.HeldParts.{IsReached, logged_own, missing_value, not_there}
 
 -- a place of a list that isn't the one where an element comes
 not_at_end : {A : Type 0} (xs : List A) (x : A) (i : ℕ) → i ≢ length xs → slice_get (xs ++ x ∷ []) i ≡ slice_get xs i

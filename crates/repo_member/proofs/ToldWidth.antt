@@ -1,10 +1,9 @@
 -- A vector that octets tell has a number for each member.
-use Rattle.std.proofs.Common.{◌≡◌, ℕ, max, Bool, true, false, cond, List, [], ◌∷◌, length, Option, Some, None, Result, Ok, Err, slice_index, slice_set, refl, sym, ap, ◌∙◌}
+use Rattle.std.proofs.Common.{◌≡◌, ℕ, max, Bool, true, false, cond, List, [], ◌∷◌, length, Option, Some, None, Result, Ok, Err, slice_index, slice_set, sym, ap, ◌∙◌}
 use Rattle.std.specs.Prelude.{nat_lt, replicate, unwrap_or}
 use Rattle.std.proofs.lemmas.List.{length-set, length-replicate}
 use Rattle.ndn_tlv.specs.Listing.{gather, ◌>>=◌}
-use Rattle.ndn_tlv.specs.Elements.{Item, elements}
-use Rattle.ndn_name.specs.declared.fault.PacketFault.{PacketFault}
+use Rattle.ndn_tlv.specs.Elements.{elements}
 use Rattle.ndn_name.specs.Names.{Component}
 use Rattle.ndn_name.proofs.Encodings.{bind_ok}
 use Rattle.ndn_sign.specs.Ring.{Pair}
@@ -12,7 +11,7 @@ use Rattle.ndn_interest.specs.Interest.{Interest, interest_of}
 use Rattle.svs_vector.specs.declared.vector_fault.VectorFault.{VectorFault}
 use Rattle.svs_vector.specs.declared.vector_fault.VectorFault.TheVariants.{NumberTooLarge}
 use Rattle.svs_vector.specs.Rosters.{member_of}
-use Rattle.svs_vector.specs.StateVector.{Entry, entry_in, counted, with_entry, vector_in, vector_among, vector_of, fault_in}
+use Rattle.svs_vector.specs.StateVector.{entry_in, counted, with_entry, vector_in, vector_among, vector_of, fault_in}
 use Rattle.svs_sync.specs.declared.sync_refusal.SyncRefusal.{SyncRefusal}
 use Rattle.svs_sync.specs.declared.sync_refusal.SyncRefusal.TheVariants.{WrongGroup, Unsigned, ParamsDigest, UnknownKey, BadSignature}
 use Rattle.svs_sync.specs.SyncInterest.{ensured, or_refused, packet_or, vector_or, is_sync_name, has_its_digest, key_of, is_signed, interest_verdict, sync_verdict}
