@@ -1,9 +1,9 @@
-ghost use Rattle.repo_member.specs.Calls.{LogsGoOn, PublicationsStay, LoggedPacketsStay, NumbersNeverFall, KnownIsTheJoin, InEveryMember, HeldPacketsStay, OthersPassed, OwnStored};
-ghost use Rattle.repo_member.specs.Alone.{IsAlone, IsOf, plan_of};
-ghost use Rattle.repo_plan.specs.Calls.{ClaimsOnce};
 ghost use Rattle.repo_plan.specs.Sound.{IsSound};
-ghost use Rattle.repo_member.specs.InEvents.{PublishIsEvent, DeliverIsEvent, HearIsEvent, FireIsEvent, RestartIsEvent, ClaimIsEvent, LoseIsEvent, AnswerIsEvent, FeedIsEvent, FetchIsEvent, SettleIsEvent, OpenPartsAlike, CataloguesAlike};
+ghost use Rattle.repo_plan.specs.Calls.{ClaimsOnce};
+ghost use Rattle.repo_member.specs.Alone.{IsAlone, IsOf, plan_of};
 ghost use Rattle.repo_member.specs.InGroup.{BeginsAlike, PublishesAlike, HearsAlike, LearnsAlike, FiresAlike, ClaimsAlike, AcceptsAlike, TakesAlike, EndsClaimsAlike, ResetsAlike, RestartsAlike, SoundStoresTruly, PlansAlike, WantsAlike, ListsAlike, BeginsTruly, GrowsTruly, PublishesTruly, AcceptsTruly, TakesTruly, StaysTrue, LogsBegin, LogsGrow};
+ghost use Rattle.repo_member.specs.InEvents.{PublishIsEvent, DeliverIsEvent, HearIsEvent, FireIsEvent, RestartIsEvent, ClaimIsEvent, LoseIsEvent, AnswerIsEvent, FeedIsEvent, FetchIsEvent, SettleIsEvent, OpenPartsAlike, CataloguesAlike};
+ghost use Rattle.repo_member.specs.Calls.{LogsGoOn, PublicationsStay, LoggedPacketsStay, NumbersNeverFall, KnownIsTheJoin, InEveryMember, HeldPacketsStay, OthersPassed, OwnStored};
 
 /// A member by itself begins as its group has it, and each change of it is the group's change of that member.
 pub fn changes_are_the_groups()
