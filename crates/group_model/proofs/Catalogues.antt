@@ -81,10 +81,10 @@ is_published_from p (x ∷ xs) (suc i) k l =
     let e : p + 1 + i ≡ p + suc i = omega arith in
     subst (λ (n : ℕ). In (record { publisher = n; seq = 1 + k; object = get_or (get_or xs i []) k no_object }) (published_from p (x ∷ xs))) e (append_right (numbered p 1 x) (published_from (p + 1) xs) _ (is_published_from (p + 1) xs i k l))
 
-abbrev at_pair : Logs → Pair → Publication
+abbrev pub at_pair : Logs → Pair → Publication
 at_pair ls pair = record { publisher = pair.0; seq = pair.1; object = object_at ls pair }
 
-is_published : (ls : Logs) (pair : Pair) → IsPublished ls pair → In (at_pair ls pair) (published ls)
+pub is_published : (ls : Logs) (pair : Pair) → IsPublished ls pair → In (at_pair ls pair) (published ls)
 is_published ls pair h =
     let p : 0 + pair.0 ≡ pair.0 = omega arith in
     let s : 1 + (pair.1 - 1) ≡ pair.1 = omega (arith, h.from_one) in

@@ -47,7 +47,7 @@ shapes_rise packets r = rises_kept exact_pairs (λ q octets. option_map shape (l
 abbrev listed_entry : List Packet → Pair → List ℕ → Option Entry
 listed_entry packets pair octets = option_and_then (entry_listed packets pair) (listing_in octets)
 
-entries_value : (packets : List Packet) (pair : Pair) → Rises part_cmp (keys packets) → value_of pair_cmp (entries_in packets) pair ≡ entry_at packets pair
+pub entries_value : (packets : List Packet) (pair : Pair) → Rises part_cmp (keys packets) → value_of pair_cmp (entries_in packets) pair ≡ entry_at packets pair
 entries_value packets pair r =
     value_of-kept exact_pairs (listed_entry packets) (records_in packets) pair (rises_records packets r)
     ∙ ap (option_and_then (listed_entry packets pair)) (value_of-records packets pair)

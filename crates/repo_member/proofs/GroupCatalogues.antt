@@ -1,5 +1,5 @@
 -- The catalogue of a member by itself is its group's catalogue of it.
-use Rattle.std.proofs.Common.{◌≡◌, inl, inr, ℕ, zero, suc, ◌+◌, ◌-◌, ◌<◌, Bool, true, false, cond, List, [], ◌∷◌, ◌++◌, length, get_or, map, Option, Some, None, option_map, unwrap_or, is_some, refl, sym, ap, ◌∙◌, subst, arith}
+use Rattle.std.proofs.Common.{◌≡◌, inl, inr, ℕ, suc, ◌+◌, ◌<◌, Bool, true, false, cond, List, [], ◌∷◌, ◌++◌, length, get_or, map, Option, Some, None, option_map, unwrap_or, is_some, refl, sym, ap, ◌∙◌, subst, arith}
 use Rattle.std.specs.List.{flat_map, list_all, concat}
 use Rattle.std.specs.Option.{option_and_then}
 use Rattle.std.specs.Ordering.{eq_by_cmp}
@@ -9,7 +9,7 @@ use Rattle.sha2.specs.Sha256.{sha256}
 use Rattle.repo_plan.specs.SortedList.{keys, Rises, value_of}
 use Rattle.repo_plan.specs.Parts.{Pair, Shape, pair_cmp, part_of, numbers_from, parts_of, parts_told}
 use Rattle.repo_plan.proofs.Orders.{Exact, exact_pairs}
-use Rattle.repo_plan.proofs.Sets.{In, in_map, from_map, in_filter, append_left, append_right, eq_same}
+use Rattle.repo_plan.proofs.Sets.{In, in_map, from_map, in_filter, eq_same}
 use Rattle.repo_plan.proofs.Known.{in_parts_of}
 use Rattle.repo_plan.proofs.Whole.{each_all}
 use Rattle.repo_object.specs.Objects.{NamedContents}
@@ -17,20 +17,21 @@ use Rattle.repo_object.specs.Publication.{Listed, published_listing}
 use Rattle.repo_object.specs.Verdict.{listing_in}
 use Rattle.repo_catalog.specs.declared.entry.Entry.{Entry}
 use Rattle.repo_catalog.specs.Entries.{publication_of}
-use Rattle.group_model.specs.Publications.{Logs, Publication, pair_in, numbered, published_from, published, no_object, object_at, count, entry_of}
+use Rattle.group_model.specs.Publications.{Logs, Publication, pair_in, published, object_at, count, entry_of}
 use Rattle.group_model.specs.Member.{Member, holds, holds_all, catalogued}
 use Rattle.group_model.specs.Sound.{IsPublished}
 use Rattle.group_model.proofs.Lists.{from_filter}
 use Rattle.group_model.proofs.Parts.{IsIn, in_published}
-use Rattle.group_model.proofs.Catalogues.{lists_in_order}
+use Rattle.group_model.proofs.Catalogues.{lists_in_order, at_pair, is_published}
 use Rattle.repo_member.specs.Records.{records_in}
 use Rattle.repo_member.specs.Listed.{listing_at, stored_at, shape, content_of, content_at, contents_joined, are_stored, entry_of_listing, entry_listed, entry_at, entries_in}
 use Rattle.repo_member.specs.Groups.{GroupKeys, publisher_of}
 use Rattle.repo_member.specs.Alone.{Alone, plan_of}
 use Rattle.repo_member.specs.Holding.{AreTied}
 use Rattle.repo_member.specs.InGroup.{in_group, AreLogs, StoresTruly, ListsAlike}
-use Rattle.repo_member.proofs.SortedMaps.{same_map, rises_kept, value_of-kept}
-use Rattle.repo_member.proofs.RecordLemmas.{rises_records, value_of-records}
+use Rattle.repo_member.proofs.SortedMaps.{same_map, rises_kept}
+use Rattle.repo_member.proofs.RecordLemmas.{rises_records}
+use Rattle.repo_member.proofs.CatalogueLemmas.{entries_value}
 use Rattle.repo_member.proofs.HoldingLemmas.{contains-value, complete_stored, shape_told}
 use Rattle.repo_member.proofs.TruePackets.{value_in, record_lists, segment_content, listing_counts, published_object, published_by, published_low}
 
@@ -54,35 +55,8 @@ same_entries {K} {V} {R} e xs ys a b there back = same_map e xs ys a b (λ k. go
   go k None h (Some w) i = back k w (in_value e ys k w i) ∙ sym i
   go k None h None i = h ∙ sym i
 
--- ---- publications by publisher and number
+-- ---- the group's catalogue, each entry under its publication
 
-abbrev at_pair : Logs → Pair → Publication
-at_pair logs pair = record { publisher = pair.0; seq = pair.1; object = object_at logs pair }
-
-is_numbered : (p s : ℕ) (os : List NamedContents) (k : ℕ) → k < length os → In (record { publisher = p; seq = s + k; object = get_or os k no_object }) (numbered p s os)
-is_numbered p s [] k l = absurd (omega arith)
-is_numbered p s (o ∷ os) zero l = let e : s + 0 ≡ s = omega arith in inl (ap (λ (n : ℕ). let q : Publication = record { publisher = p; seq = n; object = o } in q) e)
-is_numbered p s (o ∷ os) (suc k) l =
-    let e : (s + 1) + k ≡ s + suc k = omega arith in
-    inr (subst (λ (n : ℕ). In (record { publisher = p; seq = n; object = get_or os k no_object }) (numbered p (s + 1) os)) e (is_numbered p (s + 1) os k (omega arith)))
-
-is_published_from : (p : ℕ) (logs : Logs) (i k : ℕ) → k < length (get_or logs i [])
-    → In (record { publisher = p + i; seq = 1 + k; object = get_or (get_or logs i []) k no_object }) (published_from p logs)
-is_published_from p [] i k l = absurd (omega arith)
-is_published_from p (x ∷ xs) zero k l =
-    let e : p ≡ p + 0 = omega arith in
-    subst (λ (n : ℕ). In (record { publisher = n; seq = 1 + k; object = get_or x k no_object }) (published_from p (x ∷ xs))) e (append_left (numbered p 1 x) (published_from (p + 1) xs) _ (is_numbered p 1 x k l))
-is_published_from p (x ∷ xs) (suc i) k l =
-    let e : (p + 1) + i ≡ p + suc i = omega arith in
-    subst (λ (n : ℕ). In (record { publisher = n; seq = 1 + k; object = get_or (get_or xs i []) k no_object }) (published_from p (x ∷ xs))) e (append_right (numbered p 1 x) (published_from (p + 1) xs) _ (is_published_from (p + 1) xs i k l))
-
-is_published : (logs : Logs) (pair : Pair) → IsPublished logs pair → In (at_pair logs pair) (published logs)
-is_published logs pair h =
-    let p : 0 + pair.0 ≡ pair.0 = omega arith in
-    let s : 1 + (pair.1 - 1) ≡ pair.1 = omega (arith, h.from_one) in
-    subst (λ (q : Pair). In (record { publisher = q.0; seq = q.1; object = object_at logs pair }) (published logs)) (λ i. (p i, s i)) (is_published_from 0 logs pair.0 (pair.1 - 1) (omega (arith, h.from_one, h.to_last)))
-
--- the group's catalogue, each entry under its publication
 abbrev keyed : Publication → Pair × Entry
 keyed q = (pair_in q, entry_of q)
 
@@ -189,14 +163,6 @@ module _ (g : GroupKeys) (logs : Logs) (a : Alone) (are : AreLogs g logs) (truly
 
   -- ---- all entries
 
-  entries_value : (pair : Pair) → value_of pair_cmp (entries_in a.store) pair ≡ entry_at a.store pair
-  entries_value pair =
-      value_of-kept exact_pairs (λ q octets. option_and_then (entry_listed a.store q) (listing_in octets)) (records_in a.store) pair (rises_records a.store truly.in_order)
-      ∙ ap (option_and_then (λ octets. option_and_then (entry_listed a.store pair) (listing_in octets))) (value_of-records a.store pair) ∙ steps (stored_at a.store pair 0) where
-        steps : (o : Option (List ℕ)) → option_and_then (λ octets. option_and_then (entry_listed a.store pair) (listing_in octets)) o ≡ option_and_then (entry_listed a.store pair) (option_and_then listing_in o)
-        steps None = refl
-        steps (Some octets) = refl
-
   entry_published : (pair : Pair) (e : Entry) → entry_at a.store pair ≡ Some e → IsPublished logs pair
   entry_published pair e h = go (stored_at a.store pair 0) refl where
     go : (o : Option (List ℕ)) → stored_at a.store pair 0 ≡ o → IsPublished logs pair
@@ -210,7 +176,7 @@ module _ (g : GroupKeys) (logs : Logs) (a : Alone) (are : AreLogs g logs) (truly
 
   there_too : (pair : Pair) (e : Entry) → value_of pair_cmp (entries_in a.store) pair ≡ Some e → In (pair, e) (map keyed (catalogued logs m))
   there_too pair e h =
-      let entry : entry_at a.store pair ≡ Some e = sym (entries_value pair) ∙ h in
+      let entry : entry_at a.store pair ≡ Some e = sym (entries_value a.store pair truly.in_order) ∙ h in
       let there = entry_published pair e entry in
       let whole = entry_whole pair there e entry in
       let same : entry_of (at_pair logs pair) ≡ e = same_some (entry_of (at_pair logs pair)) e (sym (whole_entry pair there whole) ∙ entry) in
@@ -229,7 +195,7 @@ module _ (g : GroupKeys) (logs : Logs) (a : Alone) (are : AreLogs g logs) (truly
       let both : (pair, e) ≡ keyed q = from.2 in
       let key : pair ≡ pair_in q = ap (λ (x : Pair × Entry). x.0) both in
       let value : e ≡ entry_of q = ap (λ (x : Pair × Entry). x.1) both in
-      entries_value pair ∙ ap (entry_at a.store) key ∙ entry ∙ ap (λ (x : Publication). Some (entry_of x)) (sym same) ∙ ap (λ (x : Entry). Some x) (sym value)
+      entries_value a.store pair truly.in_order ∙ ap (entry_at a.store) key ∙ entry ∙ ap (λ (x : Publication). Some (entry_of x)) (sym same) ∙ ap (λ (x : Entry). Some x) (sym value)
 
   entries_alike : entries_in a.store ≡ map keyed (catalogued logs m)
   entries_alike =

@@ -18,3 +18,12 @@ mod GroupCatalogues
 mod LastingPackets
 mod EventLemmas
 mod OutcomeLemmas
+mod CallLogs
+mod CallVectors
+mod ToldWidth
+mod PlanChanges
+mod HeldParts
+mod PublishedParts
+mod FetchedParts
+mod CallReach
+mod CallPackets

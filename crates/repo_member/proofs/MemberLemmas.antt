@@ -99,6 +99,7 @@ learns_is m told vector plan machine is width few joined planned wide =
         member = omega (arith, long, is.alone.member);
         own = at m.number ∙ omega (arith, own, few);
         width = wide ∙ is.alone.width ∙ sym long;
+        in_order = is.alone.in_order;
         hidden = λ pair h. knows_more (plan_of (alone m)) (plan_of (alone next)) pair (λ p. omega (arith, at p)) (is.alone.hidden pair h);
       };
       known = refl;

@@ -20,6 +20,7 @@ use Rattle.repo_plan.specs.Sound.{IsSound}
 use Rattle.repo_plan.proofs.Orders.{exact_parts}
 use Rattle.repo_plan.proofs.Sets.{eq_same}
 use Rattle.repo_plan.proofs.Known.{wanted_is_asked}
+use Rattle.repo_plan.proofs.Changes.{sound_room}
 use Rattle.repo_object.specs.declared.part_refusal.PartRefusal.{PartRefusal}
 use Rattle.repo_object.specs.Objects.{NamedContents, IsObject, Publisher, IsPublisher, key_name}
 use Rattle.repo_object.specs.Publication.{Listed, packets, record_packet, published_listing, published_segments}
@@ -91,35 +92,38 @@ known_up_to p pair h = leb-true pair.1 (slice_index p.known pair.0) (and_parts (
 asked_known_up_to : (p : Holdings) (t : Part) → is_asked p t ≡ true → t.seq ≤ slice_index p.known t.publisher
 asked_known_up_to p t h = known_up_to p (pair_of t) (and_parts (knows p (pair_of t)) (can_be_asked p.held (shape_of p (pair_of t)) t) h).0
 
--- nothing is held, hidden or claimed of the next publication
+-- nothing is held, hidden or claimed of the publication behind the last one that is known
+pub next_to_last : (p : Holdings) (number last : ℕ) → IsSound p → number < length p.known → slice_index p.known number ≡ last
+    → (hides p (number, last + 1) ≡ true → knows p (number, last + 1) ≡ true) → IsNew (raises number (last + 1) p) (number, last + 1)
+next_to_last p number last sound inside own hidden = record {
+  known = and_from (nat_le 1 seq) (nat_le seq (slice_index (slice_set p.known number (max (slice_index p.known number) seq)) number)) (le-leb 1 seq (omega arith)) (le-leb seq _ (omega (arith, at)));
+  not_held = λ x. false_from_ne_true (holds p (part_of (number, seq) x)) (λ h. past (asked_known_up_to p (part_of (number, seq) x) (sound.held (part_of (number, seq) x) h).asked));
+  not_hidden = false_from_ne_true (hides p (number, seq)) (λ h. past (known_up_to p (number, seq) (hidden h)));
+  not_claimed = λ x. false_from_ne_true (is_claimed p (part_of (number, seq) x)) (λ h.
+      let claim = any_claim (part_of (number, seq) x) p.claims h in
+      past (asked_known_up_to p (part_of (number, seq) x) (wanted_is_asked p (part_of (number, seq) x) (sound.claimed claim.0 (part_of (number, seq) x) claim.1))));
+} where
+  seq : ℕ
+  seq = last + 1
+
+  at : slice_index (slice_set p.known number (max (slice_index p.known number) seq)) number ≡ max (slice_index p.known number) seq
+  at = get_or-set_same p.known number (max (slice_index p.known number) seq) 0 inside
+
+  past : seq ≤ slice_index p.known number → ⊥
+  past h = omega (arith, own, h)
+
+-- such is a member's next publication
 pub next_is_new : (m : Inside) (plan after : Holdings) → IsMember m → IsSound m.plan → plan ≡ record m.plan { spare = plan.spare }
     → after ≡ raises m.number (length m.log.items + 1) plan → IsNew after (m.number, length m.log.items + 1)
 next_is_new m plan after is sound same raised =
-    subst (λ (p : Holdings). IsNew p (m.number, seq)) (sym (raised ∙ ap (raises m.number seq) same)) (record {
-      known = and_from (nat_le 1 seq) (nat_le seq (slice_index (slice_set m.plan.known m.number (max (slice_index m.plan.known m.number) seq)) m.number)) (le-leb 1 seq (omega arith)) (le-leb seq _ (omega (arith, at)));
-      not_held = λ x. false_from_ne_true (holds m.plan (part_of (m.number, seq) x)) (λ h. past (asked_known_up_to m.plan (part_of (m.number, seq) x) (sound.held (part_of (m.number, seq) x) h).asked));
-      not_hidden = false_from_ne_true (hides m.plan (m.number, seq)) (λ h. past_known (known_up_to (plan_of (alone m)) (m.number, seq) (is.alone.hidden (m.number, seq) h)));
-      not_claimed = λ x. false_from_ne_true (is_claimed m.plan (part_of (m.number, seq) x)) (λ h.
-          let claim = any_claim (part_of (m.number, seq) x) m.plan.claims h in
-          past (asked_known_up_to m.plan (part_of (m.number, seq) x) (wanted_is_asked m.plan (part_of (m.number, seq) x) (sound.claimed claim.0 (part_of (m.number, seq) x) claim.1))));
-    }) where
-      seq : ℕ
-      seq = length m.log.items + 1
-
-      own : slice_index m.plan.known m.number ≡ length m.log.items
-      own = ap (λ (known : List ℕ). slice_index known m.number) is.known ∙ is.alone.own
-
-      inside : m.number < length m.plan.known
-      inside = omega (arith, is.alone.member, ap (λ (known : List ℕ). length known) is.known)
-
-      at : slice_index (slice_set m.plan.known m.number (max (slice_index m.plan.known m.number) seq)) m.number ≡ max (slice_index m.plan.known m.number) seq
-      at = get_or-set_same m.plan.known m.number (max (slice_index m.plan.known m.number) seq) 0 inside
-
-      past : seq ≤ slice_index m.plan.known m.number → ⊥
-      past h = omega (arith, own, h)
-
-      past_known : seq ≤ slice_index m.vector m.number → ⊥
-      past_known h = omega (arith, is.alone.own, h)
+    let seq = length m.log.items + 1 in
+    let pair : Pair = (m.number, seq) in
+    let p : Holdings = record m.plan { spare = plan.spare } in
+    subst (λ (q : Holdings). IsNew q pair) (sym (raised ∙ ap (raises m.number seq) same))
+    (next_to_last p m.number (length m.log.items) (sound_room plan.spare m.plan sound)
+    (omega (arith, is.alone.member, ap (λ (known : List ℕ). length known) is.known))
+    (ap (λ (known : List ℕ). slice_index known m.number) is.known ∙ is.alone.own)
+    (λ h. ap (λ (known : List ℕ). nat_le 1 seq && nat_le seq (slice_index known m.number)) is.known ∙ is.alone.hidden pair h))
 
 -- ---- the member afterwards
 
@@ -150,6 +154,7 @@ module _ (m : Inside) (is : IsMember m) where
           member = omega (arith, number, wide, is.alone.member);
           own = omega (arith, here, at, own, more);
           width = members ∙ is.alone.width ∙ sym wide;
+          in_order = kept.tied.in_order;
           hidden = λ pair h. knows_more (plan_of (alone m)) (plan_of (alone next)) pair
               (λ p. subst (λ (v : List ℕ). slice_index m.vector p ≤ slice_index v p) (sym vector) (raised_at p))
               (is.alone.hidden pair (ap (λ (pairs : List Pair). hides (record m.plan { hidden = pairs }) pair) (sym hidden) ∙ h));
@@ -166,6 +171,7 @@ module _ (m : Inside) (is : IsMember m) where
       member = omega (arith, number, ap (λ (v : List ℕ). length v) vector, is.alone.member);
       own = ap (λ (v : List ℕ). slice_index v next.number) vector ∙ ap (slice_index m.vector) number ∙ is.alone.own ∙ sym (ap (λ l. length l) log);
       width = ap (λ (k : Keeper). k.members) machine ∙ is.alone.width ∙ sym (ap (λ (v : List ℕ). length v) vector);
+      in_order = kept.tied.in_order;
       hidden = λ pair h. ap (λ (v : List ℕ). nat_le 1 pair.1 && nat_le pair.1 (slice_index v pair.0)) vector
           ∙ is.alone.hidden pair (ap (λ (pairs : List Pair). hides (record m.plan { hidden = pairs }) pair) (sym hidden) ∙ h);
     };

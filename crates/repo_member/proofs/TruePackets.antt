@@ -1,11 +1,11 @@
 -- Packets that are those of what was published: what they list, and their contents.
-use Rattle.std.proofs.Common.{◌≡◌, inl, inr, ℕ, zero, suc, ◌+◌, ◌-◌, ◌^◌, ◌<◌, Bool, cond, List, [], ◌∷◌, length, get_or, Option, Some, Ok, slice_get, sym, ap, ◌∙◌, subst, arith}
+use Rattle.std.proofs.Common.{◌≡◌, inl, inr, ℕ, suc, ◌+◌, ◌-◌, ◌^◌, ◌<◌, Bool, cond, List, [], ◌∷◌, length, get_or, Option, Some, Ok, sym, ap, ◌∙◌, subst, arith}
 use Rattle.std.specs.Ordering.{is_eq}
 use Rattle.std.specs.declared.cmp.Ordering.{Ordering}
 use Rattle.std.proofs.lemmas.Bool.{cases_lt}
 use Rattle.std.proofs.lemmas.List.{length-map, get_or_past}
+use Rattle.std.proofs.lemmas.Option.{slice_get_within, get_or_from_slice_get}
 use Rattle.sha2.specs.Sha256.{sha256}
-use Rattle.ndn_name.specs.Names.{Component}
 use Rattle.ndn_data.specs.Data.{data_of}
 use Rattle.ndn_data.specs.WrittenData.{read_back}
 use Rattle.ndn_data.proofs.ReadBackLemmas.{data_again}
@@ -14,12 +14,13 @@ use Rattle.repo_plan.specs.Parts.{Pair}
 use Rattle.repo_plan.proofs.Orders.{Exact, less_back}
 use Rattle.repo_plan.proofs.Sets.{In, in_map, each_before, eq_itself}
 use Rattle.repo_object.specs.Objects.{NamedContents, IsContent, IsObject, Publisher, IsPublisher, key_name, segment_name}
-use Rattle.repo_object.specs.Publication.{segment_packet, segment_packets_from, published_segments, published_listing, record_packet, packet_at}
+use Rattle.repo_object.specs.Publication.{segment_packet, published_segments, published_listing, record_packet, packet_at}
 use Rattle.repo_object.specs.Verdict.{listing_in}
 use Rattle.repo_object.proofs.Sizes.{named_short}
 use Rattle.repo_object.proofs.NameLemmas.{IsName-number, IsName-key}
 use Rattle.repo_object.proofs.PacketSizes.{key_name-size, segment-size}
 use Rattle.repo_object.proofs.Publications.{packets-length, record_listed}
+use Rattle.repo_object.proofs.Packing.{segment_from}
 use Rattle.group_model.specs.Publications.{Logs, no_object, object_at, last_of}
 use Rattle.group_model.specs.Sound.{IsPublished}
 use Rattle.repo_member.specs.Groups.{GroupKeys, publisher_of}
@@ -53,37 +54,24 @@ module _ (publisher : Publisher) (seq : ℕ) (object : NamedContents) where
     record_lists octets low h =
         ap listing_in (sym (same_some (record_packet publisher seq (published_listing publisher object)) octets h)) ∙ record_listed publisher object is_publisher is_object seq low
 
--- the packet of a segment at a place
-module _ (keyed : List Component) (key : List ℕ) (name : List Component) (last : ℕ) where
-  segment_at : (i : ℕ) (contents : List (List ℕ)) (k : ℕ) (octets : List ℕ) → slice_get (segment_packets_from keyed key name last i contents) k ≡ Some octets
-      → (k < length contents) × (segment_packet keyed key name last (i + k) (get_or contents k []) ≡ octets)
-  unfolding segment_packets_from
-  segment_at i [] k octets h = absurd cc
-  segment_at i (content ∷ contents) zero octets h =
-      let here : i + 0 ≡ i = omega arith in
-      (omega arith, ap (λ (n : ℕ). segment_packet keyed key name last n content) here ∙ same_some (segment_packet keyed key name last i content) octets h)
-  segment_at i (content ∷ contents) (suc k) octets h =
-      let later : (k < length contents) × (segment_packet keyed key name last ((i + 1) + k) (get_or contents k []) ≡ octets) = segment_at (i + 1) contents k octets h in
-      let there : (i + 1) + k ≡ i + suc k = omega arith in
-      (omega (arith, later.0), ap (λ (n : ℕ). segment_packet keyed key name last n (get_or contents k [])) (sym there) ∙ later.1)
-
 -- the part behind it has the segment's content
 pub segment_content : (publisher : Publisher) (seq : ℕ) (object : NamedContents) (k : ℕ) (octets : List ℕ) → IsPublisher publisher → IsObject object → packet_at publisher seq object (suc k) ≡ Some octets
     → content_of octets ≡ get_or object.contents k []
 segment_content publisher seq object k octets is_publisher is_object h =
     let keyed = key_name publisher.node in
     let last = length object.contents - 1 in
-    let at : (k < length object.contents) × (segment_packet keyed publisher.key object.name last (0 + k) (get_or object.contents k []) ≡ octets) =
-    segment_at keyed publisher.key object.name last 0 object.contents k octets h in
-    let content = get_or object.contents k [] in
-    let is_content : IsContent content = is_object.contents k [] at.0 in
+    let at = segment_from keyed publisher.key object.name last 0 object.contents k octets h in
+    let content = at.0 in
+    let inside : k < length object.contents = slice_get_within object.contents k content at.1 in
+    let there : get_or object.contents k [] ≡ content = get_or_from_slice_get object.contents k content [] at.1 in
+    let is_content : IsContent content = subst IsContent there (is_object.contents k [] inside) in
     let same : 0 + k ≡ k = omega arith in
     let read : data_of (segment_packet keyed publisher.key object.name last k content) ≡ Ok (read_back (segment_name object.name k) (Some last) content keyed publisher.key) =
     data_again (segment_name object.name k) keyed (Some last) content publisher.key
-    (IsName-number object.name 0x32 k is_object.name (omega arith) (omega arith) (omega (arith, at.0, is_object.few)))
+    (IsName-number object.name 0x32 k is_object.name (omega arith) (omega arith) (omega (arith, inside, is_object.few)))
     (IsName-key publisher.node is_publisher.node.0)
-    (segment-size keyed publisher.key object.name last k content (key_name-size publisher.node is_publisher.node.1) (named_short object.name is_object.named) (omega (arith, is_object.few)) (omega (arith, at.0, is_object.few)) is_content.1) in
-    ap content_of (sym at.1 ∙ ap (λ (n : ℕ). segment_packet keyed publisher.key object.name last n content) same) ∙ ap content_read read
+    (segment-size keyed publisher.key object.name last k content (key_name-size publisher.node is_publisher.node.1) (named_short object.name is_object.named) (omega (arith, is_object.few)) (omega (arith, inside, is_object.few)) is_content.1) in
+    ap content_of (sym at.2 ∙ ap (λ (n : ℕ). segment_packet keyed publisher.key object.name last n content) same) ∙ ap content_read read ∙ sym there
 
 -- ---- what was published
 

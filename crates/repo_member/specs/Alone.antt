@@ -6,7 +6,7 @@ use Rattle.svs_sync.specs.KeptVector.{Keeper, steady_kept, hears_kept, fired_kep
 use Rattle.svs_sync.specs.Suppression.{periodic}
 use Rattle.repo_plan.specs.declared.part.Part.{Part}
 use Rattle.repo_plan.specs.Parts.{Pair, part_cmp, pair_of, part_of, numbers_from}
-use Rattle.repo_plan.specs.SortedList.{keys, value_of, with_value}
+use Rattle.repo_plan.specs.SortedList.{Rises, keys, value_of, with_value}
 use Rattle.repo_plan.specs.Plan.{Holdings, no_claims, knows, hides}
 use Rattle.repo_object.specs.Objects.{NamedContents, Publisher}
 use Rattle.repo_object.specs.Publication.{Listed, packets}
@@ -52,11 +52,13 @@ plan_of a = record {
   spare = 0;
 }
 
--- what holds of every member: it is one of its group, it knows all that it published, and what it hid is known
+-- what holds of every member: it is one of its group, it knows all that it published, it stores each part once, in order,
+-- and what it hid is known
 pub record IsAlone (a : Alone) : Type 0 where
   pub member : a.number < length a.known
   pub own : slice_index a.known a.number ≡ length a.log
   pub width : a.machine.members ≡ length a.known
+  pub in_order : Rises part_cmp (keys a.store)
   pub hidden : (pair : Pair) → hides (plan_of a) pair ≡ true → knows (plan_of a) pair ≡ true
 
 -- the group has as many members as the member knows of

@@ -37,3 +37,4 @@ pub mod Outcomes
 pub mod Members
 pub mod InGroup
 pub mod InEvents
+pub mod Calls

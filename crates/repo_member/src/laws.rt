@@ -1,5 +1,9 @@
-ghost use Rattle.repo_member.specs.InEvents.{PublishIsEvent, DeliverIsEvent, HearIsEvent, FireIsEvent, RestartIsEvent, ClaimIsEvent, LoseIsEvent, AnswerIsEvent, FeedIsEvent, FetchIsEvent, SettleIsEvent, OpenPartsAlike, CataloguesAlike};
+ghost use Rattle.repo_plan.specs.Sound.{IsSound};
+ghost use Rattle.repo_plan.specs.Calls.{ClaimsOnce};
+ghost use Rattle.repo_member.specs.Alone.{IsAlone, IsOf, plan_of};
 ghost use Rattle.repo_member.specs.InGroup.{BeginsAlike, PublishesAlike, HearsAlike, LearnsAlike, FiresAlike, ClaimsAlike, AcceptsAlike, TakesAlike, EndsClaimsAlike, ResetsAlike, RestartsAlike, SoundStoresTruly, PlansAlike, WantsAlike, ListsAlike, BeginsTruly, GrowsTruly, PublishesTruly, AcceptsTruly, TakesTruly, StaysTrue, LogsBegin, LogsGrow};
+ghost use Rattle.repo_member.specs.InEvents.{PublishIsEvent, DeliverIsEvent, HearIsEvent, FireIsEvent, RestartIsEvent, ClaimIsEvent, LoseIsEvent, AnswerIsEvent, FeedIsEvent, FetchIsEvent, SettleIsEvent, OpenPartsAlike, CataloguesAlike};
+ghost use Rattle.repo_member.specs.Calls.{LogsGoOn, PublicationsStay, LoggedPacketsStay, NumbersNeverFall, KnownIsTheJoin, InEveryMember, HeldPacketsStay, OthersPassed, OwnStored};
 
 /// A member by itself begins as its group has it, and each change of it is the group's change of that member.
 pub fn changes_are_the_groups()
@@ -57,4 +61,40 @@ pub fn calls_are_events()
     ensures settle { SettleIsEvent }
     ensures open_parts { OpenPartsAlike }
     ensures catalogue { CataloguesAlike }
+{}
+
+/// Whatever is called afterwards, a member's log has what it had as its front, a publication keeps its number, which is
+/// one more than how many there were, and the packets of its parts stay what they are.
+pub fn publications_last()
+    ensures log { LogsGoOn }
+    ensures numbers { PublicationsStay }
+    ensures packets { LoggedPacketsStay }
+{}
+
+/// No number that a member knows falls, whatever is called. What it knows is the join of what it knew and of the vectors
+/// that it was told and took; of itself it knows how many objects it published.
+pub fn vectors_only_rise()
+    ensures rise { NumbersNeverFall }
+    ensures join { KnownIsTheJoin }
+{}
+
+/// In every member that calls reach, no two fetchers claim one part, and what is claimed is wanted.
+pub fn claims_differ()
+    ensures { InEveryMember (λ g a. ClaimsOnce (plan_of a)) }
+{}
+
+/// In every member that calls reach, a stored packet of another publisher's part passes for the want that the member has of
+/// that part now, which for a segment is of what the stored record lists. Of its own parts it stores those that it
+/// published, as they were published. What is stored stays, whatever is called.
+pub fn held_parts_passed_their_checks()
+    ensures others { InEveryMember OthersPassed }
+    ensures own { InEveryMember OwnStored }
+    ensures stay { HeldPacketsStay }
+{}
+
+/// Every member that calls reach is one of its group, knows all that it published, and has a sound plan.
+pub fn calls_keep_members_sound()
+    ensures alone { InEveryMember (λ g a. IsAlone a) }
+    ensures group { InEveryMember IsOf }
+    ensures plan { InEveryMember (λ g a. IsSound (plan_of a)) }
 {}

@@ -22,6 +22,7 @@ use Rattle.repo_object.proofs.Sizes.{named_short}
 use Rattle.repo_object.proofs.NameLemmas.{IsName-number, IsName-key}
 use Rattle.repo_object.proofs.PacketSizes.{key_name-size, segment-size, record-size}
 use Rattle.repo_object.proofs.Written.{written_is_listed}
+use Rattle.repo_object.proofs.Packing.{segment_from}
 use Rattle.repo_object.proofs.Passing.{passing_is_ok}
 
 abbrev Short : List ℕ → Type 0
@@ -40,16 +41,6 @@ module _ (keyed : List Component) (key : List ℕ) (name : List Component) (last
   unfolding segment_packets_from
   segments-length i [] = refl
   segments-length i (content ∷ contents) = ap suc (segments-length (i + 1) contents)
-
-  -- the segment at a place
-  segment_at : (i : ℕ) (contents : List (List ℕ)) (k j : ℕ) (octets : List ℕ) → j ≡ i + k → slice_get (segment_packets_from keyed key name last i contents) k ≡ Some octets
-      → (content : List ℕ) × (slice_get contents k ≡ Some content) × (segment_packet keyed key name last j content ≡ octets)
-  unfolding segment_packets_from
-  segment_at i [] k j octets e h = absurd cc
-  segment_at i (content ∷ contents) zero j octets e h =
-      let here : j ≡ i = omega arith in
-      (content, refl, ap (λ (n : ℕ). segment_packet keyed key name last n content) here ∙ some_is (segment_packet keyed key name last i content) octets h)
-  segment_at i (content ∷ contents) (suc k) j octets e h = segment_at (i + 1) contents k j octets (omega arith) h
 
   segments_fit : (i : ℕ) (contents : List (List ℕ)) → length (encoding keyed) ≤ 205 → length (encoding name) ≤ 400 → last < 256 → i + length contents ≤ 256 → All IsContent contents
       → All Short (segment_packets_from keyed key name last i contents)
@@ -139,8 +130,10 @@ module _ (publisher : Publisher) (object : NamedContents) (is_publisher : IsPubl
       let k = part.part - 1 in
       let segments = published_segments publisher object in
       let at = behind_first part.part (record_packet publisher part.seq (published_listing publisher object)) octets segments above h in
-      let s = segment_at keyed publisher.key object.name last 0 object.contents k k octets (omega arith) at in
+      let s = segment_from keyed publisher.key object.name last 0 object.contents k octets at in
       let content = s.0 in
+      let from_first : k ≡ 0 + k = omega arith in
+      let is : segment_packet keyed publisher.key object.name last k content ≡ octets = ap (λ (n : ℕ). segment_packet keyed publisher.key object.name last n content) from_first ∙ s.2 in
       let in_range = slice_get_within object.contents k content s.1 in
       let low : k < 2 ^ 8 = omega (arith, in_range, is_object.few) in
       let low_last : last < 2 ^ 8 = omega (arith, is_object.few) in
@@ -150,7 +143,7 @@ module _ (publisher : Publisher) (object : NamedContents) (is_publisher : IsPubl
       let digest : slice_get (map sha256 segments) k ≡ Some (sha256 octets) = slice_get-map sha256 segments k ∙ ap (option_map sha256) at in
       let P : Option (List ℕ) → Type 0 = λ o. IfSome o (λ d. sha256 octets ≡ d) in
       passing_is_ok (want_segment part (published_listing publisher object)) (encoding keyed) publisher.key octets (read_back (segment_name object.name k) (Some last) content keyed publisher.key) (record {
-        read = ap data_of (sym s.2) ∙ read;
+        read = ap data_of (sym is) ∙ read;
         all_signed = refl;
         name = refl;
         digest = subst P (sym digest) refl;

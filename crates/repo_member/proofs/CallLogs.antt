@@ -1,0 +1,135 @@
+-- What calls make of a member's log.
+use Rattle.std.proofs.Common.{◌≡◌, ℕ, zero, suc, ◌-◌, Bool, true, false, cond, ◌==◌, List, [], ◌∷◌, ◌++◌, length, take, length-append, append_assoc, append-nil, Option, Some, None, Result, Ok, Err, slice_get, refl, sym, ap, ◌∙◌, arith}
+use Rattle.std.specs.Prelude.{nat_lt}
+use Rattle.std.specs.Option.{option_and_then}
+use Rattle.std.proofs.lemmas.Bool.{lt-ltb}
+use Rattle.std.proofs.lemmas.List.{take_at}
+use Rattle.repo_plan.specs.declared.part.Part.{Part}
+use Rattle.repo_plan.specs.Plan.{claim_of}
+use Rattle.repo_object.specs.Objects.{NamedContents}
+use Rattle.repo_member.specs.declared.refusals.HearRefusal.{HearRefusal}
+use Rattle.repo_member.specs.declared.refusals.AcceptRefusal.{AcceptRefusal}
+use Rattle.repo_member.specs.Groups.{GroupKeys, publisher_of}
+use Rattle.repo_member.specs.Records.{Packet}
+use Rattle.repo_member.specs.Alone.{Alone, Fetched, plan_of, publishes, packet_in, logged, takes, with_fetched, with_tries}
+use Rattle.repo_member.specs.Verdicts.{hear_verdict, accept_verdict}
+use Rattle.repo_member.specs.Outcomes.{fetched}
+use Rattle.repo_member.specs.Calls.{Call, Publish, Hear, JoinFrom, Fire, Claim, Lose, Accept, TakeOutcome, EndClaims, Reset, Restart, after_hear, after_join, after_claim, after_lose, after_accept, after_call, after_calls, LogsGoOn, PublicationsStay, LoggedPacketsStay}
+
+-- an outcome changes what is stored and tried alone
+pub takes_same : {A : Type 0} (f : Alone → A) → ((a : Alone) (store : List Packet) (attempts : List (Part × ℕ)) → f (record a { store = store; attempts = attempts }) ≡ f a)
+    → (xs : List Fetched) (a : Alone) → f (takes xs a) ≡ f a
+takes_same f h [] a = refl
+takes_same f h (x ∷ xs) a =
+    let store = with_fetched x.part x.packet a.store in
+    let attempts = with_tries x.part x.attempts a.attempts in
+    takes_same f h xs (record a { store = store; attempts = attempts }) ∙ h a store attempts
+
+-- ---- objects behind others
+
+-- the same member, with these objects behind those that it published
+pub record HasMore (old new : Alone) : Type 0 where
+  pub number : new.number ≡ old.number
+  pub more : List NamedContents
+  pub log : new.log ≡ old.log ++ more
+
+nothing_more : (old new : Alone) → new.number ≡ old.number → new.log ≡ old.log → HasMore old new
+nothing_more old new number log = record { number = number; more = []; log = log ∙ sym (append-nil old.log) }
+
+more_after : (g : GroupKeys) (call : Call) (a : Alone) → HasMore a (after_call g call a)
+more_after g (Publish object moment draw) a = go (nat_lt (length a.log) 65535) where
+  go : (b : Bool) → HasMore a (cond b (publishes g object moment draw a) a)
+  go true = record { number = refl; more = object ∷ []; log = refl }
+  go false = nothing_more a a refl refl
+more_after g (Hear octets moment draw) a = go (hear_verdict g a octets) where
+  go : (r : Result (List ℕ) HearRefusal) → HasMore a (after_hear moment draw a r)
+  go (Ok told) = nothing_more a (after_hear moment draw a (Ok told)) refl refl
+  go (Err refusal) = nothing_more a a refl refl
+more_after g (JoinFrom octets) a = go (hear_verdict g a octets) where
+  go : (r : Result (List ℕ) HearRefusal) → HasMore a (after_join a r)
+  go (Ok told) = nothing_more a (after_join a (Ok told)) refl refl
+  go (Err refusal) = nothing_more a a refl refl
+more_after g (Fire moment draw) a = nothing_more a (after_call g (Fire moment draw) a) refl refl
+more_after g (Claim f) a = go (claim_of (plan_of a) f) where
+  go : (claim : Option Part) → HasMore a (after_claim f a claim)
+  go None = nothing_more a (after_claim f a None) refl refl
+  go (Some t) = nothing_more a a refl refl
+more_after g (Lose f) a = go (claim_of (plan_of a) f) where
+  go : (claim : Option Part) → HasMore a (after_lose f a claim)
+  go None = nothing_more a a refl refl
+  go (Some t) = nothing_more a (after_lose f a (Some t)) refl refl
+more_after g (Accept f octets) a = go (accept_verdict g a f octets) where
+  go : (r : Result Part AcceptRefusal) → HasMore a (after_accept f octets a r)
+  go (Ok t) = nothing_more a (after_accept f octets a (Ok t)) refl refl
+  go (Err refusal) = nothing_more a a refl refl
+more_after g (TakeOutcome jobs parts attempts) a =
+    let xs = fetched jobs parts attempts in
+    nothing_more a (takes xs a) (takes_same (λ b. b.number) (λ b s t. refl) xs a) (takes_same (λ b. b.log) (λ b s t. refl) xs a)
+more_after g EndClaims a = nothing_more a (after_call g EndClaims a) refl refl
+more_after g (Reset moment draw) a = nothing_more a (after_call g (Reset moment draw) a) refl refl
+more_after g (Restart moment draw) a = nothing_more a (after_call g (Restart moment draw) a) refl refl
+
+pub more_after_all : (g : GroupKeys) (calls : List Call) (a : Alone) → HasMore a (after_calls g calls a)
+more_after_all g [] a = nothing_more a a refl refl
+more_after_all g (call ∷ calls) a =
+    let one = more_after g call a in
+    let others = more_after_all g calls (after_call g call a) in
+    record {
+      number = others.number ∙ one.number;
+      more = one.more ++ others.more;
+      log = others.log ∙ ap (λ (log : List NamedContents). log ++ others.more) one.log ∙ append_assoc a.log one.more others.more;
+    }
+
+-- ---- the laws
+
+pub logs_go_on : LogsGoOn
+logs_go_on g calls a =
+    let grown = more_after_all g calls a in
+    let long = ap (λ (log : List NamedContents). length log) grown.log in
+    record {
+      front = ap (λ (log : List NamedContents). take (length a.log) log) grown.log ∙ take_at a.log grown.more (length a.log) refl;
+      longer = omega (arith, long, length-append a.log grown.more);
+    }
+
+-- what stands in a list's front
+at_front : {A : Type 0} (xs ys : List A) (i : ℕ) (x : A) → slice_get xs i ≡ Some x → slice_get (xs ++ ys) i ≡ Some x
+at_front [] ys i x h = absurd cc
+at_front (y ∷ xs) ys zero x h = h
+at_front (y ∷ xs) ys (suc i) x h = at_front xs ys i x h
+
+pub at_end : {A : Type 0} (xs : List A) (x : A) → slice_get (xs ++ x ∷ []) (length xs) ≡ Some x
+at_end [] x = refl
+at_end (y ∷ xs) x = at_end xs x
+
+pub publications_stay : PublicationsStay
+publications_stay g object moment draw calls a room =
+    let next : Alone = publishes g object moment draw a in
+    let grown = more_after_all g calls next in
+    ap (λ (b : Bool). slice_get (after_calls g calls (cond b next a)).log (length a.log)) (lt-ltb (length a.log) 65535 room)
+    ∙ ap (λ (log : List NamedContents). slice_get log (length a.log)) grown.log
+    ∙ at_front (a.log ++ object ∷ []) grown.more (length a.log) object (at_end a.log object)
+
+-- the packet of a part of the publications of a log
+abbrev packet_logged : GroupKeys → ℕ → List NamedContents → Part → Option (List ℕ)
+packet_logged g number log t =
+    cond (t.publisher == number) (cond (t.seq == 0) None (option_and_then (packet_in (publisher_of g number) t) (slice_get log (t.seq - 1)))) None
+
+logged_on : (g : GroupKeys) (number : ℕ) (log more : List NamedContents) (t : Part) (octets : List ℕ) → packet_logged g number log t ≡ Some octets → packet_logged g number (log ++ more) t ≡ Some octets
+logged_on g number log more t octets = own (t.publisher == number) (t.seq == 0) where
+  own : (b c : Bool) → cond b (cond c None (option_and_then (packet_in (publisher_of g number) t) (slice_get log (t.seq - 1)))) None ≡ Some octets
+      → cond b (cond c None (option_and_then (packet_in (publisher_of g number) t) (slice_get (log ++ more) (t.seq - 1)))) None ≡ Some octets
+  own false c h = absurd cc
+  own true true h = absurd cc
+  own true false h = at (slice_get log (t.seq - 1)) refl h where
+    at : (o : Option NamedContents) → slice_get log (t.seq - 1) ≡ o → option_and_then (packet_in (publisher_of g number) t) o ≡ Some octets
+        → option_and_then (packet_in (publisher_of g number) t) (slice_get (log ++ more) (t.seq - 1)) ≡ Some octets
+    at None p q = absurd cc
+    at (Some object) p q = ap (option_and_then (packet_in (publisher_of g number) t)) (at_front log more (t.seq - 1) object p) ∙ q
+
+pub logged_with_more : (g : GroupKeys) (a b : Alone) (t : Part) (octets : List ℕ) → HasMore a b → logged g a t ≡ Some octets → logged g b t ≡ Some octets
+logged_with_more g a b t octets grown h =
+    ap (λ (number : ℕ). packet_logged g number b.log t) grown.number ∙ ap (λ (log : List NamedContents). packet_logged g a.number log t) grown.log
+    ∙ logged_on g a.number a.log grown.more t octets h
+
+pub logged_packets_stay : LoggedPacketsStay
+logged_packets_stay g calls a t octets h = logged_with_more g a (after_calls g calls a) t octets (more_after_all g calls a) h

@@ -1,0 +1,200 @@
+-- What calls make of the numbers that a member knows.
+use Rattle.std.proofs.Common.{◌≡◌, inl, inr, ℕ, zero, suc, ◌+◌, ◌<◌, ◌≤◌, max, Bool, true, false, cond, List, [], ◌∷◌, ◌++◌, length, Option, Some, None, Result, Ok, Err, refl, sym, ap, ◌∙◌, arith}
+use Rattle.std.specs.Prelude.{nat_lt, slice_index, slice_set}
+use Rattle.std.proofs.lemmas.Bool.{cases_eq, ltb-false}
+use Rattle.std.proofs.lemmas.List.{length-set, length_push, set-get_or, get_or-set_same, get_or-set_other}
+use Rattle.svs_vector.specs.Vectors.{join, join_all}
+use Rattle.svs_vector.proofs.JoinLemmas.{join-[], join_assoc, join-at}
+use Rattle.svs_sync.specs.declared.sync_refusal.SyncRefusal.{SyncRefusal}
+use Rattle.svs_sync.specs.SyncInterest.{sync_verdict}
+use Rattle.repo_plan.specs.declared.part.Part.{Part}
+use Rattle.repo_plan.specs.Plan.{claim_of}
+use Rattle.repo_object.specs.Objects.{NamedContents}
+use Rattle.repo_member.specs.declared.refusals.HearRefusal.{HearRefusal}
+use Rattle.repo_member.specs.declared.refusals.HearRefusal.TheVariants.{OwnNumberAhead}
+use Rattle.repo_member.specs.declared.refusals.AcceptRefusal.{AcceptRefusal}
+use Rattle.repo_member.specs.Groups.{GroupKeys}
+use Rattle.repo_member.specs.Alone.{Alone, plan_of, publishes, takes}
+use Rattle.repo_member.specs.Verdicts.{told_verdict, hear_verdict, accept_verdict}
+use Rattle.repo_member.specs.Outcomes.{fetched}
+use Rattle.repo_member.specs.Calls.{Call, Publish, Hear, JoinFrom, Fire, Claim, Lose, Accept, TakeOutcome, EndClaims, Reset, Restart, after_hear, after_join, after_claim, after_lose, after_accept, after_call, after_calls, vector_told, vector_of_call, vectors_told, NumbersNeverFall, KnownIsTheJoin}
+use Rattle.repo_member.proofs.CallLogs.{takes_same}
+
+-- ---- what octets tell
+
+-- a vector that is taken: it was told, and tells of no more publications of the member than it made
+pub record IsTold (g : GroupKeys) (a : Alone) (octets told : List ℕ) : Type 0 where
+  pub signer : ℕ
+  pub verdict : sync_verdict g.name g.members.names g.members.ring octets ≡ Ok (signer, told)
+  pub not_ahead : slice_index told a.number ≤ length a.log
+
+is_ok_told : (x y : List ℕ) → (let r : Result (List ℕ) HearRefusal = Ok x in r) ≡ Ok y → x ≡ y
+is_ok_told x y h = cc
+
+pub told_is : (g : GroupKeys) (a : Alone) (octets told : List ℕ) → hear_verdict g a octets ≡ Ok told → IsTold g a octets told
+told_is g a octets told h = go (sync_verdict g.name g.members.names g.members.ring octets) refl h where
+  go : (r : Result (ℕ × List ℕ) SyncRefusal) → sync_verdict g.name g.members.names g.members.ring octets ≡ r → told_verdict a r ≡ Ok told → IsTold g a octets told
+  go (Err refusal) p q = absurd cc
+  go (Ok sync) p q = within (nat_lt (length a.log) (slice_index sync.1 a.number)) refl q where
+    within : (b : Bool) → nat_lt (length a.log) (slice_index sync.1 a.number) ≡ b
+        → cond b (Err (OwnNumberAhead (length a.log) (slice_index sync.1 a.number))) (Ok sync.1) ≡ Ok told → IsTold g a octets told
+    within true n k = absurd cc
+    within false n k =
+        let same : sync.1 ≡ told = is_ok_told sync.1 told k in
+        record {
+          signer = sync.0;
+          verdict = p ∙ ap (λ (v : List ℕ). Ok (sync.0, v)) same;
+          not_ahead = omega (arith, ltb-false (length a.log) (slice_index sync.1 a.number) n, ap (λ (v : List ℕ). slice_index v a.number) same);
+        }
+
+-- ---- the number of an own publication
+
+-- a member that knows all that it published
+pub record KnowsOwn (a : Alone) : Type 0 where
+  pub member : a.number < length a.known
+  pub own : slice_index a.known a.number ≡ length a.log
+
+long_join : (v w : List ℕ) → length v ≤ length (join v w)
+unfolding join
+long_join [] w = omega arith
+long_join (n ∷ v) [] = omega arith
+long_join (n ∷ v) (m ∷ w) = omega (arith, long_join v w)
+
+-- two numbers that are put into one place, and a vector that is joined between
+set_joined : (v w : List ℕ) (i n m : ℕ) → i < length v → slice_set (join (slice_set v i n) w) i m ≡ slice_set (join v w) i m
+unfolding join
+set_joined [] w i n m h = absurd (omega arith)
+set_joined (x ∷ v) [] zero n m h = refl
+set_joined (x ∷ v) [] (suc i) n m h = ap (λ (u : List ℕ). x ∷ u) (ap (λ (u : List ℕ). slice_set u i m) (sym (join-[] (slice_set v i n))) ∙ set_joined v [] i n m (omega arith) ∙ ap (λ (u : List ℕ). slice_set u i m) (join-[] v))
+set_joined (x ∷ v) (y ∷ w) zero n m h = refl
+set_joined (x ∷ v) (y ∷ w) (suc i) n m h = ap (λ (u : List ℕ). max x y ∷ u) (set_joined v w i n m (omega arith))
+
+-- ---- a call
+
+-- from one member to another by a call: what it knew is joined with what it was told, but for its own number
+record Learns (told : List (List ℕ)) (old new : Alone) : Type 0 where
+  number : new.number ≡ old.number
+  knows : KnowsOwn new
+  rises : (p : ℕ) → slice_index old.known p ≤ slice_index new.known p
+  joined : (others : List ℕ) (n : ℕ) → slice_set (join new.known others) old.number n ≡ slice_set (join old.known (join (join_all told) others)) old.number n
+
+learns_nothing : (old new : Alone) → new.number ≡ old.number → new.known ≡ old.known → new.log ≡ old.log → KnowsOwn old → Learns [] old new
+unfolding join_all join
+learns_nothing old new number known log is = record {
+  number = number;
+  knows = record {
+    member = omega (arith, number, ap (λ (v : List ℕ). length v) known, is.member);
+    own = ap (λ (v : List ℕ). slice_index v new.number) known ∙ ap (slice_index old.known) number ∙ is.own ∙ sym (ap (λ (l : List NamedContents). length l) log);
+  };
+  rises = λ p. omega (arith, ap (λ (v : List ℕ). slice_index v p) known);
+  joined = λ others n. ap (λ (v : List ℕ). slice_set (join v others) old.number n) known;
+}
+
+learns_vector : (g : GroupKeys) (octets told : List ℕ) (old new : Alone) → hear_verdict g old octets ≡ Ok told → new.number ≡ old.number → new.known ≡ join old.known told → new.log ≡ old.log → KnowsOwn old
+    → Learns (told ∷ []) old new
+unfolding join_all
+learns_vector g octets told old new verdict number known log is =
+    let few = (told_is g old octets told verdict).not_ahead in
+    let at = join-at old.known told in
+    let lasting = ap (λ (l : List NamedContents). length l) log in
+    record {
+      number = number;
+      knows = record {
+        member = omega (arith, number, ap (λ (v : List ℕ). length v) known, is.member, long_join old.known told);
+        own = ap (λ (v : List ℕ). slice_index v new.number) known ∙ ap (slice_index (join old.known told)) number ∙ at old.number ∙ omega (arith, is.own, few, lasting);
+      };
+      rises = λ p. omega (arith, ap (λ (v : List ℕ). slice_index v p) known, at p);
+      joined = λ others n.
+          ap (λ (v : List ℕ). slice_set (join v others) old.number n) known
+          ∙ ap (λ (v : List ℕ). slice_set v old.number n) (join_assoc old.known told others)
+          ∙ ap (λ (v : List ℕ). slice_set (join old.known (join v others)) old.number n) (sym (join-[] told));
+    }
+
+learns_own : (object : NamedContents) (old new : Alone) → new.number ≡ old.number → new.known ≡ slice_set old.known old.number (length old.log + 1) → new.log ≡ old.log ++ object ∷ [] → KnowsOwn old → Learns [] old new
+unfolding join_all join
+learns_own object old new number known log is =
+    let at = get_or-set_same old.known old.number (length old.log + 1) 0 is.member in
+    let longer = ap (λ (l : List NamedContents). length l) log ∙ length_push old.log object in
+    record {
+      number = number;
+      knows = record {
+        member = omega (arith, number, ap (λ (v : List ℕ). length v) known, length-set old.known old.number (length old.log + 1), is.member);
+        own = ap (λ (v : List ℕ). slice_index v new.number) known ∙ ap (slice_index (slice_set old.known old.number (length old.log + 1))) number ∙ at ∙ omega (arith, longer);
+      };
+      rises = λ p. elim (cases_eq p old.number) [
+        | inl here ↦ omega (arith, ap (λ (v : List ℕ). slice_index v p) known, ap (slice_index (slice_set old.known old.number (length old.log + 1))) here, at, is.own, ap (slice_index old.known) here)
+        | inr other ↦ omega (arith, ap (λ (v : List ℕ). slice_index v p) known, get_or-set_other old.known old.number p (length old.log + 1) 0 other)
+      ];
+      joined = λ others n.
+          ap (λ (v : List ℕ). slice_set (join v others) old.number n) known
+          ∙ set_joined old.known others old.number (length old.log + 1) n is.member;
+    }
+
+learns_by : (g : GroupKeys) (call : Call) (a : Alone) → KnowsOwn a → Learns (vector_of_call g a call) a (after_call g call a)
+learns_by g (Publish object moment draw) a is = go (nat_lt (length a.log) 65535) where
+  go : (b : Bool) → Learns [] a (cond b (publishes g object moment draw a) a)
+  go true = learns_own object a (publishes g object moment draw a) refl refl refl is
+  go false = learns_nothing a a refl refl refl is
+learns_by g (Hear octets moment draw) a is = go (hear_verdict g a octets) refl where
+  go : (r : Result (List ℕ) HearRefusal) → hear_verdict g a octets ≡ r → Learns (vector_told r) a (after_hear moment draw a r)
+  go (Ok told) p = learns_vector g octets told a (after_hear moment draw a (Ok told)) p refl refl refl is
+  go (Err refusal) p = learns_nothing a a refl refl refl is
+learns_by g (JoinFrom octets) a is = go (hear_verdict g a octets) refl where
+  go : (r : Result (List ℕ) HearRefusal) → hear_verdict g a octets ≡ r → Learns (vector_told r) a (after_join a r)
+  go (Ok told) p = learns_vector g octets told a (after_join a (Ok told)) p refl refl refl is
+  go (Err refusal) p = learns_nothing a a refl refl refl is
+learns_by g (Fire moment draw) a is = learns_nothing a (after_call g (Fire moment draw) a) refl refl refl is
+learns_by g (Claim f) a is = go (claim_of (plan_of a) f) where
+  go : (claim : Option Part) → Learns [] a (after_claim f a claim)
+  go None = learns_nothing a (after_claim f a None) refl refl refl is
+  go (Some t) = learns_nothing a a refl refl refl is
+learns_by g (Lose f) a is = go (claim_of (plan_of a) f) where
+  go : (claim : Option Part) → Learns [] a (after_lose f a claim)
+  go None = learns_nothing a a refl refl refl is
+  go (Some t) = learns_nothing a (after_lose f a (Some t)) refl refl refl is
+learns_by g (Accept f octets) a is = go (accept_verdict g a f octets) where
+  go : (r : Result Part AcceptRefusal) → Learns [] a (after_accept f octets a r)
+  go (Ok t) = learns_nothing a (after_accept f octets a (Ok t)) refl refl refl is
+  go (Err refusal) = learns_nothing a a refl refl refl is
+learns_by g (TakeOutcome jobs parts attempts) a is =
+    let xs = fetched jobs parts attempts in
+    learns_nothing a (takes xs a) (takes_same (λ b. b.number) (λ b s t. refl) xs a) (takes_same (λ b. b.known) (λ b s t. refl) xs a) (takes_same (λ b. b.log) (λ b s t. refl) xs a) is
+learns_by g EndClaims a is = learns_nothing a (after_call g EndClaims a) refl refl refl is
+learns_by g (Reset moment draw) a is = learns_nothing a (after_call g (Reset moment draw) a) refl refl refl is
+learns_by g (Restart moment draw) a is = learns_nothing a (after_call g (Restart moment draw) a) refl refl refl is
+
+-- ---- the laws
+
+rises_by_all : (g : GroupKeys) (calls : List Call) (a : Alone) (p : ℕ) → KnowsOwn a → slice_index a.known p ≤ slice_index (after_calls g calls a).known p
+rises_by_all g [] a p is = omega arith
+rises_by_all g (call ∷ calls) a p is =
+    let one = learns_by g call a is in
+    omega (arith, one.rises p, rises_by_all g calls (after_call g call a) p one.knows)
+
+pub numbers_never_fall : NumbersNeverFall
+numbers_never_fall g calls a p is = rises_by_all g calls a p (record { member = is.member; own = is.own })
+
+join_all-append : (vs ws : List (List ℕ)) → join_all (vs ++ ws) ≡ join (join_all vs) (join_all ws)
+unfolding join_all join
+join_all-append [] ws = refl
+join_all-append (v ∷ vs) ws = ap (join v) (join_all-append vs ws) ∙ sym (join_assoc v (join_all vs) (join_all ws))
+
+known_by_all : (g : GroupKeys) (calls : List Call) (a : Alone) → KnowsOwn a
+    → (after_calls g calls a).known ≡ slice_set (join a.known (join_all (vectors_told g calls a))) a.number (length (after_calls g calls a).log)
+unfolding join_all
+known_by_all g [] a is =
+    sym (ap (λ (v : List ℕ). slice_set v a.number (length a.log)) (join-[] a.known) ∙ ap (slice_set a.known a.number) (sym is.own) ∙ set-get_or a.known a.number 0)
+known_by_all g (call ∷ calls) a is =
+    let next = after_call g call a in
+    let one = learns_by g call a is in
+    let told = vector_of_call g a call in
+    let others = vectors_told g calls next in
+    let last = length (after_calls g calls next).log in
+    known_by_all g calls next one.knows
+    ∙ ap (λ (i : ℕ). slice_set (join next.known (join_all others)) i last) one.number
+    ∙ one.joined (join_all others) last
+    ∙ ap (λ (v : List ℕ). slice_set (join a.known v) a.number last) (sym (join_all-append told others))
+
+pub known_is_the_join : KnownIsTheJoin
+unfolding join_all
+known_is_the_join g calls a is = known_by_all g calls a (record { member = is.member; own = is.own })
