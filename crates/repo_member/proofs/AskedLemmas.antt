@@ -1,16 +1,15 @@
 -- What a part that a member asks for tells of what is stored.
-use Rattle.std.proofs.Common.{◌≡◌, ◌⊎◌, inl, inr, ℕ, List, ◌≤◌, ◌<◌, Bool, true, false, cond, ◌||◌, ◌&&◌, ◌==◌, refl, sym, ap, ◌∙◌, subst, Option, Some, None, option_map, is_some, length, arith}
+use Rattle.std.proofs.Common.{◌≡◌, inl, inr, List, ◌≤◌, ◌<◌, true, false, ◌&&◌, ◌==◌, refl, sym, ap, ◌∙◌, subst, Option, Some, None, option_map, length, arith}
 use Rattle.std.specs.Prelude.{nat_le, slice_index}
 use Rattle.std.proofs.lemmas.Bool.{true≢false, and_parts, or_cases, leb-true, cases_lt}
 use Rattle.std.proofs.lemmas.List.{get_or_past}
 use Rattle.repo_plan.specs.declared.part.Part.{Part}
-use Rattle.repo_plan.specs.SortedList.{keys, Rises, contains, value_of}
-use Rattle.repo_plan.specs.Parts.{Shape, pair_cmp, part_cmp, pair_of, part_of, parts_behind, parent}
+use Rattle.repo_plan.specs.SortedList.{contains, value_of}
+use Rattle.repo_plan.specs.Parts.{Shape, pair_cmp, part_cmp, pair_of, parent}
 use Rattle.repo_plan.specs.Plan.{Holdings, can_be_asked, is_asked, knows, shape_of}
 use Rattle.repo_object.specs.Publication.{Listed}
 use Rattle.repo_member.specs.Records.{Packet}
-use Rattle.repo_member.specs.Listed.{listing_at, shape, shapes_in}
-use Rattle.repo_member.specs.Alone.{Alone, plan_of}
+use Rattle.repo_member.specs.Listed.{listing_at, shape}
 use Rattle.repo_member.specs.Holding.{AreTied}
 use Rattle.repo_member.proofs.CatalogueLemmas.{shapes_value}
 

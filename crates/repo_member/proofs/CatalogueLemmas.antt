@@ -1,5 +1,5 @@
 -- The catalogue of stored packets after one publication changed.
-use Rattle.std.proofs.Common.{◌≡◌, ℕ, ◌+◌, Bool, true, false, cond, List, [], ◌∷◌, map, refl, sym, ap, ◌∙◌, subst, Option, Some, None, option_map, is_some, unwrap_or, length}
+use Rattle.std.proofs.Common.{◌≡◌, ℕ, Bool, true, false, cond, List, [], ◌∷◌, map, refl, sym, ap, ◌∙◌, Option, Some, None, option_map, is_some, unwrap_or, length}
 use Rattle.std.specs.List.{flat_map, list_all}
 use Rattle.std.specs.Option.{option_and_then}
 use Rattle.std.specs.Ordering.{eq_by_cmp, is_eq}
@@ -7,7 +7,7 @@ use Rattle.std.specs.declared.cmp.Ordering.{Ordering}
 use Rattle.std.specs.declared.cmp.Ordering.TheVariants.{Less, Equal, Greater}
 use Rattle.sha2.specs.Sha256.{sha256}
 use Rattle.repo_plan.specs.SortedList.{by_order, keys, Rises, value_of, with_value}
-use Rattle.repo_plan.specs.Parts.{Pair, pair_cmp, part_cmp, part_of, numbers_from}
+use Rattle.repo_plan.specs.Parts.{Pair, pair_cmp, part_cmp, numbers_from}
 use Rattle.repo_plan.proofs.Orders.{exact_pairs}
 use Rattle.repo_plan.proofs.Sets.{eq_same, rises_with_value, value_of-with_value}
 use Rattle.repo_object.specs.Publication.{Listed}

@@ -1,5 +1,5 @@
 -- The contents of a publication's segments, one after another.
-use Rattle.std.proofs.Common.{Bor, Option, Some, None, option_map, unwrap_or, ◌≡◌, ℕ, ◌+◌, ◌*◌, ◌≤◌, List, [], ◌∷◌, ◌++◌, length, length-append, refl, sym, ap, ◌∙◌, zero, suc, add-one, append_assoc, arith}
+use Rattle.std.proofs.Common.{Bor, Option, Some, None, option_map, unwrap_or, ◌≡◌, ℕ, ◌+◌, List, [], ◌∷◌, ◌++◌, refl, sym, ap, ◌∙◌, zero, suc, add-one, append_assoc, arith}
 use Rattle.std.specs.List.{flat_map}
 use Rattle.repo_plan.specs.Parts.{Pair, numbers_from}
 use Rattle.repo_member.specs.Records.{Packet}

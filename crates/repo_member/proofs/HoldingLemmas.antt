@@ -1,10 +1,9 @@
 -- A part that is gained: what is stored, what the plan holds and knows, and what becomes whole.
-use Rattle.std.proofs.Common.{◌≡◌, ℕ, ◌+◌, ◌≤◌, ◌<◌, Bool, true, false, cond, not, ◌&&◌, ◌||◌, ◌==◌, List, [], ◌∷◌, map, refl, sym, ap, ◌∙◌, subst, Option, Some, None, option_map, is_some, add-one, arith}
+use Rattle.std.proofs.Common.{◌≡◌, ℕ, ◌+◌, Bool, true, false, cond, ◌&&◌, ◌||◌, ◌==◌, List, [], ◌∷◌, map, refl, sym, ap, ◌∙◌, subst, Option, Some, None, option_map, is_some, add-one}
 use Rattle.std.proofs.lemmas.Bool.{true≢false, eqb-true}
-use Rattle.std.specs.List.{list_all, list_any}
+use Rattle.std.specs.List.{list_all}
 use Rattle.std.specs.Option.{option_and_then}
-use Rattle.std.specs.Ordering.{eq_by_cmp, is_eq}
-use Rattle.std.specs.declared.cmp.Ordering.{Ordering}
+use Rattle.std.specs.Ordering.{eq_by_cmp}
 use Rattle.repo_plan.specs.declared.part.Part.{Part}
 use Rattle.repo_plan.specs.SortedList.{keys, Rises, contains, value_of, with_value, insert_key}
 use Rattle.repo_plan.specs.Parts.{Pair, Shape, pair_cmp, part_cmp, pair_of, part_of, numbers_from, parts_of, parts_told}
@@ -14,13 +13,11 @@ use Rattle.repo_plan.proofs.Sets.{eq_same, eq_itself, keys-with_value, rises_wit
 use Rattle.repo_object.specs.Publication.{Listed}
 use Rattle.repo_object.specs.Verdict.{listing_in}
 use Rattle.repo_store.specs.StoreList.{with_packet}
-use Rattle.repo_catalog.specs.declared.entry.Entry.{Entry}
-use Rattle.repo_member.specs.Records.{Packet, records_in}
-use Rattle.repo_member.specs.Listed.{listing_at, stored_at, shape, shapes_in, are_stored, entry_at, entry_listed, catalogue_alone}
+use Rattle.repo_member.specs.Records.{Packet}
+use Rattle.repo_member.specs.Listed.{listing_at, stored_at, shape, shapes_in, are_stored, entry_at, entry_listed}
 use Rattle.repo_member.specs.Holding.{AreTied, KeepsOthers, told_shape, listing_told}
 use Rattle.repo_member.proofs.SortedMaps.{same_map}
-use Rattle.repo_member.proofs.RecordLemmas.{record_order}
-use Rattle.repo_member.proofs.CatalogueLemmas.{shapes_value, shapes_rise, relisted}
+use Rattle.repo_member.proofs.CatalogueLemmas.{shapes_value, shapes_rise}
 
 -- a key is in a map exactly where it has a value
 pub contains-value : (packets : List Packet) (t : Part) → contains part_cmp (keys packets) t ≡ is_some (value_of part_cmp packets t)

@@ -1,12 +1,12 @@
 -- A member's plan, as its value says it.
-use Rattle.std.proofs.Common.{◌≡◌, ℕ, ◌+◌, ◌-◌, ◌≤◌, ◌<◌, Bool, true, false, cond, ◌&&◌, length, unwrap_or, arith, ◌==◌, Option, Some, None, refl, sym, ap, ◌∙◌, subst, List}
+use Rattle.std.proofs.Common.{◌≡◌, ℕ, ◌+◌, ◌-◌, ◌≤◌, ◌<◌, Bool, true, false, cond, length, unwrap_or, arith, ◌==◌, Option, Some, None, refl, sym, ap, ◌∙◌, subst, List}
 use Rattle.std.specs.Prelude.{IsSome, slice_index, nat_le, Result, Ok, Err, IfOk, OnOk, IsErr, ◌↔◌}
 use Rattle.std.proofs.lemmas.Bool.{false_from_ne_true, eqb-true, and_parts, and_from, leb-true, le-leb}
 use Rattle.std.specs.Option.{option_and_then}
 use Rattle.repo_plan.specs.declared.part.Part.{Part}
-use Rattle.repo_plan.specs.Parts.{Pair, Shape, part_cmp, pair_of, part_of}
-use Rattle.repo_plan.specs.SortedList.{value_of, insert_key}
-use Rattle.repo_plan.specs.Plan.{is_asked, is_wanted, knows, holds, holds_too, uses_room, with_shape, claim_of, with_claim}
+use Rattle.repo_plan.specs.Parts.{Pair, part_cmp, pair_of, part_of}
+use Rattle.repo_plan.specs.SortedList.{value_of}
+use Rattle.repo_plan.specs.Plan.{is_asked, is_wanted, knows, claim_of, with_claim}
 use Rattle.repo_plan.specs.Sound.{IsSound, CanBeHeld}
 use Rattle.repo_plan.specs.declared.plan.claims.FetcherIdle.{FetcherIdle}
 use Rattle.svs_vector.specs.Vectors.{join, covers}
@@ -23,7 +23,6 @@ use Rattle.repo_object.specs.Wants.{want_record, want_segment}
 use Rattle.repo_member.specs.Records.{Packet}
 use Rattle.repo_member.specs.Groups.{GroupKeys, HaveKeys, node_of}
 use Rattle.repo_member.specs.Alone.{Alone, IsOf, plan_of, want_of, nothing_listed}
-use Rattle.repo_member.specs.Holding.{AreTied, AreKept}
 use Rattle.repo_member.specs.Members.{alone, IsMember}
 use Rattle.repo_member.proofs.AskedLemmas.{IsListedSegment, asked_segment, asked_member}
 use Rattle.repo_member.proofs.GroupLemmas.{ring_length}

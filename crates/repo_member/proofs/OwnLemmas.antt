@@ -1,7 +1,7 @@
 -- What a member publishes: its number is new, its packets are read, and the member afterwards.
-use Rattle.std.proofs.Common.{◌≡◌, ◌⊎◌, inl, inr, ℕ, ◌+◌, ◌-◌, ◌≤◌, ◌<◌, ◌^◌, max, zero, suc, Bool, true, false, cond, ◌&&◌, ◌||◌, ◌==◌, List, [], ◌∷◌, ◌++◌, map, length, length-append, refl, sym, ap, ◌∙◌, subst, Option, Some, None, option_map, unwrap_or, get_or, arith}
+use Rattle.std.proofs.Common.{◌≡◌, inl, inr, ℕ, ◌+◌, ◌≤◌, ◌<◌, ◌^◌, max, suc, Bool, true, false, cond, ◌&&◌, List, [], ◌∷◌, ◌++◌, length, length-append, refl, sym, ap, ◌∙◌, subst, Option, Some, None, option_map, arith}
 use Rattle.std.specs.Prelude.{nat_le, slice_index, slice_set, slice_index_or, Result, Ok, Err, IsOk}
-use Rattle.std.specs.List.{All, list_any, slice_get}
+use Rattle.std.specs.List.{list_any, slice_get}
 use Rattle.std.proofs.lemmas.Bool.{true≢false, and_parts, and_from, or_cases, leb-true, le-leb, false_from_ne_true, cases_eq}
 use Rattle.std.proofs.lemmas.List.{length-map, get_or-set_same, get_or-set_other, length-set}
 use Rattle.std.proofs.lemmas.Option.{slice_get-get_or, unwrap_or-slice_get}
@@ -21,21 +21,18 @@ use Rattle.repo_plan.proofs.Orders.{exact_parts}
 use Rattle.repo_plan.proofs.Sets.{eq_same}
 use Rattle.repo_plan.proofs.Known.{wanted_is_asked}
 use Rattle.repo_plan.proofs.Changes.{sound_room}
-use Rattle.repo_object.specs.declared.part_refusal.PartRefusal.{PartRefusal}
 use Rattle.repo_object.specs.Objects.{NamedContents, IsObject, Publisher, IsPublisher, key_name}
 use Rattle.repo_object.specs.Publication.{Listed, packets, record_packet, published_listing, published_segments}
 use Rattle.repo_object.specs.Wants.{WantedPart, want_record, want_segment}
 use Rattle.repo_object.specs.Verdict.{read_packet, packet_verdict, part_verdict, listing_in}
 use Rattle.repo_object.proofs.Publications.{listing_within_limits, record_listed, record_passes, segment_passes}
-use Rattle.repo_store.specs.StoreList.{StoreList}
-use Rattle.repo_catalog.specs.Entries.{EntryList}
 use Rattle.repo_member.specs.declared.member.Member.TheInside.{Inside}
 use Rattle.repo_member.specs.Groups.{GroupKeys, IsGroup, IsNodeName, node_of, publisher_of}
 use Rattle.repo_catalog.specs.declared.entry.Entry.{Entry}
 use Rattle.std.specs.Option.{option_and_then}
 use Rattle.repo_member.specs.Records.{Packet}
 use Rattle.repo_member.specs.Listed.{shape, listing_at, entry_at, catalogue_alone}
-use Rattle.repo_member.specs.Alone.{Alone, plan_of, as_parts, with_packets}
+use Rattle.repo_member.specs.Alone.{plan_of, as_parts, with_packets}
 use Rattle.repo_member.specs.Holding.{AreTied, AreKept, with_listed}
 use Rattle.repo_member.specs.Publishing.{IsNew, ArePackets}
 use Rattle.repo_member.specs.Members.{alone, IsMember}

@@ -1,10 +1,9 @@
 -- The parts of a new publication, gained one after another.
-use Rattle.std.proofs.Common.{◌≡◌, ◌⊎◌, inl, inr, ℕ, ◌+◌, ◌-◌, ◌≤◌, ◌<◌, Bool, true, false, cond, not, ◌&&◌, ◌||◌, ◌==◌, List, [], ◌∷◌, map, length, refl, sym, ap, ◌∙◌, subst, Option, Some, None, option_map, is_some, zero, suc, arith}
-use Rattle.std.specs.Prelude.{nat_le, IsOk, slice_index}
-use Rattle.std.specs.List.{All, list_any}
+use Rattle.std.proofs.Common.{◌≡◌, ℕ, ◌+◌, ◌-◌, ◌≤◌, ◌<◌, Bool, true, false, cond, ◌&&◌, ◌==◌, List, [], ◌∷◌, refl, sym, ap, ◌∙◌, subst, Option, Some, None, option_map, is_some, zero, suc, arith}
+use Rattle.std.specs.Prelude.{nat_le, slice_index}
 use Rattle.std.specs.Option.{option_and_then}
 use Rattle.std.specs.Ordering.{eq_by_cmp}
-use Rattle.std.proofs.lemmas.Bool.{true≢false, and_parts, and_from, or_left, or_right, eqb-true, le-leb, false_from_ne_true}
+use Rattle.std.proofs.lemmas.Bool.{true≢false, and_from, or_left, or_right, eqb-true, le-leb, false_from_ne_true}
 use Rattle.repo_plan.specs.declared.part.Part.{Part}
 use Rattle.repo_plan.specs.SortedList.{keys, Rises, contains, insert_key, value_of, with_value}
 use Rattle.repo_plan.specs.Parts.{Pair, Shape, pair_cmp, part_cmp, pair_of, part_of}
@@ -16,7 +15,7 @@ use Rattle.repo_member.specs.Records.{Packet}
 use Rattle.repo_object.specs.Verdict.{listing_in}
 use Rattle.repo_member.specs.Listed.{shape, stored_at, entry_at, entry_listed, catalogue_alone}
 use Rattle.repo_member.specs.Alone.{as_parts, with_packets}
-use Rattle.repo_member.specs.Holding.{AreTied, KeepsOthers, with_listed}
+use Rattle.repo_member.specs.Holding.{KeepsOthers, with_listed}
 use Rattle.repo_member.specs.Publishing.{IsNew}
 use Rattle.repo_member.proofs.CatalogueLemmas.{relisted}
 use Rattle.repo_member.proofs.HoldingLemmas.{contains-value, put_here, put_elsewhere}

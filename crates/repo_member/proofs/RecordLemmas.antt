@@ -1,5 +1,5 @@
 -- The records among stored packets, as a map in order of their publications.
-use Rattle.std.proofs.Common.{◌≡◌, ℕ, ◌+◌, ◌<◌, Bool, true, false, cond, List, [], ◌∷◌, refl, sym, ap, ◌∙◌, subst, Option, Some, None, ◌==◌, arith}
+use Rattle.std.proofs.Common.{◌≡◌, ℕ, Bool, true, false, cond, List, [], ◌∷◌, refl, sym, ap, ◌∙◌, Some, ◌==◌}
 use Rattle.std.proofs.lemmas.Bool.{eqb-true}
 use Rattle.std.specs.Ordering.{nat_cmp, ordering_then, eq_by_cmp, is_eq}
 use Rattle.std.specs.declared.cmp.Ordering.{Ordering}
@@ -7,8 +7,8 @@ use Rattle.std.specs.declared.cmp.Ordering.TheVariants.{Less, Equal, Greater}
 use Rattle.repo_plan.specs.declared.part.Part.{Part}
 use Rattle.repo_plan.specs.SortedList.{keys, IsBefore, Rises, value_of}
 use Rattle.repo_plan.specs.Parts.{Pair, pair_cmp, part_cmp, pair_of, part_of}
-use Rattle.repo_plan.proofs.Orders.{exact_pairs, exact_parts, nat_itself}
-use Rattle.repo_plan.proofs.Sets.{eq_same, eq_itself}
+use Rattle.repo_plan.proofs.Orders.{exact_parts}
+use Rattle.repo_plan.proofs.Sets.{eq_same}
 use Rattle.repo_member.specs.Records.{Packet, records_in}
 
 -- two records stand as their publications do

@@ -1,12 +1,11 @@
 -- Maps in order: two that have the same values are one; and maps that are made of others.
-use Rattle.std.proofs.Common.{◌≡◌, Bool, true, false, cond, List, [], ◌∷◌, map, refl, sym, ap, ◌∙◌, subst, Option, Some, None}
-use Rattle.std.proofs.lemmas.Bool.{true≢false}
+use Rattle.std.proofs.Common.{◌≡◌, Bool, true, false, cond, List, [], ◌∷◌, refl, sym, ap, ◌∙◌, Option, Some, None}
 use Rattle.std.specs.Option.{option_and_then}
 use Rattle.std.specs.Ordering.{eq_by_cmp, is_eq}
 use Rattle.std.specs.declared.cmp.Ordering.{Ordering}
 use Rattle.std.specs.declared.cmp.Ordering.TheVariants.{Less, Equal, Greater}
 use Rattle.repo_plan.specs.SortedList.{keys, IsBefore, Rises, value_of}
-use Rattle.repo_plan.proofs.Orders.{Exact, less_back, greater_back}
+use Rattle.repo_plan.proofs.Orders.{Exact, greater_back}
 use Rattle.repo_plan.proofs.Sets.{before_more, eq_same, eq_itself}
 use Rattle.repo_member.specs.KeptValues.{with_kept, kept_values}
 

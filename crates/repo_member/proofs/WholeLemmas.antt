@@ -1,21 +1,19 @@
 -- What becomes whole by one part more, and its entry.
-use Rattle.std.proofs.Common.{◌≡◌, ◌⊎◌, inl, inr, ℕ, ◌≤◌, Bool, true, false, cond, ◌==◌, List, [], refl, sym, ap, ◌∙◌, subst, Option, Some, None, option_map, is_some, unwrap_or, length}
+use Rattle.std.proofs.Common.{◌≡◌, ℕ, Bool, true, false, cond, ◌==◌, List, refl, sym, ap, ◌∙◌, Option, Some, None, option_map, is_some, unwrap_or, length}
 use Rattle.std.proofs.lemmas.Bool.{true≢false, eqb-true}
 use Rattle.std.specs.Option.{option_and_then}
-use Rattle.std.specs.Ordering.{eq_by_cmp}
 use Rattle.sha2.specs.Sha256.{sha256}
 use Rattle.ndn_name.specs.Names.{Component}
 use Rattle.repo_plan.specs.declared.part.Part.{Part}
-use Rattle.repo_plan.specs.SortedList.{keys, Rises, contains, value_of}
-use Rattle.repo_plan.specs.Parts.{Pair, Shape, pair_cmp, part_cmp, pair_of, part_of}
+use Rattle.repo_plan.specs.SortedList.{contains, value_of}
+use Rattle.repo_plan.specs.Parts.{Pair, Shape, part_cmp, pair_of, part_of}
 use Rattle.repo_plan.specs.Plan.{Holdings, holds, is_asked, is_complete, shape_of}
 use Rattle.repo_plan.proofs.Whole.{not_complete}
 use Rattle.repo_object.specs.Publication.{Listed}
 use Rattle.repo_object.specs.Verdict.{listing_in}
 use Rattle.repo_store.specs.StoreList.{with_packet}
-use Rattle.repo_catalog.specs.declared.entry.Entry.{Entry}
 use Rattle.repo_member.specs.Records.{Packet}
-use Rattle.repo_member.specs.Listed.{listing_at, stored_at, shape, are_stored, contents_joined, entry_at, entry_listed, entry_of_listing, catalogue_alone}
+use Rattle.repo_member.specs.Listed.{listing_at, shape, contents_joined, entry_at, entry_listed, entry_of_listing, catalogue_alone}
 use Rattle.repo_member.specs.Holding.{AreTied, with_listed}
 use Rattle.repo_member.proofs.CatalogueLemmas.{relisted}
 use Rattle.repo_member.proofs.HoldingLemmas.{contains-value, put_rises, other_pairs, absent, shape_told, complete_stored}

@@ -1,11 +1,11 @@
 -- A member by itself: what it has, without what it can't know of others.
-use Rattle.std.specs.Prelude.{◌≡◌, ℕ, ◌+◌, ◌-◌, ◌<◌, true, List, [], ◌∷◌, ◌++◌, map, length, Option, Some, None, slice_get, slice_set, slice_index, unwrap_or, replicate, ◌==◌, if◌then◌else◌}
+use Rattle.std.specs.Prelude.{◌≡◌, ℕ, ◌+◌, ◌-◌, ◌<◌, true, List, [], ◌∷◌, ◌++◌, length, Option, Some, None, slice_get, slice_set, slice_index, unwrap_or, replicate, ◌==◌, if◌then◌else◌}
 use Rattle.std.specs.Option.{option_and_then}
 use Rattle.svs_vector.specs.Vectors.{join}
 use Rattle.svs_sync.specs.KeptVector.{Keeper, steady_kept, hears_kept, fired_kept}
 use Rattle.svs_sync.specs.Suppression.{periodic}
 use Rattle.repo_plan.specs.declared.part.Part.{Part}
-use Rattle.repo_plan.specs.Parts.{Pair, part_cmp, pair_of, part_of, numbers_from}
+use Rattle.repo_plan.specs.Parts.{Pair, part_cmp, pair_of, part_of}
 use Rattle.repo_plan.specs.SortedList.{Rises, keys, value_of, with_value}
 use Rattle.repo_plan.specs.Plan.{Holdings, no_claims, knows, hides}
 use Rattle.repo_object.specs.Objects.{NamedContents, Publisher}

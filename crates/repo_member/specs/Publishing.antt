@@ -1,12 +1,12 @@
 -- Objects that are to be published.
-use Rattle.std.specs.Prelude.{◌≡◌, ℕ, ◌+◌, ◌<◌, ◌≤◌, ◌^◌, true, false, List, [], ◌∷◌, length, slice_set, Some, option_map, IsOk, IfSome}
+use Rattle.std.specs.Prelude.{◌≡◌, ℕ, ◌≤◌, true, false, List, [], ◌∷◌, length, slice_set, Some, option_map, IsOk}
 use Rattle.std.specs.List.{All}
 use Rattle.ndn_name.specs.Names.{Component}
 use Rattle.ndn_data.specs.Data.{data_of}
-use Rattle.repo_plan.specs.Parts.{Pair, part_of, pair_of}
+use Rattle.repo_plan.specs.Parts.{Pair, part_of}
 use Rattle.repo_plan.specs.Plan.{Holdings, knows, holds, hides, is_claimed}
 use Rattle.repo_object.specs.Objects.{NamedContents}
-use Rattle.repo_object.specs.Publication.{Listed, packets}
+use Rattle.repo_object.specs.Publication.{packets}
 use Rattle.repo_object.specs.Verdict.{listing_in}
 use Rattle.repo_member.specs.Groups.{GroupKeys, publisher_of}
 use Rattle.repo_member.specs.Listed.{shape}

@@ -1,8 +1,6 @@
 -- What a member answers to a sync Interest and to a packet that it asked for, but for want of memory.
-use Rattle.std.specs.Prelude.{◌≡◌, ℕ, List, Vec, Option, Some, None, Result, Ok, Err, length, slice_index, nat_lt, if◌then◌else◌}
+use Rattle.std.specs.Prelude.{ℕ, List, Option, Some, None, Result, Ok, Err, length, slice_index, nat_lt, if◌then◌else◌}
 use Rattle.ndn_data.specs.Data.{Data}
-use Rattle.svs_sync.specs.declared.fired.Fired.{Fired}
-use Rattle.svs_sync.specs.declared.fired.Fired.TheVariants.{Early, Quiet, Send}
 use Rattle.svs_sync.specs.declared.sync_refusal.SyncRefusal.{SyncRefusal}
 use Rattle.svs_sync.specs.SyncInterest.{sync_interest, sync_verdict}
 use Rattle.repo_plan.specs.declared.part.Part.{Part}

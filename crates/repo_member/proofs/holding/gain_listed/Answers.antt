@@ -1,4 +1,4 @@
-use Rattle.std.proofs.Common.{◌≡◌, Option, Some, refl, sym, ap, ◌∙◌, subst, option_map, None}
+use Rattle.std.proofs.Common.{sym, ap, ◌∙◌, subst, option_map, None}
 use Rattle.repo_object.specs.Publication.{Listed}
 use Rattle.repo_store.specs.StoreList.{StoreList, with_packet}
 use Rattle.repo_plan.specs.Parts.{pair_of}

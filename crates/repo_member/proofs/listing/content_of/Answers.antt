@@ -1,4 +1,3 @@
-use Rattle.std.proofs.Common.{◌≤◌, List, ℕ, length, sym, subst}
 use Rattle.ndn_data.proofs.ContentLemmas.{data_content_short}
 use Rattle.repo_member.proofs.listing.content_of.Goals as goal
 

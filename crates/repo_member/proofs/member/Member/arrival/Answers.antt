@@ -1,4 +1,4 @@
-use Rattle.std.proofs.Common.{◌≡◌, ◌<◌, length, sym, ap, ◌∙◌, subst, ℕ, List, arith}
+use Rattle.std.proofs.Common.{length, ap, ◌∙◌, List, arith}
 use Rattle.ndn_sign.specs.Ring.{Pair}
 use Rattle.repo_plan.specs.declared.part.Part.{Part}
 use Rattle.repo_object.specs.Wants.{WantedPart}

@@ -1,6 +1,5 @@
 use Rattle.std.proofs.Common.{◌≡◌, true, refl, sym, ◌∙◌, subst, slice_index_or}
 use Rattle.std.specs.List.{All}
-use Rattle.repo_plan.specs.declared.part.Part.{Part}
 use Rattle.repo_plan.specs.Plan.{is_asked}
 use Rattle.repo_member.proofs.PlanLemmas.{listed_are_asked}
 use Rattle.repo_member.proofs.MemberLemmas.{reading}

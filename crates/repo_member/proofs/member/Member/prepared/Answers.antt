@@ -1,4 +1,4 @@
-use Rattle.std.proofs.Common.{◌≡◌, ◌<◌, length, ap, subst, arith}
+use Rattle.std.proofs.Common.{◌<◌, length, ap, subst, arith}
 use Rattle.repo_object.specs.Objects.{IsObject}
 use Rattle.repo_member.specs.Alone.{Alone}
 use Rattle.repo_member.proofs.OwnLemmas.{is_publisher}

@@ -1,5 +1,5 @@
 use Rattle.std.specs.Prelude.{is_ok, slice_index, slice_set, if◌then◌else◌}
-use Rattle.std.proofs.Common.{◌≡◌, ◌<◌, ◌^◌, ◌+◌, max, Bool, true, false, List, [], ◌∷◌, ◌++◌, ℕ, length, map, refl, sym, ap, ◌∙◌, subst, arith}
+use Rattle.std.proofs.Common.{◌≡◌, ◌<◌, ◌^◌, ◌+◌, max, true, false, List, [], ◌∷◌, ◌++◌, ℕ, length, map, refl, sym, ap, ◌∙◌, subst, arith}
 use Rattle.repo_plan.specs.declared.part.Part.{Part}
 use Rattle.repo_plan.specs.Parts.{Pair, part_cmp, part_of}
 use Rattle.repo_plan.specs.SortedList.{contains, keys, Rises}

@@ -1,4 +1,4 @@
-use Rattle.std.proofs.Common.{◌≡◌, ◌<◌, List, [], ◌∷◌, ◌++◌, length, ap, arith}
+use Rattle.std.proofs.Common.{◌≡◌, ◌<◌, [], ◌∷◌, ◌++◌, length, ap, arith}
 use Rattle.ndn_name.specs.Names.{encoding}
 use Rattle.ndn_sign.specs.Ring.{pair}
 use Rattle.repo_object.specs.Objects.{key_name}
