@@ -20,3 +20,6 @@ pub use laws::{
 };
 pub use member::{Fire, Member, Published};
 pub use refusals::{AcceptRefusal, HearRefusal, PublishRefusal, WantFault};
+
+#[cfg(test)]
+mod tests;
