@@ -65,6 +65,7 @@ fn play(
     carol: &mut Peer<'_>,
 ) -> Result<(), Fail> {
     publish_and_tell(rt, alice, bob)?;
+    log_own_packets(rt, alice, bob)?;
     hold_back(rt, carol)?;
     fetch_the_record(rt, bob, alice)?;
     fetch_as_planned(rt, bob, alice)?;
@@ -212,26 +213,22 @@ fn fetch_all(
     Err("something is wanted still".into())
 }
 
-#[test]
-fn a_member_makes_its_own_packets_anew(rt: HostRuntime) -> Result<(), Fail> {
-    let g = three_members(&rt)?;
-    let mut alice = Peer::new(&rt, &g, ALICE)?;
-    let mut bob = Peer::new(&rt, &g, BOB)?;
-    publish_and_tell(&rt, &mut alice, &mut bob)?;
-    let logged: [(Part, Option<&[u8]>); 6] = [
-        (part(ALICE, 1, 0), Some(&DOC)),
-        (part(ALICE, 1, 2), Some(&DOC_1)),
-        (part(ALICE, 1, 4), None),
-        (part(ALICE, 0, 0), None),
-        (part(ALICE, 2, 0), None),
-        (part(BOB, 1, 0), None),
-    ];
-    for (part, packet) in logged {
-        assert_eq!(rt; alice.logged(&rt, part)?.as_deref(), packet, "{part:?}");
-    }
-    assert_eq!(rt;
-        bob.logged(&rt, part(BOB, 1, 0))?.as_deref(),
-        Some(EMPTY.as_slice())
-    );
+// Alice and bob make packets of their own publications anew, and of nothing else.
+fn log_own_packets(
+    rt: &(impl Abort + AllocGlobal),
+    alice: &Peer<'_>,
+    bob: &Peer<'_>,
+) -> Result<(), Fail> {
+    logs(rt, alice, part(ALICE, 1, 0), Some(&DOC))?;
+    logs(rt, alice, part(ALICE, 1, 2), Some(&DOC_1))?;
+    logs(rt, alice, part(ALICE, 1, 4), None)?;
+    logs(rt, alice, part(ALICE, 0, 0), None)?;
+    logs(rt, alice, part(ALICE, 2, 0), None)?;
+    logs(rt, alice, part(BOB, 1, 0), None)?;
+    logs(rt, bob, part(BOB, 1, 0), Some(&EMPTY))
+}
+
+fn logs(rt: &impl Abort, peer: &Peer<'_>, part: Part, packet: Option<&[u8]>) -> Result<(), Fail> {
+    assert_eq!(rt; peer.logged(rt, part)?.as_deref(), packet, "{part:?}");
     Ok(())
 }
