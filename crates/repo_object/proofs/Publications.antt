@@ -20,7 +20,7 @@ use Rattle.repo_object.specs.Wants.{want_record, want_segment}
 use Rattle.repo_object.specs.Verdict.{part_verdict, listing_within, listing_in}
 use Rattle.repo_object.proofs.Sizes.{named_short}
 use Rattle.repo_object.proofs.NameLemmas.{IsName-number, IsName-key}
-use Rattle.repo_object.proofs.PacketSizes.{key_name-size, segment-size, record-size}
+use Rattle.repo_object.proofs.PacketSizes.{key_name-size, record_name-size, segment-size, record-size}
 use Rattle.repo_object.proofs.Written.{written_is_listed}
 use Rattle.repo_object.proofs.Packing.{segment_from}
 use Rattle.repo_object.proofs.Passing.{passing_is_ok}
@@ -83,7 +83,8 @@ module _ (publisher : Publisher) (object : NamedContents) (is_publisher : IsPubl
 
   record_short : (seq : ℕ) → seq < 2 ^ 16 → Short (record_packet publisher seq (published_listing publisher object))
   record_short seq low =
-      record-size publisher.node publisher.group seq (published_listing publisher object) keyed publisher.key is_publisher.node.1 is_publisher.group.1 low keyed-short name-short within.few within.digests
+      record-size (record_name publisher.node publisher.group seq) (published_listing publisher object) keyed publisher.key
+      (record_name-size publisher.node publisher.group seq is_publisher.node.1 is_publisher.group.1 low) keyed-short name-short within.few within.digests
 
   pub all_fit : (seq : ℕ) → seq < 2 ^ 16 → All Short (packets publisher seq object)
   all_fit seq low =
