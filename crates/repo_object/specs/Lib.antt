@@ -11,6 +11,7 @@ pub mod Limits
 pub mod RecordTypes
 pub mod Objects
 pub mod Publication
+pub mod Published
 pub mod Records
 pub mod Wants
 pub mod Verdict

@@ -113,6 +113,14 @@ abbrev pub ring_verdict : WantedPart → List Pair → List ℕ → Result Data 
 ring_verdict want ring octets =
     part_verdict want (publisher_key ring want).name (publisher_key ring want).key octets
 
+abbrev pub content_within : Result Data PacketFault → Option (List ℕ)
+content_within (Ok d) = Some d.content
+content_within (Err fault) = None
+
+-- The content of the packet that the octets are.
+abbrev pub content_in : List ℕ → Option (List ℕ)
+content_in octets = content_within (data_of octets)
+
 abbrev pub listing_within : Result Data PacketFault → Option Listed
 listing_within (Ok d) = listing_of d.content
 listing_within (Err fault) = None

@@ -90,7 +90,13 @@ impl Expected {
     {
         let publisher = self.part.publisher;
         let data = DataView::read(octets)?;
-        judge(self, ring.name(publisher), ring.key(publisher), octets, &data)
+        judge(
+            self,
+            ring.name(publisher),
+            ring.key(publisher),
+            octets,
+            &data,
+        )
     }
 
     // The Interest that asks for the packet.

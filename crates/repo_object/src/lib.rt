@@ -24,9 +24,10 @@ pub use cutting::{CutFault, cut};
 pub use expected::{Expected, expect_record, expect_segment};
 pub use job::Job;
 pub use laws::{
-    cut_pieces_are_the_content, listings_are_of_records, packets_fit, packets_pass_for_their_wants,
-    passing_is_every_check, passing_packets_are_asked_for, records_are_read_back,
-    wants_are_plain_interests,
+    cut_pieces_are_the_content, limits_are_the_definitions, listings_are_of_records,
+    names_tell_parts_apart, packets_fit, packets_pass_for_their_wants,
+    packets_that_pass_are_the_parts, passing_is_every_check, passing_packets_are_asked_for,
+    records_are_read_back, segments_are_read_back, wants_are_plain_interests,
 };
 pub use listing::{Listing, digest_at, is_record, read_record};
 pub use names::{NODE_NAME_LIMIT, key_name};

@@ -17,7 +17,8 @@ pub fn key_name(node: &Name) -> Result<Name, AllocError>
     ensures { IfOk result (λ name. name ≡ key_name node.now) }
 {
     let mut name = node.clone()?;
-    name.push(types::GENERIC_NAME_COMPONENT, b"KEY").map_err(only_memory)?;
+    name.push(types::GENERIC_NAME_COMPONENT, b"KEY")
+        .map_err(only_memory)?;
     Ok(name)
 }
 
@@ -46,11 +47,7 @@ pub(crate) fn segment_name(mut object: Name, i: u8) -> Result<Name, AllocError>
 }
 
 // The full name of a packet of this name and digest.
-pub(crate) fn asked_name(
-    alloc: Global,
-    name: &Name,
-    digest: &[u8; 32],
-) -> Result<Name, AllocError>
+pub(crate) fn asked_name(alloc: Global, name: &Name, digest: &[u8; 32]) -> Result<Name, AllocError>
     requires { length (encoding name.now) ≤ 900 }
     ensures { IfOk result (λ full. full ≡ full_name name.now digest.now) }
 {

@@ -62,7 +62,14 @@ pub fn record_packet(
 {
     let key_name = key_name(node)?;
     let name = record_name(node, group, seq)?;
-    write_record(alloc, &name, &listing.name, &listing.digests, &key_name, key)
+    write_record(
+        alloc,
+        &name,
+        &listing.name,
+        &listing.digests,
+        &key_name,
+        key,
+    )
 }
 
 /// The packet of one part of such a publication, counted from 0, or `None` where it has no such part.

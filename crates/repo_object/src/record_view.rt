@@ -1,6 +1,6 @@
+use crate::listing::{Listing, read_digests};
 use crate::names::owned_name;
 use crate::record_fields::{DigestReader, RecordReader};
-use crate::listing::{Listing, read_digests};
 use ndn_data::DataView;
 use ndn_name::NameView;
 use std::alloc::{AllocError, Global};

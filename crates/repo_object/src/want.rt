@@ -46,7 +46,10 @@ pub fn want_segment(alloc: Global, part: Part, listing: &Listing) -> Result<Want
     ensures { IfOk result (λ want. want ≡ want_segment part listing.now) }
 {
     let digest = &listing.digests[usize::from(part.part - 1)];
-    Want::new(alloc, expect_segment(alloc, part, &listing.name.view(), digest)?)
+    Want::new(
+        alloc,
+        expect_segment(alloc, part, &listing.name.view(), digest)?,
+    )
 }
 
 impl Want {

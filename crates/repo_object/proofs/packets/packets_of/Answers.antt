@@ -4,7 +4,6 @@ use Rattle.ndn_data.specs.WrittenData.{written_data}
 use Rattle.repo_object.specs.Objects.{Publisher, publisher, record_name}
 use Rattle.repo_object.specs.Publication.{Listed, record_content, record_packet, published_listing, segment_packets}
 use Rattle.repo_object.specs.Records.{listed}
-use Rattle.repo_object.proofs.Sizes.{named_short}
 use Rattle.repo_object.proofs.PacketSizes.{key_name-size, record_name-size}
 use Rattle.repo_object.proofs.Publications.{listing_within_limits}
 use Rattle.repo_object.proofs.Packing.{items, listing_is}

@@ -4,7 +4,7 @@ use Rattle.std.proofs.lemmas.Option.{slice_get_read}
 use Rattle.ndn_name.specs.Names.{Component}
 use Rattle.repo_object.specs.Objects.{segment_name}
 use Rattle.repo_object.specs.Publication.{Listed}
-use Rattle.repo_object.specs.Wants.{WantedPart, want_segment, wanted_part}
+use Rattle.repo_object.specs.Wants.{WantedPart, wanted_part}
 use Rattle.repo_object.proofs.want.want_segment.Goals as goal
 
 pub returns : goal.returns

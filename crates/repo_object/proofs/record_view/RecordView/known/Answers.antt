@@ -1,4 +1,4 @@
-use Rattle.std.proofs.Common.{ap, subst, arith}
+use Rattle.std.proofs.Common.{subst, arith}
 use Rattle.std.specs.Prelude.{IsSome}
 use Rattle.repo_object.specs.Records.{listed, digests_to_come}
 use Rattle.repo_object.proofs.RecordLemmas.{some_mapped, record_is_read}
