@@ -10,17 +10,18 @@ pub const DATA: u32 = 0x06;
 
 pub const NAME: u32 = 0x07;
 
-pub const IMPLICIT_SHA256_DIGEST_COMPONENT: u32 = 0x01;
+/// A component's type is at most 65,535.
+pub const IMPLICIT_SHA256_DIGEST_COMPONENT: u16 = 0x01;
 
-pub const PARAMETERS_SHA256_DIGEST_COMPONENT: u32 = 0x02;
+pub const PARAMETERS_SHA256_DIGEST_COMPONENT: u16 = 0x02;
 
-pub const GENERIC_NAME_COMPONENT: u32 = 0x08;
+pub const GENERIC_NAME_COMPONENT: u16 = 0x08;
 
-pub const SEGMENT_NAME_COMPONENT: u32 = 0x32;
+pub const SEGMENT_NAME_COMPONENT: u16 = 0x32;
 
-pub const VERSION_NAME_COMPONENT: u32 = 0x36;
+pub const VERSION_NAME_COMPONENT: u16 = 0x36;
 
-pub const SEQUENCE_NUM_NAME_COMPONENT: u32 = 0x3a;
+pub const SEQUENCE_NUM_NAME_COMPONENT: u16 = 0x3a;
 
 pub const CAN_BE_PREFIX: u32 = 0x21;
 
