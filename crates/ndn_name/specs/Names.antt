@@ -35,8 +35,8 @@ IsName [] = Unit {0}
 IsName (c ∷ cs) = IsComponent c × IsName cs
 
 -- The full name of a packet: its name, and its implicit digest behind it.
-abbrev pub full_name_of : List Component → List ℕ → List Component
-full_name_of name digest = name ++ (types.ImplicitSha256DigestComponent, digest) ∷ []
+abbrev pub full_name : List Component → List ℕ → List Component
+full_name name digest = name ++ (types.ImplicitSha256DigestComponent, digest) ∷ []
 
 -- How many octets of value a name may have that this repository keeps (a limit of its own).
 abbrev pub name_limit : ℕ

@@ -1,7 +1,7 @@
 ghost use Rattle.std.specs.Prelude.{◌≡◌, ◌<◌, ◌≤◌, ◌↔◌, ◌⊎◌, [], ◌∷◌, ◌++◌, length, IfOk, IfErr, OnOk, OnErr, Err};
 ghost use Rattle.ndn_tlv.specs.NumberField.{number_field};
 ghost use Rattle.ndn_tlv.specs.Types as types;
-ghost use Rattle.ndn_name.specs.Names.{IsName, encoding, full_name_of};
+ghost use Rattle.ndn_name.specs.Names.{IsName, encoding, full_name};
 
 use crate::append::append_component;
 use crate::name_fault::NameFault;
@@ -132,10 +132,10 @@ impl Clone for Name {
 /// The full name of a Data packet: its name with its implicit digest, the SHA-256 of the packet,
 /// behind it.
 pub fn full_name(alloc: Global, name: &Name, digest: &[u8; 32]) -> Result<Name, NameFault>
-    ensures ok { IfOk result (λ full. full ≡ full_name_of name.now digest.now) }
-    ensures fits { OnOk result (length (encoding (full_name_of name.now digest.now)) ≤ NAME_LIMIT) }
+    ensures ok { IfOk result (λ full. full ≡ full_name name.now digest.now) }
+    ensures fits { OnOk result (length (encoding (full_name name.now digest.now)) ≤ NAME_LIMIT) }
     ensures too_long { result ≡ Err NameFault.NameTooLong
-        → NAME_LIMIT < length (encoding (full_name_of name.now digest.now)) }
+        → NAME_LIMIT < length (encoding (full_name name.now digest.now)) }
     ensures refused { IfErr result
         (λ fault. (fault ≡ NameFault.NameTooLong) ⊎ (fault ≡ NameFault.NoMemory)) }
 {

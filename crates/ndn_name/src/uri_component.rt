@@ -68,7 +68,7 @@ fn form_of(head: &[u8]) -> Option<Form>
     if let Some(form) = keyword(head) {
         return Some(form);
     }
-    let Ok(typ) = read_decimal(head, 0, u64::from(u16::MAX)) else {
+    let Ok(typ) = read_decimal(head, 0, 65_535) else {
         return None;
     };
     if typ == 0 {
