@@ -1,11 +1,12 @@
 pub mod Orders
 pub mod Search
-pub mod RunOrder
-pub mod RunLists
-pub mod Numbers
 pub mod Sets
 pub mod MapChanges
 pub mod Entries
+pub mod RunOrder
+pub mod RunLists
+pub mod Numbers
+pub mod SameSets
 pub mod Changes
 pub mod Known
 pub mod Scans
@@ -13,6 +14,7 @@ pub mod Whole
 pub mod Done
 pub mod CallLists
 pub mod Held
-pub mod Kept
+pub mod Noted
+pub mod Views
 pub mod Gaps
 pub mod Ends

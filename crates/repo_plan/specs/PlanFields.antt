@@ -1,31 +1,39 @@
 -- How a plan is kept.
-use Rattle.std.specs.Prelude.{ℕ, ◌≡◌, ◌≤◌, Bool, true, not, ◌||◌, List, is_some}
-use Rattle.std.specs.List.{filter, flat_map}
+use Rattle.std.specs.Prelude.{ℕ, ◌≡◌, ◌+◌, ◌-◌, ◌≤◌, Bool, true, not, ◌||◌, List, is_some}
+use Rattle.std.specs.List.{filter, flat_map, list_all}
 use Rattle.std.specs.HashMap.{spare}
 use Rattle.std.specs.Ordering.{nat_cmp}
 use Rattle.repo_plan.specs.declared.part.Part.{Part}
 use Rattle.repo_plan.specs.declared.plan.Plan.TheInside.{Inside}
 use Rattle.repo_plan.specs.SortedList.{in_order, value_of}
-use Rattle.repo_plan.specs.Parts.{Pair, Shape, pair_cmp, part_cmp, pair_of, part_of, parts_of, parts_behind}
-use Rattle.repo_plan.specs.Runs.{Number, Run, IsRuns, HasRoom, runs_of, has, has_number, number_cmp, numbers_of}
-use Rattle.repo_plan.specs.Plan.{Holdings, holds, is_done}
+use Rattle.repo_plan.specs.Parts.{Pair, Shape, pair_cmp, part_cmp, pair_of, part_of, numbers_from, parts_of, parts_behind}
+use Rattle.repo_plan.specs.Runs.{Number, Run, IsRuns, room_of, runs_of, has, has_number, number_cmp}
+use Rattle.repo_plan.specs.Plan.{Holdings, pairs_of, holds, is_done}
 use Rattle.repo_plan.specs.Sound.{IsSound}
+
+-- whether the part of this number is of a publication that is done, or its number is in a run
+abbrev pub is_noted : List (Run ℕ) → List (Run Pair) → Number Pair → Bool
+is_noted done held q = has pair_cmp done q.0 || has (number_cmp pair_cmp) held q
+
+-- whether those of a publication are, up to one number
+abbrev pub are_noted : List (Run ℕ) → List (Run Pair) → Pair → ℕ → Bool
+are_noted done held pair n = list_all (λ x. is_noted done held (pair, x)) (numbers_from 0 (n + 1))
 
 -- the parts that records tell of, the records among them
 abbrev pub told_parts : List (Pair × Shape) → List Part
 told_parts shapes = flat_map (λ e. parts_of e.0 (parts_behind e.1)) shapes
 
--- whether the part is of a publication that is done, or its number is in a run
-abbrev pub is_noted : List (Run ℕ) → List (Run Pair) → Part → Bool
-is_noted done held t = has (number_cmp nat_cmp) done (pair_of t) || has (number_cmp pair_cmp) held (pair_of t, t.part)
-
--- the held parts: those of the told ones
+-- the held parts: those of the told ones that are noted
 abbrev pub held_parts : List (Run ℕ) → List (Run Pair) → List (Pair × Shape) → List Part
-held_parts done held shapes = filter (is_noted done held) (told_parts shapes)
+held_parts done held shapes = filter (λ t. is_noted done held (pair_of t, t.part)) (told_parts shapes)
+
+-- the publications of a run of numbers
+abbrev pub run_pairs : Run ℕ → List Pair
+run_pairs run = pairs_of run.0.0 run.0.1 (run.1.1 + 1 - run.0.1)
 
 -- the hidden publications: those that are done and of which no record is held
 abbrev pub hidden_pairs : List (Run ℕ) → List (Pair × Shape) → List Pair
-hidden_pairs done shapes = filter (λ q. not (is_some (value_of pair_cmp shapes q))) (numbers_of done)
+hidden_pairs done shapes = filter (λ q. not (is_some (value_of pair_cmp shapes q))) (flat_map run_pairs done)
 
 -- what a plan's fields say
 abbrev pub holdings : Inside → Holdings
@@ -41,8 +49,8 @@ holdings p = record {
 
 -- there is the room that is spare
 pub record IsRoomy (p : Inside) : Type 0 where
-  pub done : HasRoom p.spare p.done
-  pub held : HasRoom p.spare p.held
+  pub done : p.spare ≤ room_of p.done
+  pub held : p.spare ≤ room_of p.held
   pub shapes : p.spare ≤ spare p.shapes
   pub attempts : p.spare ≤ spare p.attempts
 

@@ -11,6 +11,7 @@ mod whole;
 
 use crate::part::Part;
 use crate::runs::Runs;
+use crate::table;
 pub use claims::{FetcherBusy, FetcherIdle};
 use std::alloc::{AllocError, Global};
 use std::collections::HashMap;
@@ -109,7 +110,7 @@ impl Plan {
     pub fn segments(&self, publisher: u32, seq: u16) -> Option<u8>
         ensures { result ≡ shape_of self.now (publisher, seq) }
     {
-        self.shapes.get(&(publisher, seq)).copied()
+        table::value_of(&self.shapes, (publisher, seq))
     }
 
     /// Whether the record of a publication and every segment that it counts are held.
@@ -144,7 +145,7 @@ impl Plan {
     pub fn attempts(&self, part: Part) -> u32
         ensures { result ≡ attempts_of self.now part }
     {
-        self.attempts.get(&part).copied().unwrap_or(0)
+        table::value_of(&self.attempts, part).unwrap_or(0)
     }
 
     /// The part was tried so often more.

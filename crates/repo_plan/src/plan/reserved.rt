@@ -4,7 +4,7 @@ ghost use Rattle.repo_plan.specs.Plan.{holds_too, hides_too, with_attempts, with
 ghost use Rattle.repo_plan.specs.Parts.{pair_of};
 
 use super::Plan;
-use super::whole::note_held;
+use super::whole::{note_held, note_shape};
 use crate::part::Part;
 use crate::table;
 use std::alloc::AllocError;
@@ -21,8 +21,8 @@ impl Plan {
         if self.spare < n {
             self.done.reserve(n)?;
             self.held.reserve(n)?;
-            self.shapes.reserve(n)?;
-            self.attempts.reserve(n)?;
+            table::reserve(&mut self.shapes, n)?;
+            table::reserve(&mut self.attempts, n)?;
             self.spare = n;
         }
         Ok(())
@@ -57,10 +57,8 @@ impl Plan {
             return false;
         }
         let publication = (part.publisher, part.seq);
-        if let Some(segments) = segments {
-            table::set_value(&mut self.shapes, publication, segments);
-        }
-        let told = self.shapes.get(&publication).copied().unwrap_or(0);
+        note_shape(&mut self.shapes, publication, segments);
+        let told = table::value_of(&self.shapes, publication).unwrap_or(0);
         let number = (publication, u16::from(part.part));
         note_held(&mut self.done, &mut self.held, number, told);
         true
@@ -75,7 +73,7 @@ impl Plan {
         let publication = (publisher, seq);
         self.spare -= 1;
         self.held.remove_all(publication);
-        self.shapes.remove(&publication);
+        table::remove(&mut self.shapes, publication);
         self.done.insert(publication);
     }
 
