@@ -12,14 +12,14 @@ use Rattle.repo_plan.specs.Parts.{Pair, Shape, pair_cmp, part_cmp, part_of, pair
 use Rattle.repo_plan.specs.Plan.{Holdings, holds, hides, shape_of, is_done, is_complete, is_in, with_shape}
 use Rattle.repo_plan.specs.Sound.{IsSound, CanBeHeld}
 use Rattle.repo_plan.specs.Runs.{Run, Number, IsRuns, runs_of, has, has_number, number_cmp}
-use Rattle.repo_plan.specs.PlanFields.{holdings, is_noted, are_noted, held_parts, hidden_pairs, IsPlan}
+use Rattle.repo_plan.specs.PlanFields.{holdings, is_noted, are_noted, held_parts, hidden_pairs, IsRoomy, IsPlan}
 use Rattle.repo_plan.proofs.Orders.{exact_pairs, exact_parts}
 use Rattle.repo_plan.proofs.Sets.{In, eq_same, eq_itself, rises_insert, rises_filter, rises_keys_filter, contains-insert_key, contains-filter, value_of-filter}
 use Rattle.repo_plan.proofs.SameSets.{same_sets}
 use Rattle.repo_plan.proofs.Known.{from_numbers, counted}
 use Rattle.repo_plan.proofs.Whole.{no_shape}
-use Rattle.repo_plan.proofs.Changes.{with_part, sound_part, keeps_part}
-use Rattle.repo_plan.proofs.Done.{other_shape}
+use Rattle.repo_plan.proofs.Changes.{with_part, sound_as, sound_part, keeps_part}
+use Rattle.repo_plan.proofs.Done.{done_same, other_shape}
 use Rattle.repo_plan.proofs.Numbers.{exact_numbers}
 use Rattle.repo_plan.proofs.Held.{exact_of_pairs, number_of, same_part, tells, held_has, held_rise, hidden_has, hidden_rise}
 
@@ -230,3 +230,21 @@ module _ (p : Inside) (i : IsPlan p) where
     runs_hidden q h =
         let b : (not (eq_by_cmp pair_cmp pair q.0) ≡ true) × (has_number pair_cmp p.held q ≡ true) = and_parts (not (eq_by_cmp pair_cmp pair q.0)) (has_number pair_cmp p.held q) (sym (l q) ∙ h) in
         contains-filter exact_parts (λ t. not (is_in pair t)) (holdings p).held (part_of q.0 q.1) ∙ (λ j. b.0 j && i.all_held q b.1 j)
+
+-- fields that say the same, with more room
+pub roomier : (p q : Inside) → IsPlan p → q.known ≡ p.known → runs_of q.done ≡ runs_of p.done → runs_of q.held ≡ runs_of p.held → shapes_of q ≡ shapes_of p → q.claims ≡ p.claims → in_order part_cmp q.attempts.entries ≡ in_order part_cmp p.attempts.entries → IsRuns nat_cmp q.done → IsRuns pair_cmp q.held → IsRoomy q → IsPlan q
+roomier p q i known done held shapes claims attempts a b room =
+    let parts : (holdings q).held ≡ (holdings p).held = λ j. held_parts (done j) (held j) (shapes j) in
+    let hidden : (holdings q).hidden ≡ (holdings p).hidden = λ j. hidden_pairs (done j) (shapes j) in
+    record {
+      sound = sound_as (holdings p) (holdings q) (ap (λ v. v.items) (sym known)) (sym parts) (sym shapes) (sym claims) (sym hidden) (sym attempts) i.sound;
+      done = a;
+      held = b;
+      room = room;
+      all_done = λ pair.
+          ap (λ (zs : List (Run ℕ)). has pair_cmp zs pair) done ∙ i.all_done pair
+          ∙ sym (done_same (holdings p) (holdings q).held (holdings q).shapes (holdings q).hidden parts shapes hidden pair);
+      all_held = λ n h.
+          ap (λ (ts : List Part). contains part_cmp ts (part_of n.0 n.1)) parts
+          ∙ i.all_held n (ap (λ (zs : List (Run Pair)). has (number_cmp pair_cmp) zs n) (sym held) ∙ h);
+    }

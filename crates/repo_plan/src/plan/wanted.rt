@@ -73,7 +73,7 @@ impl Plan {
     // The same among the parts of one publication.
     fn next_of_publication(&self, publisher: u32, seq: u16, after: Option<Part>) -> Option<Part>
         requires known { knows self.now (publisher, seq) ≡ true }
-        requires open { is_done self.now (publisher, seq) ≡ false }
+        requires undone { is_done self.now (publisher, seq) ≡ false }
         ensures { result ≡ first (filter (is_next self.now after)
             (parts_known self.now (publisher, seq))) }
     {
