@@ -5,7 +5,9 @@
 mod laws;
 mod part;
 mod plan;
-mod sorted;
+mod runs;
+mod sorted_map;
+mod table;
 
 pub use laws::{
     calls_keep_plans_sound, claims_are_wanted_once, released_parts_can_be_claimed,
