@@ -90,19 +90,19 @@ module _ {T : Type 0} (tries seats id : ℕ) (v : Hand T) (ws : List ℕ) (xs : 
       let is_n : code p ≡ n = sym (found tries seats s r i) ∙ (ap (λ l. get_or l i 0) fin.2 ∙ at_or ws i n 0 word) in
       ⊎_elim
       (λ e.
-          let a : ℕ = e.0 in
-          let got = at_done tries seats s r id v at told every b i hs ps os passed a e.1 in
-          let x : T = got.0 in
-          let same : Some x ≡ h = some-injective (Some x) h (sym (fin.4 i (Some x) got.2) ∙ value) in
-          let num : 4 * a + 2 ≡ n = sym (ap code e.1) ∙ is_n in
-          let low : a < tries = subst (Within tries) e.1 (r.within i) in
-          let quot : a ≡ n / 4 = omega arith in
-          inr ((λ e. omega arith), omega arith, subst (λ o. Settled d i o (n / 4 + 1)) same (subst (λ k. Settled d i (Some x) (k + 1)) quot got.1)))
+      let a : ℕ = e.0 in
+      let got = at_done tries seats s r id v at told every b i hs ps os passed a e.1 in
+      let x : T = got.0 in
+      let same : Some x ≡ h = some-injective (Some x) h (sym (fin.4 i (Some x) got.2) ∙ value) in
+      let num : 4 * a + 2 ≡ n = sym (ap code e.1) ∙ is_n in
+      let low : a < tries = subst (Within tries) e.1 (r.within i) in
+      let quot : a ≡ n / 4 = omega arith in
+      inr ((λ e. omega arith), omega arith, subst (λ o. Settled d i o (n / 4 + 1)) same (subst (λ k. Settled d i (Some x) (k + 1)) quot got.1)))
       (λ e.
-          let t = there s.homes i near in
-          let none_is : t.0 ≡ some None = subst (λ q. Lies q t.0) e (r.lies i t.0 t.1) in
-          let same : None ≡ h = some-injective None h (sym (fin.4 i None (t.1 ∙ ap some none_is)) ∙ value) in
-          inl (sym is_n ∙ ap code e, subst (λ o. Settled d i o tries) same (at_spent tries seats s r id v at told every b i hs ps os passed e)))
+      let t = there s.homes i near in
+      let none_is : t.0 ≡ some None = subst (λ q. Lies q t.0) e (r.lies i t.0 t.1) in
+      let same : None ≡ h = some-injective None h (sym (fin.4 i None (t.1 ∙ ap some none_is)) ∙ value) in
+      inl (sym is_n ∙ ap code e, subst (λ o. Settled d i o tries) same (at_spent tries seats s r id v at told every b i hs ps os passed e)))
       (ended tries seats s r id v at told every b i hs ps os passed p refl)
 
   -- the same, by what `settle` says

@@ -9,3 +9,4 @@ pub mod Seats
 pub mod Closes
 pub mod Places
 pub mod Opened
+pub mod Known

@@ -6,7 +6,7 @@ use Rattle.fetch_board.specs.declared.taken.Taken.{Taken}
 use Rattle.fetch_board.specs.declared.taken.Taken.TheVariants as taken
 use Rattle.fetch_board.specs.declared.taken.Seen.{Seen}
 use Rattle.fetch_board.specs.declared.taken.Seen.TheVariants as seen
-use Rattle.fetch_board.specs.Counts.{one, items, pairs, triples, Has}
+use Rattle.fetch_board.specs.Counts.{one, items, pairs, triples, paid, Has}
 use Rattle.fetch_board.specs.Words.{IsWithin, IsAtMost}
 use Rattle.fetch_board.specs.Seats.{SeatData, items_of, items_of_done, seen_of, looked, claimed}
 
@@ -41,6 +41,21 @@ module _ {T : Type 0} where
   -- A claim looks at an item that is wanted until its deciding step.
   abbrev pub Takes : ℕ → SeatData T → Taken → SeatData T → Type 0
   Takes i v answer v' = (ends : List ℕ) × Decides i (after_looks i ends v) answer v'
+
+  -- What the seat knows, but for what it saw and what it learnt last.
+  abbrev pub known : SeatData T → SeatData T
+  known v = record v { seen = []; learnt = None }
+
+  -- The seat has met the item claimed, finished or spent, and owes it no more.
+  abbrev pub met : ℕ → SeatData T → SeatData T
+  met i v = record v { passed = i ∷ v.passed; owed = paid i v.owed }
+
+  -- What such a seat knows after a claim.
+  abbrev pub after_claim : ℕ → Taken → SeatData T → SeatData T
+  after_claim i (taken.Yes a) v = claimed i a v
+  after_claim i taken.Held v = met i v
+  after_claim i taken.Done v = met i v
+  after_claim i taken.Spent v = met i v
 
   -- Each item stands once at most among those that are held, done or spent. Each attempt at an item
   -- was given once at most, and its number is below that of the tries.

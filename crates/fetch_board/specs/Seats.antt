@@ -1,9 +1,9 @@
 -- What contracts see of a board and of a seat at it, and what the steps of a seat make of it.
-use Rattle.std.specs.Prelude.{◌≡◌, ℕ, ◌+◌, ◌<◌, Bool, if◌then◌else◌, ltb, max, ◌==◌, List, [], ◌∷◌, ◌++◌, map, Option, Some, None}
+use Rattle.std.specs.Prelude.{◌≡◌, ℕ, ◌+◌, ◌<◌, if◌then◌else◌, max, ◌==◌, List, [], ◌∷◌, ◌++◌, map, Option, Some, None}
 use Rattle.atomic_table.specs.Seated.{TableId}
 use Rattle.fetch_board.specs.declared.word.Word.{Word}
 use Rattle.fetch_board.specs.declared.word.Word.TheVariants.{Wanted, Held, Done, Spent}
-use Rattle.fetch_board.specs.Counts.{items, pairs, paid, released}
+use Rattle.fetch_board.specs.Counts.{pairs, paid, released}
 
 -- Which board it is.
 abbrev pub BoardId : Type 0

@@ -111,10 +111,7 @@ impl<T: Drop> Board<T> {
         ensures old { seat.new ≡ record seat.old { shares = seat.old.shares - 1 } }
         ensures new { result ≡ fresh self.now 1 }
     {
-        let inner = self
-            .table
-            .shared
-            .split_seat::<Shares>(&mut seat.inner);
+        let inner = self.table.shared.split_seat::<Shares>(&mut seat.inner);
         Seat { inner }
     }
 

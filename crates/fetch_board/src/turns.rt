@@ -5,7 +5,7 @@ ghost use Rattle.fetch_board.specs.declared.word.Word.TheVariants.{Wanted};
 ghost use Rattle.fetch_board.specs.declared.taken.Taken.TheVariants as answer;
 ghost use Rattle.fetch_board.specs.Counts.{items};
 ghost use Rattle.fetch_board.specs.Seats.{IsSeatOf, Holds, items_of, returned, finished, forgone, combined};
-ghost use Rattle.fetch_board.specs.Answers.{Decides, Takes, Finds, Once, told_word};
+ghost use Rattle.fetch_board.specs.Answers.{Decides, Takes, Finds, Once, known, after_claim, told_word};
 
 use crate::board::Board;
 use crate::plays::{Agree, Claim, File, GiveBack, Look, Recall, Reserve, Shares, Spend};
@@ -43,6 +43,7 @@ impl<T: Drop> Board<T> {
         requires unheld { items item (items_of seat.old.held) ≡ 0 }
         ensures seat { IsSeatOf self.now seat.new }
         ensures taken { Takes item seat.old result seat.new }
+        ensures known { known seat.new ≡ after_claim item result (known seat.old) }
     {
         let mut attempt = 0;
         loop {

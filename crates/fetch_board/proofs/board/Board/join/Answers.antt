@@ -1,4 +1,4 @@
-use Rattle.std.proofs.Common.{rules, arith, ◌<◌, sym, ap, subst, ◌∙◌}
+use Rattle.std.proofs.Common.{arith, ◌<◌, sym, ap, subst, ◌∙◌}
 use Rattle.fetch_board.specs.Seats.{IsSeatOf}
 use Rattle.fetch_board.proofs.Opened.{at_fields}
 use Rattle.fetch_board.proofs.Seats.{joins_kept}
