@@ -53,7 +53,8 @@ wanted_code a (done b) e = absurd (omega arith)
 wanted_code a spent e = absurd (omega arith)
 
 same_only : (a b : ℕ) → 0 < one (eqb b a) → b ≡ a
-same_only a b h = ⊎_elim (λ e. e) (λ ne. let z : one (eqb b a) ≡ 0 = ap one (ne_eqb b a ne) in absurd (omega arith)) (cases_eq b a)
+same_only a b h = ⊎_elim (λ e. e) (λ ne. let z : one (eqb b a) ≡ 0 = ap one (ne_eqb b a ne) in absurd (omega arith))
+    (cases_eq b a)
 
 pub due_holds : (n a : ℕ) (p : Phase) → 0 < due n p (holds a) → p ≡ held a
 due_holds n a (wanted b) h = absurd (omega arith)
@@ -89,7 +90,8 @@ zero_of : {n : ℕ} → n ≤ 0 → n ≡ 0
 zero_of h = omega arith
 
 below : (a b : ℕ) → 0 < one (ltb a b) → a < b
-below a b h = ⊎_elim (λ l. l) (λ ge. let z : one (ltb a b) ≡ 0 = ap one (le-ltb a b ge) in absurd (omega arith)) (less_or a b) where
+below a b h = ⊎_elim (λ l. l) (λ ge. let z : one (ltb a b) ≡ 0 = ap one (le-ltb a b ge) in absurd (omega arith))
+    (less_or a b) where
   less_or : (a b : ℕ) → (a < b) ⊎ (b ≤ a)
   less_or a b = ⊎_elim (λ e. inr (omega arith)) (λ o. ⊎_elim (λ l. inl l) (λ g. inr (omega arith)) o) (cases_order a b)
 
@@ -97,19 +99,26 @@ below a b h = ⊎_elim (λ l. l) (λ ge. let z : one (ltb a b) ≡ 0 = ap one (l
 none_paired : (i : ℕ) (xs : List (ℕ × ℕ)) → ((a : ℕ) → pairs i a xs ≡ 0) → items i (items_of xs) ≡ 0
 none_paired i [] z = refl
 none_paired i (x ∷ xs) z = let rest = none_paired i xs (λ a. let c = z a in omega arith) in
-    ⊎_elim (λ e. let c = z x.1 in let p = subst (λ k. 0 < one (eqb x.0 k && eqb x.1 x.1) + pairs k x.1 xs) e (pair_own x.0 x.1 (pairs x.0 x.1 xs)) in absurd (omega arith))
+    ⊎_elim (λ e. let c = z x.1 in
+        let p = subst (λ k. 0 < one (eqb x.0 k && eqb x.1 x.1) + pairs k x.1 xs) e
+        (pair_own x.0 x.1 (pairs x.0 x.1 xs)) in absurd (omega arith))
     (λ ne. let o : one (eqb x.0 i) ≡ 0 = ap one (ne_eqb x.0 i ne) in omega arith) (cases_eq x.0 i)
 
 one_paired : (i b : ℕ) (xs : List (ℕ × ℕ)) → ((a : ℕ) → pairs i a xs ≤ one (eqb b a)) → items i (items_of xs) ≤ 1
 one_paired i b [] h = omega arith
 one_paired i b (x ∷ xs) h = ⊎_elim
-    (λ e. let p : one (eqb x.0 i && eqb x.1 x.1) ≡ 1 = subst (λ k. one (eqb x.0 k && eqb x.1 x.1) ≡ 1) e (mine x.0 (eqb x.1 x.1) ∙ ap one (own x.1)) in
+    (λ e. let p : one (eqb x.0 i && eqb x.1 x.1) ≡ 1 = subst (λ k. one (eqb x.0 k && eqb x.1 x.1) ≡ 1) e
+        (mine x.0 (eqb x.1 x.1) ∙ ap one (own x.1)) in
     let rest : (a : ℕ) → pairs i a xs ≡ 0 = λ a. ⊎_elim
     (λ s. let c = h x.1 in let m = one_most (eqb b x.1) in subst (λ k. pairs i k xs ≡ 0) (sym s) (omega arith))
-    (λ ne. ⊎_elim (λ t. let c = h x.1 in let z : one (eqb b x.1) ≡ 0 = ap one (ne_eqb b x.1 (λ q. ne (sym (sym q ∙ t)))) in absurd (omega arith))
-    (λ nt. let c = h a in let z : one (eqb b a) ≡ 0 = ap one (ne_eqb b a nt) in omega arith) (cases_eq b a)) (cases_eq a x.1) in
+    (λ ne. ⊎_elim
+        (λ t. let c = h x.1 in let z : one (eqb b x.1) ≡ 0 = ap one (ne_eqb b x.1 (λ q. ne (sym (sym q ∙ t)))) in
+        absurd (omega arith))
+    (λ nt. let c = h a in let z : one (eqb b a) ≡ 0 = ap one (ne_eqb b a nt) in omega arith) (cases_eq b a))
+        (cases_eq a x.1) in
     let none = none_paired i xs rest in let m = one_most (eqb x.0 i) in omega arith)
-    (λ ne. let o : one (eqb x.0 i) ≡ 0 = ap one (ne_eqb x.0 i ne) in let rest = one_paired i b xs (λ a. let c = h a in omega arith) in omega arith)
+    (λ ne. let o : one (eqb x.0 i) ≡ 0 = ap one (ne_eqb x.0 i ne) in
+        let rest = one_paired i b xs (λ a. let c = h a in omega arith) in omega arith)
     (cases_eq x.0 i)
 
 -- the same of entries with values
@@ -130,8 +139,10 @@ module _ {T : Type 0} where
   none_tripled : (i : ℕ) (xs : List (ℕ × ℕ × T)) → ((a : ℕ) → triples i a xs ≡ 0) → items i (items_of_done xs) ≡ 0
   none_tripled i xs z = tripled_items i xs ∙ none_paired i (untagged xs) (λ a. sym (tripled_pairs i a xs) ∙ z a)
 
-  one_tripled : (i b : ℕ) (xs : List (ℕ × ℕ × T)) → ((a : ℕ) → triples i a xs ≤ one (eqb b a)) → items i (items_of_done xs) ≤ 1
-  one_tripled i b xs h = subst (λ n. n ≤ 1) (sym (tripled_items i xs)) (one_paired i b (untagged xs) (λ a. subst (λ n. n ≤ one (eqb b a)) (tripled_pairs i a xs) (h a)))
+  one_tripled : (i b : ℕ) (xs : List (ℕ × ℕ × T)) → ((a : ℕ) → triples i a xs ≤ one (eqb b a))
+      → items i (items_of_done xs) ≤ 1
+  one_tripled i b xs h = subst (λ n. n ≤ 1) (sym (tripled_items i xs))
+      (one_paired i b (untagged xs) (λ a. subst (λ n. n ≤ one (eqb b a)) (tripled_pairs i a xs) (h a)))
 
 module _ {T : Type 0} (tries seats : ℕ) (s : St T) (r : Kept tries seats s) where
   pub found : (i : ℕ) → get_or s.words i 0 ≡ code (phase r.phases i)
@@ -143,20 +154,31 @@ module _ {T : Type 0} (tries seats : ℕ) (s : St T) (r : Kept tries seats s) wh
 
     -- an attempt that is still to be made was tried by no seat
     pub untried : (i a : ℕ) → phase r.phases i ≡ wanted a → pairs i a v.tried ≡ 0
-    untried i a is = let c : pairs i a v.tried ≤ one (ltb a a) = subst (λ q. pairs i a v.tried ≤ due tries q (tried a)) is (count_at i (tried a)) in let z : one (ltb a a) ≡ 0 = ap one (le-ltb a a (omega arith)) in omega arith
+    untried i a is =
+        let c : pairs i a v.tried ≤ one (ltb a a) = subst (λ q. pairs i a v.tried ≤ due tries q (tried a)) is
+        (count_at i (tried a)) in let z : one (ltb a a) ≡ 0 = ap one (le-ltb a a (omega arith)) in omega arith
 
     pub once : (i : ℕ) (m : Mark) → marks v i m ≤ 1
     once i m = let c = count_at i m in let d = due_most tries (phase r.phases i) m in omega arith
 
-    ended_at : (i : ℕ) (p : Phase) → phase r.phases i ≡ p → items i (items_of v.held) + items i (items_of_done v.done) + items i v.spent ≤ 1
-    ended_at i p is = ends p (λ a. subst (λ q. pairs i a v.held ≤ due tries q (holds a)) is (count_at i (holds a))) (λ a. subst (λ q. triples i a v.done ≤ due tries q (finished a)) is (count_at i (finished a))) (subst (λ q. items i v.spent ≤ due tries q spends) is (count_at i spends)) where
-      ends : (p : Phase) → ((a : ℕ) → pairs i a v.held ≤ due tries p (holds a)) → ((a : ℕ) → triples i a v.done ≤ due tries p (finished a)) → items i v.spent ≤ due tries p spends
+    ended_at : (i : ℕ) (p : Phase) → phase r.phases i ≡ p
+        → items i (items_of v.held) + items i (items_of_done v.done) + items i v.spent ≤ 1
+    ended_at i p is = ends p (λ a. subst (λ q. pairs i a v.held ≤ due tries q (holds a)) is (count_at i (holds a)))
+        (λ a. subst (λ q. triples i a v.done ≤ due tries q (finished a)) is (count_at i (finished a)))
+        (subst (λ q. items i v.spent ≤ due tries q spends) is (count_at i spends)) where
+      ends : (p : Phase) → ((a : ℕ) → pairs i a v.held ≤ due tries p (holds a))
+          → ((a : ℕ) → triples i a v.done ≤ due tries p (finished a)) → items i v.spent ≤ due tries p spends
           → items i (items_of v.held) + items i (items_of_done v.done) + items i v.spent ≤ 1
-      ends (wanted b) h d s = let x = none_paired i v.held (λ a. zero_of (h a)) in let y = none_tripled i v.done (λ a. zero_of (d a)) in omega arith
-      ends (held b) h d s = let x = one_paired i b v.held h in let y = none_tripled i v.done (λ a. zero_of (d a)) in omega arith
-      ends (placing b) h d s = let x = none_paired i v.held (λ a. zero_of (h a)) in let y = none_tripled i v.done (λ a. zero_of (d a)) in omega arith
-      ends (done b) h d s = let x = none_paired i v.held (λ a. zero_of (h a)) in let y = one_tripled i b v.done d in omega arith
-      ends spent h d s = let x = none_paired i v.held (λ a. zero_of (h a)) in let y = none_tripled i v.done (λ a. zero_of (d a)) in omega arith
+      ends (wanted b) h d s = let x = none_paired i v.held (λ a. zero_of (h a)) in
+          let y = none_tripled i v.done (λ a. zero_of (d a)) in omega arith
+      ends (held b) h d s = let x = one_paired i b v.held h in let y = none_tripled i v.done (λ a. zero_of (d a)) in
+          omega arith
+      ends (placing b) h d s = let x = none_paired i v.held (λ a. zero_of (h a)) in
+          let y = none_tripled i v.done (λ a. zero_of (d a)) in omega arith
+      ends (done b) h d s = let x = none_paired i v.held (λ a. zero_of (h a)) in let y = one_tripled i b v.done d in
+          omega arith
+      ends spent h d s = let x = none_paired i v.held (λ a. zero_of (h a)) in
+          let y = none_tripled i v.done (λ a. zero_of (d a)) in omega arith
 
     tried_within : (i a : ℕ) (p : Phase) → Within tries p → 0 < due tries p (tried a) → a < tries
     tried_within i a (wanted b) w h = let c = below a b h in omega arith
@@ -170,7 +192,9 @@ module _ {T : Type 0} (tries seats : ℕ) (s : St T) (r : Kept tries seats s) wh
     once_all some_share b = record {
       ended = λ i. ended_at i (phase r.phases i) refl;
       tried = λ i a. once i (tried a);
-      within = λ i a some. let c = count_at i (tried a) in subst (λ n. a < n) (sym (r.told id v at some_share)) (tried_within i a (phase r.phases i) (r.within i) (omega arith));
+      within = λ i a some. let c = count_at i (tried a) in
+          subst (λ n. a < n) (sym (r.told id v at some_share))
+          (tried_within i a (phase r.phases i) (r.within i) (omega arith));
     }
 
     pub holder : (i a : ℕ) → 0 < pairs i a v.held → phase r.phases i ≡ held a
@@ -180,14 +204,20 @@ module _ {T : Type 0} (tries seats : ℕ) (s : St T) (r : Kept tries seats s) wh
     placer i a h = let c = count_at i (places a) in due_places tries a (phase r.phases i) (omega arith)
 
     only : (k a b : ℕ) → k ≤ one (eqb a b) → (b ≡ a → 0 < k) → k ≡ one (eqb a b)
-    only k a b le h = ⊎_elim (λ e. let o : one (eqb a b) ≡ 1 = ap one (eq-eqb a b (sym e)) in let g = h e in omega arith) (λ ne. let o : one (eqb a b) ≡ 0 = ap one (ne_eqb a b (λ e. ne (sym e))) in omega arith) (cases_eq b a)
+    only k a b le h = ⊎_elim
+        (λ e. let o : one (eqb a b) ≡ 1 = ap one (eq-eqb a b (sym e)) in let g = h e in omega arith)
+        (λ ne. let o : one (eqb a b) ≡ 0 = ap one (ne_eqb a b (λ e. ne (sym e))) in omega arith) (cases_eq b a)
 
     pub held_once : (i a : ℕ) → 0 < pairs i a v.held → (b : ℕ) → pairs i b v.held ≡ one (eqb a b)
-    held_once i a h b = let p = holder i a h in let c : pairs i b v.held ≤ one (eqb a b) = subst (λ q. pairs i b v.held ≤ due tries q (holds b)) p (count_at i (holds b)) in
+    held_once i a h b = let p = holder i a h in
+        let c : pairs i b v.held ≤ one (eqb a b) = subst (λ q. pairs i b v.held ≤ due tries q (holds b)) p
+        (count_at i (holds b)) in
         only (pairs i b v.held) a b c (λ e. subst (λ k. 0 < pairs i k v.held) (sym e) h)
 
     pub placed_once : (i a : ℕ) → 0 < pairs i a v.placing → (b : ℕ) → pairs i b v.placing ≡ one (eqb a b)
-    placed_once i a h b = let p = placer i a h in let c : pairs i b v.placing ≤ one (eqb a b) = subst (λ q. pairs i b v.placing ≤ due tries q (places b)) p (count_at i (places b)) in
+    placed_once i a h b = let p = placer i a h in
+        let c : pairs i b v.placing ≤ one (eqb a b) = subst (λ q. pairs i b v.placing ≤ due tries q (places b)) p
+        (count_at i (places b)) in
         only (pairs i b v.placing) a b c (λ e. subst (λ k. 0 < pairs i k v.placing) (sym e) h)
 
 pub within_16 : (n : ℕ) (w : Word) → n ≤ 16 → IsWithin n w → IsWithin 16 w

@@ -1,4 +1,3 @@
-//! A board is closed, and gives what became of each item.
 ghost use Rattle.std.specs.Prelude.{◌≡◌, ◌≢◌, ℕ, ◌+◌, ◌/◌, ◌<◌, ◌≤◌, length, IfOk, None, slice_index_or};
 ghost use Rattle.core.specs.Mem.Slots.{slots_items, slots_len, IsFull};
 ghost use mathlib.Core.Option.{some};
@@ -15,6 +14,7 @@ use crate::word::SPENT;
 use atomic_table::Closed;
 use std::alloc::{AllocError, Global};
 
+// So many places without a value.
 fn vacant<T: Drop>(alloc: Global, items: usize) -> Result<Vec<Option<T>>, AllocError>
     ensures { IfOk result (λ v. length v.items ≡ items) }
 {
@@ -25,6 +25,7 @@ fn vacant<T: Drop>(alloc: Global, items: usize) -> Result<Vec<Option<T>>, AllocE
     Ok(values)
 }
 
+// How many attempts the word of an item tells that was finished or spent.
 fn attempts_of(word: u64, tries: u32) -> u32
     requires { word ≢ 3 → word / 4 < tries }
     ensures spent { word ≡ 3 → result ≡ tries }
@@ -37,20 +38,29 @@ fn attempts_of(word: u64, tries: u32) -> u32
     }
 }
 
-// Takes each item's value, and the number of attempts that its word tells.
+// Takes each item's value out of its place, and the number of attempts that its word tells.
 fn settle<T: Drop>(
     closed: &mut Closed<Option<T>, Global>,
     mut values: Vec<Option<T>>,
     mut attempts: Vec<u32>,
     tries: u32,
 ) -> Outcome<T>
-    requires full { IsFull closed.old.words × IsFull closed.old.slots × (slots_len closed.old.words ≡ slots_len closed.old.slots) }
-    requires lengths { (length values.items ≤ slots_len closed.old.slots) × (length attempts.items ≡ length values.items) }
-    requires words { (i n : ℕ) → i < length values.items → get_elem? (slots_items closed.old.words) i ≡ some n → n ≢ 3 → n / 4 < tries }
-    ensures rest { (slots_len closed.new.slots ≡ slots_len closed.old.slots) × TakenBelow closed.new.slots (length values.items) }
-    ensures lengths { (length result.values.items ≡ length values.items) × (length result.attempts.items ≡ length values.items) }
-    ensures values { (i : ℕ) → i < length values.items → get_elem? (slots_items closed.old.slots) i ≡ some (slice_index_or result.values.items i None) }
-    ensures attempts { (i : ℕ) → i < length values.items → (n : ℕ) × (get_elem? (slots_items closed.old.words) i ≡ some n) × (n ≡ 3 → slice_index_or result.attempts.items i 0 ≡ tries) × (n ≢ 3 → slice_index_or result.attempts.items i 0 ≡ n / 4 + 1) }
+    requires full { IsFull closed.old.words × IsFull closed.old.slots }
+    requires even { slots_len closed.old.words ≡ slots_len closed.old.slots }
+    requires room { length values.items ≤ slots_len closed.old.slots }
+    requires counts { length attempts.items ≡ length values.items }
+    requires words { (i n : ℕ) → i < length values.items → get_elem? (slots_items closed.old.words) i ≡ some n
+        → n ≢ 3 → n / 4 < tries }
+    ensures same { slots_len closed.new.slots ≡ slots_len closed.old.slots }
+    ensures taken { TakenBelow closed.new.slots (length values.items) }
+    ensures count { length result.values.items ≡ length values.items }
+    ensures counts { length result.attempts.items ≡ length values.items }
+    ensures values { (i : ℕ) → i < length values.items
+        → get_elem? (slots_items closed.old.slots) i ≡ some (slice_index_or result.values.items i None) }
+    ensures attempts { (i : ℕ) → i < length values.items
+        → (n : ℕ) × (get_elem? (slots_items closed.old.words) i ≡ some n)
+        × (n ≡ 3 → slice_index_or result.attempts.items i 0 ≡ tries)
+        × (n ≢ 3 → slice_index_or result.attempts.items i 0 ≡ n / 4 + 1) }
 {
     for i in 0..values.len() {
         attempts[i] = attempts_of(closed.word(i), tries);
@@ -77,7 +87,8 @@ impl<T: Drop> Board<T> {
         requires shares { seat.shares ≡ self.seats }
         requires rests { Rests seat }
         requires passed { (i : ℕ) → i < self.items → 0 < items i seat.passed }
-        ensures count { IfOk result (λ o. (length o.values.items ≡ self.items) × (length o.attempts.items ≡ self.items)) }
+        ensures count { IfOk result (λ o. length o.values.items ≡ self.items) }
+        ensures counts { IfOk result (λ o. length o.attempts.items ≡ self.items) }
         ensures settled { IfOk result (λ o. (i : ℕ) → i < self.items
             → Settled seat i (slice_index_or o.values.items i None) (slice_index_or o.attempts.items i 0)) }
     {

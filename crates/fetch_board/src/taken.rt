@@ -1,5 +1,3 @@
-//! What calls of a board answer.
-
 /// What a claim came to: the attempt that the seat may now make, or what the item stood at.
 #[derive(Clone, Copy, Debug, PartialEq, Eq)]
 pub enum Taken {

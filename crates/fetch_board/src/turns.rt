@@ -1,4 +1,3 @@
-//! What a seat does at a board.
 ghost use Rattle.std.specs.Prelude.{◌≡◌, ◌≢◌, ℕ, ◌+◌, ◌<◌, ◌≤◌, MatchOption};
 ghost use Rattle.fetch_board.specs.declared.word.Word.{Word as WordOf};
 ghost use Rattle.fetch_board.specs.declared.word.Word.TheVariants.{Wanted};
@@ -68,8 +67,8 @@ impl<T: Drop> Board<T> {
         word_of(found).seen()
     }
 
-    /// Gives an item back that the seat holds, for any seat to claim, with one attempt more that ended. The seat owes it
-    /// until it is met claimed, finished or spent.
+    /// Gives an item back that the seat holds, for any seat to claim, with one attempt more that ended. The seat owes
+    /// it until it is met claimed, finished or spent.
     pub fn give_back(&self, seat: &mut Seat<T>, item: usize)
         requires seat { IsSeatOf self.now seat.old }
         requires item { item < self.now.items }
@@ -79,6 +78,7 @@ impl<T: Drop> Board<T> {
     {
         let words = &self.table.shared;
         let found = words.load::<Recall>(&mut seat.inner, item);
+        // From held(a), which is 4a + 1, to wanted(a + 1).
         words.store::<GiveBack>(&mut seat.inner, item, found + 3);
     }
 
@@ -95,6 +95,7 @@ impl<T: Drop> Board<T> {
         let found = words.load::<Reserve>(&mut seat.inner, item);
         // The place was empty.
         drop(words.exchange(&mut seat.inner, item, Some(value)));
+        // From held(a) to done(a).
         words.store::<File>(&mut seat.inner, item, found + 1);
     }
 

@@ -4,7 +4,7 @@ ghost use Rattle.fetch_board.specs.Answers.{told_word};
 
 use crate::taken::Seen;
 
-/// The word of an item. The number is that of the attempts that ended without a value.
+/// The word of an item, as contracts speak of it. The number is that of the attempts that ended without a value.
 #[derive(Drop)]
 pub enum Word {
     Wanted(u32),
@@ -26,6 +26,7 @@ impl Word {
     }
 }
 
+// Wanted after a attempts is 4a, held then 4a + 1, done then 4a + 2.
 pub(crate) const SPENT: u64 = 3;
 
 pub(crate) fn word_of(code: u64) -> Word

@@ -21,5 +21,6 @@ load-requires g c =
     let some = c.into.invariant.some_share in (
       c.join_seat.ensures.0 ∙ (at_fields c.into.view_is c.self.view_is IsSeatOf c.requires.into).0,
       omega (arith, laid.even, laid.some),
-      agrees_kept _ _ _ _ _ _ (subst (λ n. 0 < n) (sym (ap (λ m. m.0.shares) c.join_seat.ensures.2)) (omega (arith, some))),
+      agrees_kept _ _ _ _ _ _
+          (subst (λ n. 0 < n) (sym (ap (λ m. m.0.shares) c.join_seat.ensures.2)) (omega (arith, some))),
     )

@@ -19,5 +19,6 @@ returns-clause-claimed g c =
     let miss = c.compare_exchange-found.ensures.2.2 c.if-found-expected.false in
     let is = c.word_of.ensures miss.0 miss.1.0 in (
       finds_word (sym is) (finds_seat _ _ _ _ _ _ _ _ c.seat.view_is c.compare_exchange-found.ensures.0 miss.1),
-      λ e. c.if-found-expected.false (miss.1.0 ∙ (ap word_code (sym is ∙ e) ∙ ap (λ k. 4 * k) (sym c.from-expected.ensures))),
+      λ e. c.if-found-expected.false
+          (miss.1.0 ∙ (ap word_code (sym is ∙ e) ∙ ap (λ k. 4 * k) (sym c.from-expected.ensures))),
     )
