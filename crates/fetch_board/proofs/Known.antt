@@ -1,7 +1,8 @@
 -- What a seat knows but for what it saw and learnt.
-use Rattle.std.proofs.Common.{◌≡◌, ℕ, List, [], ◌∷◌, refl, ap, ◌∙◌}
+use Rattle.std.proofs.Common.{◌≡◌, ℕ, ◌<◌, List, [], ◌∷◌, refl, ap, sym, subst, ◌∙◌}
 use Rattle.fetch_board.specs.declared.taken.Taken.{Taken}
 use Rattle.fetch_board.specs.declared.taken.Taken.TheVariants as taken
+use Rattle.fetch_board.specs.Counts.{pairs}
 use Rattle.fetch_board.specs.Seats.{SeatData}
 use Rattle.fetch_board.specs.Answers.{after_looks, Decides, Takes, known, after_claim}
 
@@ -27,3 +28,11 @@ module _ {T : Type 0} where
       → Decides i u answer w → known w ≡ after_claim i answer (known v)
   known_after i answer v u w looks d = known_decides i answer u w d
       ∙ ap (after_claim i answer) (ap known looks.1 ∙ known_looks i looks.0 v)
+
+  -- what is so of an attempt that a claim gives
+  pub given : (i a : ℕ) (v w : SeatData T) → Takes i v (taken.Yes a) w → (a < v.tries) × (pairs i a v.tried ≡ 0)
+  given i a v w t =
+      let same = known_looks i t.0 v in (
+        subst (λ n. a < n) (ap (λ (u : SeatData T). u.tries) same) t.1.0,
+        ap (λ (u : SeatData T). pairs i a u.tried) (sym same) ∙ t.1.1,
+      )

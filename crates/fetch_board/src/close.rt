@@ -31,10 +31,9 @@ fn attempts_of(word: u64, tries: u32) -> u32
     ensures spent { word ≡ 3 → result ≡ tries }
     ensures done { word ≢ 3 → result ≡ word / 4 + 1 }
 {
-    if word == SPENT {
-        tries
-    } else {
-        (word / 4) as u32 + 1
+    match word {
+        SPENT => tries,
+        done => (done / 4) as u32 + 1,
     }
 }
 
