@@ -52,7 +52,7 @@ abbrev pub NoAnswer : Type 0
 NoAnswer = no_answer.NoAnswer
 
 abbrev pub none : NoAnswer
-none = record { }
+none = record {}
 
 -- The numbers of a RepoCommandResponse's fields, as far as they have come.
 pub record AnswerSoFar : Type 0 where

@@ -24,3 +24,6 @@ pub use laws::{
 };
 pub use signature_refusal::SignatureRefusal;
 pub use signer::signer_of;
+
+#[cfg(test)]
+mod tests;

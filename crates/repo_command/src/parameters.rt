@@ -112,11 +112,7 @@ impl<'p> Parameters<'p> {
     }
 
     // The command of that verb with these parameters. Only its name takes memory.
-    pub(crate) fn into_command(
-        self,
-        alloc: Global,
-        verb: Verb,
-    ) -> Result<Command, CommandRefusal>
+    pub(crate) fn into_command(self, alloc: Global, verb: Verb) -> Result<Command, CommandRefusal>
         ensures { MatchResult result
             (λ command. command_from verb (parameters self.entry) ≡ Ok command)
             (λ refusal. (command_from verb (parameters self.entry) ≡ Err refusal)
