@@ -16,3 +16,6 @@ pub use laws::{
 };
 pub use processes::Processes;
 pub use start_fault::StartFault;
+
+#[cfg(test)]
+mod tests;
