@@ -1,25 +1,24 @@
 -- An answer that was written is read back.
-use Rattle.std.proofs.Common.{◌≡◌, ℕ, ◌+◌, ◌^◌, ◌<◌, ◌≤◌, List, [], ◌∷◌, ◌++◌, length, length-append, append_assoc, Option, Some, None, Result, Ok, refl, sym, ap, ◌∙◌, inl, inr, arith}
+use Rattle.std.proofs.Common.{◌≡◌, ℕ, ◌+◌, ◌^◌, ◌<◌, ◌≤◌, List, [], ◌∷◌, ◌++◌, length, length-append, append_assoc, Option, Some, None, Result, Ok, refl, ap, ◌∙◌, arith}
 use Rattle.std.specs.Option.{option_and_then}
 use Rattle.std.specs.Result.{result_ok}
-use Rattle.std.proofs.lemmas.Bool.{cases_lt, lt-ltb, le-ltb}
+use Rattle.std.proofs.lemmas.Bool.{lt-ltb}
 use Rattle.std.proofs.lemmas.List.{append-nil}
 use Rattle.ndn_tlv.specs.declared.order_table.Place.{Place}
 use Rattle.ndn_tlv.specs.declared.tlv_fault.TlvFault.{TlvFault}
 use Rattle.ndn_tlv.specs.Spelling.{element}
-use Rattle.ndn_tlv.specs.NumberField.{number_of, number_field}
+use Rattle.ndn_tlv.specs.NumberField.{number_field}
 use Rattle.ndn_tlv.specs.Listing.{Listing, nothing, ◌then◌, gathered, ◌>>=◌}
 use Rattle.ndn_tlv.specs.Elements.{Item, placed, elements}
 use Rattle.ndn_tlv.specs.OrderTable.{place_of, fields}
 use Rattle.ndn_tlv.proofs.NumberFields.{number_of-number_field}
 use Rattle.ndn_packet.proofs.ReadBack.{alone}
-use Rattle.repo_object.proofs.Sizes.{element-narrow}
 use Rattle.repo_command.specs.declared.answer.Answer.{Answer}
 use Rattle.repo_command.specs.declared.answer_fields.AnswerField.{AnswerField}
 use Rattle.repo_command.specs.declared.answer_fields.AnswerField.TheVariants.{ProcessId, StatusCode, InsertNum, DeleteNum}
 use Rattle.repo_command.specs.OrderTables.{once, repo_command_response}
 use Rattle.repo_command.specs.Signer.{or_refused}
-use Rattle.repo_command.specs.Answers.{IsSmall, IsAnswer, NoAnswer, none, written_field, response_value, written_answer, AnswerSoFar, no_number, with_number, with_answer_field, bad_field, answer_fields, coded_answer, whole_answer, response_among, answer_in, answer_of}
+use Rattle.repo_command.specs.Answers.{IsSmall, IsAnswer, NoAnswer, none, written_field, response_value, written_answer, AnswerSoFar, no_number, with_number, with_answer_field, bad_field, answer_fields, whole_answer, response_among, answer_in, answer_of}
 use Rattle.repo_command.proofs.LengthLemmas.{field_short, number_element-size}
 use Rattle.repo_command.proofs.FieldLemmas.{field_again, fields_end}
 

@@ -1,5 +1,5 @@
 -- How many octets a command has: fewer than a packet may have.
-use Rattle.std.proofs.Common.{ℕ, ◌+◌, ◌^◌, ◌<◌, ◌≤◌, List, [], ◌∷◌, ◌++◌, length, length-append, ap, inl, inr, arith}
+use Rattle.std.proofs.Common.{ℕ, ◌^◌, ◌<◌, ◌≤◌, List, [], ◌∷◌, ◌++◌, length, length-append, inl, inr, arith}
 use Rattle.std.proofs.lemmas.Bool.{cases_lt, le-ltb, lt-ltb}
 use Rattle.sha2.specs.Sha256.{sha256}
 use Rattle.sha2.proofs.Facts256.{length-sha256}
@@ -7,7 +7,7 @@ use Rattle.ndn_tlv.specs.Spelling.{element}
 use Rattle.ndn_tlv.specs.NumberField.{number_field}
 use Rattle.ndn_name.specs.Names.{Component, encoding}
 use Rattle.ndn_packet.specs.Written.{written_info}
-use Rattle.ndn_interest.specs.WrittenInterest.{written_digested, written_interest}
+use Rattle.ndn_interest.specs.WrittenInterest.{written_digested}
 use Rattle.ndn_interest.proofs.WriteLemmas.{length-digested, length-named}
 use Rattle.repo_object.proofs.Sizes.{element-at_most, element-narrow, pushed-size}
 use Rattle.repo_command.specs.declared.command.Command.{Command}

@@ -1,6 +1,5 @@
 -- The verdict on a command that was made, and what every command is within that is taken.
-use Rattle.std.proofs.Common.{◌≡◌, ℕ, suc, zero, ◌+◌, ◌-◌, ◌^◌, ◌<◌, ◌≤◌, Bool, true, false, ◌&&◌, cond, leb, ltb, List, [], ◌∷◌, ◌++◌, length, length-append, slice_get, Option, Some, None, Result, Ok, Err, if◌then◌else◌, refl, sym, ap, ◌∙◌, arith}
-use Rattle.std.specs.Prelude.{unwrap_or}
+use Rattle.std.proofs.Common.{◌≡◌, ℕ, ◌+◌, ◌-◌, ◌^◌, ◌<◌, ◌≤◌, Bool, true, false, ◌&&◌, leb, ltb, List, [], ◌∷◌, ◌++◌, length, slice_get, Option, Some, None, Result, Ok, Err, if◌then◌else◌, refl, ap, ◌∙◌, arith}
 use Rattle.std.specs.Str.{bytes_eq}
 use Rattle.std.proofs.lemmas.Slice.Eq.{bytes_eq-Decides}
 use Rattle.sha2.specs.Sha256.{sha256}
@@ -14,7 +13,7 @@ use Rattle.ndn_tlv.specs.OrderTable.{place_of, fields}
 use Rattle.ndn_tlv.proofs.NumberFields.{number_of-number_field}
 use Rattle.ndn_name.specs.declared.fault.PacketFault.{PacketFault}
 use Rattle.ndn_name.specs.declared.name_fault.NameFault.{NameFault}
-use Rattle.ndn_name.specs.Names.{Component, IsName, encoding, name_of}
+use Rattle.ndn_name.specs.Names.{Component, IsName, encoding}
 use Rattle.ndn_name.proofs.Encodings.{name_of-encoding}
 use Rattle.ndn_sign.specs.Hmac.{hmac}
 use Rattle.ndn_sign.specs.Ring.{Pair, number_of as key_number, pair}
@@ -31,12 +30,12 @@ use Rattle.repo_command.specs.declared.parameters.ParameterField.{ParameterField
 use Rattle.repo_command.specs.declared.parameters.ParameterField.TheVariants.{Name, StartBlockId, EndBlockId, ProcessId}
 use Rattle.repo_command.specs.OrderTables.{once, repo_command_parameter}
 use Rattle.repo_command.specs.Signer.{or_refused}
-use Rattle.repo_command.specs.Verbs.{verb_of, command_name, verb_in}
+use Rattle.repo_command.specs.Verbs.{verb_of, command_name}
 use Rattle.repo_command.specs.Commands.{named_length, is_command, IsSpelled, parameters_value, written_parameters, command_interest}
-use Rattle.repo_command.specs.Parameters.{Parameters, no_parameters, good_name, number_in, with_parameter, bad_field, parameters_in, parameter_among, parameters_of, object_name_of, range_of, command_from}
+use Rattle.repo_command.specs.Parameters.{Parameters, no_parameters, good_name, with_parameter, bad_field, parameters_in, parameter_among, parameters_of, command_from}
 use Rattle.repo_command.specs.Verdict.{packet_or, interest_verdict, command_verdict}
 use Rattle.repo_command.proofs.NameLemmas.{last-push, IsName-command, verb_in-made}
-use Rattle.repo_command.proofs.LengthLemmas.{field_short, parameters-size, value-size, command-size}
+use Rattle.repo_command.proofs.LengthLemmas.{field_short, value-size, command-size}
 use Rattle.repo_command.proofs.FieldLemmas.{field_again, last_field}
 use Rattle.repo_command.proofs.VerdictLemmas.{from_client}
 

@@ -1,5 +1,5 @@
 -- The blocks of a process, as a map from their indexes.
-use Rattle.std.proofs.Common.{◌≡◌, ℕ, zero, suc, ◌+◌, ◌-◌, ◌<◌, ◌≤◌, Bool, true, false, not, eqb, cond, List, [], ◌∷◌, length, map, filter, get_or, replicate, slice_get, Option, Some, None, refl, sym, ap, ◌∙◌, inl, inr, arith}
+use Rattle.std.proofs.Common.{◌≡◌, ℕ, zero, suc, ◌+◌, ◌-◌, ◌<◌, ◌≤◌, Bool, true, false, not, eqb, cond, List, [], ◌∷◌, length, map, filter, get_or, replicate, Option, Some, None, refl, sym, ap, ◌∙◌, inl, inr, arith}
 use Rattle.std.specs.Prelude.{slice_set, is_some, unwrap_or}
 use Rattle.std.specs.Vec.{vec_len}
 use Rattle.std.specs.Prelude.{Vec, count_by}
@@ -15,7 +15,7 @@ use Rattle.repo_plan.specs.Parts.{numbers_from}
 use Rattle.repo_plan.proofs.Orders.{nat_less, nat_itself}
 use Rattle.repo_process.specs.Fields.{blocks_from}
 use Rattle.repo_process.proofs.Numbered.{later}
-use Rattle.repo_process.proofs.Numbers.{nat_greater, same_key, key_below, key_above}
+use Rattle.repo_process.proofs.Numbers.{same_key, key_below, key_above}
 
 next : (first i : ℕ) → first + suc i ≡ (first + 1) + i
 next first i = omega arith

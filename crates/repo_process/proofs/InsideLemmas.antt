@@ -1,5 +1,5 @@
 -- The inside of a process that was not published.
-use Rattle.std.proofs.Common.{◌≡◌, ℕ, zero, suc, leb, eqb, ◌+◌, ◌-◌, ◌≤◌, ◌<◌, true, false, List, [], length, map, get_or, refl, sym, ap, subst, ◌∙◌, arith}
+use Rattle.std.proofs.Common.{◌≡◌, ℕ, zero, suc, leb, eqb, ◌+◌, ◌-◌, ◌≤◌, ◌<◌, true, false, List, [], length, get_or, sym, ap, subst, ◌∙◌, arith}
 use Rattle.std.proofs.lemmas.List.{length-map, length-set, map-set, get_or-map}
 use Rattle.std.proofs.lemmas.List.Elements.{All-set}
 use Rattle.std.proofs.lemmas.Bool.{and_parts, leb-true}
@@ -9,7 +9,7 @@ use Rattle.std.specs.Prelude.{Vec, slice_set}
 use Rattle.std.proofs.Common.{Global}
 use Rattle.repo_process.specs.declared.insertion.Insertion.TheInside.{Inside}
 use Rattle.repo_process.specs.Processes.{Process, has_index}
-use Rattle.repo_process.specs.Fields.{blocks_from, contents_of, process_of, IsInsertion}
+use Rattle.repo_process.specs.Fields.{contents_of, process_of, IsInsertion}
 use Rattle.repo_process.proofs.ProcessLemmas.{of_contents}
 
 abbrev pub items : Vec ℕ Global → List ℕ

@@ -1,18 +1,18 @@
 -- What is true of every process.
-use Rattle.std.proofs.Common.{◌≡◌, ◌↔◌, ℕ, zero, suc, ◌+◌, ◌-◌, ◌<◌, ◌≤◌, Bool, true, false, cond, not, ◌&&◌, eqb, leb, List, [], ◌∷◌, length, map, filter, slice_get, Option, Some, None, refl, sym, ap, ◌∙◌, arith, inl, inr}
+use Rattle.std.proofs.Common.{◌≡◌, ◌↔◌, ℕ, zero, suc, ◌+◌, ◌-◌, ◌<◌, ◌≤◌, Bool, true, false, cond, ◌&&◌, eqb, leb, List, [], ◌∷◌, length, map, filter, slice_get, Some, refl, sym, ap, ◌∙◌, arith}
 use Rattle.std.specs.Prelude.{is_some, unwrap_or}
 use Rattle.std.specs.List.{list_all}
 use Rattle.std.specs.Ordering.{nat_cmp, eq_by_cmp}
 use Rattle.std.specs.declared.cmp.Ordering.{Ordering}
 use Rattle.std.specs.declared.cmp.Ordering.TheVariants.{Less, Equal, Greater}
-use Rattle.std.proofs.lemmas.Bool.{and_parts, and_from, leb-true, le-leb, cases_lt, eq-eqb}
+use Rattle.std.proofs.lemmas.Bool.{and_parts, and_from, leb-true, le-leb, eq-eqb}
 use Rattle.std.proofs.lemmas.List.{length-map}
 use Rattle.repo_plan.specs.SortedList.{by_order, value_of, with_value}
 use Rattle.repo_plan.specs.Parts.{numbers_from}
 use Rattle.repo_plan.proofs.Orders.{Exact, nat_same, nat_itself}
 use Rattle.repo_plan.proofs.Sets.{value_of-with_value}
 use Rattle.std.proofs.lemmas.Cmp.{nat_cmp_total}
-use Rattle.repo_process.specs.Processes.{Process, indexes, has_index, has_block, present, missing, is_whole, with_block, without_block, object_of}
+use Rattle.repo_process.specs.Processes.{Process, indexes, has_index, has_block, missing, is_whole, with_block, without_block, object_of}
 use Rattle.repo_process.proofs.Numbers.{same_key}
 use Rattle.repo_process.proofs.BlockLemmas.{but, other}
 use Rattle.repo_process.proofs.ProcessLemmas.{length-numbers}

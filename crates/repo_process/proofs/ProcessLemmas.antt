@@ -1,13 +1,12 @@
 -- A process whose blocks stand in places, one for each index.
-use Rattle.std.proofs.Common.{◌≡◌, ℕ, zero, suc, ◌+◌, ◌-◌, ◌<◌, true, false, eqb, List, [], ◌∷◌, length, map, filter, get_or, replicate, Option, Some, None, refl, sym, ap, ◌∙◌, arith}
+use Rattle.std.proofs.Common.{◌≡◌, ℕ, zero, suc, ◌+◌, ◌-◌, ◌<◌, true, false, eqb, List, [], ◌∷◌, length, get_or, replicate, Option, Some, refl, sym, ap, ◌∙◌, arith}
 use Rattle.std.specs.Prelude.{slice_set, is_some, unwrap_or}
-use Rattle.std.specs.List.{list_all}
 use Rattle.std.specs.Ordering.{nat_cmp}
 use Rattle.ndn_name.specs.Names.{Component}
 use Rattle.repo_plan.specs.SortedList.{value_of}
 use Rattle.repo_plan.specs.Parts.{numbers_from}
 use Rattle.repo_object.specs.Objects.{NamedContents}
-use Rattle.repo_process.specs.Processes.{Process, starting, indexes, has_index, has_block, present, missing, is_whole, with_block, without_block, object_of}
+use Rattle.repo_process.specs.Processes.{Process, starting, indexes, has_block, present, missing, is_whole, with_block, without_block, object_of}
 use Rattle.repo_process.specs.Arrivals.{whole_object}
 use Rattle.repo_process.specs.Fields.{blocks_from}
 use Rattle.repo_process.proofs.BlockLemmas.{come, missing_in, block_at, with_block_at, without_block_at, come_or_missing, all_come, come_again, contents_again, no_blocks}

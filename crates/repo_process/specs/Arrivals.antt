@@ -1,5 +1,5 @@
 -- What a block makes of a process, what is told of it, and the object that a whole process is.
-use Rattle.std.specs.Prelude.{ℕ, Bool, not, ◌&&◌, List, Vec, map, Option, Some, None, if◌then◌else◌}
+use Rattle.std.specs.Prelude.{ℕ, not, ◌&&◌, List, Vec, map, Option, Some, None, if◌then◌else◌}
 use Rattle.std.specs.Borrow.{Bor}
 use Rattle.ndn_name.specs.Names.{Component}
 use Rattle.repo_object.specs.Objects.{NamedContents}

@@ -1,4 +1,4 @@
-use Rattle.std.proofs.Common.{◌≤◌, length, ap, ◌∙◌, arith}
+use Rattle.std.proofs.Common.{length, ap, ◌∙◌, arith}
 use Rattle.ndn_interest.specs.WrittenInterest.{written_interest}
 use Rattle.repo_command.specs.Verbs.{verb_of, command_name}
 use Rattle.repo_command.proofs.LengthLemmas.{command-size}

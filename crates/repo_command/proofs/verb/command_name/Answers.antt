@@ -1,6 +1,5 @@
-use Rattle.std.proofs.Common.{◌∷◌, [], ◌++◌, length, ap, ◌∙◌, arith}
-use Rattle.ndn_name.specs.Names.{Component, encoding}
-use Rattle.repo_command.specs.Verbs.{verb_component}
+use Rattle.std.proofs.Common.{◌∷◌, [], ◌++◌, length, ap, arith}
+use Rattle.ndn_name.specs.Names.{encoding}
 use Rattle.repo_command.proofs.LengthLemmas.{command_name-size}
 use Rattle.repo_command.proofs.verb.command_name.Goals as goal
 

@@ -1,4 +1,4 @@
-use Rattle.std.proofs.Common.{◌+◌, length, map, sym, ap, subst, ◌∙◌}
+use Rattle.std.proofs.Common.{◌+◌, length, map, ap, subst, ◌∙◌}
 use Rattle.std.proofs.lemmas.Result.{err_from_is_err_and}
 use Rattle.ndn_tlv.specs.Listing.{Listing, gathered}
 use Rattle.ndn_tlv.specs.Elements.{AreWithin, Item, item}

@@ -1,8 +1,8 @@
-use Rattle.std.proofs.Common.{◌≡◌, ◌+◌, ◌-◌, ◌≤◌, ◌<◌, [], length, get_or, sym, ap, ◌∙◌, arith}
+use Rattle.std.proofs.Common.{◌≡◌, ◌+◌, ◌-◌, ◌<◌, [], length, get_or, sym, ap, ◌∙◌, arith}
 use Rattle.std.specs.Prelude.{slice_set}
 use Rattle.std.proofs.lemmas.Bool.{eqb-true}
 use Rattle.std.proofs.lemmas.List.{length-map}
-use Rattle.repo_process.specs.Processes.{Process, with_block}
+use Rattle.repo_process.specs.Processes.{with_block}
 use Rattle.repo_process.specs.Fields.{contents_of}
 use Rattle.repo_process.proofs.ProcessLemmas.{of_contents, with_block-there, with_block-new}
 use Rattle.repo_process.proofs.InsideLemmas.{items, opened, placed_is, placed_process, content_at, index_at, nonzero}

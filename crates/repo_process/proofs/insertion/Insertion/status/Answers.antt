@@ -1,4 +1,4 @@
-use Rattle.std.proofs.Common.{◌≡◌, ◌≤◌, ◌+◌, ◌-◌, length, sym, ap, ◌∙◌, arith}
+use Rattle.std.proofs.Common.{◌≡◌, sym, ap, ◌∙◌, arith}
 use Rattle.repo_process.specs.Processes.{Process, present, missing}
 use Rattle.repo_process.specs.Fields.{contents_of}
 use Rattle.repo_process.proofs.ProcessLemmas.{present-counted, present-published, missing-counted}

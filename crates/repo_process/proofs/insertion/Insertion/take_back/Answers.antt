@@ -1,7 +1,7 @@
-use Rattle.std.proofs.Common.{◌≡◌, ◌+◌, ◌-◌, ◌≤◌, ◌<◌, [], length, sym, ap, ◌∙◌, arith}
+use Rattle.std.proofs.Common.{◌≡◌, ◌+◌, ◌-◌, length, sym, ap, ◌∙◌, arith}
 use Rattle.std.specs.Prelude.{slice_set}
 use Rattle.std.proofs.lemmas.List.{length-map}
-use Rattle.repo_process.specs.Processes.{Process, has_block, without_block}
+use Rattle.repo_process.specs.Processes.{has_block, without_block}
 use Rattle.repo_process.specs.Fields.{contents_of}
 use Rattle.repo_process.proofs.BlockLemmas.{block_within}
 use Rattle.repo_process.proofs.ProcessLemmas.{of_contents, without_block-at}

@@ -1,4 +1,4 @@
-use Rattle.std.proofs.Common.{◌≡◌, false, IsTrue, Some, Option, sym, subst, arith}
+use Rattle.std.proofs.Common.{◌≡◌, false, IsTrue, Option, subst, arith}
 use Rattle.std.specs.Prelude.{IsSomeAnd}
 use Rattle.repo_process.specs.Processes.{Process, has_block, without_block}
 use Rattle.repo_process.proofs.PlaceLemmas.{found, change_replaced}

@@ -1,4 +1,4 @@
-use Rattle.std.proofs.Common.{◌≡◌, map, None, Some, Option, sym, arith}
+use Rattle.std.proofs.Common.{◌≡◌, None, Some, Option, sym, arith}
 use Rattle.std.specs.Prelude.{MatchOption}
 use Rattle.std.proofs.Common.{subst}
 use Rattle.repo_process.specs.Processes.{Process}
