@@ -13,7 +13,7 @@ use Rattle.repo_plan.proofs.Sets.{each_before, in_contains, keys-with_value, ris
 use Rattle.repo_object.specs.Publication.{packets}
 use Rattle.repo_object.proofs.Publications.{packets-length}
 use Rattle.repo_store.specs.StoreList.{with_packet}
-use Rattle.group_model.specs.Member.{Member, insert_keys, with_each_tried, with_attempts}
+use Rattle.group_model.specs.Member.{Member, insert_keys, with_each_tried, with_tries}
 use Rattle.group_model.specs.Changes as group
 use Rattle.group_model.specs.World.{no_member}
 use Rattle.repo_member.specs.Records.{Packet}
@@ -93,8 +93,8 @@ takes_alike tries [] a r h = refl
 takes_alike tries (x ∷ xs) a r h =
     let next : Alone = record a { store = with_fetched x.part x.packet a.store; attempts = with_tries x.part x.attempts a.attempts } in
     let outcome : List Part → List (Part × ℕ) → Member = λ held attempts. record (in_group a) { held = held; attempts = attempts } in
-    let tried : with_tries x.part x.attempts a.attempts ≡ with_attempts x.part (tries x.part) a.attempts =
-    ap (λ (n : ℕ). with_attempts x.part n a.attempts) (All-head (λ (y : Fetched). y.attempts ≡ tries y.part) x xs h) in
+    let tried : with_tries x.part x.attempts a.attempts ≡ with_tries x.part (tries x.part) a.attempts =
+    ap (λ (n : ℕ). with_tries x.part n a.attempts) (All-head (λ (y : Fetched). y.attempts ≡ tries y.part) x xs h) in
     takes_alike tries xs next (rises_fetched x.part x.packet a.store r) (All-tail (λ (y : Fetched). y.attempts ≡ tries y.part) x xs h)
     ∙ ap (λ (held : List Part). outcome held (with_each_tried tries (asked_for xs) (with_tries x.part x.attempts a.attempts))) (came_first x (filter (λ (y : Fetched). is_some y.packet) xs) x.packet a.store r)
     ∙ ap (λ (attempts : List (Part × ℕ)). outcome (insert_keys (that_came (x ∷ xs)) (keys a.store)) (with_each_tried tries (asked_for xs) attempts)) tried

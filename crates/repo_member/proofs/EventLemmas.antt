@@ -14,7 +14,7 @@ use Rattle.group_model.specs.Changes as group
 use Rattle.group_model.specs.Events.{Came}
 use Rattle.group_model.specs.Events.Came.{Nothing, Its, Another}
 use Rattle.group_model.specs.World.{Outside, World, no_member, member, logs, sent_at}
-use Rattle.group_model.specs.Steps.{drawn, timer_at, claim_at, passes_checks, came_from, came_as, tried_once, planned, attempts_for, fetches, settled_vector, new_parts, after_deliver, after_fire, after_claim, after_came}
+use Rattle.group_model.specs.Steps.{drawn, timer_at, claim_at, passes_checks, came_from, came_as, tried_once, planned_parts, attempts_for, fetches, settled_vector, new_parts, after_deliver, after_fire, after_claim, after_came}
 use Rattle.group_model.proofs.Settles.{member_settled}
 use Rattle.repo_member.specs.Alone.{Alone, plan_of, learns, hears, fires, claims_part, accepts, takes, ends_claims, resets}
 use Rattle.repo_member.specs.InGroup.{in_group, StoresInOrder, asked_for, that_came, after_timer}
@@ -82,10 +82,10 @@ claim_is_event out w j f g a is truly idle = ap (λ (ts : List Part). member (af
 
   go : (x : Option Part) → member (after_claim w j f x) j ≡ in_group (claims_part f x a)
   go None = is.same ∙ ap with_claims (sym (ap (set a.claims (f - 1)) (sym idle) ∙ set-get_or a.claims (f - 1) None))
-  go (Some t) = changed w j a is (group.with_claim f (Some t))
+  go (Some t) = changed w j a is (group.member_with_claim f (Some t))
 
 pub lose_is_event : LoseIsEvent
-lose_is_event out w j f a is = changed w j a is (group.with_claim f None)
+lose_is_event out w j f a is = changed w j a is (group.member_with_claim f None)
 
 claimed_alike : (w : World) (j f : ℕ) (t : Part) (a : Alone) → IsMemberOf w j a → claim_of (plan_of a) f ≡ Some t → claim_at w j f ≡ Some t
 claimed_alike w j f t a is claim = ap (λ (m : Member). get_or m.claims (f - 1) None) is.same ∙ claim
@@ -110,7 +110,7 @@ pub fetch_is_event : FetchIsEvent
 fetch_is_event out w j tries loss xs a is r outcome =
     let after_it : List Part → List Part → Member = λ came asked. record (gains came (in_group a)) { attempts = with_each_tried (attempts_for out w j tries loss) asked a.attempts } in
     changed w j a is (fetches out w j tries loss)
-    ∙ ap (λ (came : List Part). after_it came (planned w j)) (sym outcome.came) ∙ ap (after_it (that_came xs)) (sym outcome.asked)
+    ∙ ap (λ (came : List Part). after_it came (planned_parts w j)) (sym outcome.came) ∙ ap (after_it (that_came xs)) (sym outcome.asked)
     ∙ sym (takes_alike (attempts_for out w j tries loss) xs a r outcome.tried)
 
 -- ---- a settle
@@ -126,7 +126,7 @@ none_tried (t ∷ ts) tried = none_tried ts tried
 pub settle_is_event : SettleIsEvent
 settle_is_event out w j vectors xs a is r settling =
     let draw : ℕ = drawn out w j in
-    let settled : Member → List Part → List ℕ → Member = λ m gained known. group.resets draw w.moment (record (gains gained (group_member.without_claims m)) { known = known }) in
+    let settled : Member → List Part → List ℕ → Member = λ m gained known. group.resets draw w.moment (record (gains gained (group_member.member_without_claims m)) { known = known }) in
     let known : List ℕ = (learns_all vectors a).known in
     let told : Alone = record (ends_claims a) { known = known } in
     let tried : List (Part × ℕ) → Member = λ attempts. record (settled (in_group a) (that_came xs) known) { attempts = attempts } in

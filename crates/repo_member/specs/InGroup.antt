@@ -12,12 +12,12 @@ use Rattle.repo_plan.specs.Plan.{wanted}
 use Rattle.repo_object.specs.Objects.{NamedContents, IsObject}
 use Rattle.repo_object.specs.Publication.{packet_at}
 use Rattle.group_model.specs.Publications.{Logs, object_at, last_of}
-use Rattle.group_model.specs.Member.{Member, holds, catalogue, gains, with_each_tried, without_claims}
+use Rattle.group_model.specs.Member.{Member, member_holds, catalogue, gains, with_each_tried, member_without_claims}
 use Rattle.group_model.specs.Member as group_member
-use Rattle.group_model.specs.Sound.{IsPublished, SoundMember}
+use Rattle.group_model.specs.Sound.{IsPublished, IsSoundMember}
 use Rattle.group_model.specs.Wanted.{IsWantedPart}
 use Rattle.group_model.specs.Changes as group
-use Rattle.group_model.specs.World.{Outside, member, opening}
+use Rattle.group_model.specs.World.{Outside, member, opening_world}
 use Rattle.repo_member.specs.Groups.{GroupKeys, IsGroup, publisher_of}
 use Rattle.repo_member.specs.Listed.{catalogue_alone}
 use Rattle.repo_member.specs.Alone.{Alone, Fetched, plan_of, opening_alone, publishes, learns, hears, fires, claims_part, accepts, takes, ends_claims, resets}
@@ -45,7 +45,7 @@ StoresInOrder a = Rises part_cmp (keys a.store)
 
 -- A member begins as each does in a group in which nothing has happened.
 abbrev pub BeginsAlike : Type 0
-BeginsAlike = (out : Outside) (n j : ℕ) → j < n → in_group (opening_alone n j 0 (out.draw j 0)) ≡ member (opening out n) j
+BeginsAlike = (out : Outside) (n j : ℕ) → j < n → in_group (opening_alone n j 0 (out.draw j 0)) ≡ member (opening_world out n) j
 
 -- It publishes an object, and stores all its packets.
 abbrev pub PublishesAlike : Type 0
@@ -77,7 +77,7 @@ FiresAlike = (moment draw : ℕ) (a : Alone)
 -- A fetcher claims a part, or nothing.
 abbrev pub ClaimsAlike : Type 0
 ClaimsAlike = (f : ℕ) (claim : Option Part) (a : Alone)
-    → in_group (claims_part f claim a) ≡ group.with_claim f claim (in_group a)
+    → in_group (claims_part f claim a) ≡ group.member_with_claim f claim (in_group a)
 
 -- A packet came for the part that a fetcher claims.
 abbrev pub AcceptsAlike : Type 0
@@ -105,7 +105,7 @@ TakesAlike = (tries : Part → ℕ) (xs : List Fetched) (a : Alone) → StoresIn
 
 -- All claims end.
 abbrev pub EndsClaimsAlike : Type 0
-EndsClaimsAlike = (a : Alone) → in_group (ends_claims a) ≡ without_claims (in_group a)
+EndsClaimsAlike = (a : Alone) → in_group (ends_claims a) ≡ member_without_claims (in_group a)
 
 -- Its machine is Steady again.
 abbrev pub ResetsAlike : Type 0
@@ -139,12 +139,12 @@ AreItsPackets g logs a = (t : Part) (octets : List ℕ) → value_of part_cmp a.
 -- The member stores parts of what was published, in order, and of each the packet that its publisher made.
 pub record StoresTruly (g : GroupKeys) (logs : Logs) (a : Alone) : Type 0 where
   pub in_order : StoresInOrder a
-  pub published : (t : Part) → holds (in_group a) t ≡ true → IsPublished logs (pair_of t)
+  pub published : (t : Part) → member_holds (in_group a) t ≡ true → IsPublished logs (pair_of t)
   pub packets : AreItsPackets g logs a
 
 -- A member that is as each is in a group that events can reach stores truly, where the packets are those of their parts.
 abbrev pub SoundStoresTruly : Type 0
-SoundStoresTruly = (g : GroupKeys) (logs : Logs) (a : Alone) → SoundMember logs a.number (in_group a)
+SoundStoresTruly = (g : GroupKeys) (logs : Logs) (a : Alone) → IsSoundMember logs a.number (in_group a)
     → AreItsPackets g logs a → StoresTruly g logs a
 
 -- The plan of the member by itself, which reads what the stored records list, is the group's plan of that member.
