@@ -143,7 +143,7 @@ sound_takes ls j f t m claim s =
 
 -- ---- attempts
 
-rises_tried : (t : Part) (n : ℕ) (es : List (Part × ℕ)) → Rises part_cmp (keys es) → Rises part_cmp (keys (with_tries t n es))
+pub rises_tried : (t : Part) (n : ℕ) (es : List (Part × ℕ)) → Rises part_cmp (keys es) → Rises part_cmp (keys (with_tries t n es))
 rises_tried t n es r = go (n == 0) where
   go : (b : Bool) → Rises part_cmp (keys (cond b es (with_value part_cmp t (tries_of es t + n) es)))
   go true = r
@@ -159,7 +159,7 @@ AreTried es = (t : Part) (n : ℕ) → value_of part_cmp es t ≡ Some n → 0 <
 some_same : (a b : ℕ) → let x : Option ℕ = Some a in x ≡ Some b → a ≡ b
 some_same a b e = cc
 
-tried_once_more : (t : Part) (n : ℕ) (es : List (Part × ℕ)) → AreTried es → AreTried (with_tries t n es)
+pub tried_once_more : (t : Part) (n : ℕ) (es : List (Part × ℕ)) → AreTried es → AreTried (with_tries t n es)
 tried_once_more t n es h u k = go (n == 0) refl where
   go : (b : Bool) → (n == 0) ≡ b → value_of part_cmp (cond b es (with_value part_cmp t (tries_of es t + n) es)) u ≡ Some k → 0 < k
   go true z e = h u k e

@@ -24,15 +24,15 @@ use Rattle.group_model.proofs.Lists.{from_filter}
 use Rattle.group_model.proofs.Parts.{IsIn, in_published}
 use Rattle.group_model.proofs.Catalogues.{lists_in_order, at_pair, is_published}
 use Rattle.repo_member.specs.Records.{records_in}
-use Rattle.repo_member.specs.Listed.{listing_at, stored_at, shape, content_of, content_at, contents_joined, are_stored, entry_of_listing, entry_listed, entry_at, entries_in}
-use Rattle.repo_member.specs.Groups.{GroupKeys, publisher_of}
-use Rattle.repo_member.specs.Alone.{Alone, plan_of}
-use Rattle.repo_member.specs.Holding.{AreTied}
+use Rattle.repo_member.specs.Listed.{listing_at, stored_at, shape, packet_content, stored_content, contents_joined, are_stored, entry_of_listing, entry_listed, entry_at, entries_in}
+use Rattle.repo_member.specs.Groups.{GroupKeys, publisher_at}
+use Rattle.repo_member.specs.Alone.{Alone, alone_plan}
+use Rattle.repo_member.specs.Gaining.{AreTied}
 use Rattle.repo_member.specs.InGroup.{in_group, AreLogs, StoresTruly, ListsAlike}
 use Rattle.repo_member.proofs.SortedMaps.{same_map, rises_kept}
 use Rattle.repo_member.proofs.RecordLemmas.{rises_records}
 use Rattle.repo_member.proofs.CatalogueLemmas.{entries_value}
-use Rattle.repo_member.proofs.HoldingLemmas.{contains-value, complete_stored, shape_told}
+use Rattle.repo_member.proofs.GainingLemmas.{contains-value, complete_stored, shape_told}
 use Rattle.repo_member.proofs.TruePackets.{value_in, record_lists, segment_content, listing_counts, published_object, published_by, published_low}
 
 -- ---- maps in order that have the same entries
@@ -89,7 +89,7 @@ module _ (g : GroupKeys) (logs : Logs) (a : Alone) (are : AreLogs g logs) (truly
   abbrev m : Member
   m = in_group a
 
-  tied : AreTied (plan_of a) a.store
+  tied : AreTied (alone_plan a) a.store
   tied = record { in_order = truly.in_order; held = refl; shapes = refl }
 
   module _ (pair : Pair) (there : IsPublished logs pair) where
@@ -97,34 +97,34 @@ module _ (g : GroupKeys) (logs : Logs) (a : Alone) (are : AreLogs g logs) (truly
     object = object_at logs pair
 
     abbrev lists : Listed
-    lists = published_listing (publisher_of g pair.0) object
+    lists = published_listing (publisher_at g pair.0) object
 
     -- what its record lists, where that is stored
     listing_stored : (octets : List ℕ) → stored_at a.store pair 0 ≡ Some octets → listing_at a.store pair ≡ Some lists
     listing_stored octets h =
         ap (option_and_then listing_in) h
-        ∙ record_lists (publisher_of g pair.0) pair.1 object (published_by g logs are pair there) (published_object g logs are pair there) octets (published_low g logs are pair there) (truly.packets (part_of pair 0) octets h)
+        ∙ record_lists (publisher_at g pair.0) pair.1 object (published_by g logs are pair there) (published_object g logs are pair there) octets (published_low g logs are pair there) (truly.packets (part_of pair 0) octets h)
 
     counted : shape lists ≡ count logs pair
-    counted = listing_counts (publisher_of g pair.0) pair.1 object
+    counted = listing_counts (publisher_at g pair.0) pair.1 object
 
     -- whether it is wholly held
     whole_stored : listing_at a.store pair ≡ Some lists → holds_all m (at_pair logs pair) ≡ are_stored a.store pair (shape lists)
     whole_stored listed =
         ap (λ (n : ℕ). list_all (member_holds m) (parts_of pair n)) (sym counted)
-        ∙ sym (ap (λ (o : Option Shape). list_all (member_holds m) (parts_of pair (parts_told o))) (shape_told (plan_of a) a.store pair tied ∙ ap (option_map shape) listed))
-        ∙ complete_stored (plan_of a) a.store pair tied lists listed
+        ∙ sym (ap (λ (o : Option Shape). list_all (member_holds m) (parts_of pair (parts_told o))) (shape_told (alone_plan a) a.store pair tied ∙ ap (option_map shape) listed))
+        ∙ complete_stored (alone_plan a) a.store pair tied lists listed
 
-    content_stored : holds_all m (at_pair logs pair) ≡ true → (k : ℕ) → k < length object.contents → content_at a.store pair (1 + k) ≡ get_or object.contents k []
+    content_stored : holds_all m (at_pair logs pair) ≡ true → (k : ℕ) → k < length object.contents → stored_content a.store pair (1 + k) ≡ get_or object.contents k []
     content_stored whole k inside =
         let next : 1 + k ≡ suc k = omega arith in
         let held : member_holds m (part_of pair (suc k)) ≡ true = each_all (member_holds m) (parts_of pair (count logs pair)) whole (part_of pair (suc k)) (in_parts_of (count logs pair) (part_of pair (suc k)) (omega (arith, inside))) in
         let found = is_there (stored_at a.store pair (suc k)) (sym (contains-value a.store (part_of pair (suc k))) ∙ held) in
-        ap (content_at a.store pair) next ∙ ap (λ (o : Option (List ℕ)). content_of (unwrap_or o [])) found.1
-        ∙ segment_content (publisher_of g pair.0) pair.1 object k found.0 (published_by g logs are pair there) (published_object g logs are pair there) (truly.packets (part_of pair (suc k)) found.0 found.1)
+        ap (stored_content a.store pair) next ∙ ap (λ (o : Option (List ℕ)). packet_content (unwrap_or o [])) found.1
+        ∙ segment_content (publisher_at g pair.0) pair.1 object k found.0 (published_by g logs are pair there) (published_object g logs are pair there) (truly.packets (part_of pair (suc k)) found.0 found.1)
 
     contents_stored : holds_all m (at_pair logs pair) ≡ true → contents_joined a.store pair (shape lists) ≡ concat object.contents
-    contents_stored whole = ap (contents_joined a.store pair) counted ∙ joined (content_at a.store pair) 1 object.contents (content_stored whole)
+    contents_stored whole = ap (contents_joined a.store pair) counted ∙ joined (stored_content a.store pair) 1 object.contents (content_stored whole)
 
     same_entry : holds_all m (at_pair logs pair) ≡ true → entry_of_listing a.store pair lists ≡ published_entry (at_pair logs pair)
     same_entry whole =

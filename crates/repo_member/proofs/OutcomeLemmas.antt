@@ -23,23 +23,25 @@ use Rattle.repo_plan.proofs.Sets.{eq_same, eq_itself, rises_filter, value_of-wit
 use Rattle.repo_object.specs.declared.job.Job.{Job}
 use Rattle.repo_object.specs.Publication.{Listed}
 use Rattle.repo_object.specs.Verdict.{CheckedPart, listing_in}
-use Rattle.repo_member.specs.Groups.{GroupKeys}
+use Rattle.repo_member.specs.Groups.{GroupKeys, HaveKeys}
 use Rattle.repo_member.specs.Records.{Packet}
 use Rattle.repo_member.specs.Listed.{listing_at, stored_at, shape}
-use Rattle.repo_member.specs.Alone.{Alone, Fetched, plan_of, want_of, with_fetched, with_tries, takes}
-use Rattle.repo_member.specs.Holding.{AreTied, IsArrival}
-use Rattle.repo_member.specs.declared.holding.Arrival.{Arrival}
+use Rattle.group_model.specs.Member.{with_tries}
+use Rattle.repo_member.specs.Alone.{Alone, Fetched, IsOf, alone_plan, want_of, with_fetched, alone_takes}
+use Rattle.repo_member.specs.Gaining.{AreTied, IsArrival}
+use Rattle.repo_member.specs.declared.gaining.Arrival.{Arrival}
 use Rattle.repo_member.specs.Members.{alone, IsMember}
 use Rattle.repo_member.specs.declared.member.Member.TheInside.{Inside}
 use Rattle.repo_member.specs.declared.member.outcome.Tried.{Tried}
-use Rattle.repo_member.specs.Outcomes.{planned, IsOutcome, IsCheckedFor, fetched, IsFetched, AreFetched, AreApart, CanBeTaken, AreTakable, KeepsButTries, came, with_all_fetched, with_all_tries}
-use Rattle.repo_member.proofs.HoldingLemmas.{absent, held_value, shape_told, put_elsewhere}
+use Rattle.repo_member.specs.Outcomes.{job_for, IsPlannedJob, WereTried, JobsArePlanned, PlannedJobsAreOutcomes, IsOutcome, outcome_of, IsFetched, AreFetched, AreApart, CanBeTaken, AreTakable, KeepsButTries, came, with_all_fetched, with_all_tries}
+use Rattle.repo_member.proofs.GainingLemmas.{absent, held_value, shape_told, put_elsewhere}
+use Rattle.repo_member.proofs.GroupLemmas.{ring_length}
 use Rattle.repo_member.proofs.AskedLemmas.{asked_segment, asked_member}
 use Rattle.repo_member.proofs.MemberLemmas.{plan_is, want_part}
 
 -- ---- what is taken in all
 
-pub takes_all : (xs : List Fetched) (a : Alone) → takes xs a ≡ record a { store = with_all_fetched xs a.store; attempts = with_all_tries xs a.attempts }
+pub takes_all : (xs : List Fetched) (a : Alone) → alone_takes xs a ≡ record a { store = with_all_fetched xs a.store; attempts = with_all_tries xs a.attempts }
 takes_all [] a = refl
 takes_all (x ∷ xs) a = takes_all xs (record a { store = with_fetched x.part x.packet a.store; attempts = with_tries x.part x.attempts a.attempts })
 
@@ -152,7 +154,7 @@ keeps_on a b c first then = record { known = then.known ∙ first.known; claims 
 
 -- ---- what came of jobs, one after another
 
-pub nothing_left : (jobs : List Job) (parts : List (Option CheckedPart)) (attempts : List ℕ) → (length jobs ≡ 0) ⊎ (length parts ≡ 0) ⊎ (length attempts ≡ 0) → fetched jobs parts attempts ≡ []
+pub nothing_left : (jobs : List Job) (parts : List (Option CheckedPart)) (attempts : List ℕ) → (length jobs ≡ 0) ⊎ (length parts ≡ 0) ⊎ (length attempts ≡ 0) → outcome_of jobs parts attempts ≡ []
 nothing_left [] parts attempts h = refl
 nothing_left (job ∷ jobs) [] attempts h = refl
 nothing_left (job ∷ jobs) (part ∷ parts) [] h = refl
@@ -168,24 +170,24 @@ module _ (g : GroupKeys) (a : Alone) (job : Job) (part : Option CheckedPart) (n 
   -- the fetched part of a job, with a copy of its packet
   pub one_more : (x : Tried) (jobs later : List Job) (parts behind : List (Option CheckedPart)) (ns rest : List ℕ) (xs : List Tried) → jobs ≡ job ∷ later → parts ≡ part ∷ behind → ns ≡ n ∷ rest
       → x.part ≡ job.want.part → option_map (λ (y : Arrival). y.octets.items) x.arrival ≡ option_map (λ (c : CheckedPart). c.octets) part → x.attempts ≡ n
-      → map came (xs ++ x ∷ []) ++ fetched later behind rest ≡ map came xs ++ fetched jobs parts ns
+      → map came (xs ++ x ∷ []) ++ outcome_of later behind rest ≡ map came xs ++ outcome_of jobs parts ns
   one_more x jobs later parts behind ns rest xs j p t same packet tried =
-      ap (λ (ys : List Fetched). ys ++ fetched later behind rest) (map-append came xs (x ∷ [])) ∙ append_assoc (map came xs) (came x ∷ []) (fetched later behind rest)
-      ∙ rw (j, p, t) (ap (λ (y : Fetched). map came xs ++ y ∷ fetched later behind rest) is)
+      ap (λ (ys : List Fetched). ys ++ outcome_of later behind rest) (map-append came xs (x ∷ [])) ∙ append_assoc (map came xs) (came x ∷ []) (outcome_of later behind rest)
+      ∙ rw (j, p, t) (ap (λ (y : Fetched). map came xs ++ y ∷ outcome_of later behind rest) is)
     where
       is : came x ≡ record { part = job.want.part; packet = option_map (λ (c : CheckedPart). c.octets) part; attempts = n }
       is = λ i. record { part = same i; packet = packet i; attempts = tried i }
 
   pub can_be_taken : (x : Tried) → IsFetched g a job part n → x.part ≡ job.want.part → x.attempts ≡ n
-      → IfSome x.arrival (λ y. IsArrival a.store x.part y.octets.items y.segments y.name) → CanBeTaken (plan_of a) a.store x
+      → IfSome x.arrival (λ y. IsArrival a.store x.part y.octets.items y.segments y.name) → CanBeTaken (alone_plan a) a.store x
   can_be_taken x is same tried arrived =
-      let free = and_parts (is_wanted (plan_of a) job.want.part) (not (is_claimed (plan_of a) job.want.part)) is.unclaimed in
-      let wanted = wanted_parts (plan_of a) job.want.part free.0 in
+      let free = and_parts (is_wanted (alone_plan a) job.want.part) (not (is_claimed (alone_plan a) job.want.part)) is.unclaimed in
+      let wanted = wanted_parts (alone_plan a) job.want.part free.0 in
       record {
-        asked = ap (is_asked (plan_of a)) same ∙ wanted.asked;
-        not_held = ap (holds (plan_of a)) same ∙ wanted.not_held;
-        not_hidden = ap (λ (t : Part). hides (plan_of a) (pair_of t)) same ∙ wanted.not_hidden;
-        not_claimed = ap (is_claimed (plan_of a)) same ∙ not-true (is_claimed (plan_of a) job.want.part) free.1;
+        asked = ap (is_asked (alone_plan a)) same ∙ wanted.asked;
+        not_held = ap (holds (alone_plan a)) same ∙ wanted.not_held;
+        not_hidden = ap (λ (t : Part). hides (alone_plan a) (pair_of t)) same ∙ wanted.not_hidden;
+        not_claimed = ap (is_claimed (alone_plan a)) same ∙ not-true (is_claimed (alone_plan a) job.want.part) free.1;
         arrived = arrived;
         few = rw (same, tried) is.few;
       }
@@ -253,7 +255,7 @@ some_made f None = refl
 some_made f (Some x) = refl
 
 module _ (g : GroupKeys) (a : Alone) where
-  parts_fetched : (jobs : List Job) (parts : List (Option CheckedPart)) (ns : List ℕ) → AreFetched g a jobs parts ns → map (λ (y : Fetched). y.part) (fetched jobs parts ns) ≡ map (λ (job : Job). job.want.part) jobs
+  parts_fetched : (jobs : List Job) (parts : List (Option CheckedPart)) (ns : List ℕ) → AreFetched g a jobs parts ns → map (λ (y : Fetched). y.part) (outcome_of jobs parts ns) ≡ map (λ (job : Job). job.want.part) jobs
   parts_fetched [] [] [] are = refl
   parts_fetched [] [] (n ∷ ns) are = absurd are
   parts_fetched [] (part ∷ parts) ns are = absurd are
@@ -262,7 +264,7 @@ module _ (g : GroupKeys) (a : Alone) where
   parts_fetched (job ∷ jobs) (part ∷ parts) (n ∷ ns) are = ap (λ (ts : List Part). job.want.part ∷ ts) (parts_fetched jobs parts ns are.1)
 
   packets_fetched : (jobs : List Job) (parts : List (Option CheckedPart)) (ns : List ℕ) → AreFetched g a jobs parts ns
-      → map (λ (y : Fetched). y.packet) (fetched jobs parts ns) ≡ map (option_map (λ (c : CheckedPart). c.octets)) parts
+      → map (λ (y : Fetched). y.packet) (outcome_of jobs parts ns) ≡ map (option_map (λ (c : CheckedPart). c.octets)) parts
   packets_fetched [] [] [] are = refl
   packets_fetched [] [] (n ∷ ns) are = absurd are
   packets_fetched [] (part ∷ parts) ns are = absurd are
@@ -270,7 +272,7 @@ module _ (g : GroupKeys) (a : Alone) where
   packets_fetched (job ∷ jobs) (part ∷ parts) [] are = absurd are
   packets_fetched (job ∷ jobs) (part ∷ parts) (n ∷ ns) are = ap (λ (os : List (Option (List ℕ))). option_map (λ (c : CheckedPart). c.octets) part ∷ os) (packets_fetched jobs parts ns are.1)
 
-  module _ (jobs : List Job) (parts : List (Option CheckedPart)) (ns : List ℕ) (is : IsOutcome g a jobs parts ns) (xs : List Tried) (all : map came xs ≡ fetched jobs parts ns) where
+  module _ (jobs : List Job) (parts : List (Option CheckedPart)) (ns : List ℕ) (is : IsOutcome g a jobs parts ns) (xs : List Tried) (all : map came xs ≡ outcome_of jobs parts ns) where
     pub all_apart : AreApart (map (λ (x : Tried). x.part) xs)
     all_apart = subst AreApart (sym (parts_came xs ∙ ap (map (λ (y : Fetched). y.part)) all ∙ parts_fetched jobs parts ns is.each)) is.apart
 
@@ -278,15 +280,15 @@ module _ (g : GroupKeys) (a : Alone) where
     all_counted =
         count_made (λ (x : Tried). is_some x.arrival) (λ (y : Fetched). is_some y.packet) came (λ x. some_made (λ (y : Arrival). y.octets.items) x.arrival) xs
         ∙ ap (count_by (λ (y : Fetched). is_some y.packet)) all
-        ∙ count_made (λ (y : Fetched). is_some y.packet) is_some (λ (y : Fetched). y.packet) (λ y. refl) (fetched jobs parts ns)
+        ∙ count_made (λ (y : Fetched). is_some y.packet) is_some (λ (y : Fetched). y.packet) (λ y. refl) (outcome_of jobs parts ns)
         ∙ ap (count_by is_some) (packets_fetched jobs parts ns is.each)
         ∙ sym (count_made is_some is_some (option_map (λ (c : CheckedPart). c.octets)) (some_made (λ (c : CheckedPart). c.octets)) parts)
 
-    pub few_tried : (packets : List Packet) → All (λ (x : Tried). IsSmallPart x.part) xs → All (CanBeTaken (plan_of a) packets) xs → length xs ≤ length a.known * 16777216
+    pub few_tried : (packets : List Packet) → All (λ (x : Tried). IsSmallPart x.part) xs → All (CanBeTaken (alone_plan a) packets) xs → length xs ≤ length a.known * 16777216
     few_tried packets small can =
         let few = few_parts (length a.known) (map (λ (x : Tried). x.part) xs) all_apart (All-map IsSmallPart (λ (x : Tried). x.part) xs small)
         (All-map (λ (t : Part). t.publisher < length a.known) (λ (x : Tried). x.part) xs
-        (All-weaker (CanBeTaken (plan_of a) packets) (λ (x : Tried). x.part.publisher < length a.known) (λ x h. asked_member (plan_of a) x.part h.asked) xs can)) in
+        (All-weaker (CanBeTaken (alone_plan a) packets) (λ (x : Tried). x.part.publisher < length a.known) (λ x h. asked_member (alone_plan a) x.part h.asked) xs can)) in
         omega (arith, few, length-map xs (λ (x : Tried). x.part))
 
 -- whatever room there is
@@ -304,15 +306,15 @@ takable_in_room n p packets xs are = record {
 }
 
 module _ (m : Inside) (a : Alone) (view : alone m ≡ a) (mid : Holdings) (stored : List Packet) (plan : mid ≡ record m.plan { spare = mid.spare }) (packets : stored ≡ m.store.packets) where
-  pub takable_still : IsMember m → (xs : List Tried) → AreTakable (plan_of a) a.store xs → AreTakable mid stored xs
+  pub takable_still : IsMember m → (xs : List Tried) → AreTakable (alone_plan a) a.store xs → AreTakable mid stored xs
   takable_still is xs are =
-      let here : mid ≡ record (plan_of a) { spare = mid.spare } =
-      plan ∙ ap (λ (p : Holdings). record p { spare = mid.spare }) (plan_is m is) ∙ ap (λ (x : Alone). record (plan_of x) { spare = mid.spare }) view in
+      let here : mid ≡ record (alone_plan a) { spare = mid.spare } =
+      plan ∙ ap (λ (p : Holdings). record p { spare = mid.spare }) (plan_is m is) ∙ ap (λ (x : Alone). record (alone_plan x) { spare = mid.spare }) view in
       let there : stored ≡ a.store = packets ∙ ap (λ (x : Alone). x.store) view in
-      rw (here, there) (takable_in_room mid.spare (plan_of a) a.store xs are)
+      rw (here, there) (takable_in_room mid.spare (alone_plan a) a.store xs are)
 
   pub taken_is : (after : Holdings) (held : List Packet) (xs : List Fetched) → held ≡ with_all_fetched xs stored → after.attempts ≡ with_all_tries xs mid.attempts → KeepsButTries mid after
-      → record (alone m) { store = held; hidden = after.hidden; claims = after.claims; attempts = after.attempts } ≡ takes xs a
+      → record (alone m) { store = held; hidden = after.hidden; claims = after.claims; attempts = after.attempts } ≡ alone_takes xs a
   taken_is after held xs puts tries others =
       let store : held ≡ with_all_fetched xs m.store.packets = puts ∙ ap (with_all_fetched xs) packets in
       let hidden : after.hidden ≡ m.plan.hidden = others.hidden ∙ ap (λ (p : Holdings). p.hidden) plan in
@@ -321,15 +323,9 @@ module _ (m : Inside) (a : Alone) (view : alone m ≡ a) (mid : Holdings) (store
       let same : record (alone m) { store = held; hidden = after.hidden; claims = after.claims; attempts = after.attempts }
       ≡ record (alone m) { store = with_all_fetched xs m.store.packets; attempts = with_all_tries xs m.plan.attempts } =
       λ i. record (alone m) { store = store i; hidden = hidden i; claims = claims i; attempts = attempts i } in
-      same ∙ sym (takes_all xs (alone m)) ∙ ap (takes xs) view
+      same ∙ sym (takes_all xs (alone m)) ∙ ap (alone_takes xs) view
 
 -- ---- what a member plans can be taken, whatever came of it
-
--- what came of jobs was checked for them, and none was tried too often
-abbrev pub WereTried : GroupKeys → List Job → List (Option CheckedPart) → List ℕ → Type 0
-WereTried g [] [] [] = Unit {0}
-WereTried g (job ∷ jobs) (part ∷ parts) (n ∷ ns) = IfSome part (IsCheckedFor g job.want) × (job.base + n < 2097152) × WereTried g jobs parts ns
-WereTried g _ _ _ = ⊥
 
 apart_before : (t : Part) (ts : List Part) → IsBefore part_cmp t ts → contains part_cmp ts t ≡ false
 apart_before t [] before = refl
@@ -350,36 +346,49 @@ rises_take (suc n) [] rises = tt
 rises_take (suc n) (t ∷ ts) rises = (before_take t n ts rises.0, rises_take n ts rises.1)
 
 module _ (g : GroupKeys) (a : Alone) where
-  planned_parts : (ts : List Part) → map (λ (job : Job). job.want.part) (map (planned g a) ts) ≡ ts
-  planned_parts [] = refl
-  planned_parts (t ∷ ts) = rw (want_part g a.store t, planned_parts ts) refl
+  parts_of_jobs : (ts : List Part) → map (λ (job : Job). job.want.part) (map (job_for g a) ts) ≡ ts
+  parts_of_jobs [] = refl
+  parts_of_jobs (t ∷ ts) = rw (want_part g a.store t, parts_of_jobs ts) refl
 
-  planned_fetched : (ts : List Part) (parts : List (Option CheckedPart)) (ns : List ℕ) → All (λ t. is_unclaimed (plan_of a) t ≡ true) ts → WereTried g (map (planned g a) ts) parts ns
-      → AreFetched g a (map (planned g a) ts) parts ns
-  planned_fetched [] [] [] all were = tt
-  planned_fetched [] [] (n ∷ ns) all were = were
-  planned_fetched [] (part ∷ parts) ns all were = were
-  planned_fetched (t ∷ ts) [] ns all were = were
-  planned_fetched (t ∷ ts) (part ∷ parts) [] all were = were
-  planned_fetched (t ∷ ts) (part ∷ parts) (n ∷ ns) all were =
-      let same = want_part g a.store t in (
-        record {
-          unclaimed = ap (is_unclaimed (plan_of a)) same ∙ All-head (λ t. is_unclaimed (plan_of a) t ≡ true) t ts all;
-          wanted = ap (want_of g a.store) (sym same);
-          checked = were.0;
-          few = rw same were.1;
-        },
-        planned_fetched ts parts ns (All-tail (λ t. is_unclaimed (plan_of a) t ≡ true) t ts all) were.2,
-      )
+  planned_job : (t : Part) → HaveKeys g.members → IsOf g a → is_unclaimed (alone_plan a) t ≡ true → IsPlannedJob g a (job_for g a t)
+  planned_job t have of free =
+      let same : (want_of g a.store t).part ≡ t = want_part g a.store t in
+      let wanted : is_wanted (alone_plan a) t ≡ true = (and_parts (is_wanted (alone_plan a) t) (not (is_claimed (alone_plan a) t)) free).0 in
+      let inside : t.publisher < length a.known = asked_member (alone_plan a) t (wanted_parts (alone_plan a) t wanted).asked in
+      let there : t.publisher < length g.members.ring = let long = ring_length g.members have in omega (arith, inside, of, long) in
+      record {
+        unclaimed = ap (is_unclaimed (alone_plan a)) same ∙ free;
+        publisher = subst (λ (u : Part). u.publisher < length g.members.ring) (sym same) there;
+        wanted = ap (want_of g a.store) (sym same);
+        base = ap (attempts_of (alone_plan a)) (sym same);
+      }
 
-  pub planned_outcome : (after : Option Part) (most : ℕ) (jobs : List Job) (parts : List (Option CheckedPart)) (ns : List ℕ)
-      → jobs ≡ map (planned g a) (take most (filter (is_after after) (unclaimed (plan_of a)))) → WereTried g jobs parts ns → IsOutcome g a jobs parts ns
-  planned_outcome after most jobs parts ns is were =
-      let ts = take most (filter (is_after after) (unclaimed (plan_of a))) in
-      let rises = rises_take most (filter (is_after after) (unclaimed (plan_of a))) (rises_filter exact_parts.total (is_after after) (unclaimed (plan_of a)) (unclaimed_rises (plan_of a))) in
-      let free = All-take (λ t. is_unclaimed (plan_of a) t ≡ true) most (filter (is_after after) (unclaimed (plan_of a)))
-      (All-filter (is_after after) (λ t. is_unclaimed (plan_of a) t ≡ true) (unclaimed (plan_of a)) (filter_passes (is_unclaimed (plan_of a)) (known_parts (plan_of a)))) in
-      subst (λ (js : List Job). IsOutcome g a js parts ns) (sym is) (record {
-        apart = subst AreApart (sym (planned_parts ts)) (apart_in_order ts rises);
-        each = planned_fetched ts parts ns free (subst (λ (js : List Job). WereTried g js parts ns) is were);
-      })
+pub jobs_are_planned : JobsArePlanned
+jobs_are_planned g a after most have of =
+    let ts = take most (filter (is_after after) (unclaimed (alone_plan a))) in
+    let rises = rises_take most (filter (is_after after) (unclaimed (alone_plan a))) (rises_filter exact_parts.total (is_after after) (unclaimed (alone_plan a)) (unclaimed_rises (alone_plan a))) in
+    let free = All-take (λ t. is_unclaimed (alone_plan a) t ≡ true) most (filter (is_after after) (unclaimed (alone_plan a)))
+    (All-filter (is_after after) (λ t. is_unclaimed (alone_plan a) t ≡ true) (unclaimed (alone_plan a)) (filter_passes (is_unclaimed (alone_plan a)) (known_parts (alone_plan a)))) in
+    record {
+      apart = subst AreApart (sym (parts_of_jobs g a ts)) (apart_in_order ts rises);
+      each = All-map (IsPlannedJob g a) (job_for g a) ts
+          (All-weaker (λ t. is_unclaimed (alone_plan a) t ≡ true) (λ t. IsPlannedJob g a (job_for g a t)) (λ t h. planned_job g a t have of h) ts free);
+    }
+
+all_fetched : (g : GroupKeys) (a : Alone) (jobs : List Job) (parts : List (Option CheckedPart)) (ns : List ℕ) → All (IsPlannedJob g a) jobs → WereTried g jobs parts ns → AreFetched g a jobs parts ns
+all_fetched g a [] [] [] each were = tt
+all_fetched g a [] [] (n ∷ ns) each were = were
+all_fetched g a [] (part ∷ parts) ns each were = were
+all_fetched g a (job ∷ jobs) [] ns each were = were
+all_fetched g a (job ∷ jobs) (part ∷ parts) [] each were = were
+all_fetched g a (job ∷ jobs) (part ∷ parts) (n ∷ ns) each were =
+    let one : IsPlannedJob g a job = All-head (IsPlannedJob g a) job jobs each in (
+      record { unclaimed = one.unclaimed; wanted = one.wanted; checked = were.0; few = omega (arith, one.base, were.1) },
+      all_fetched g a jobs parts ns (All-tail (IsPlannedJob g a) job jobs each) were.2,
+    )
+
+pub planned_jobs_are_outcomes : PlannedJobsAreOutcomes
+planned_jobs_are_outcomes g a jobs parts attempts planned were = record {
+  apart = planned.apart;
+  each = all_fetched g a jobs parts attempts planned.each were;
+}

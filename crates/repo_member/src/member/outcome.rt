@@ -1,12 +1,13 @@
 ghost use Rattle.std.specs.Prelude.{◌≡◌, ◌+◌, ◌<◌, ◌^◌, ℕ, count_by, is_some, IfOk, OnOk, OnErr, map, vec_len};
-ghost use Rattle.repo_member.specs.Alone.{IsOf, plan_of, takes, with_fetched, with_tries};
-ghost use Rattle.repo_member.specs.Holding.{AreKept, HaveRoom};
-ghost use Rattle.repo_member.specs.Outcomes.{IsOutcome, fetched, came, CanBeTaken, AreTakable};
+ghost use Rattle.group_model.specs.Member.{with_tries};
+ghost use Rattle.repo_member.specs.Alone.{IsOf, alone_plan, alone_takes, with_fetched};
+ghost use Rattle.repo_member.specs.Gaining.{AreKept, HaveRoom};
+ghost use Rattle.repo_member.specs.Outcomes.{IsOutcome, outcome_of, came, CanBeTaken, AreTakable};
 ghost use Rattle.repo_member.specs.Outcomes.{KeepsButTries, with_all_fetched, with_all_tries};
 
 use super::Member;
 use crate::group::Group;
-use crate::holding::{Arrival, gain_listed, make_room};
+use crate::gaining::{Arrival, gain_listed, make_room};
 use repo_catalog::Catalogue;
 use repo_object::{Checked, Job};
 use repo_plan::{Part, Plan};
@@ -35,7 +36,7 @@ impl Member {
     ) -> Result<u32, AllocError>
         requires group { IsOf g.now self.old }
         requires outcome { IsOutcome g.now self.old jobs.now parts.now attempts.now }
-        ensures ok { OnOk result (self.new ≡ takes (fetched jobs.now parts.now attempts.now) self.old) }
+        ensures ok { OnOk result (self.new ≡ alone_takes (outcome_of jobs.now parts.now attempts.now) self.old) }
         ensures kept { IfOk result (λ kept. kept ≡ count_by is_some parts.now) }
         ensures err { OnErr result (self.new ≡ self.old) }
     {
@@ -59,8 +60,8 @@ impl Member {
     ) -> Result<Vec<Tried>, AllocError>
         requires group { IsOf g.now self.now }
         requires outcome { IsOutcome g.now self.now jobs.now parts.now attempts.now }
-        ensures came { IfOk result (λ all. map came all.items ≡ fetched jobs.now parts.now attempts.now) }
-        ensures takable { IfOk result (λ all. AreTakable (plan_of self.now) self.now.store all.items) }
+        ensures came { IfOk result (λ all. map came all.items ≡ outcome_of jobs.now parts.now attempts.now) }
+        ensures takable { IfOk result (λ all. AreTakable (alone_plan self.now) self.now.store all.items) }
         ensures few { IfOk result (λ all. vec_len all < 2 ^ 32) }
     {
         // Each of so few members has fewer than 2^24 parts, so a `u32` counts those that came.

@@ -2,7 +2,7 @@ ghost use Rattle.std.specs.Prelude.{◌≡◌, ◌<◌, ◌≤◌, ◌^◌, ◌�
 ghost use Rattle.svs_vector.specs.Vectors.{join};
 ghost use Rattle.svs_sync.specs.Suppression.{mode_of};
 ghost use Rattle.svs_sync.specs.KeptVector.{fires_kept};
-ghost use Rattle.repo_member.specs.Alone.{IsOf, learns, hears, fires};
+ghost use Rattle.repo_member.specs.Alone.{IsOf, alone_learns, alone_hears, alone_fires};
 ghost use Rattle.repo_member.specs.Verdicts.{sync_of, hear_verdict};
 ghost use Rattle.repo_member.specs.Fires.{TellsFire};
 
@@ -40,7 +40,7 @@ impl Member {
         requires early { now < 2 ^ 62 }
         requires few { self.old.machine.draws < 2 ^ 62 }
         ensures ok { OnOk result (IsOkAnd (hear_verdict g.now self.old octets.now)
-            (λ told. self.new ≡ hears told now draw self.old)) }
+            (λ told. self.new ≡ alone_hears told now draw self.old)) }
         ensures mode { IfOk result (λ mode. mode ≡ mode_of self.new.machine.heard) }
         ensures refused { IfErr result (λ refusal. (refusal ≡ HearRefusal.NoMemory)
             ⊎ (hear_verdict g.now self.old octets.now ≡ Err refusal)) }
@@ -58,7 +58,7 @@ impl Member {
     pub fn join_from(&mut self, g: &Group, octets: &[u8]) -> Result<bool, HearRefusal>
         requires group { IsOf g.now self.old }
         ensures ok { OnOk result (IsOkAnd (hear_verdict g.now self.old octets.now)
-            (λ told. self.new ≡ learns told self.old)) }
+            (λ told. self.new ≡ alone_learns told self.old)) }
         ensures changed { IfOk result (λ changed. IsFalse changed ↔ (self.new.known ≡ self.old.known)) }
         ensures refused { IfErr result (λ refusal. (refusal ≡ HearRefusal.NoMemory)
             ⊎ (hear_verdict g.now self.old octets.now ≡ Err refusal)) }
@@ -75,7 +75,7 @@ impl Member {
         requires few { self.old.machine.draws < 2 ^ 62 }
         ensures fire { IfOk result (TellsFire (fires_kept now self.old.known self.old.machine)
             (sync_of g.now self.old.number self.old.known)) }
-        ensures ok { OnOk result (self.new ≡ fires now draw self.old) }
+        ensures ok { OnOk result (self.new ≡ alone_fires now draw self.old) }
         ensures err { OnErr result (self.new ≡ self.old) }
     {
         if self.machine.deadline() > now {

@@ -1,5 +1,5 @@
 use Rattle.std.proofs.Common.{List, map, ap, ◌∙◌}
-use Rattle.repo_member.specs.Alone.{Fetched, takes}
+use Rattle.repo_member.specs.Alone.{Fetched, alone_takes}
 use Rattle.repo_member.specs.Outcomes.{came}
 use Rattle.repo_member.proofs.OutcomeLemmas.{takable_still, taken_is, all_counted}
 use Rattle.repo_member.proofs.member.Member.take_outcome.Goals as goal
@@ -13,7 +13,7 @@ pub returns-clause-ok : goal.returns-clause-ok
 returns-clause-ok c =
     taken_is c.self.inside c.args.self.now c.self.view_is c.make_room.new.plan c.make_room.new.store.packets c.make_room.ensures.plan c.make_room.ensures.store c.take_all.new.plan c.take_all.new.store.packets
     (map came c.in_ok-all.all.items) c.take_all.ensures.packets c.take_all.ensures.attempts c.take_all.ensures.others
-    ∙ ap (λ (xs : List Fetched). takes xs c.args.self.now) c.in_ok-all.ensures.came
+    ∙ ap (λ (xs : List Fetched). alone_takes xs c.args.self.now) c.in_ok-all.ensures.came
 
 pub returns-clause-kept : goal.returns-clause-kept
 returns-clause-kept c =

@@ -4,7 +4,7 @@ ghost use Rattle.ndn_data.specs.Data.{data_of};
 ghost use Rattle.repo_plan.specs.Parts.{pair_of};
 ghost use Rattle.repo_plan.specs.Plan.{holds, hides, is_asked, is_claimed, holds_too, uses_room};
 ghost use Rattle.repo_store.specs.StoreList.{with_packet};
-ghost use Rattle.repo_member.specs.Holding.{AreTied, AreKept, HaveRoom, IsArrival, KeepsOthers, told_shape};
+ghost use Rattle.repo_member.specs.Gaining.{AreTied, AreKept, HaveRoom, IsArrival, KeepsOthers, told_shape};
 
 use crate::listing::list_if_whole;
 use ndn_name::Name;

@@ -2,11 +2,11 @@ use Rattle.std.proofs.Common.{sym, ap, ◌∙◌, subst, option_map, None}
 use Rattle.repo_object.specs.Publication.{Listed}
 use Rattle.repo_store.specs.StoreList.{StoreList, with_packet}
 use Rattle.repo_plan.specs.Parts.{pair_of}
-use Rattle.repo_member.specs.Listed.{listing_at, entry_at, catalogue_alone}
-use Rattle.repo_member.specs.Holding.{with_listed, KeepsOthers}
+use Rattle.repo_member.specs.Listed.{listing_at, entry_at, alone_catalogue}
+use Rattle.repo_member.specs.Gaining.{with_listed, KeepsOthers}
 use Rattle.repo_member.proofs.WholeLemmas.{relisted_with}
-use Rattle.repo_member.proofs.HoldingLemmas.{absent, listing_put, others_kept}
-use Rattle.repo_member.proofs.holding.gain_listed.Goals as goal
+use Rattle.repo_member.proofs.GainingLemmas.{absent, listing_put, others_kept}
+use Rattle.repo_member.proofs.gaining.gain_listed.Goals as goal
 
 pub list_if_whole-requires-clause-named : goal.list_if_whole-requires-clause-named
 list_if_whole-requires-clause-named c =
@@ -25,7 +25,7 @@ returns-clause-kept c =
           c.list_if_whole.ensures.entries
           ∙ ap (λ (s : StoreList). with_listed (entry_at s.packets (pair_of c.args.part)) c.args.catalogue.now.entries) c.gain.ensures.store
           ∙ ap (with_listed entry) c.requires.kept.listed ∙ sym relisted
-          ∙ ap (λ (s : StoreList). catalogue_alone s.packets) (sym c.gain.ensures.store);
+          ∙ ap (λ (s : StoreList). alone_catalogue s.packets) (sym c.gain.ensures.store);
     }
 
 pub returns-clause-others : goal.returns-clause-others

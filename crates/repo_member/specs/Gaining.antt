@@ -12,7 +12,7 @@ use Rattle.repo_store.specs.StoreList.{StoreList}
 use Rattle.repo_catalog.specs.declared.entry.Entry.{Entry}
 use Rattle.repo_catalog.specs.Entries.{EntryList, with_entry}
 use Rattle.repo_member.specs.Records.{Packet}
-use Rattle.repo_member.specs.Listed.{listing_at, shape, shapes_in, catalogue_alone}
+use Rattle.repo_member.specs.Listed.{listing_at, shape, shapes_in, alone_catalogue}
 
 -- a plan holds what is stored, and knows what the stored records list
 pub record AreTied (plan : Holdings) (packets : List Packet) : Type 0 where
@@ -23,7 +23,7 @@ pub record AreTied (plan : Holdings) (packets : List Packet) : Type 0 where
 -- and the entries are those of what is stored wholly
 pub record AreKept (plan : Holdings) (packets : List Packet) (entries : List Entry) : Type 0 where
   pub tied : AreTied plan packets
-  pub listed : entries ≡ catalogue_alone packets
+  pub listed : entries ≡ alone_catalogue packets
 
 -- how many segments a part's packet tells of, if the part is a record
 abbrev pub told_shape : Part → List ℕ → Option Shape

@@ -15,7 +15,7 @@ use Rattle.repo_object.specs.Verdict.{listing_in}
 use Rattle.repo_store.specs.StoreList.{with_packet}
 use Rattle.repo_member.specs.Records.{Packet}
 use Rattle.repo_member.specs.Listed.{listing_at, stored_at, shape, shapes_in, are_stored, entry_at, entry_listed}
-use Rattle.repo_member.specs.Holding.{AreTied, KeepsOthers, told_shape, listing_told}
+use Rattle.repo_member.specs.Gaining.{AreTied, KeepsOthers, told_shape, listing_told}
 use Rattle.repo_member.proofs.SortedMaps.{same_map}
 use Rattle.repo_member.proofs.CatalogueLemmas.{shapes_value, shapes_rise}
 

@@ -1,5 +1,5 @@
-use Rattle.repo_member.proofs.HoldingLemmas.{tied_too}
-use Rattle.repo_member.proofs.holding.gain.Goals as goal
+use Rattle.repo_member.proofs.GainingLemmas.{tied_too}
+use Rattle.repo_member.proofs.gaining.gain.Goals as goal
 
 pub returns-clause-tied : goal.returns-clause-tied
 returns-clause-tied c =
