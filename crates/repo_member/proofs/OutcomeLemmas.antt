@@ -1,17 +1,25 @@
 -- What came of a fetch, taken part after part.
-use Rattle.std.proofs.Common.{◌≡◌, ◌⊎◌, inl, inr, ℕ, ◌+◌, ◌*◌, ◌^◌, ◌<◌, ◌≤◌, Bool, true, false, cond, not, ◌&&◌, ◌||◌, ◌==◌, List, [], ◌∷◌, ◌++◌, map, length, append_assoc, refl, sym, ap, ◌∙◌, subst, Option, Some, None, option_map, is_some, unwrap_or, count_by, take, zero, suc, arith}
-use Rattle.std.specs.Prelude.{nat_le, slice_index, IfSome}
+use Rattle.std.proofs.Common.{◌≡◌, ◌⊎◌, inl, inr, ℕ, ◌+◌, ◌*◌, ◌^◌, ◌<◌, ◌≤◌, Bool, true, false, cond, not, ◌&&◌, ◌||◌, ◌==◌, List, [], ◌∷◌, ◌++◌, map, length, append_assoc, refl, sym, ap, ◌∙◌, subst, Option, Some, None, option_map, is_some, unwrap_or, count_by, sum_by, Result, Err, ltb, take, zero, suc, arith}
+use Rattle.std.specs.Prelude.{nat_le, slice_index, IsOk, IfSome}
 use Rattle.std.specs.List.{All, AllByRecursion, IsDistinct, list_any, filter}
 use Rattle.std.specs.Option.{option_and_then}
 use Rattle.std.specs.Ordering.{eq_by_cmp, is_eq}
 use Rattle.std.specs.declared.cmp.Ordering.{Ordering}
-use Rattle.std.proofs.lemmas.Bool.{true≢false, and_parts, and_from, or_left, or_right, or_parts, or_cases, not-true, eqb-true, false_from_ne_true, le-leb}
+use Rattle.std.proofs.lemmas.Bool.{true≢false, and_parts, and_from, or_left, or_right, or_parts, or_cases, not-true, eqb-true, false_from_ne_true, le-leb, ltb-false}
 use Rattle.std.proofs.lemmas.List.{map-append, length-map}
 use Rattle.std.proofs.lemmas.Map.Keys.{IsDistinct-cons}
 use Rattle.std.proofs.lemmas.Map.Steps.{length-le_from_distinct_below}
 use Rattle.std.proofs.lemmas.List.Elements.{All-head, All-tail, All-cons, All-nil, All-map, All-weaker, All-take, All-filter, filter_passes}
 use Rattle.std.proofs.lemmas.List.Sums.{sum_by-cons}
+use Rattle.ndn_tlv.specs.Listing.{◌>>=◌}
+use Rattle.ndn_tlv.specs.Elements.{Item}
+use Rattle.ndn_tlv.specs.declared.tlv_fault.TlvFault.TheVariants.{Truncated}
 use Rattle.ndn_name.specs.Names.{Component}
+use Rattle.ndn_name.specs.declared.fault.PacketFault.{PacketFault}
+use Rattle.ndn_name.specs.declared.fault.PacketFault.TheVariants.{Tlv, PacketTooLong}
+use Rattle.ndn_packet.specs.Contents.{first_of}
+use Rattle.ndn_packet.specs.Outer.{only_of}
+use Rattle.ndn_data.specs.Data.{Data, data_of, data_fields, data_from}
 use Rattle.repo_plan.specs.declared.part.Part.{Part}
 use Rattle.repo_plan.specs.SortedList.{IsBefore, Rises, contains, value_of, with_value}
 use Rattle.repo_plan.specs.Parts.{Pair, Shape, pair_cmp, part_cmp, pair_of, part_of}
@@ -33,7 +41,7 @@ use Rattle.repo_member.specs.declared.gaining.Arrival.{Arrival}
 use Rattle.repo_member.specs.Members.{alone, IsMember}
 use Rattle.repo_member.specs.declared.member.Member.TheInside.{Inside}
 use Rattle.repo_member.specs.declared.member.outcome.Tried.{Tried}
-use Rattle.repo_member.specs.Outcomes.{job_for, IsPlannedJob, WereTried, JobsArePlanned, PlannedJobsAreOutcomes, IsOutcome, outcome_of, IsFetched, AreFetched, AreApart, CanBeTaken, AreTakable, KeepsButTries, came, with_all_fetched, with_all_tries}
+use Rattle.repo_member.specs.Outcomes.{job_for, IsPlannedJob, WereTried, JobsArePlanned, PlannedJobsAreOutcomes, IsOutcome, outcome_of, IsFetched, AreFetched, AreApart, CanBeTaken, AreTakable, KeepsButTries, came, octets_in, arrival_octets, with_all_fetched, with_all_tries}
 use Rattle.repo_member.proofs.GainingLemmas.{absent, held_value, shape_told, put_elsewhere}
 use Rattle.repo_member.proofs.GroupLemmas.{ring_length}
 use Rattle.repo_member.proofs.AskedLemmas.{asked_segment, asked_member}
@@ -244,11 +252,19 @@ parts_came : (xs : List Tried) → map (λ (x : Tried). x.part) xs ≡ map (λ (
 parts_came [] = refl
 parts_came (x ∷ xs) = ap (λ (ts : List Part). x.part ∷ ts) (parts_came xs)
 
--- a count of what is made of each
-count_made : {A B : Type 0} (p : A → Bool) (q : B → Bool) (f : A → B) → ((x : A) → p x ≡ q (f x)) → (xs : List A) → count_by p xs ≡ count_by q (map f xs)
-count_made p q f same [] = refl
-count_made p q f same (x ∷ xs) =
-    sum_by-cons (λ y. cond (p y) 1 0) x xs ∙ rw (same x, count_made p q f same xs) refl ∙ sym (sum_by-cons (λ y. cond (q y) 1 0) (f x) (map f xs))
+-- a sum over what is made of each
+sum_made : {A B : Type 0} (p : A → ℕ) (q : B → ℕ) (f : A → B) → ((x : A) → p x ≡ q (f x)) → (xs : List A) → sum_by p xs ≡ sum_by q (map f xs)
+sum_made p q f same [] = refl
+sum_made p q f same (x ∷ xs) = sum_by-cons p x xs ∙ rw (same x, sum_made p q f same xs) refl ∙ sym (sum_by-cons q (f x) (map f xs))
+
+sum_same : {A : Type 0} (p q : A → ℕ) → ((x : A) → p x ≡ q x) → (xs : List A) → sum_by p xs ≡ sum_by q xs
+sum_same p q same xs = sum_made p q (λ x. x) same xs ∙ ap (sum_by q) (map-id xs) where
+  map-id : {A : Type 0} (ys : List A) → map (λ (y : A). y) ys ≡ ys
+  map-id [] = refl
+  map-id (y ∷ ys) = ap (λ rest. y ∷ rest) (map-id ys)
+
+abbrev one_of : Bool → ℕ
+one_of b = cond b 1 0
 
 some_made : {A B : Type 0} (f : A → B) (o : Option A) → is_some o ≡ is_some (option_map f o)
 some_made f None = refl
@@ -276,13 +292,22 @@ module _ (g : GroupKeys) (a : Alone) where
     pub all_apart : AreApart (map (λ (x : Tried). x.part) xs)
     all_apart = subst AreApart (sym (parts_came xs ∙ ap (map (λ (y : Fetched). y.part)) all ∙ parts_fetched jobs parts ns is.each)) is.apart
 
+    -- a sum over what came of each
+    came_sum : (q : Option (List ℕ) → ℕ) → sum_by (λ (x : Tried). q (came x).packet) xs ≡ sum_by (λ (part : Option CheckedPart). q (option_map (λ (c : CheckedPart). c.octets) part)) parts
+    came_sum q =
+        sum_made (λ (x : Tried). q (came x).packet) (λ (y : Fetched). q y.packet) came (λ x. refl) xs ∙ ap (sum_by (λ (y : Fetched). q y.packet)) all
+        ∙ sum_made (λ (y : Fetched). q y.packet) q (λ (y : Fetched). y.packet) (λ y. refl) (outcome_of jobs parts ns) ∙ ap (sum_by q) (packets_fetched jobs parts ns is.each)
+        ∙ sym (sum_made (λ (part : Option CheckedPart). q (option_map (λ (c : CheckedPart). c.octets) part)) q (option_map (λ (c : CheckedPart). c.octets)) (λ part. refl) parts)
+
     pub all_counted : count_by (λ (x : Tried). is_some x.arrival) xs ≡ count_by is_some parts
     all_counted =
-        count_made (λ (x : Tried). is_some x.arrival) (λ (y : Fetched). is_some y.packet) came (λ x. some_made (λ (y : Arrival). y.octets.items) x.arrival) xs
-        ∙ ap (count_by (λ (y : Fetched). is_some y.packet)) all
-        ∙ count_made (λ (y : Fetched). is_some y.packet) is_some (λ (y : Fetched). y.packet) (λ y. refl) (outcome_of jobs parts ns)
-        ∙ ap (count_by is_some) (packets_fetched jobs parts ns is.each)
-        ∙ sym (count_made is_some is_some (option_map (λ (c : CheckedPart). c.octets)) (some_made (λ (c : CheckedPart). c.octets)) parts)
+        sum_same (λ (x : Tried). one_of (is_some x.arrival)) (λ (x : Tried). one_of (is_some (came x).packet)) (λ x. ap one_of (some_made (λ (y : Arrival). y.octets.items) x.arrival)) xs
+        ∙ came_sum (λ o. one_of (is_some o))
+        ∙ sum_same (λ (part : Option CheckedPart). one_of (is_some (option_map (λ (c : CheckedPart). c.octets) part))) (λ (part : Option CheckedPart). one_of (is_some part))
+        (λ part. ap one_of (sym (some_made (λ (c : CheckedPart). c.octets) part))) parts
+
+    pub all_octets : sum_by arrival_octets xs ≡ sum_by octets_in parts
+    all_octets = came_sum (λ o. length (unwrap_or o []))
 
     pub few_tried : (packets : List Packet) → All (λ (x : Tried). IsSmallPart x.part) xs → All (CanBeTaken (alone_plan a) packets) xs → length xs ≤ length a.known * 16777216
     few_tried packets small can =
@@ -290,6 +315,31 @@ module _ (g : GroupKeys) (a : Alone) where
         (All-map (λ (t : Part). t.publisher < length a.known) (λ (x : Tried). x.part) xs
         (All-weaker (CanBeTaken (alone_plan a) packets) (λ (x : Tried). x.part.publisher < length a.known) (λ x h. asked_member (alone_plan a) x.part h.asked) xs can)) in
         omega (arith, few, length-map xs (λ (x : Tried). x.part))
+
+-- ---- how many octets came
+
+-- octets that are a Data packet aren't many
+data_fits : (octets : List ℕ) → IsOk (data_of octets) → length octets ≤ 8800
+data_fits octets h =
+    go (first_of (Tlv (Truncated 0)) 0 octets >>= only_of 0x06 (length octets)) (λ e. data_fields octets e >>= data_from e.value) (ltb 8800 (length octets)) refl h
+  where
+    go : (r : Result Item PacketFault) (f : Item → Result Data PacketFault) (b : Bool) → ltb 8800 (length octets) ≡ b → IsOk (cond b (Err PacketTooLong) r >>= f) → length octets ≤ 8800
+    go r f true p h = absurd (true≢false (sym h))
+    go r f false p h = ltb-false 8800 (length octets) p
+
+one_fits : (plan : Holdings) (packets : List Packet) (x : Tried) → CanBeTaken plan packets x → arrival_octets x ≤ 8800
+one_fits plan packets x can = go x.arrival can.arrived where
+  go : (o : Option Arrival) → IfSome o (λ a. IsArrival packets x.part a.octets.items a.segments a.name) → length (unwrap_or (option_map (λ (a : Arrival). a.octets.items) o) []) ≤ 8800
+  go None h = omega (arith)
+  go (Some a) h = data_fits a.octets.items h.reads
+
+pub octets_fit : (plan : Holdings) (packets : List Packet) (xs : List Tried) → All (CanBeTaken plan packets) xs → sum_by arrival_octets xs ≤ 8800 * length xs
+octets_fit plan packets [] can = omega (arith)
+octets_fit plan packets (x ∷ xs) can =
+    let one = one_fits plan packets x (All-head (CanBeTaken plan packets) x xs can) in
+    let rest = octets_fit plan packets xs (All-tail (CanBeTaken plan packets) x xs can) in
+    let both = sum_by-cons arrival_octets x xs in
+    omega (arith, one, rest, both)
 
 -- whatever room there is
 takable_in_room : (n : ℕ) (p : Holdings) (packets : List Packet) (xs : List Tried) → AreTakable p packets xs → AreTakable (record p { spare = n }) packets xs

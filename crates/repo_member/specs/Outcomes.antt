@@ -1,5 +1,5 @@
 -- What came of a fetch, as a member takes it.
-use Rattle.std.specs.Prelude.{◌≡◌, ℕ, ◌+◌, ◌<◌, true, false, List, [], ◌∷◌, map, take, length, Option, option_map, IfSome}
+use Rattle.std.specs.Prelude.{◌≡◌, ℕ, ◌+◌, ◌<◌, true, false, List, [], ◌∷◌, map, take, length, Option, option_map, unwrap_or, IfSome}
 use Rattle.std.specs.List.{All, filter}
 use Rattle.repo_plan.specs.declared.part.Part.{Part}
 use Rattle.repo_plan.specs.Parts.{part_cmp, pair_of}
@@ -24,6 +24,10 @@ abbrev pub outcome_of : List Job → List (Option CheckedPart) → List ℕ → 
 outcome_of (job ∷ jobs) (part ∷ parts) (n ∷ ns) =
     record { part = job.want.part; packet = option_map (λ c. c.octets) part; attempts = n } ∷ outcome_of jobs parts ns
 outcome_of _ _ _ = []
+
+-- how many octets came for a job, if a packet came
+abbrev pub octets_in : Option CheckedPart → ℕ
+octets_in part = length (unwrap_or (option_map (λ c. c.octets) part) [])
 
 -- no part stands twice in the list
 abbrev pub AreApart : List Part → Type 0
@@ -96,6 +100,10 @@ PlannedJobsAreOutcomes = (g : GroupKeys) (a : Alone) (jobs : List Job) (parts : 
 -- what came of a tried part
 abbrev pub came : Tried → Fetched
 came x = record { part = x.part; packet = option_map (λ a. a.octets.items) x.arrival; attempts = x.attempts }
+
+-- how many octets came for it, if a packet came
+abbrev pub arrival_octets : Tried → ℕ
+arrival_octets x = length (unwrap_or (came x).packet [])
 
 -- what came of a tried part can be taken: the part is wanted and unclaimed, the packet is of it, and it was not tried too
 -- often

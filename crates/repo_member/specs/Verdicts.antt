@@ -21,12 +21,16 @@ sync_of g number vector =
     sync_interest g.name vector g.members.names (key_name (node_at g number)) (key_at g number)
 
 -- a vector that is told, unless it tells of more publications of the member than it made
+abbrev pub vector_verdict : Alone → List ℕ → Result (List ℕ) HearRefusal
+vector_verdict a told =
+    if nat_lt (length a.log) (slice_index told a.number)
+    then Err (OwnNumberAhead (length a.log) (slice_index told a.number))
+    else Ok told
+
+-- the same of the vector of a sync Interest, where the octets are one
 abbrev pub told_verdict : Alone → Result (ℕ × List ℕ) SyncRefusal → Result (List ℕ) HearRefusal
 told_verdict a (Err refusal) = Err (Sync refusal)
-told_verdict a (Ok told) =
-    if nat_lt (length a.log) (slice_index told.1 a.number)
-    then Err (OwnNumberAhead (length a.log) (slice_index told.1 a.number))
-    else Ok told.1
+told_verdict a (Ok told) = vector_verdict a told.1
 
 -- the vector that octets tell the member, or why they are refused
 abbrev pub hear_verdict : GroupKeys → Alone → List ℕ → Result (List ℕ) HearRefusal

@@ -20,7 +20,7 @@ pub use laws::{
     published_packets_pass, syncs_of_members_are_taken, true_members_stay_true,
     true_members_store_what_was_published, truly_stored_lasts, vectors_only_rise,
 };
-pub use member::{Fire, Member, Published};
+pub use member::{Fire, Kept, Member, Published};
 pub use refusals::{AcceptRefusal, HearRefusal, PublishRefusal, WantFault};
 
 #[cfg(test)]

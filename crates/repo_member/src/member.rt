@@ -13,6 +13,7 @@ mod syncing;
 
 use crate::group::Group;
 use ndn_name::PacketFault;
+pub use outcome::Kept;
 pub use publishing::Published;
 use repo_catalog::Catalogue;
 use repo_object::Object;

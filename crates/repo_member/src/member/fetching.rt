@@ -8,14 +8,14 @@ ghost use Rattle.repo_member.specs.Alone.{IsOf, alone_plan, alone_claims, want_o
 ghost use Rattle.repo_member.specs.Verdicts.{passed, accept_verdict};
 ghost use Rattle.repo_member.specs.Gaining.{IsArrival};
 ghost use Rattle.repo_member.specs.Listings.{IsStored, IsListingFor};
-ghost use Rattle.repo_member.specs.Outcomes.{job_for};
+ghost use Rattle.repo_member.specs.Outcomes.{job_for, IsCheckedFor};
 
 use super::Member;
 use crate::group::Group;
 use crate::gaining::{Arrival, gain_listed, make_room};
 use crate::listing::read_listing;
 use crate::refusals::{AcceptRefusal, WantFault};
-use repo_object::{Job, Listing, Want, check_part, want_record, want_segment};
+use repo_object::{Checked, Job, Listing, Want, check_part, want_record, want_segment};
 use repo_plan::{FetcherBusy, FetcherIdle, Part};
 use std::alloc::{AllocError, Global};
 
@@ -81,6 +81,47 @@ impl Member {
             return Err(AcceptRefusal::FetcherIdle);
         };
         let arrival = self.arrival(g, part, octets)?;
+        self.gain_claimed(f, part, arrival)?;
+        Ok(part)
+    }
+
+    /// A packet that the caller has checked for the member's want of the part that the fetcher claims is taken, as
+    /// `accept` takes it.
+    pub fn accept_checked(
+        &mut self,
+        g: &Group,
+        f: u8,
+        checked: &Checked<'_>,
+    ) -> Result<Part, AcceptRefusal>
+        requires fetcher { IsFetcher f }
+        requires group { IsOf g.now self.old }
+        requires checked { IfSome (claim_of (alone_plan self.old) f)
+            (λ part. IsCheckedFor g.now (want_of g.now self.old.store part) checked.now) }
+        ensures part { IfOk result (λ part. claim_of (alone_plan self.old) f ≡ Some part) }
+        ensures ok { IfOk result (λ part. self.new ≡ alone_accepts f part checked.now.octets self.old) }
+        ensures idle { (result ≡ Err AcceptRefusal.FetcherIdle) ↔ (claim_of (alone_plan self.old) f ≡ None) }
+        ensures refused { IfErr result (λ refusal. (refusal ≡ AcceptRefusal.NoMemory)
+            ⊎ (refusal ≡ AcceptRefusal.FetcherIdle)) }
+        ensures err { OnErr result (self.new ≡ self.old) }
+    {
+        let Some(part) = self.claimed(f) else {
+            return Err(AcceptRefusal::FetcherIdle);
+        };
+        let listing = self.listing_for(*self.log.allocator(), part, None)?;
+        let arrival = self.arrived(part, checked.octets(), &listing)?;
+        self.gain_claimed(f, part, arrival)?;
+        Ok(part)
+    }
+
+    // The packet that came for the part that the fetcher claims is held from now on, and the claim is over.
+    fn gain_claimed(&mut self, f: u8, part: Part, arrival: Arrival) -> Result<(), AllocError>
+        requires fetcher { IsFetcher f }
+        requires claimed { claim_of (alone_plan self.old) f ≡ Some part }
+        requires wanted { is_wanted (alone_plan self.old) part ≡ true }
+        requires arrival { IsArrival self.old.store part arrival.octets.items arrival.segments arrival.name }
+        ensures ok { OnOk result (self.new ≡ alone_accepts f part arrival.octets.items self.old) }
+        ensures err { OnErr result (self.new ≡ self.old) }
+    {
         make_room(&mut self.plan, &mut self.store, &mut self.catalogue, 1)?;
         let _ = self.plan.release(f);
         gain_listed(
@@ -90,7 +131,7 @@ impl Member {
             part,
             arrival,
         );
-        Ok(part)
+        Ok(())
     }
 
     /// The least parts that are wanted, that no fetcher claims and that are greater than `after`, at most `most` of them,
