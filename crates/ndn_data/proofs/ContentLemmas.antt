@@ -1,10 +1,10 @@
 -- The content of a packet is no longer than a packet may be.
-use Rattle.std.proofs.Common.{◌≡◌, ◌⊎◌, inl, inr, ℕ, ◌+◌, ◌≤◌, ◌<◌, Bool, true, false, cond, List, [], ◌∷◌, map, length, refl, sym, ap, ◌∙◌, subst, Option, Some, None, arith}
+use Rattle.std.proofs.Common.{◌≡◌, ◌⊎◌, inl, inr, ℕ, ◌+◌, ◌≤◌, Bool, true, false, cond, List, [], ◌∷◌, map, length, refl, sym, ap, subst, Option, Some, None, arith}
 use Rattle.std.specs.Prelude.{Result, Ok, Err, nat_lt, ◌==◌}
 use Rattle.std.proofs.lemmas.Bool.{ltb-false}
 use Rattle.ndn_tlv.specs.declared.tlv_fault.TlvFault.{TlvFault}
 use Rattle.ndn_tlv.specs.declared.order_table.FieldFault.{FieldFault}
-use Rattle.ndn_tlv.specs.Listing.{Listing, gather, gathered, ◌>>=◌}
+use Rattle.ndn_tlv.specs.Listing.{gather, ◌>>=◌}
 use Rattle.ndn_tlv.specs.Elements.{Item, elements, AreWithin}
 use Rattle.ndn_tlv.specs.OrderTable.{fields}
 use Rattle.ndn_tlv.proofs.Fields.{AreWithin-ends, fields_within}
@@ -14,15 +14,13 @@ use Rattle.ndn_name.specs.declared.fault.PacketFault.TheVariants.{BadField, Tlv,
 use Rattle.ndn_name.specs.declared.fault.Field.TheVariants as field
 use Rattle.ndn_tlv.specs.declared.tlv_fault.TlvFault.TheVariants.{Truncated}
 use Rattle.ndn_name.specs.Faults.{packet_fault}
-use Rattle.ndn_name.specs.Names.{Component}
 use Rattle.ndn_packet.specs.Contents.{ok_or, name_in, first_among, first_of}
-use Rattle.ndn_packet.specs.SignatureInfo.{Info, info_in}
+use Rattle.ndn_packet.specs.SignatureInfo.{info_in}
 use Rattle.ndn_packet.specs.Outer.{only_of, outer_of}
-use Rattle.ndn_data.specs.MetaInfo.{Meta, meta_in}
+use Rattle.ndn_data.specs.MetaInfo.{meta_in}
 use Rattle.ndn_data.specs.declared.data_fields.DataField.{DataField}
 use Rattle.ndn_data.specs.declared.data_fields.DataField.TheVariants as data_field
-use Rattle.ndn_data.specs.declared.data_fields.TheConstants.{DATA}
-use Rattle.ndn_data.specs.Data.{Data, DataSoFar, no_field, with_data_field, data_fields, data_from, data_of}
+use Rattle.ndn_data.specs.Data.{data_table, Data, DataSoFar, no_field, with_data_field, data_fields, data_from, data_of}
 
 err_is_ok : {A E : Type 0} (e : E) (y : A) → let r : Result A E = Err e in r ≡ Ok y → ⊥
 err_is_ok e y h = cc
@@ -101,7 +99,7 @@ pub data_content_short : (octets : List ℕ) (d : Data) → data_of octets ≡ O
 data_content_short octets d h =
     let outer = bind_ok (outer_of 0x06 octets) (λ e. data_fields octets e >>= data_from e.value) d h in
     let read = bind_ok (data_fields octets outer.0) (data_from outer.0.value) d outer.2 in
-    let within = fields_within DATA (elements outer.0.value_start outer.0.value).items (elements outer.0.value_start outer.0.value).fault outer.0.value_start (outer.0.value_start + length outer.0.value) (elements_within_octets outer.0.value_start outer.0.value) in
+    let within = fields_within data_table (elements outer.0.value_start outer.0.value).items (elements outer.0.value_start outer.0.value).fault outer.0.value_start (outer.0.value_start + length outer.0.value) (elements_within_octets outer.0.value_start outer.0.value) in
     let short = outer_fits 0x06 octets outer.0 outer.1 in
-    let fits = content_fits octets 8800 outer.0.value_start (outer.0.value_start + length outer.0.value) (fields DATA (elements outer.0.value_start outer.0.value)).items (fields DATA (elements outer.0.value_start outer.0.value)).fault no_field read.0 within (omega (arith, short)) (omega arith) read.1 in
+    let fits = content_fits octets 8800 outer.0.value_start (outer.0.value_start + length outer.0.value) (fields data_table (elements outer.0.value_start outer.0.value)).items (fields data_table (elements outer.0.value_start outer.0.value)).fault no_field read.0 within (omega (arith, short)) (omega arith) read.1 in
     subst (λ (c : List ℕ). length c ≤ 8800) (sym (from_content outer.0.value read.0 d read.2)) fits

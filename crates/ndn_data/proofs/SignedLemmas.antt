@@ -22,10 +22,9 @@ use Rattle.ndn_packet.specs.SignatureInfo.{Info, info_in}
 use Rattle.ndn_packet.proofs.Gathering.{Stands, elements_stand, keeps}
 use Rattle.ndn_data.specs.declared.data_fields.DataField.{DataField}
 use Rattle.ndn_data.specs.declared.data_fields.DataField.TheVariants.{Name, MetaInfo, Content, SignatureInfo, SignatureValue}
-use Rattle.ndn_data.specs.declared.data_fields.TheConstants.{DATA}
 use Rattle.ndn_data.specs.Signed.{Signs}
 use Rattle.ndn_data.specs.MetaInfo.{Meta, meta_in}
-use Rattle.ndn_data.specs.Data.{Data, DataSoFar, no_field, signed_before, with_data_field, data_fields, data_from, data_of, IsSpelled}
+use Rattle.ndn_data.specs.Data.{data_table, Data, DataSoFar, no_field, signed_before, with_data_field, data_fields, data_from, data_of, IsSpelled}
 use Rattle.ndn_packet.specs.Outer.{outer_of}
 use Rattle.ndn_packet.proofs.Outers.{outer_ok}
 
@@ -58,7 +57,7 @@ place_is f place e =
     let same : place_for f ≡ place = cc in
     subst (IsPlace (place_number f)) same (record { number = refl; typ = refl; once = refl })
 
-place_at : (k : ℕ) (place : Place DataField) → slice_get DATA k ≡ Some place → IsPlace k place
+place_at : (k : ℕ) (place : Place DataField) → slice_get data_table k ≡ Some place → IsPlace k place
 place_at zero place e = place_is Name place e
 place_at (suc zero) place e = place_is MetaInfo place e
 place_at (suc (suc zero)) place e = place_is Content place e
@@ -228,7 +227,7 @@ module _ (whole : List ℕ) (start : ℕ) (fits : IsOctets whole) (short : lengt
   with_field SignatureValue from low s t e le typ j above begins long stands h =
       with_signature from low s t e typ j above (omega arith) stands h
 
-  at_place : (from low k : ℕ) (place : Place DataField) (s t : DataSoFar) (e : Item) → from ≤ k → slice_get DATA k ≡ Some place → place.typ ≡ e.typ → Keeps whole start from low s
+  at_place : (from low k : ℕ) (place : Place DataField) (s t : DataSoFar) (e : Item) → from ≤ k → slice_get data_table k ≡ Some place → place.typ ≡ e.typ → Keeps whole start from low s
       → low ≤ e.start → e.start < e.value_start → e.value_start + length e.value ≡ e.end → Stands whole e
       → with_data_field whole s (place.field, e) ≡ Ok t → Keeps whole start (cond place.repeats k (suc k)) e.end t
   at_place from low k place s t e le at same j above begins long stands h =
@@ -252,8 +251,8 @@ data_gathers octets e s fits short whole at h =
     let are = elements_are e.value_start e.value octet in
     let stand = elements_stand octets e.value_start e.value read.items read.fault value are in
     let first : Keeps octets e.value_start 0 e.value_start no_field = record { above = omega arith; name = tt; signature = tt; last = tt } in
-    let kept = keeps DATA (with_data_field octets) (e.value_start + length e.value) (Stands octets) (Keeps octets e.value_start) (at_place octets e.value_start fits short) (λ from low more t le j. later octets e.value_start from low more t le j)
-    0 read.items read.fault (fields DATA read) (fields_stand DATA read.fault read.items 0 DATA refl) e.value_start no_field s first (elements_within_octets e.value_start e.value) stand h in
+    let kept = keeps data_table (with_data_field octets) (e.value_start + length e.value) (Stands octets) (Keeps octets e.value_start) (at_place octets e.value_start fits short) (λ from low more t le j. later octets e.value_start from low more t le j)
+    0 read.items read.fault (fields data_table read) (fields_stand data_table read.fault read.items 0 data_table refl) e.value_start no_field s first (elements_within_octets e.value_start e.value) stand h in
     let P : List ℕ → Type 0 = λ v. IfSome s.signature (SignatureStands v s.name) in
     record { signature = subst P value kept.holds.signature }
 

@@ -24,8 +24,7 @@ use Rattle.ndn_packet.proofs.Outers.{outer_ok}
 use Rattle.ndn_packet.proofs.Gathering.{Stands, elements_stand, keeps}
 use Rattle.ndn_interest.specs.declared.interest_fields.InterestField.{InterestField}
 use Rattle.ndn_interest.specs.declared.interest_fields.InterestField.TheVariants.{Name, CanBePrefix, MustBeFresh, ForwardingHint, Nonce, InterestLifetime, HopLimit, ApplicationParameters, InterestSignatureInfo, InterestSignatureValue}
-use Rattle.ndn_interest.specs.declared.interest_fields.TheConstants.{INTEREST}
-use Rattle.ndn_interest.specs.Interest.{Interest, InterestSoFar, no_field, interest_name_in, flag_in, nonce_in, hop_limit_in, with_interest_field, interest_fields, last_component, without_last, ends_in_digest, signed_of, interest_named, interest_from, interest_of, IsDigestedFrom, IsSignedUpTo, IsSpelled}
+use Rattle.ndn_interest.specs.Interest.{interest_table, Interest, InterestSoFar, no_field, interest_name_in, flag_in, nonce_in, hop_limit_in, with_interest_field, interest_fields, last_component, without_last, ends_in_digest, signed_of, interest_named, interest_from, interest_of, IsDigestedFrom, IsSignedUpTo, IsSpelled}
 use Rattle.ndn_interest.proofs.LastLemmas.{found, split_at}
 
 -- ---- the places of the table
@@ -67,7 +66,7 @@ place_is f place e =
     let same : place_for f ≡ place = cc in
     subst (IsPlace (place_number f)) same (record { number = refl; typ = refl; once = refl })
 
-place_at : (k : ℕ) (place : Place InterestField) → slice_get INTEREST k ≡ Some place → IsPlace k place
+place_at : (k : ℕ) (place : Place InterestField) → slice_get interest_table k ≡ Some place → IsPlace k place
 place_at zero place e = place_is Name place e
 place_at (suc zero) place e = place_is CanBePrefix place e
 place_at (suc (suc zero)) place e = place_is MustBeFresh place e
@@ -230,7 +229,7 @@ module _ (whole : List ℕ) (start : ℕ) where
   with_field InterestSignatureValue from low s t e le typ j above begins long stands h =
       with_signature from low s t e typ j above (omega arith) stands h
 
-  at_place : (from low k : ℕ) (place : Place InterestField) (s t : InterestSoFar) (e : Item) → from ≤ k → slice_get INTEREST k ≡ Some place → place.typ ≡ e.typ → Keeps whole start from low s
+  at_place : (from low k : ℕ) (place : Place InterestField) (s t : InterestSoFar) (e : Item) → from ≤ k → slice_get interest_table k ≡ Some place → place.typ ≡ e.typ → Keeps whole start from low s
       → low ≤ e.start → e.start < e.value_start → e.value_start + length e.value ≡ e.end → Stands whole e
       → with_interest_field whole s (place.field, e) ≡ Ok t → Keeps whole start (cond place.repeats k (suc k)) e.end t
   at_place from low k place s t e le at same j above begins long stands h =
@@ -257,8 +256,8 @@ interest_gathers octets e s fits whole at h =
     let are = elements_are e.value_start e.value octet in
     let stand = elements_stand octets e.value_start e.value read.items read.fault value are in
     let first : Keeps octets e.value_start 0 e.value_start no_field = record { above = omega arith; parameters = tt; signature = tt; last = tt } in
-    let kept = keeps INTEREST (with_interest_field octets) (e.value_start + length e.value) (Stands octets) (Keeps octets e.value_start) (at_place octets e.value_start) (λ from low more t le j. later octets e.value_start from low more t le j)
-    0 read.items read.fault (fields INTEREST read) (fields_stand INTEREST read.fault read.items 0 INTEREST refl) e.value_start no_field s first (elements_within_octets e.value_start e.value) stand h in
+    let kept = keeps interest_table (with_interest_field octets) (e.value_start + length e.value) (Stands octets) (Keeps octets e.value_start) (at_place octets e.value_start) (λ from low more t le j. later octets e.value_start from low more t le j)
+    0 read.items read.fault (fields interest_table read) (fields_stand interest_table read.fault read.items 0 interest_table refl) e.value_start no_field s first (elements_within_octets e.value_start e.value) stand h in
     record { low = kept.low; parameters = kept.holds.parameters; signature = kept.holds.signature; at = value }
 
 -- ---- the whole packet
