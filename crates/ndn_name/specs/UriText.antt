@@ -5,7 +5,8 @@ use Rattle.std.specs.List.{list_all, list_any, slice_split}
 use Rattle.std.specs.Option.{option_map}
 use Rattle.std.specs.Str.Parse.{digits_value}
 use Rattle.ndn_tlv.specs.NumberField.{number_field}
-use Rattle.ndn_name.specs.Names.{Component}
+use Rattle.ndn_tlv.specs.Types as types
+use Rattle.ndn_name.specs.Names.{Component, greatest_type}
 use Rattle.ndn_name.specs.Uri.{are_periods, is_unreserved}
 
 -- ---- values
@@ -78,12 +79,15 @@ typed_by (Some typ) tail = if nat_lt 0 typ then typed typ (value_of_text tail) e
 -- The component of what stands before an equals sign and behind it.
 abbrev pub component_of_parts : List ℕ → List ℕ → Option Component
 component_of_parts head tail =
-    if bytes_eq head (codes "sha256digest") then typed 1 (digest_of_text tail)
-    else if bytes_eq head (codes "params-sha256") then typed 2 (digest_of_text tail)
-    else if bytes_eq head (codes "seg") then typed 50 (number_of_text tail)
-    else if bytes_eq head (codes "v") then typed 54 (number_of_text tail)
-    else if bytes_eq head (codes "seq") then typed 58 (number_of_text tail)
-    else typed_by (decimal_of_text 65535 head) tail
+    if bytes_eq head (codes "sha256digest")
+    then typed types.ImplicitSha256DigestComponent (digest_of_text tail)
+    else if bytes_eq head (codes "params-sha256")
+    then typed types.ParametersSha256DigestComponent (digest_of_text tail)
+    else if bytes_eq head (codes "seg") then typed types.SegmentNameComponent (number_of_text tail)
+    else if bytes_eq head (codes "v") then typed types.VersionNameComponent (number_of_text tail)
+    else if bytes_eq head (codes "seq")
+    then typed types.SequenceNumNameComponent (number_of_text tail)
+    else typed_by (decimal_of_text greatest_type head) tail
 
 -- What stands before the first such octet and behind it, where there is one.
 unfoldable pub cut_at : ℕ → List ℕ → Option (List ℕ × List ℕ)
@@ -93,7 +97,7 @@ cut_at octet (c ∷ text) =
     else option_map (λ parts. (c ∷ parts.0, parts.1)) (cut_at octet text)
 
 abbrev pub component_by : List ℕ → Option (List ℕ × List ℕ) → Option Component
-component_by text None = typed 8 (value_of_text text)
+component_by text None = typed types.GenericNameComponent (value_of_text text)
 component_by text (Some parts) = component_of_parts parts.0 parts.1
 
 unfoldable pub component_of_text : List ℕ → Option Component
@@ -109,7 +113,8 @@ components_of_texts [] = Some []
 components_of_texts (text ∷ texts) =
     option_and_then (λ c. in_front c (components_of_texts texts)) (component_of_text text)
 
--- What stands behind the first slash: nothing, or the texts of components with slashes between them.
+-- What stands behind the first slash: nothing, or the texts of components and a slash between any
+-- two.
 abbrev pub name_of_path : List ℕ → Option (List Component)
 name_of_path [] = Some []
 name_of_path (c ∷ path) = components_of_texts (slice_split (λ o. o == 47) (c ∷ path))
@@ -129,7 +134,7 @@ name_of_text text = option_and_then name_of_path (behind (codes "/") (without_sc
 
 -- A digest is a component of type 1 or 2.
 abbrev pub is_digest : Component → Bool
-is_digest c = nat_le c.0 2
+is_digest c = nat_le c.0 types.ParametersSha256DigestComponent
 
 abbrev pub plain_component : Component → Option Component
 plain_component c = if is_digest c then None else Some c

@@ -1,5 +1,6 @@
 -- What a text is as the URI of a name: the name, or why it is none.
 use Rattle.std.specs.Prelude.{◌≡◌, ℕ, ◌+◌, ◌<◌, ◌≤◌, Bool, not, ◌&&◌, nat_le, ◌==◌, List, [], ◌∷◌, ◌++◌, length, take, Option, Some, None, Result, Ok, Err, if◌then◌else◌}
+use Rattle.ndn_tlv.specs.Types as types
 use Rattle.ndn_name.specs.declared.name_fault.NameFault.{NameFault}
 use Rattle.ndn_name.specs.declared.name_fault.NameFault.TheVariants.{Tlv, BadComponent, BadDigestLength, NameTooLong, BadUri, NoMemory}
 use Rattle.ndn_name.specs.Names.{Component, encoding, name_limit}
@@ -22,7 +23,7 @@ abbrev pub HasUri : List Component → List ℕ → Type 0
 HasUri name text = (parts : List Part) × IsUri parts text × (name ≡ name_in parts)
 
 abbrev pub is_bad_digest : Component → Bool
-is_bad_digest c = nat_le c.0 2 && not (length c.1 == 32)
+is_bad_digest c = nat_le c.0 types.ParametersSha256DigestComponent && not (length c.1 == 32)
 
 -- Where the first digest stands that has not 32 octets.
 abbrev pub first_bad_digest : List Part → Option ℕ

@@ -8,7 +8,7 @@ use crate::name::Name;
 use crate::name_view::NameView;
 use crate::uri_value::{are_periods, is_unreserved};
 use itoa::Buffer;
-use ndn_tlv::{Reader, read_number};
+use ndn_tlv::{Reader, read_number, types};
 use std::alloc::{AllocError, Global};
 
 impl Name {
@@ -61,11 +61,11 @@ fn put_component(out: &mut Vec<u8>, typ: u16, value: &[u8]) -> Result<(), AllocE
     ensures front { take (length out.old.items) out.new.items ≡ out.old.items }
 {
     match typ {
-        1 => put_digest(out, "sha256digest=", value),
-        2 => put_digest(out, "params-sha256=", value),
-        50 => put_number(out, "seg=", typ, value),
-        54 => put_number(out, "v=", typ, value),
-        58 => put_number(out, "seq=", typ, value),
+        types::IMPLICIT_SHA256_DIGEST_COMPONENT => put_digest(out, "sha256digest=", value),
+        types::PARAMETERS_SHA256_DIGEST_COMPONENT => put_digest(out, "params-sha256=", value),
+        types::SEGMENT_NAME_COMPONENT => put_number(out, "seg=", typ, value),
+        types::VERSION_NAME_COMPONENT => put_number(out, "v=", typ, value),
+        types::SEQUENCE_NUM_NAME_COMPONENT => put_number(out, "seq=", typ, value),
         _ => put_plain(out, typ, value),
     }
 }
@@ -165,7 +165,7 @@ fn put_plain(out: &mut Vec<u8>, typ: u16, value: &[u8]) -> Result<(), AllocError
     ensures ok { OnOk result (out.new.items ≡ out.old.items ++ plain_text (typ, value.now)) }
     ensures front { take (length out.old.items) out.new.items ≡ out.old.items }
 {
-    if typ != 8 {
+    if typ != types::GENERIC_NAME_COMPONENT {
         put_decimal(out, u64::from(typ))?;
         out.extend_from_slice(b"=")?;
     }

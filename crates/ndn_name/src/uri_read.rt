@@ -10,6 +10,7 @@ use crate::name::{NAME_LIMIT, Name};
 use crate::name_fault::NameFault;
 use crate::uri_component::{read_component, split_once};
 use crate::uri_form::{PartValue, UriPart};
+use ndn_tlv::types;
 use std::alloc::Global;
 
 impl Name {
@@ -104,7 +105,7 @@ fn first_bad_digest(parts: &[UriPart]) -> Option<usize>
     ensures { result ≡ first_bad_digest (map uri_part parts.now) }
 {
     for part in parts {
-        if part.typ <= 2 && !part.value.is_digest() {
+        if part.typ <= types::PARAMETERS_SHA256_DIGEST_COMPONENT && !part.value.is_digest() {
             return Some(part.at);
         }
     }

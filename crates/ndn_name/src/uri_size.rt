@@ -12,7 +12,7 @@ use crate::uri_form::Form;
 use crate::uri_print::width_of;
 use crate::uri_read::{behind_octet, behind_scheme};
 use crate::uri_value::octet_at;
-use ndn_tlv::head_len;
+use ndn_tlv::{head_len, types};
 
 /// How many octets the value of the name has whose URI the text is, where the name has no digest: no
 /// component of type 1 or 2.
@@ -54,7 +54,7 @@ fn component_len(text: &[u8]) -> Option<usize>
     ensures small { IfSome result (λ len. len ≤ 2 * length text.now + 2) }
 {
     let (typ, len) = component_shape(text)?;
-    if typ <= 2 {
+    if typ <= types::PARAMETERS_SHA256_DIGEST_COMPONENT {
         return None;
     }
     Some(head_len(u32::from(typ), len) + len)
@@ -68,7 +68,7 @@ fn component_shape(text: &[u8]) -> Option<(u16, usize)>
 {
     match split_head(text) {
         Some((form, _, tail)) => tail_shape(form, tail),
-        None => Some((8, value_len(text)?)),
+        None => Some((types::GENERIC_NAME_COMPONENT, value_len(text)?)),
     }
 }
 
