@@ -1,5 +1,3 @@
-// FOUNDER to helper names: leave svs_vector and svs_sync out (steps 3 and 4): they are done in /work/scratch/vectors.
-// Revert this file (git checkout) and end with ndn_name and ndn_sign.
 ghost use Rattle.std.specs.Prelude.{◌≡◌, ◌≤◌, ◌⊎◌, IfOk, IsTrue, MatchResult, Ok, Err, Some, length, slice_get, is_some};
 ghost use Rattle.std.specs.List.{All};
 ghost use Rattle.ndn_interest.specs.Interest.{packet};

@@ -1,5 +1,3 @@
-// FOUNDER to helper names: leave svs_vector and svs_sync out (steps 3 and 4): they are done in /work/scratch/vectors.
-// Revert this file (git checkout) and end with ndn_name and ndn_sign.
 ghost use Rattle.std.specs.Prelude.{◌≡◌, ◌+◌, ◌^◌, ◌<◌, length, MatchResult, Ok, Err};
 ghost use Rattle.ndn_tlv.specs.Elements.{item, elements};
 ghost use Rattle.svs_vector.specs.StateVector.{end_of, fault_in, with_entry_field, entry_fields, entry_in, entry_so_far, both};

@@ -1,5 +1,3 @@
-// FOUNDER to helper names: leave svs_vector and svs_sync out (steps 3 and 4): they are done in /work/scratch/vectors.
-// Revert this file (git checkout) and end with ndn_name and ndn_sign.
 //! State vectors of a group whose members are numbered from 0: one sequence number a member, joined by taking the
 //! greater number in each place (State Vector Sync).
 #![tactic(auto)]

@@ -1,5 +1,3 @@
-// FOUNDER to helper names: leave svs_vector and svs_sync out (steps 3 and 4): they are done in /work/scratch/vectors.
-// Revert this file (git checkout) and end with ndn_name and ndn_sign.
 ghost use Rattle.std.specs.Prelude.{◌≡◌, ◌+◌, ◌^◌, ◌<◌, ◌⊎◌, length, replicate, MatchResult, IfOk, IfErr, OnOk, Ok, Err};
 ghost use Rattle.ndn_tlv.specs.Elements.{item, elements};
 ghost use Rattle.svs_vector.specs.StateVector.{with_entry, vector_in, vector_among, vector_of};
