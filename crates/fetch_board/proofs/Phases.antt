@@ -95,7 +95,8 @@ below a b h = ⊎_elim (λ l. l) (λ ge. let z : one (ltb a b) ≡ 0 = ap one (l
   less_or : (a b : ℕ) → (a < b) ⊎ (b ≤ a)
   less_or a b = ⊎_elim (λ e. inr (omega arith)) (λ o. ⊎_elim (λ l. inl l) (λ g. inr (omega arith)) o) (cases_order a b)
 
--- an item that stands with no attempt in a list doesn't stand there, and one that stands with one attempt, once, stands there once
+-- an item that stands with no attempt in a list doesn't stand there, and one that stands with one attempt, once,
+-- stands there once
 none_paired : (i : ℕ) (xs : List (ℕ × ℕ)) → ((a : ℕ) → pairs i a xs ≡ 0) → items i (items_of xs) ≡ 0
 none_paired i [] z = refl
 none_paired i (x ∷ xs) z = let rest = none_paired i xs (λ a. let c = z a in omega arith) in

@@ -17,5 +17,6 @@ pub use outcome::PhaseOutcome;
 pub use phases::phase;
 pub use worker::Worker;
 
+
 #[cfg(test)]
 mod tests;

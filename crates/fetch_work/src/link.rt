@@ -15,8 +15,8 @@ pub enum Reply<'p> {
 
 /// What lends packets that are asked for.
 ///
-/// What it answers is a function of what it holds, of the want and of the attempt. It takes no memory and can't fail, and
-/// threads may share it.
+/// What it answers is a function of what it holds, of the want and of the attempt. It takes no memory and can't fail.
+/// Threads may share it.
 pub trait Link {
     ghost answer: { Self → WantedPart → ℕ → Option (List ℕ) };
 

@@ -28,7 +28,8 @@ pub fn phase<'p, L: Link + Sync, R: Threads + Sync>(
     requires jobs { All (λ job. CanBeTried (length ring.now) tries job) jobs.now }
     requires tries { (1 ≤ tries) × (tries ≤ 16) }
     requires workers { (1 ≤ workers) × (workers ≤ 16) }
-    ensures first { IfOk result (λ o. AreFirst (L.answer link.now) ring.now tries jobs.now o.parts.items o.attempts.items) }
+    ensures first { IfOk result (λ o.
+        AreFirst (L.answer link.now) ring.now tries jobs.now o.parts.items o.attempts.items) }
 {
     let trial = LinkTrial { link, jobs, ring };
     let outcome = team::run(rt, alloc, &trial, jobs.len(), tries, workers)?;
