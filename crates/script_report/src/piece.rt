@@ -1,4 +1,4 @@
-ghost use Rattle.std.specs.Prelude.{◌≡◌, ◌∷◌, ◌++◌, map, string_bytes, OnOk};
+ghost use Rattle.std.specs.Prelude.{◌≡◌, ◌∷◌, ◌++◌, codes, map, string_bytes, OnOk};
 ghost use Rattle.std.specs.Fmt.{decimal};
 ghost use Rattle.hex.specs.Hex.{encode_lower};
 ghost use Rattle.ndn_name.specs.Uri.{uri};
@@ -96,9 +96,18 @@ fn put_counts(out: &mut Vec<u8>, labels: &[String], numbers: &[u64]) -> Result<(
     ensures kept { Keeps out.old.items out.new.items }
 {
     for (label, number) in labels.iter().zip(numbers) {
-        put_word(out, label.as_bytes())?;
-        out.push(b'=')?;
-        out.extend_from_slice(Buffer::new().format(*number).as_bytes())?;
+        put_count(out, label, *number)?;
     }
     Ok(())
+}
+
+#[tactic(auto, using(crate::proofs::Fronts::keeps_more, crate::proofs::Fronts::keeps_then))]
+fn put_count(out: &mut Vec<u8>, label: &str, number: u64) -> Result<(), AllocError>
+    ensures ok { OnOk result (out.new.items
+        ≡ out.old.items ++ (32 ∷ label.now ++ codes "=" ++ decimal number)) }
+    ensures kept { Keeps out.old.items out.new.items }
+{
+    put_word(out, label.as_bytes())?;
+    out.push(b'=')?;
+    out.extend_from_slice(Buffer::new().format(number).as_bytes())
 }

@@ -1,5 +1,5 @@
 ghost use Rattle.std.specs.Prelude.{◌≡◌, ◌++◌, map, length, string_bytes, OnOk};
-ghost use Rattle.script_report.specs.Texts.{catalogue_text, entries_text, entry_text, summary_text, traffic_text, vector_text};
+ghost use Rattle.script_report.specs.Texts.{catalogue_text, entries_text, entry_text, summary_text, totals_text, traffic_text, vector_text};
 ghost use Rattle.script_report.specs.Pieces.{Appends, Keeps};
 
 use crate::line::{put_line, whole, write_line};
@@ -119,21 +119,34 @@ fn write_summary(
     ensures kept { Keeps out.old.items out.new.items }
 {
     for (i, label) in labels.iter().enumerate() {
-        write_line(
-            out,
-            "summary",
-            &[
-                Word(label),
-                Word("entries"),
-                Number(entries[i]),
-                Word("segments"),
-                Number(segments[i]),
-                Word("octets"),
-                Number(octets[i]),
-            ],
-        )?;
+        write_totals(out, label, entries[i], segments[i], octets[i])?;
     }
     Ok(())
+}
+
+fn write_totals(
+    out: &mut Vec<u8>,
+    label: &str,
+    entries: u64,
+    segments: u64,
+    octets: u64,
+) -> Result<(), AllocError>
+    ensures ok { OnOk result (out.new.items ≡ out.old.items ++ totals_text label.now entries segments octets) }
+    ensures kept { Keeps out.old.items out.new.items }
+{
+    write_line(
+        out,
+        "summary",
+        &[
+            Word(label),
+            Word("entries"),
+            Number(entries),
+            Word("segments"),
+            Number(segments),
+            Word("octets"),
+            Number(octets),
+        ],
+    )
 }
 
 pub fn put_traffic(

@@ -1,0 +1,53 @@
+-- Fronts of texts, and where a text is cut.
+use Rattle.std.proofs.Common.{◌≡◌, ◌≢◌, ℕ, ◌<◌, suc, zero, Bool, true, false, eqb, eq-eqb, List, [], ◌∷◌, ◌++◌, length, get_or, drop, Option, Some, None, MatchOption, Bor, refl, sym, ap, ◌∙◌, arith, inl, inr}
+use Rattle.std.proofs.lemmas.Bool.Decides.{eqb_tells}
+use Rattle.std.specs.Option.{option_copied, option_map}
+use Rattle.std.specs.Str.Pattern.{FindsTextPrefix, StripsPrefix, LacksTextAt}
+use Rattle.std.proofs.lemmas.Str.Pattern.{split_parts, IsSplitOnceResult}
+use Rattle.script_lang.specs.Kinds.{behind, cut, onto_cut}
+
+test_false : (a b : ℕ) → a ≢ b → eqb a b ≡ false
+test_false a b other = elim (eqb_tells a b) [ inl p ↦ absurd (other p.1) | inr p ↦ p.0 ]
+
+pub behind_front : (front text : List ℕ) → behind front (front ++ text) ≡ Some text
+unfolding behind
+behind_front [] text = refl
+behind_front (c ∷ front) text = rw (eq-eqb c c refl) (behind_front front text)
+
+pub front_of : (front text rest : List ℕ) → behind front text ≡ Some rest → text ≡ front ++ rest
+unfolding behind
+front_of [] text rest h = cc
+front_of (c ∷ front) [] rest h = cc
+front_of (c ∷ front) (d ∷ text) rest h = elim (eqb_tells c d) [
+  | inl p ↦ (let e = front_of front text rest (rw p.0 at h) in same c d p.1 text (front ++ rest) e)
+  | inr p ↦ absurd (none rest (rw p.0 at h))
+] where
+  same : (c d : ℕ) → c ≡ d → (s t : List ℕ) → s ≡ t → d ∷ s ≡ c ∷ t
+  same c d e s t f = cc
+
+  none : (rest : List ℕ) → None ≡ Some rest → ⊥
+  none rest h = cc
+
+pub cut_at : (c : ℕ) (xs ys : List ℕ) → ((i : ℕ) → i < length xs → get_or xs i 0 ≢ c) → cut c (xs ++ c ∷ ys) ≡ Some (xs, ys)
+unfolding cut
+cut_at c [] ys lacks = rw (eq-eqb c c refl) refl
+cut_at c (x ∷ xs) ys lacks = rw (test_false x c (lacks 0 (omega arith)), cut_at c xs ys (λ i lt. lacks (suc i) (omega arith))) refl
+
+pub cut_none : (c : ℕ) (xs : List ℕ) → ((i : ℕ) → i < length xs → get_or xs i 0 ≢ c) → cut c xs ≡ None
+unfolding cut
+cut_none c [] lacks = refl
+cut_none c (x ∷ xs) lacks = rw (test_false x c (lacks 0 (omega arith)), cut_none c xs (λ i lt. lacks (suc i) (omega arith))) refl
+
+-- `strip_prefix` and `split_once`
+pub stripped : (front text : List ℕ) (r : Option (Bor (List ℕ))) → MatchOption r (FindsTextPrefix front text None) (λ x. StripsPrefix (FindsTextPrefix front) text x.now) → option_copied r ≡ behind front text
+stripped front text None lacks = go (behind front text) refl where
+  go : (o : Option (List ℕ)) → behind front text ≡ o → None ≡ behind front text
+  go None e = sym e
+  go (Some rest) e = absurd (lacks rest (front_of front text rest e))
+stripped front text (Some x) h = rw h.2 (sym (ap (behind front) h.1.1 ∙ behind_front front (drop h.0 text)))
+
+pub cut_once : (c : ℕ) (bs : List ℕ) (r : Option (Bor (List ℕ) × Bor (List ℕ))) → IsSplitOnceResult c bs r → c < 128 → option_map (λ (parts : Bor (List ℕ) × Bor (List ℕ)). (parts.0.now, parts.1.now)) r ≡ cut c bs
+cut_once c bs None h low = sym (cut_none c bs (split_parts c bs None h low))
+cut_once c bs (Some x) h low =
+    let p = split_parts c bs (Some x) h low in
+    sym (ap (cut c) p.0 ∙ cut_at c x.0.now x.1.now p.1)
