@@ -7,6 +7,7 @@ use Rattle.std.specs.Str.Parse.{digits_value}
 use Rattle.hex.specs.Hex.{decode_of}
 use Rattle.hex.specs.declared.error.FromHexError.{FromHexError}
 use Rattle.ndn_name.specs.Names.{Component, encoding}
+use Rattle.ndn_name.specs.UriText.{behind, cut_at, plain_name_of_text}
 use Rattle.script_lang.specs.declared.line_fault.LineFault.{LineFault}
 use Rattle.script_lang.specs.declared.line_fault.LineFault.TheVariants.{Syntax, Limit, NoMemory}
 
@@ -64,22 +65,6 @@ decoded_within least most (Err _) = Err Syntax
 unfoldable pub hex_of : ℕ → ℕ → List ℕ → Result (List ℕ) LineFault
 hex_of least most word = decoded_within least most (decode_of word)
 
--- What stands behind a front, where the text has it.
-unfoldable pub behind : List ℕ → List ℕ → Option (List ℕ)
-behind [] text = Some text
-behind (c ∷ front) [] = None
-behind (c ∷ front) (d ∷ text) = if c == d then behind front text else None
-
--- What stands before the first such octet and behind it, where there is one.
-abbrev pub onto_cut : ℕ → Option (List ℕ × List ℕ) → Option (List ℕ × List ℕ)
-onto_cut octet None = None
-onto_cut octet (Some parts) = Some (octet ∷ parts.0, parts.1)
-
-unfoldable pub cut : ℕ → List ℕ → Option (List ℕ × List ℕ)
-cut separator [] = None
-cut separator (octet ∷ octets) =
-    if octet == separator then Some ([], octets) else onto_cut octet (cut separator octets)
-
 -- `N:N`, a count of octets and the octet
 abbrev pub filled : ℕ → ℕ → Option (List ℕ × List ℕ) → Result (List ℕ) LineFault
 filled least most None = Err Syntax
@@ -91,7 +76,7 @@ filled least most (Some parts) =
     else Err Syntax
 
 unfoldable pub filled_of : ℕ → ℕ → List ℕ → Result (List ℕ) LineFault
-filled_of least most counts = filled least most (cut 58 counts)
+filled_of least most counts = filled least most (cut_at 58 counts)
 
 -- A content is `text:` and octets, or `hex:` and hexadecimal text or nothing, or `fill:N:N`.
 abbrev pub content_by : ℕ → ℕ → Option (List ℕ) → Option (List ℕ) → Option (List ℕ)
@@ -106,25 +91,16 @@ content_of least most word =
     content_by least most (behind (codes "text:") word) (behind (codes "hex:") word)
     (behind (codes "fill:") word)
 
--- STAND-IN for the texts of names: `/` and letters, digits, `-` or `_`, one component.
-abbrev pub is_plain_octet : ℕ → Bool
-is_plain_octet octet = is_ascii_alphanumeric octet || octet == 45 || octet == 95
-
-abbrev pub name_in_text : List ℕ → Option (List Component)
-name_in_text [] = None
-name_in_text (first ∷ others) =
-    if first == 47 && not (length others == 0) && list_all is_plain_octet others
-    then Some ((8, others) ∷ []) else None
-
+-- A URI is the text of a name without components of type 1 or 2 (`plain_name_of_text`), whose value has
+-- 1 to so many octets.
 abbrev pub name_within : ℕ → Option (List Component) → Result (List Component) LineFault
 name_within most None = Err Syntax
-name_within most (Some n) =
-    if nat_le 1 (length (encoding n)) && nat_le (length (encoding n)) most
-    && nat_le (length (encoding n)) 1000
-    then Ok n else Err Limit
+name_within most (Some name) =
+    if nat_le 1 (length (encoding name)) && nat_le (length (encoding name)) most
+    then Ok name else Err Limit
 
 unfoldable pub name_of : ℕ → List ℕ → Result (List Component) LineFault
-name_of most word = name_within most (name_in_text word)
+name_of most word = name_within most (plain_name_of_text word)
 
 -- ---- a word
 
@@ -139,13 +115,3 @@ word_of (N least most) word = mapped Number (number_of least most word)
 word_of (URI most) word = mapped Named (name_of most word)
 word_of (HEX most) word = mapped Octets (hex_of 1 most word)
 word_of (CONTENT least most) word = mapped Octets (content_of least most word)
-
--- What a call answers is what reading gives, unless memory ran out.
-abbrev pub Tells : {A : Type 0} → LineFault → Result A LineFault → Type 0
-Tells NoMemory read = Unit {0}
-Tells Syntax read = read ≡ Err Syntax
-Tells Limit read = read ≡ Err Limit
-
-abbrev pub Gives : {X A : Type 0} → (X → A) → Result X LineFault → Result A LineFault → Type 0
-Gives view (Ok x) read = read ≡ Ok (view x)
-Gives view (Err fault) read = Tells fault read

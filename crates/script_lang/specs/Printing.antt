@@ -4,7 +4,7 @@ use Rattle.std.specs.Fmt.{decimal}
 use Rattle.hex.specs.Hex.{encode_lower, IsBytes}
 use Rattle.ndn_name.specs.Names.{Component}
 use Rattle.script_lang.specs.Kinds.{Kind, LABEL, N, URI, HEX, CONTENT, Value, Text, Number, Named, Octets, is_label, name_of}
-use Rattle.script_lang.specs.Grammar.{Stated, form}
+use Rattle.script_lang.specs.Forms.{Stated, form}
 use Rattle.ndn_name.specs.Uri.{uri}
 
 -- A value as a word of this kind.
