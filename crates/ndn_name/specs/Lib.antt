@@ -8,3 +8,4 @@ pub mod Faults
 pub mod Uri
 pub mod UriVerdict
 pub mod UriReading
+pub mod UriText

@@ -29,6 +29,10 @@ abbrev pub IsName : List Component → Type 0
 IsName [] = Unit {0}
 IsName (c ∷ cs) = IsComponent c × IsName cs
 
+-- How many octets of value a name may have that this repository keeps (a limit of its own).
+abbrev pub name_limit : ℕ
+name_limit = 1000
+
 -- The value of a Name element: the elements of the components, one after another.
 unfoldable pub encoding : List Component → List ℕ
 encoding [] = []

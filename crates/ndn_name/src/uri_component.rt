@@ -29,7 +29,7 @@ pub(crate) fn read_component(
 }
 
 // The form that the text has, its head, and what follows the equals sign, where it has a head.
-fn split_head(text: &[u8]) -> Option<(Form, &[u8], &[u8])>
+pub(crate) fn split_head(text: &[u8]) -> Option<(Form, &[u8], &[u8])>
     ensures some { IfSome result (λ x. IsHead x.0 x.1.now × (text.now ≡ headed x.1.now x.2.now)) }
     ensures none { IfNone result (HasNoHead text.now) }
 {
