@@ -4,7 +4,7 @@ use Rattle.std.proofs.lemmas.Bool.Decides.{eqb_tells}
 use Rattle.std.specs.Option.{option_copied, option_map}
 use Rattle.std.specs.Str.Pattern.{FindsTextPrefix, StripsPrefix, LacksTextAt}
 use Rattle.std.proofs.lemmas.Str.Pattern.{split_parts, IsSplitOnceResult}
-use Rattle.script_lang.specs.Kinds.{behind, cut, onto_cut}
+use Rattle.ndn_name.specs.UriText.{behind, cut_at}
 
 test_false : (a b : ℕ) → a ≢ b → eqb a b ≡ false
 test_false a b other = elim (eqb_tells a b) [ inl p ↦ absurd (other p.1) | inr p ↦ p.0 ]
@@ -28,13 +28,13 @@ front_of (c ∷ front) (d ∷ text) rest h = elim (eqb_tells c d) [
   none : (rest : List ℕ) → None ≡ Some rest → ⊥
   none rest h = cc
 
-pub cut_at : (c : ℕ) (xs ys : List ℕ) → ((i : ℕ) → i < length xs → get_or xs i 0 ≢ c) → cut c (xs ++ c ∷ ys) ≡ Some (xs, ys)
-unfolding cut
-cut_at c [] ys lacks = rw (eq-eqb c c refl) refl
-cut_at c (x ∷ xs) ys lacks = rw (test_false x c (lacks 0 (omega arith)), cut_at c xs ys (λ i lt. lacks (suc i) (omega arith))) refl
+pub cut_found : (c : ℕ) (xs ys : List ℕ) → ((i : ℕ) → i < length xs → get_or xs i 0 ≢ c) → cut_at c (xs ++ c ∷ ys) ≡ Some (xs, ys)
+unfolding cut_at
+cut_found c [] ys lacks = rw (eq-eqb c c refl) refl
+cut_found c (x ∷ xs) ys lacks = rw (test_false x c (lacks 0 (omega arith)), cut_found c xs ys (λ i lt. lacks (suc i) (omega arith))) refl
 
-pub cut_none : (c : ℕ) (xs : List ℕ) → ((i : ℕ) → i < length xs → get_or xs i 0 ≢ c) → cut c xs ≡ None
-unfolding cut
+pub cut_none : (c : ℕ) (xs : List ℕ) → ((i : ℕ) → i < length xs → get_or xs i 0 ≢ c) → cut_at c xs ≡ None
+unfolding cut_at
 cut_none c [] lacks = refl
 cut_none c (x ∷ xs) lacks = rw (test_false x c (lacks 0 (omega arith)), cut_none c xs (λ i lt. lacks (suc i) (omega arith))) refl
 
@@ -46,8 +46,8 @@ stripped front text None lacks = go (behind front text) refl where
   go (Some rest) e = absurd (lacks rest (front_of front text rest e))
 stripped front text (Some x) h = rw h.2 (sym (ap (behind front) h.1.1 ∙ behind_front front (drop h.0 text)))
 
-pub cut_once : (c : ℕ) (bs : List ℕ) (r : Option (Bor (List ℕ) × Bor (List ℕ))) → IsSplitOnceResult c bs r → c < 128 → option_map (λ (parts : Bor (List ℕ) × Bor (List ℕ)). (parts.0.now, parts.1.now)) r ≡ cut c bs
+pub cut_once : (c : ℕ) (bs : List ℕ) (r : Option (Bor (List ℕ) × Bor (List ℕ))) → IsSplitOnceResult c bs r → c < 128 → option_map (λ (parts : Bor (List ℕ) × Bor (List ℕ)). (parts.0.now, parts.1.now)) r ≡ cut_at c bs
 cut_once c bs None h low = sym (cut_none c bs (split_parts c bs None h low))
 cut_once c bs (Some x) h low =
     let p = split_parts c bs (Some x) h low in
-    sym (ap (cut c) p.0 ∙ cut_at c x.0.now x.1.now p.1)
+    sym (ap (cut_at c) p.0 ∙ cut_found c x.0.now x.1.now p.1)

@@ -2,8 +2,9 @@
 use Rattle.std.proofs.Common.{◌≡◌, ℕ, Bool, true, false, List, [], ◌∷◌, Result, Ok, Err, refl, sym, if◌then◌else◌}
 use Rattle.script_lang.specs.declared.line_fault.LineFault.{LineFault}
 use Rattle.script_lang.specs.declared.line_fault.LineFault.TheVariants.{Syntax, Limit, NoMemory}
-use Rattle.script_lang.specs.Kinds.{Kind, Value, word_of, mapped, Gives, Tells}
-use Rattle.script_lang.specs.Grammar.{Unread, left_of, with_value, without_value, values_of, Keeps, Reads, with_all, stated_of}
+use Rattle.script_lang.specs.Kinds.{Kind, Value, word_of, mapped}
+use Rattle.script_lang.specs.Lines.{with_value, without_value, values_of, stated_of}
+use Rattle.script_lang.specs.Reading.{Gives, Tells, Unread, left_of, Keeps, Reads, with_all}
 use Rattle.script_lang.specs.declared.verb.Verb.{Verb}
 
 -- words as they are left

@@ -1,17 +1,18 @@
 -- What lines declare, and which line is refused for what came before it.
-use Rattle.std.specs.Prelude.{◌≡◌, ℕ, ◌+◌, ◌-◌, ◌/◌, Bool, true, false, not, ◌&&◌, ◌||◌, List, [], ◌∷◌, ◌++◌, length, map, Result, Ok, Err, nat_le, nat_lt, ◌==◌, if◌then◌else◌}
+use Rattle.std.specs.Prelude.{◌≡◌, ℕ, Option, position, ◌+◌, ◌-◌, ◌/◌, Bool, true, false, not, ◌&&◌, ◌||◌, List, [], ◌∷◌, ◌++◌, length, map, Result, Ok, Err, nat_le, nat_lt, ◌==◌, if◌then◌else◌}
 use Rattle.std.specs.List.{list_all, list_any}
 use Rattle.std.specs.Str.{bytes_eq}
 use Rattle.std.specs.String.{string_bytes}
-use Rattle.script_lang.specs.declared.labels.Sums.{Sums}
-use Rattle.script_lang.specs.declared.party.Declaration.{Declaration}
+use Rattle.script_lang.specs.declared.sums.Sums.{Sums}
+use Rattle.script_lang.specs.declared.declaration.Declaration.{Declaration}
 use Rattle.ndn_name.specs.Names.{Component, encoding}
 use Rattle.script_lang.specs.declared.check_fault.CheckFault.{CheckFault}
 use Rattle.script_lang.specs.declared.check_fault.CheckFault.TheVariants.{NoGroup, Late, UnknownLabel, Duplicate, Limit, TooLarge}
 use Rattle.script_lang.specs.declared.verb.Verb.{Verb}
-use Rattle.script_lang.specs.declared.verb.Verb.TheVariants.{Group, Member, Client, Publish, Order, Insert, Block, Status, Delete, Settle}
+use Rattle.script_lang.specs.declared.verb.Verb.TheVariants.{Group, Member, Client, Publish, Deliver, Sync, Claim, Lose, Answer, Feed, Order, Insert, Block, Status, Delete, Settle}
 use Rattle.script_lang.specs.Kinds.{Value, Text, Number, Named, Octets}
-use Rattle.script_lang.specs.Grammar.{Stated}
+use Rattle.script_lang.specs.Forms.{Stated}
+use Rattle.script_lang.specs.Limits.{members_limit, contents_limit, parts_limit, settles_limit}
 
 -- A label and a node name.
 pub record Party : Type 0 where
@@ -41,6 +42,13 @@ party_of d = record { label = string_bytes d.label; node = d.node }
 abbrev pub parties_of : List Declaration → List Party
 parties_of ds = map party_of ds
 
+abbrev pub label_of : Party → List ℕ
+label_of p = p.label
+
+-- The place of the first with this label.
+abbrev pub place_of : List ℕ → List Party → Option ℕ
+place_of label parties = position (λ (p : Party). bytes_eq p.label label) parties
+
 abbrev pub has_label : List ℕ → List Party → Bool
 has_label label parties = list_any (λ (p : Party). bytes_eq p.label label) parties
 
@@ -69,11 +77,15 @@ are_known_by verb d labels = are_members d labels
 abbrev pub are_known : Declared → Stated → Bool
 are_known d s = are_known_by s.verb d (labels_in s.values)
 
+-- How many segments of this size a content has.
+abbrev pub segments : ℕ → ℕ → ℕ
+segments len size = (len + size - 1) / size
+
 -- What a line adds to the totals.
 abbrev pub adds : Verb → List Value → Totals
 adds Publish (m ∷ name ∷ Number size ∷ Octets content ∷ []) = record {
   contents = length content;
-  parts = 1 + (length content + size - 1) / size;
+  parts = 1 + segments (length content) size;
   settles = 0;
 }
 adds Block (m ∷ process ∷ index ∷ Octets content ∷ []) =
@@ -90,8 +102,10 @@ with_totals a b = record {
   settles = a.settles + b.settles;
 }
 
-abbrev pub fit : Totals → Bool
-fit t = nat_le t.contents 67108864 && nat_le t.parts 100000 && nat_le t.settles 1000
+-- A total that is reached is not passed.
+abbrev pub are_within_limits : Totals → Bool
+are_within_limits t =
+    nat_le t.contents contents_limit && nat_le t.parts parts_limit && nat_le t.settles settles_limit
 
 -- ---- a line
 
@@ -112,7 +126,7 @@ may_declare d p count =
     if not d.group then Err NoGroup
     else if d.events then Err Late
     else if is_there d p then Err Duplicate
-    else if nat_le 16 count then Err Limit
+    else if nat_le members_limit count then Err Limit
     else Ok tt
 
 abbrev pub declared_then : Result (Unit {0}) CheckFault → Declared → Result Declared CheckFault
@@ -123,7 +137,7 @@ abbrev pub after_event : Declared → Stated → Result Declared CheckFault
 after_event d s =
     if not d.group then Err NoGroup
     else if not (are_known d s) then Err UnknownLabel
-    else if not (fit (with_totals d.totals (adds s.verb s.values))) then Err TooLarge
+    else if not (are_within_limits (with_totals d.totals (adds s.verb s.values))) then Err TooLarge
     else Ok (record d { events = true; totals = with_totals d.totals (adds s.verb s.values) })
 
 abbrev pub party : List ℕ → List Component → Party
@@ -151,3 +165,13 @@ nothing_declared = record {
   events = false;
   totals = record { contents = 0; parts = 0; settles = 0 };
 }
+
+-- The forms that name a packet's number or a fetcher: these may be refused for what the world lacks.
+abbrev pub names_packet_or_fetcher : Verb → Bool
+names_packet_or_fetcher Deliver = true
+names_packet_or_fetcher Sync = true
+names_packet_or_fetcher Claim = true
+names_packet_or_fetcher Lose = true
+names_packet_or_fetcher Answer = true
+names_packet_or_fetcher Feed = true
+names_packet_or_fetcher verb = false

@@ -1,7 +1,7 @@
-ghost use Rattle.std.specs.Prelude.{◌≡◌, List, ◌∷◌, [], map, false, IfOk, IfErr, Ok};
+ghost use Rattle.std.specs.Prelude.{◌≡◌, ◌≤◌, List, ◌∷◌, [], map, false, IfOk, IfErr, Ok};
 ghost use Rattle.std.specs.String.{string_bytes};
-ghost use Rattle.script_lang.specs.Kinds.{URI, CONTENT, Named, Kind, LABEL, N, HEX, Text, Number, Octets, Tells};
-ghost use Rattle.script_lang.specs.Grammar.{left_of, Reads, Keeps};
+ghost use Rattle.script_lang.specs.Kinds.{URI, CONTENT, Named, Kind, LABEL, N, HEX, Text, Number, Octets};
+ghost use Rattle.script_lang.specs.Reading.{left_of, Keeps, Reads, Tells};
 
 use crate::line_fault::LineFault;
 use crate::word::{content_in, hex_in, label_in, name_in, number_in, small_in};
@@ -14,26 +14,26 @@ use std::marker::Model;
 // A word that leaves its range stops nothing, since the words behind it may be no words at all,
 // which is told first: something stands in for its value, and `end` tells that it left its range.
 #[derive(Drop)]
-pub(crate) struct Words<'a> {
+pub(crate) struct Cursor<'a> {
     rest: &'a [&'a str],
     // Whether a word that was read left its range.
     over: bool,
 }
 
-impl<'a> Model for Words<'a> {
+impl<'a> Model for Cursor<'a> {
     ghost use Rattle.std.specs.Prelude.{map};
-    ghost use Rattle.script_lang.specs.Grammar.{Unread};
+    ghost use Rattle.script_lang.specs.Reading.{Unread};
 
     ghost Value = { Unread };
 
     ghost view = { λ w. record { over = w.over; words = map (λ word. word.now) w.rest.now } };
 }
 
-impl<'a> Words<'a> {
-    pub(crate) fn new(words: &'a [&'a str]) -> Words<'a>
+impl<'a> Cursor<'a> {
+    pub(crate) fn new(words: &'a [&'a str]) -> Cursor<'a>
         ensures { result ≡ record { over = false; words = map (λ word. word.now) words.now } }
     {
-        Words {
+        Cursor {
             rest: words,
             over: false,
         }
@@ -100,6 +100,7 @@ impl<'a> Words<'a> {
 
     // The next word as the text of a name with 1 to so many octets of value.
     pub(crate) fn name(&mut self, alloc: Global, most: u64) -> Result<Name, LineFault>
+        requires { most ≤ 1000 }
         ensures { Reads (λ value. Named value) (URI most) self.old self.new result }
     {
         let word = self.next()?;
@@ -120,7 +121,7 @@ impl<'a> Words<'a> {
     }
 
     // Behind the last word: there is no other, and none left its range.
-    #[tactic(auto, unfolding(crate::specs::Grammar::values_of))]
+    #[tactic(auto, unfolding(crate::specs::Lines::values_of))]
     pub(crate) fn end(&self) -> Result<(), LineFault>
         ensures ok { IfOk result (λ _. left_of [] self.now ≡ Ok []) }
         ensures err { IfErr result (λ fault. Tells fault (left_of [] self.now)) }

@@ -1,6 +1,7 @@
-ghost use Rattle.std.specs.Prelude.{◌≡◌};
-ghost use Rattle.script_lang.specs.Checking.{party, parties_of, has_label, is_among};
+ghost use Rattle.std.specs.Prelude.{◌≡◌, ◌<◌, ◌^◌, position, IfOk, IfErr, length};
+ghost use Rattle.script_lang.specs.Checking.{has_label, is_among, named, parties_of, party, party_of};
 
+use crate::check_fault::CheckFault;
 use ndn_name::Name;
 
 // A member or a client.
@@ -8,6 +9,25 @@ use ndn_name::Name;
 pub(crate) struct Declaration {
     pub(crate) label: String,
     pub(crate) node: Name,
+}
+
+impl Declaration {
+    pub(crate) fn new(label: &String, node: &Name) -> Result<Declaration, CheckFault>
+        ensures ok { IfOk result (λ d. party_of d ≡ party label.now node.now) }
+        ensures err { IfErr result (λ fault. fault ≡ CheckFault.NoMemory) }
+    {
+        Ok(Declaration {
+            label: label.clone()?,
+            node: node.clone()?,
+        })
+    }
+}
+
+// The place of the one with this label.
+pub(crate) fn place_of(label: &str, parties: &[Declaration]) -> Option<usize>
+    ensures { result ≡ place_of label.now (parties_of parties.now) }
+{
+    parties.iter().position(|one| one.label.as_str() == label)
 }
 
 // Whether the label is one of these.

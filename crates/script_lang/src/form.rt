@@ -1,19 +1,18 @@
 ghost use Rattle.std.specs.Prelude.{◌≡◌};
-ghost use Rattle.script_lang.specs.Kinds.{Gives};
+ghost use Rattle.script_lang.specs.Reading.{Gives, ReadsForm, left_of};
 ghost use Rattle.script_lang.specs.declared.verb.Verb.TheVariants.{Block, Dump, Fetch, Insert, Publish};
-ghost use Rattle.script_lang.specs.Grammar.{ReadsForm, are_within, form, stated, stated_of, left_of};
+ghost use Rattle.script_lang.specs.Forms.{form, stated};
+ghost use Rattle.script_lang.specs.Lines.{are_within, stated_of};
 
+use crate::cursor::Cursor;
+use crate::limits::{ANY, BLOCK, CONTENT, INJECTION, KEY, NODE_NAME, OBJECT_NAME};
 use crate::line::Line;
 use crate::line_fault::LineFault;
 use crate::verb::Verb;
-use crate::words::Words;
 use std::alloc::Global;
 
-// The greatest number that a word is.
-const MOST: u64 = 999_999_999_999_999_999;
-
 // The line of this form that the words are.
-pub(crate) fn line_of(alloc: Global, verb: Verb, words: Words<'_>) -> Result<Line, LineFault>
+pub(crate) fn line_of(alloc: Global, verb: Verb, words: Cursor<'_>) -> Result<Line, LineFault>
     ensures { Gives stated result (stated_of verb (left_of (form verb).kinds words.entry)) }
 {
     let mut words = words;
@@ -27,22 +26,22 @@ pub(crate) fn line_of(alloc: Global, verb: Verb, words: Words<'_>) -> Result<Lin
 }
 
 // The words by the form's kinds, one after another.
-fn values_in(alloc: Global, verb: Verb, words: &mut Words<'_>) -> Result<Line, LineFault>
+fn values_in(alloc: Global, verb: Verb, words: &mut Cursor<'_>) -> Result<Line, LineFault>
     ensures { ReadsForm verb words.old words.new result }
 {
     match verb {
         Verb::Group => Ok(Line::Group {
-            name: words.name(alloc, 200)?,
+            name: words.name(alloc, NODE_NAME)?,
         }),
         Verb::Member => Ok(Line::Member {
             label: words.label(alloc)?,
-            name: words.name(alloc, 200)?,
-            key: words.hex(alloc, 128)?,
+            name: words.name(alloc, NODE_NAME)?,
+            key: words.hex(alloc, KEY)?,
         }),
         Verb::Client => Ok(Line::Client {
             label: words.label(alloc)?,
-            name: words.name(alloc, 200)?,
-            key: words.hex(alloc, 128)?,
+            name: words.name(alloc, NODE_NAME)?,
+            key: words.hex(alloc, KEY)?,
         }),
         Verb::Publish => publication(alloc, words),
         Verb::Deliver => Ok(Line::Deliver {
@@ -87,20 +86,20 @@ fn values_in(alloc: Global, verb: Verb, words: &mut Words<'_>) -> Result<Line, L
         Verb::Dump => dump(alloc, words),
         Verb::Hear => Ok(Line::Hear {
             m: words.label(alloc)?,
-            octets: words.hex(alloc, 9_000)?,
+            octets: words.hex(alloc, INJECTION)?,
         }),
         Verb::Order => Ok(Line::Order {
             m: words.label(alloc)?,
-            octets: words.hex(alloc, 9_000)?,
+            octets: words.hex(alloc, INJECTION)?,
         }),
         Verb::Ask => Ok(Line::Ask {
             m: words.label(alloc)?,
-            octets: words.hex(alloc, 9_000)?,
+            octets: words.hex(alloc, INJECTION)?,
         }),
         Verb::Feed => Ok(Line::Feed {
             m: words.label(alloc)?,
             f: words.small(1, 16)?,
-            octets: words.hex(alloc, 9_000)?,
+            octets: words.hex(alloc, INJECTION)?,
         }),
         Verb::Insert => insertion(alloc, words),
         Verb::Block => block(alloc, words),
@@ -112,7 +111,7 @@ fn values_in(alloc: Global, verb: Verb, words: &mut Words<'_>) -> Result<Line, L
         Verb::Delete => Ok(Line::Delete {
             m: words.label(alloc)?,
             client: words.label(alloc)?,
-            name: words.name(alloc, 400)?,
+            name: words.name(alloc, OBJECT_NAME)?,
         }),
         Verb::Summary => Ok(Line::Summary),
         Verb::Traffic => Ok(Line::Traffic),
@@ -120,19 +119,19 @@ fn values_in(alloc: Global, verb: Verb, words: &mut Words<'_>) -> Result<Line, L
 }
 
 // A publication.
-fn publication(alloc: Global, words: &mut Words<'_>) -> Result<Line, LineFault>
+fn publication(alloc: Global, words: &mut Cursor<'_>) -> Result<Line, LineFault>
     ensures { ReadsForm Publish words.old words.new result }
 {
     Ok(Line::Publish {
         m: words.label(alloc)?,
-        name: words.name(alloc, 400)?,
-        size: words.small(1, 8_000)?,
-        content: words.content(alloc, 0, 1_600_000)?,
+        name: words.name(alloc, OBJECT_NAME)?,
+        size: words.small(1, BLOCK as u32)?,
+        content: words.content(alloc, 0, CONTENT)?,
     })
 }
 
 // A fetch.
-fn fetch(alloc: Global, words: &mut Words<'_>) -> Result<Line, LineFault>
+fn fetch(alloc: Global, words: &mut Cursor<'_>) -> Result<Line, LineFault>
     ensures { ReadsForm Fetch words.old words.new result }
 {
     Ok(Line::Fetch {
@@ -144,7 +143,7 @@ fn fetch(alloc: Global, words: &mut Words<'_>) -> Result<Line, LineFault>
 }
 
 // A dump of a part.
-fn dump(alloc: Global, words: &mut Words<'_>) -> Result<Line, LineFault>
+fn dump(alloc: Global, words: &mut Cursor<'_>) -> Result<Line, LineFault>
     ensures { ReadsForm Dump words.old words.new result }
 {
     Ok(Line::Dump {
@@ -156,27 +155,27 @@ fn dump(alloc: Global, words: &mut Words<'_>) -> Result<Line, LineFault>
 }
 
 // An insertion.
-fn insertion(alloc: Global, words: &mut Words<'_>) -> Result<Line, LineFault>
+fn insertion(alloc: Global, words: &mut Cursor<'_>) -> Result<Line, LineFault>
     ensures { ReadsForm Insert words.old words.new result }
 {
     Ok(Line::Insert {
         m: words.label(alloc)?,
         client: words.label(alloc)?,
-        name: words.name(alloc, 400)?,
-        first: words.number(0, MOST)?,
-        last: words.number(0, MOST)?,
+        name: words.name(alloc, OBJECT_NAME)?,
+        first: words.number(0, ANY)?,
+        last: words.number(0, ANY)?,
     })
 }
 
 // A block of an insertion.
-fn block(alloc: Global, words: &mut Words<'_>) -> Result<Line, LineFault>
+fn block(alloc: Global, words: &mut Cursor<'_>) -> Result<Line, LineFault>
     ensures { ReadsForm Block words.old words.new result }
 {
     Ok(Line::Block {
         m: words.label(alloc)?,
         process: words.small(1, u32::MAX)?,
-        index: words.number(0, MOST)?,
-        content: words.content(alloc, 1, 8_000)?,
+        index: words.number(0, ANY)?,
+        content: words.content(alloc, 1, BLOCK)?,
     })
 }
 

@@ -1,9 +1,9 @@
 ghost use Rattle.std.specs.Prelude.{◌≡◌};
-ghost use Rattle.script_lang.specs.Grammar.{stated};
+ghost use Rattle.script_lang.specs.Forms.{stated};
 ghost use Rattle.script_lang.specs.Checking.{parties_of, are_known_by, labels_in, Declared};
 
+use crate::declaration::{Declaration, has_label};
 use crate::line::Line;
-use crate::party::{Declaration, has_label};
 
 // Whether the labels of a line are of members, and of a client where a client stands.
 pub(crate) fn are_known(members: &[Declaration], clients: &[Declaration], line: &Line) -> bool

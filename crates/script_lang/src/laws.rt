@@ -1,33 +1,42 @@
-ghost use Rattle.std.specs.Prelude.{codes, [], ◌∷◌, None, Err, ◌<◌, ◌^◌, ◌≡◌, ◌≤◌, ◌↔◌, ℕ, List, true, length, Ok, Some};
-ghost use Rattle.ndn_name.specs.Uri.{IsDecimal, IsDigestText, IsEscaped, IsValueText};
-ghost use Rattle.script_lang.specs.UriTexts.{decimal_in, digest_in, unescaped, value_in};
-ghost use Rattle.script_lang.specs.Kinds.{Named, Number, Octets, Text};
+ghost use Rattle.std.specs.Prelude.{◌≡◌, ◌≢◌, ◌≤◌, [], ◌∷◌, codes, length, true, List, None, Some, Ok, Err};
 ghost use Rattle.script_lang.specs.declared.line_fault.LineFault.TheVariants.{Limit, Syntax};
+ghost use Rattle.script_lang.specs.declared.check_fault.CheckFault.TheVariants.{TooLarge};
+ghost use Rattle.script_lang.specs.declared.verb.Verb.{Verb};
 ghost use Rattle.script_lang.specs.declared.verb.Verb.TheVariants.{Claim, Group, Publish};
-ghost use Rattle.script_lang.specs.Grammar.{Stated, are_within, form, line_of, said};
+ghost use Rattle.script_lang.specs.Limits.{contents_limit, line_octets, members_limit, parts_limit, script_lines, script_octets, settles_limit};
+ghost use Rattle.script_lang.specs.Kinds.{Named, Number, Octets, Text};
+ghost use Rattle.script_lang.specs.Forms.{Stated, form, said};
+ghost use Rattle.script_lang.specs.Lines.{are_within, line_of};
+ghost use Rattle.script_lang.specs.Checking.{Declared, after_line, are_within_limits, names_packet_or_fetcher};
 ghost use Rattle.script_lang.specs.Printing.{AreOf, printed};
+
+use crate::limits::{
+    CONTENTS_LIMIT, LINE_LIMIT, LINES_LIMIT, MEMBERS_LIMIT, PARTS_LIMIT, SCRIPT_LIMIT,
+    SETTLES_LIMIT,
+};
+
+/// The limits of a script.
+pub fn limits_are_these()
+    ensures octets { SCRIPT_LIMIT ≡ script_octets }
+    ensures lines { LINES_LIMIT ≡ script_lines }
+    ensures line { LINE_LIMIT ≡ line_octets }
+    ensures members { MEMBERS_LIMIT ≡ members_limit }
+    ensures contents { CONTENTS_LIMIT ≡ contents_limit }
+    ensures parts { PARTS_LIMIT ≡ parts_limit }
+    ensures settles { SETTLES_LIMIT ≡ settles_limit }
+{}
 
 /// A line that is printed from its value is read back.
 pub fn printed_lines_are_read()
     ensures { (s : Stated) → AreOf (form s.verb).kinds s.values → are_within s.verb s.values ≡ true
-        → length (printed s) ≤ 32768 → line_of (printed s) ≡ Ok (Some s) }
+        → length (printed s) ≤ line_octets → line_of (printed s) ≡ Ok (Some s) }
 {}
 
-/// The octets of a text are computed just where the text is their escapes.
-pub fn escapes_are_computed()
-    ensures { (octets text : List ℕ) → (unescaped text ≡ Some octets) ↔ IsEscaped octets text }
-{}
-
-/// Values and digests are computed just where the text is theirs.
-pub fn values_are_computed()
-    ensures values { (value text : List ℕ) → (value_in text ≡ Some value) ↔ IsValueText value text }
-    ensures digests { (value text : List ℕ) → (digest_in text ≡ Some value) ↔ IsDigestText value text }
-{}
-
-/// Numbers are computed just where the text is theirs.
-pub fn numbers_are_computed()
-    ensures { (most n : ℕ) (text : List ℕ) → most < 2 ^ 64
-        → (decimal_in most text ≡ Some n) ↔ IsDecimal most n text }
+/// A line that names a packet's number or a fetcher passes no total, so it is all the same whether a
+/// total is tested before the world is asked for the packet or the fetcher, or after that.
+pub fn packets_and_fetchers_add_nothing()
+    ensures { (d : Declared) (s : Stated) → are_within_limits d.totals ≡ true
+        → names_packet_or_fetcher s.verb ≡ true → after_line d s ≢ Err TooLarge }
 {}
 
 /// Worked lines, as the definition computes them.

@@ -1,18 +1,17 @@
 ghost use Rattle.std.specs.Prelude.{◌≡◌, not, ◌==◌, map, true, IfOk};
 ghost use Rattle.std.specs.List.{list_all, find};
 ghost use Rattle.std.specs.Option.{option_map, option_copied};
-ghost use Rattle.script_lang.specs.Kinds.{Gives};
-ghost use Rattle.script_lang.specs.Grammar.{stated, line_of, line_within, line_in, line_in_words, says_nothing, is_printable, spaced, without_return};
+ghost use Rattle.script_lang.specs.Forms.{stated};
+ghost use Rattle.script_lang.specs.Lines.{line_of, line_within, line_in, line_in_words, says_nothing, is_printable, spaced, without_return};
+ghost use Rattle.script_lang.specs.Reading.{Gives};
 
+use crate::cursor::Cursor;
 use crate::form;
+use crate::limits::LINE_LIMIT;
 use crate::line::Line;
 use crate::line_fault::LineFault;
 use crate::verb::Verb;
-use crate::words::Words;
 use std::alloc::{AllocError, Global};
-
-/// How many octets a line may have, its line feed not among them.
-pub const LINE_LIMIT: usize = 32_768;
 
 /// The line that octets are, which end with their line feed or with the input.
 ///
@@ -98,7 +97,7 @@ fn read_words(alloc: Global, words: &[&str]) -> Result<Line, LineFault>
         return Err(LineFault::Syntax);
     };
     match Verb::of(verb) {
-        Some(verb) => form::line_of(alloc, verb, Words::new(others)),
+        Some(verb) => form::line_of(alloc, verb, Cursor::new(others)),
         None => Err(LineFault::Syntax),
     }
 }

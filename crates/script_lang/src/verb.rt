@@ -1,5 +1,5 @@
 ghost use Rattle.std.specs.Prelude.{◌≡◌, map};
-ghost use Rattle.script_lang.specs.Grammar.{verb_of, named};
+ghost use Rattle.script_lang.specs.Lines.{named, verb_of};
 
 // The first word of a line.
 #[derive(Clone, Copy, Debug, PartialEq, Eq)]
@@ -73,7 +73,7 @@ impl Verb {
 }
 
 // The verb that stands beside the word.
-#[tactic(auto, unfolding(crate::specs::Grammar::named))]
+#[tactic(auto, unfolding(crate::specs::Lines::named))]
 fn named(rows: &[(&str, Verb)], word: &str) -> Option<Verb>
     ensures { result ≡ named (map (λ row. (row.0.now, row.1)) rows.now) word.now }
 {

@@ -1,12 +1,14 @@
-ghost use Rattle.std.specs.Prelude.{◌≡◌, IfOk, ◌≤◌, ◌<◌, ◌^◌, length, codes, true};
+ghost use Rattle.std.specs.Prelude.{◌≡◌, ◌≤◌, ◌&&◌, nat_le, IfOk};
 ghost use Rattle.std.specs.List.{list_all, slice_split};
 ghost use Rattle.std.specs.Option.{option_copied, option_map};
 ghost use Rattle.std.specs.Char.{is_ascii_digit};
 ghost use Rattle.std.specs.String.{string_bytes};
-ghost use Rattle.script_lang.specs.Kinds.{behind, cut, filled_of, is_plain_octet, CONTENT, URI, Named, is_label, is_label_octet, is_numeral, hex_of, word_of, LABEL, N, Text, Number, Octets, mapped, Gives, octets_within};
+ghost use Rattle.ndn_name.specs.UriText.{behind, cut_at};
+ghost use Rattle.script_lang.specs.Kinds.{CONTENT, LABEL, N, Named, Number, Octets, Text, URI, filled_of, hex_of, is_label, is_label_octet, is_numeral, mapped, octets_within, word_of};
+ghost use Rattle.script_lang.specs.Reading.{Gives};
 
 use crate::line_fault::LineFault;
-use ndn_name::{Name, NameFault};
+use ndn_name::{Name, plain_uri_len};
 use std::alloc::Global;
 
 fn is_label(word: &str) -> bool
@@ -73,11 +75,17 @@ pub(crate) fn small_in(least: u32, most: u32, word: &str) -> Result<u32, LineFau
     Ok(number_in(u64::from(least), u64::from(most), word)? as u32)
 }
 
+fn is_within(least: u64, most: u64, len: usize) -> bool
+    ensures { result ≡ (nat_le least len && nat_le len most) }
+{
+    (least..=most).contains(&(len as u64))
+}
+
 // Octets, where they are so many.
 fn within(least: u64, most: u64, octets: Vec<u8>) -> Result<Vec<u8>, LineFault>
     ensures { Gives (λ octets. octets.items) result (octets_within least most octets.items) }
 {
-    if least <= octets.len() as u64 && octets.len() as u64 <= most {
+    if is_within(least, most, octets.len()) {
         Ok(octets)
     } else {
         Err(LineFault::Limit)
@@ -105,7 +113,7 @@ fn behind<'a>(front: &str, text: &'a str) -> Option<&'a str>
 
 // What stands before the first colon and behind it, where there is one.
 fn cut_at_colon(text: &str) -> Option<(&str, &str)>
-    ensures { option_map (λ parts. (parts.0.now, parts.1.now)) result ≡ cut 58 text.now }
+    ensures { option_map (λ parts. (parts.0.now, parts.1.now)) result ≡ cut_at 58 text.now }
 {
     text.split_once(':')
 }
@@ -126,6 +134,16 @@ fn filled_in(alloc: Global, least: u64, most: u64, counts: &str) -> Result<Vec<u
     Ok(vec![in alloc; octet as u8; size as usize]?)
 }
 
+// The octets of a text, where they are so many.
+fn text_in(alloc: Global, least: u64, most: u64, text: &str) -> Result<Vec<u8>, LineFault>
+    ensures { Gives (λ octets. octets.items) result (octets_within least most text.now) }
+{
+    if !is_within(least, most, text.len()) {
+        return Err(LineFault::Limit);
+    }
+    Ok(Vec::from_slice(alloc, text.as_bytes())?)
+}
+
 // The octets that a content stands for.
 #[tactic(auto, unfolding(crate::specs::Kinds::content_of))]
 pub(crate) fn content_in(
@@ -137,7 +155,7 @@ pub(crate) fn content_in(
     ensures { Gives (λ octets. Octets octets.items) result (word_of (CONTENT least most) word.now) }
 {
     if let Some(text) = behind("text:", word) {
-        within(least, most, Vec::from_slice(alloc, text.as_bytes())?)
+        text_in(alloc, least, most, text)
     } else if let Some(digits) = behind("hex:", word) {
         hex_in(alloc, least, most, digits)
     } else if let Some(counts) = behind("fill:", word) {
@@ -147,30 +165,20 @@ pub(crate) fn content_in(
     }
 }
 
-fn are_plain_octets(octets: &[u8]) -> bool
-    ensures { result ≡ list_all is_plain_octet octets.now }
-{
-    octets.iter().all(|octet| octet.is_ascii_alphanumeric() || *octet == b'-' || *octet == b'_')
-}
-
-// The name whose text a word is, of 1 to so many octets of value.
+// The name whose URI a word is, of 1 to so many octets of value.
 #[tactic(auto, unfolding(crate::specs::Kinds::name_of))]
 pub(crate) fn name_in(alloc: Global, most: u64, word: &str) -> Result<Name, LineFault>
+    requires { most ≤ 1000 }
     ensures { Gives (λ name. Named name) result (word_of (URI most) word.now) }
 {
-    let [b'/', component @ ..] = word.as_bytes() else {
+    let Some(len) = plain_uri_len(word) else {
         return Err(LineFault::Syntax);
     };
-    if component.is_empty() || !are_plain_octets(component) {
-        return Err(LineFault::Syntax);
+    if len == 0 || most < len as u64 {
+        return Err(LineFault::Limit);
     }
-    let mut name = Name::new(alloc);
-    match name.push(8, component) {
-        Ok(()) if name.octets().is_empty() || most < name.octets().len() as u64 => Err(
-            LineFault::Limit,
-        ),
-        Ok(()) => Ok(name),
-        Err(NameFault::NoMemory) => Err(LineFault::NoMemory),
-        Err(_) => Err(LineFault::Limit),
+    match Name::from_uri(alloc, word) {
+        Ok(name) => Ok(name),
+        Err(_) => Err(LineFault::NoMemory),
     }
 }

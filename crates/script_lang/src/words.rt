@@ -1,84 +1,33 @@
-ghost use Rattle.std.specs.Prelude.{◌≡◌, ◌≤◌, ◌+◌, ◌-◌, ◌/◌, ◌⊎◌, [], false, IfOk, IfErr, OnOk, OnErr, Ok, Err};
-ghost use Rattle.std.specs.String.{string_bytes};
-ghost use Rattle.script_lang.specs.Grammar.{stated, Stated};
-ghost use Rattle.script_lang.specs.Checking.{Declared, Totals, adds, totals_of, after_line, after_event, fit, party, parties_of, party_of, with_totals, nothing_declared, may_declare};
+ghost use Rattle.std.specs.Prelude.{◌≡◌, ◌<◌, ◌⊎◌, map, length, slice_get, IfErr, OnOk, OnErr, Ok, Err, Some};
+ghost use Rattle.script_lang.specs.Forms.{stated};
+ghost use Rattle.script_lang.specs.Checking.{Declared, after_event, after_line, label_of, may_declare, nothing_declared, party, place_of};
 
 use crate::check_fault::CheckFault;
+use crate::declaration::{Declaration, is_among, place_of};
 use crate::known::are_known;
+use crate::limits::MEMBERS_LIMIT;
 use crate::line::Line;
-use crate::party::{Declaration, is_among};
+use crate::sums::Sums;
 use ndn_name::Name;
 use std::alloc::Global;
 use std::marker::Model;
 
-// Totals over lines.
-#[derive(Clone, Copy, Debug)]
-pub(crate) struct Sums {
-    contents: u64,
-    parts: u64,
-    settles: u64,
-}
-
-// What a line adds to the totals.
-fn adds(line: &Line) -> Sums
-    ensures adds { totals_of result ≡ adds (stated line.now).verb (stated line.now).values }
-    ensures small { (result.contents ≤ 9223372036854775807) × (result.parts ≤ 9223372036854775808) × (result.settles ≤ 1) }
-{
-    match line {
-        Line::Publish { size, content, .. } => Sums {
-            contents: content.len() as u64,
-            parts: segments(content.len() as u64, *size),
-            settles: 0,
-        },
-        Line::Block { content, .. } => Sums {
-            contents: content.len() as u64,
-            parts: 1,
-            settles: 0,
-        },
-        Line::Insert { .. } | Line::Order { .. } => Sums {
-            contents: 0,
-            parts: 1,
-            settles: 0,
-        },
-        Line::Settle { .. } => Sums {
-            contents: 0,
-            parts: 0,
-            settles: 1,
-        },
-        _ => Sums {
-            contents: 0,
-            parts: 0,
-            settles: 0,
-        },
-    }
-}
-
-// The parts of a publication: a record, and segments of this size.
-fn segments(len: u64, size: u32) -> u64
-    requires { len ≤ 9223372036854775807 }
-    ensures count { result ≡ 1 + (len + size - 1) / size }
-    ensures small { result ≤ 9223372036854775808 }
-{
-    if size == 0 {
-        return 1;
-    }
-    let size = u64::from(size);
-    1 + (len + size - 1) / size
-}
-
-/// The labels and node names of a script's members and clients, and the totals over its lines.
+/// What the lines of a script have declared: its members and clients by their labels and node names, and
+/// the totals over its lines.
 #[derive(Debug, Drop)]
-pub struct Labels {
+pub struct Words {
     group: bool,
     members: Vec<Declaration>,
     clients: Vec<Declaration>,
+    // Whether a line was an event.
     events: bool,
-    totals: Sums,
+    sums: Sums,
 }
 
-impl Model for Labels {
-    ghost use Rattle.std.specs.Prelude.{◌≡◌, true};
-    ghost use Rattle.script_lang.specs.Checking.{Declared, parties_of, totals_of, fit};
+// It is seen as what is declared.
+impl Model for Words {
+    ghost use Rattle.std.specs.Prelude.{◌≡◌, ◌≤◌, length, true};
+    ghost use Rattle.script_lang.specs.Checking.{Declared, are_within_limits, parties_of, totals_of};
 
     ghost Value = { Declared };
 
@@ -87,31 +36,30 @@ impl Model for Labels {
       members = parties_of w.members.items;
       clients = parties_of w.clients.items;
       events = w.events;
-      totals = totals_of w.totals;
+      totals = totals_of w.sums;
     } };
 
-    ghost invariant = { λ w. fit (totals_of w.totals) ≡ true };
+    ghost invariant = { λ w. (are_within_limits (totals_of w.sums) ≡ true)
+      × (length w.members.items ≤ 16) × (length w.clients.items ≤ 16) };
 }
 
-impl Labels {
+impl Words {
     /// Nothing is declared.
-    pub fn new(alloc: Global) -> Labels
+    pub fn new(alloc: Global) -> Words
         ensures { result ≡ nothing_declared }
     {
-        Labels {
+        Words {
             group: false,
             members: Vec::new(alloc),
             clients: Vec::new(alloc),
             events: false,
-            totals: Sums {
-                contents: 0,
-                parts: 0,
-                settles: 0,
-            },
+            sums: Sums::none(),
         }
     }
 
     /// Takes a line, or refuses it for what came before it.
+    ///
+    /// What it declares counts for the lines behind it, whatever else refuses it.
     pub fn check(&mut self, line: &Line) -> Result<(), CheckFault>
         ensures ok { OnOk result (after_line self.old (stated line.now) ≡ Ok self.new) }
         ensures refused { IfErr result (λ fault. (fault ≡ CheckFault.NoMemory)
@@ -128,19 +76,19 @@ impl Labels {
             }
             Line::Member { label, name, .. } => {
                 self.may_declare(label, name, self.members.len())?;
-                self.members.push(declaration(label, name)?)?;
+                self.members.push(Declaration::new(label, name)?)?;
                 Ok(())
             }
             Line::Client { label, name, .. } => {
                 self.may_declare(label, name, self.clients.len())?;
-                self.clients.push(declaration(label, name)?)?;
+                self.clients.push(Declaration::new(label, name)?)?;
                 Ok(())
             }
             _ => self.event(line),
         }
     }
 
-    // Whether a member or client may be declared, where so many are there.
+    // Whether a member or client may be declared, where so many of its kind are there.
     fn may_declare(&self, label: &str, node: &Name, count: usize) -> Result<(), CheckFault>
         ensures ok { OnOk result (may_declare self.now (party label.now node.now) count ≡ Ok tt) }
         ensures err { IfErr result (λ fault. may_declare self.now (party label.now node.now) count ≡ Err fault) }
@@ -154,7 +102,7 @@ impl Labels {
         if is_among(label, node, &self.members) || is_among(label, node, &self.clients) {
             return Err(CheckFault::Duplicate);
         }
-        if 16 <= count {
+        if count >= MEMBERS_LIMIT {
             return Err(CheckFault::Limit);
         }
         Ok(())
@@ -172,27 +120,33 @@ impl Labels {
         if !are_known(&self.members, &self.clients, line) {
             return Err(CheckFault::UnknownLabel);
         }
-        let added = adds(line);
-        let totals = Sums {
-            contents: self.totals.contents + added.contents,
-            parts: self.totals.parts + added.parts,
-            settles: self.totals.settles + added.settles,
-        };
-        if totals.contents > 67_108_864 || totals.parts > 100_000 || totals.settles > 1_000 {
+        let Some(sums) = self.sums.with(Sums::of_line(line)) else {
             return Err(CheckFault::TooLarge);
-        }
+        };
         self.events = true;
-        self.totals = totals;
+        self.sums = sums;
         Ok(())
     }
-}
 
-fn declaration(label: &String, name: &Name) -> Result<Declaration, CheckFault>
-    ensures ok { IfOk result (λ d. party_of d ≡ party (string_bytes label.now) name.now) }
-    ensures err { IfErr result (λ fault. fault ≡ CheckFault.NoMemory) }
-{
-    Ok(Declaration {
-        label: label.clone()?,
-        node: name.clone()?,
-    })
+    /// The number of the member with this label, in the order of their declarations from 0.
+    pub fn member(&self, label: &str) -> Option<u32>
+        ensures { result ≡ place_of label.now self.now.members }
+    {
+        place_of(label, &self.members).map(|place| place as u32)
+    }
+
+    /// The number of the client with this label, in the order of their declarations from 0.
+    pub fn client(&self, label: &str) -> Option<u32>
+        ensures { result ≡ place_of label.now self.now.clients }
+    {
+        place_of(label, &self.clients).map(|place| place as u32)
+    }
+
+    /// The label of a member.
+    pub fn label(&self, member: u32) -> &str
+        requires { member < length self.now.members }
+        ensures { slice_get (map label_of self.now.members) member ≡ Some result.now }
+    {
+        self.members[member as usize].label.as_str()
+    }
 }

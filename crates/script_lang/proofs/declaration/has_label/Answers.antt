@@ -4,10 +4,10 @@ use Rattle.std.specs.Str.{bytes_eq}
 use Rattle.std.specs.String.{string_bytes}
 use Rattle.std.proofs.lemmas.Iterator.{YieldsList-from_slice}
 use Rattle.std.proofs.lemmas.Iterator.Search.{any_from_yields_List}
-use Rattle.script_lang.specs.declared.party.Declaration.{Declaration}
+use Rattle.script_lang.specs.declared.declaration.Declaration.{Declaration}
 use Rattle.script_lang.specs.Checking.{Party, party_of}
 use Rattle.script_lang.proofs.Parties.{any-map}
-use Rattle.script_lang.proofs.party.has_label.Goals as goal
+use Rattle.script_lang.proofs.declaration.has_label.Goals as goal
 
 pub returns : goal.returns
 returns c = any_from_yields_List (λ (d : Declaration). bytes_eq (string_bytes d.label) c.args.label.now) _ _ c.any.result c.any.ensures.ran (YieldsList-from_slice c.args.parties.now c.iter.ensures.rest) (λ x b q k. search (rules, tests))

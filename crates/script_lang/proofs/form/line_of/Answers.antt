@@ -1,6 +1,7 @@
 use Rattle.std.proofs.Common.{[]}
 use Rattle.std.proofs.lemmas.Result.{err_from_is_err_and}
-use Rattle.script_lang.specs.Grammar.{stated, left_of, form}
+use Rattle.script_lang.specs.Forms.{stated, form}
+use Rattle.script_lang.specs.Reading.{left_of}
 use Rattle.script_lang.proofs.Reading.{told_at_end}
 use Rattle.script_lang.proofs.form.line_of.Goals as goal
 

@@ -1,5 +1,5 @@
 use Rattle.std.proofs.Common.{◌≡◌, map, length}
-use Rattle.script_lang.specs.Grammar.{named}
+use Rattle.script_lang.specs.Lines.{named}
 use Rattle.script_lang.proofs.verb.named.Given as goal
 
 abbrev pub invariant-loop-rest : goal.invariant-loop-rest

@@ -1,7 +1,7 @@
 use Rattle.std.proofs.Common.{◌≡◌, [], arith}
 use Rattle.std.proofs.lemmas.List.{nil_from_length}
 use Rattle.script_lang.proofs.Reading.{took_none}
-use Rattle.script_lang.proofs.words.Words.next.Goals as goal
+use Rattle.script_lang.proofs.cursor.Cursor.next.Goals as goal
 
 pub returns-in_default-clause-err : goal.returns-in_default-clause-err
 returns-in_default-clause-err c =

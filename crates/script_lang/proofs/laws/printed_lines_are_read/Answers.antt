@@ -1,5 +1,0 @@
-use Rattle.script_lang.proofs.Printed.{printed_is_read}
-use Rattle.script_lang.proofs.laws.printed_lines_are_read.Goals as goal
-
-pub returns : goal.returns
-returns c = printed_is_read
