@@ -1,5 +1,6 @@
-ghost use Rattle.std.specs.Prelude.{◌≡◌, ◌<◌, ◌^◌, position, IfOk, IfErr, length};
-ghost use Rattle.script_lang.specs.Checking.{has_label, is_among, named, parties_of, party, party_of};
+ghost use Rattle.std.specs.Prelude.{◌≡◌, IfOk, IfErr};
+ghost use Rattle.std.specs.String.{string_bytes};
+ghost use Rattle.script_lang.specs.Checking.{has_label, is_among, parties_of, party, party_of, place_of};
 
 use crate::check_fault::CheckFault;
 use ndn_name::Name;
@@ -13,7 +14,7 @@ pub(crate) struct Declaration {
 
 impl Declaration {
     pub(crate) fn new(label: &String, node: &Name) -> Result<Declaration, CheckFault>
-        ensures ok { IfOk result (λ d. party_of d ≡ party label.now node.now) }
+        ensures ok { IfOk result (λ d. party_of d ≡ party (string_bytes label.now) node.now) }
         ensures err { IfErr result (λ fault. fault ≡ CheckFault.NoMemory) }
     {
         Ok(Declaration {

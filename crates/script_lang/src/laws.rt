@@ -1,14 +1,14 @@
-ghost use Rattle.std.specs.Prelude.{◌≡◌, ◌≢◌, ◌≤◌, [], ◌∷◌, codes, length, true, List, None, Some, Ok, Err};
+ghost use Rattle.std.specs.Prelude.{◌≡◌, ◌≢◌, ◌≤◌, ◌↔◌, [], ◌∷◌, ℕ, codes, length, true, List, None, Some, Ok, Err};
 ghost use Rattle.script_lang.specs.declared.line_fault.LineFault.TheVariants.{Limit, Syntax};
 ghost use Rattle.script_lang.specs.declared.check_fault.CheckFault.TheVariants.{TooLarge};
 ghost use Rattle.script_lang.specs.declared.verb.Verb.{Verb};
 ghost use Rattle.script_lang.specs.declared.verb.Verb.TheVariants.{Claim, Group, Publish};
 ghost use Rattle.script_lang.specs.Limits.{contents_limit, line_octets, members_limit, parts_limit, script_lines, script_octets, settles_limit};
-ghost use Rattle.script_lang.specs.Kinds.{Named, Number, Octets, Text};
+ghost use Rattle.script_lang.specs.Kinds.{Kind, Named, Number, Octets, Text, Value, word_of};
 ghost use Rattle.script_lang.specs.Forms.{Stated, form, said};
 ghost use Rattle.script_lang.specs.Lines.{are_within, line_of};
 ghost use Rattle.script_lang.specs.Checking.{Declared, after_line, are_within_limits, names_packet_or_fetcher};
-ghost use Rattle.script_lang.specs.Printing.{AreOf, printed};
+ghost use Rattle.script_lang.specs.Texts.{AreOf, ArePlainValues, IsLineText, IsOf, IsWordText, printed};
 
 use crate::limits::{
     CONTENTS_LIMIT, LINE_LIMIT, LINES_LIMIT, MEMBERS_LIMIT, PARTS_LIMIT, SCRIPT_LIMIT,
@@ -26,10 +26,23 @@ pub fn limits_are_these()
     ensures settles { SETTLES_LIMIT ≡ settles_limit }
 {}
 
-/// A line that is printed from its value is read back.
+/// A word is read as a value just where the value is in its range and the word is a text of it.
+pub fn words_are_their_texts()
+    ensures { (kind : Kind) (value : Value) (word : List ℕ)
+        → (word_of kind word ≡ Ok value) ↔ (IsOf kind value × IsWordText kind value word) }
+{}
+
+/// Octets are read as a line just where they are a text of it: one has its values but for spaces, the
+/// case of digits, and the forms that a name or a content may be written in.
+pub fn lines_are_their_texts()
+    ensures { (s : Stated) (octets : List ℕ) → (line_of octets ≡ Ok (Some s)) ↔ IsLineText s octets }
+{}
+
+/// A line that is printed from its values is read back.
 pub fn printed_lines_are_read()
-    ensures { (s : Stated) → AreOf (form s.verb).kinds s.values → are_within s.verb s.values ≡ true
-        → length (printed s) ≤ line_octets → line_of (printed s) ≡ Ok (Some s) }
+    ensures { (s : Stated) → ArePlainValues s.values → AreOf (form s.verb).kinds s.values
+        → are_within s.verb s.values ≡ true → length (printed s) ≤ line_octets
+        → line_of (printed s) ≡ Ok (Some s) }
 {}
 
 /// A line that names a packet's number or a fetcher passes no total, so it is all the same whether a

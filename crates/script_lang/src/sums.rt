@@ -94,5 +94,6 @@ fn segments(len: u64, size: u32) -> u64
     if size == 0 {
         return 0;
     }
-    len.div_ceil(u64::from(size))
+    let size = u64::from(size);
+    (len + size - 1) / size
 }
