@@ -7,5 +7,5 @@ pub mod CanonicalOrder
 pub mod Faults
 pub mod Uri
 pub mod UriVerdict
-pub mod UriReading
 pub mod UriText
+pub mod UriReading

@@ -12,6 +12,7 @@ use Rattle.ndn_name.specs.declared.uri_form.PartValue.TheVariants as value
 use Rattle.ndn_name.specs.declared.uri_form.UriPart.{UriPart}
 use Rattle.ndn_name.specs.Names.{Component}
 use Rattle.ndn_name.specs.Uri.{Part, IsDecimal, IsDigestText, IsNumberText, IsValueText, headed, is_unreserved}
+use Rattle.ndn_name.specs.UriText.{digest_of_text, number_of_text, typed, value_of_text}
 use Rattle.ndn_name.specs.UriVerdict.{Leaves}
 
 -- The text that begins at this place leaves the language of all values at the place that is told.
@@ -120,3 +121,13 @@ abbrev pub BreaksOff : List ℕ → List ℕ → ℕ → Type 0
 BreaksOff word text place =
     (rest : List ℕ) × (text ≡ take place word ++ rest) × (place < length word)
     × BeginsOtherwise (slice_index word place) rest
+
+-- The component that a tail is computed as.
+abbrev pub tail_of_text : Form → List ℕ → Option Component
+tail_of_text (Digest typ) tail = typed typ (digest_of_text tail)
+tail_of_text (Number typ) tail = typed typ (number_of_text tail)
+tail_of_text (Escaped typ) tail = typed typ (value_of_text tail)
+
+-- The type of a component, and how many octets its value has.
+abbrev pub shape : Component → ℕ × ℕ
+shape c = (c.0, length c.1)

@@ -25,7 +25,8 @@ pub use laws::{
     canonical_order_is_of_octets, canonical_order_is_total, encoded_names_are_read,
     equal_octets_are_equal_names, equals_are_in_no_order, limits_are_of_the_format,
     prefixes_come_first, printed_names_are_computed, printed_names_are_read,
-    printed_names_are_visible, read_names_are_encoded, texts_are_computed, texts_have_one_answer,
+    read_names_are_encoded, texts_are_computed, texts_have_one_answer, uris_are_visible,
+    worked_texts,
 };
 pub use name::{NAME_LIMIT, Name, full_name};
 pub use name_fault::NameFault;

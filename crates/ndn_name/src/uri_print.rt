@@ -16,7 +16,7 @@ impl Name {
     pub fn to_uri(&self, alloc: Global) -> Result<String, AllocError>
         ensures { IfOk result (λ text. string_bytes text ≡ uri self.now) }
     {
-        let mut text = Vec::new(alloc);
+        let mut text = Vec::with_capacity(alloc, self.octets().len())?;
         self.view().put_uri(&mut text)?;
         Ok(String::from_utf8(text).unwrap())
     }

@@ -1,12 +1,13 @@
 ghost use Rattle.std.specs.Prelude.{◌≡◌, ◌+◌, ◌*◌, ◌^◌, ◌<◌, ◌≤◌, ◌==◌, length, option_and_then, IfSome};
 ghost use Rattle.std.specs.List.{slice_split};
 ghost use Rattle.std.specs.Option.{option_map};
-ghost use Rattle.ndn_tlv.specs.Spelling.{element};
+ghost use Rattle.ndn_tlv.specs.Spelling.{element, head};
 ghost use Rattle.ndn_name.specs.Names.{encoding};
-ghost use Rattle.ndn_name.specs.UriText.{component_of_text, components_of_texts, plain_component, plain_name, plain_name_of_text, value_of_text};
+ghost use Rattle.ndn_name.specs.UriReading.{shape, tail_of_text};
+ghost use Rattle.ndn_name.specs.UriText.{component_of_text, components_of_texts, digest_of_text, number_of_text, plain_component, plain_name, plain_name_of_text, value_of_text};
 
 use crate::uri_component::{split_head, split_once};
-use crate::uri_digits::read_decimal;
+use crate::uri_digits::{read_decimal, read_digest};
 use crate::uri_form::Form;
 use crate::uri_print::width_of;
 use crate::uri_read::{behind_octet, behind_scheme};
@@ -45,25 +46,68 @@ fn path_len(path: &[u8]) -> Option<usize>
     Some(len)
 }
 
-// How many octets the component has whose text this is, where it is no digest.
+// How many octets the component takes in its name whose text this is, where it is no digest.
 fn component_len(text: &[u8]) -> Option<usize>
-    requires { length text.now < 2 ^ 63 }
+    requires { length text.now + 1 < 2 ^ 63 }
     ensures exact { result ≡ option_map (λ c. length (element c.0 c.1))
         (option_and_then plain_component (component_of_text text.now)) }
     ensures small { IfSome result (λ len. len ≤ 2 * length text.now + 2) }
 {
-    let (typ, len) = match split_head(text) {
-        Some((Form::Digest(_), _, _)) => return None,
-        Some((Form::Number(typ), _, tail)) => {
-            (typ, width_of(read_decimal(tail, 0, u64::MAX).ok()?))
-        }
-        Some((Form::Escaped(typ), _, tail)) => (typ, value_len(tail)?),
-        None => (8, value_len(text)?),
-    };
+    let (typ, len) = component_shape(text)?;
     if typ <= 2 {
         return None;
     }
     Some(head_len(u32::from(typ), len) + len)
+}
+
+// The type of the component whose text this is, and how many octets its value has.
+fn component_shape(text: &[u8]) -> Option<(u16, usize)>
+    requires { length text.now + 1 < 2 ^ 63 }
+    ensures exact { result ≡ option_map shape (component_of_text text.now) }
+    ensures small { IfSome result (λ x. length (head x.0 x.1) + x.1 ≤ 2 * length text.now + 2) }
+{
+    match split_head(text) {
+        Some((form, _, tail)) => tail_shape(form, tail),
+        None => Some((8, value_len(text)?)),
+    }
+}
+
+// The same of what follows a head of this form.
+fn tail_shape(form: Form, tail: &[u8]) -> Option<(u16, usize)>
+    requires { length tail.now < 2 ^ 63 }
+    ensures exact { result ≡ option_map shape (tail_of_text form tail.now) }
+    ensures small { IfSome result (λ x. length (head x.0 x.1) + x.1 ≤ 2 * length tail.now + 6) }
+{
+    match form {
+        Form::Digest(typ) => Some((typ, digest_len(tail)?)),
+        Form::Number(typ) => Some((typ, number_len(tail)?)),
+        Form::Escaped(typ) => Some((typ, value_len(tail)?)),
+    }
+}
+
+// How many octets the digest has whose digits the text is.
+fn digest_len(text: &[u8]) -> Option<usize>
+    requires { length text.now < 2 ^ 63 }
+    ensures exact { result ≡ option_map length (digest_of_text text.now) }
+    ensures small { IfSome result (λ len. len ≤ length text.now) }
+{
+    match read_digest(text, 0) {
+        Ok(digest) => Some(digest.len()),
+        Err(_) => None,
+    }
+}
+
+// How many octets the number takes whose decimal text this is.
+fn number_len(text: &[u8]) -> Option<usize>
+    requires { length text.now < 2 ^ 63 }
+    ensures exact { result ≡ option_map length (number_of_text text.now) }
+    ensures small { IfSome result (λ len. len ≤ 2 * length text.now + 2) }
+    ensures narrow { IfSome result (λ len. len ≤ 8) }
+{
+    match read_decimal(text, 0, u64::MAX) {
+        Ok(n) => Some(width_of(n)),
+        Err(_) => None,
+    }
 }
 
 // How many octets the value has whose text this is.
@@ -76,10 +120,18 @@ fn value_len(text: &[u8]) -> Option<usize>
     let mut periods = true;
     let mut rest = text;
     while !rest.is_empty() {
-        let (octet, behind) = octet_at(rest, 0).ok()?;
-        len += 1;
-        periods = periods && octet == b'.';
-        rest = behind;
+        match octet_at(rest, 0) {
+            Ok((octet, behind)) => {
+                len += 1;
+                periods &= octet == b'.';
+                rest = behind;
+            }
+            Err(_) => return None,
+        }
     }
-    if periods { len.checked_sub(3) } else { Some(len) }
+    if periods {
+        len.checked_sub(3)
+    } else {
+        Some(len)
+    }
 }
