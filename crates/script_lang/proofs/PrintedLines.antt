@@ -22,7 +22,7 @@ use Rattle.script_lang.proofs.Numerals.{decimal_digits}
 use Rattle.script_lang.proofs.HexTexts.{decoded_digits}
 use Rattle.script_lang.proofs.FirstWords.{verb_is_word}
 use Rattle.script_lang.proofs.LineTexts.{line_texts}
-use Rattle.script_lang.proofs.Lent.{uri-visible, uri-some}
+use Rattle.ndn_name.proofs.VisibleTexts.{uri-visible, uri-some}
 
 -- ---- what is printed is a word
 

@@ -21,7 +21,7 @@ use Rattle.script_lang.proofs.Tests.{chosen, never, same_ok, and_left, and_right
 use Rattle.script_lang.proofs.Numerals.{decimal_digits, below_limit, printed_again, decimal_numeral, decimal_value}
 use Rattle.script_lang.proofs.HexTexts.{digits_decoded, decoded_digits}
 use Rattle.script_lang.proofs.Cuts.{front_of, cut_found, cut_is}
-use Rattle.script_lang.proofs.Lent.{texts-computed}
+use Rattle.ndn_name.proofs.ComputedNames.{texts-computed}
 
 mapped_ok : {A B : Type 0} (f : A → B) (r : Result A LineFault) (v : B) → mapped f r ≡ Ok v → (x : A) × (r ≡ Ok x) × (v ≡ f x)
 mapped_ok f (Ok x) v h = (x, refl, sym (same_ok _ _ h))

@@ -8,8 +8,7 @@ ghost use Rattle.script_lang.specs.Kinds.{CONTENT, LABEL, N, Named, Number, Octe
 ghost use Rattle.script_lang.specs.Reading.{Gives};
 
 use crate::line_fault::LineFault;
-use crate::standin::{name_from, plain_uri_len};
-use ndn_name::Name;
+use ndn_name::{Name, plain_uri_len};
 use std::alloc::Global;
 
 fn is_label(word: &str) -> bool
@@ -178,7 +177,7 @@ pub(crate) fn name_in(alloc: Global, most: u64, word: &str) -> Result<Name, Line
     if len == 0 || most < len as u64 {
         return Err(LineFault::Limit);
     }
-    match name_from(alloc, word) {
+    match Name::from_uri(alloc, word) {
         Ok(name) => Ok(name),
         Err(_) => Err(LineFault::NoMemory),
     }

@@ -1,4 +1,0 @@
-use Rattle.script_lang.proofs.standin.name_from.Goals as goal
-
-pub returns : goal.returns
-returns c = ?
