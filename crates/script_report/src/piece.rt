@@ -71,12 +71,13 @@ fn put_hex(out: &mut Vec<u8>, octets: &[u8]) -> Result<(), AllocError>
     Ok(())
 }
 
+#[tactic(auto, using(crate::proofs::Fronts::keeps_more, crate::proofs::Fronts::keeps_same))]
 fn put_uri(out: &mut Vec<u8>, name: &Name) -> Result<(), AllocError>
     ensures ok { OnOk result (out.new.items ≡ out.old.items ++ (32 ∷ uri name.now)) }
     ensures kept { Keeps out.old.items out.new.items }
 {
-    let text = name.to_uri(*out.allocator())?;
-    put_word(out, text.as_bytes())
+    out.push(b' ')?;
+    name.view().put_uri(out)
 }
 
 fn put_field(out: &mut Vec<u8>, word: &str, number: Option<u64>) -> Result<(), AllocError>
