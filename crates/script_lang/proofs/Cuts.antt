@@ -5,7 +5,7 @@ use Rattle.std.specs.Option.{option_copied, option_map}
 use Rattle.std.specs.Str.Pattern.{FindsTextPrefix, StripsPrefix, LacksTextAt}
 use Rattle.std.proofs.lemmas.Str.Pattern.{split_parts, IsSplitOnceResult}
 use Rattle.ndn_name.specs.UriText.{behind, cut_at}
-use Rattle.script_lang.proofs.Tests.{other_test, same_tested}
+use Rattle.script_lang.proofs.Conditions.{other_test, same_tested}
 
 pub behind_front : (front text : List ℕ) → behind front (front ++ text) ≡ Some text
 unfolding behind

@@ -6,7 +6,7 @@ use Rattle.hex.specs.Hex.{decode_of, decode_pairs, pair_value, value_at, digit_o
 use Rattle.hex.specs.declared.error.FromHexError.{FromHexError}
 use Rattle.hex.specs.declared.error.FromHexError.TheVariants.{OddLength}
 use Rattle.ndn_name.specs.Uri.{IsDigits}
-use Rattle.script_lang.proofs.Tests.{never, same_ok, chosen}
+use Rattle.script_lang.proofs.Conditions.{never, same_ok, chosen}
 
 -- a digit is one for both
 digit_is : (c : ℕ) → digit_value c < 16 → hex_digit_value c ≡ Some (digit_value c)

@@ -12,7 +12,7 @@ use Rattle.script_lang.specs.Kinds.{Kind, Value, word_of}
 use Rattle.script_lang.specs.Forms.{Stated, form, said}
 use Rattle.script_lang.specs.Lines.{word_then, with_value, without_value, values_of, are_within, stated_of, verb_of, line_by, line_in_words, spaced, says_nothing, is_printable, mapped_line, line_in, line_within, ends_with, without_last, without_return, line_of}
 use Rattle.script_lang.specs.Texts.{IsOf, IsWordText, AreOf, AreWordTexts, IsSpaced, IsWord, IsEnded, by_input, by_feed, by_return, IsLineText, is_graphic}
-use Rattle.script_lang.proofs.Tests.{and_both, chosen, never, same_ok, and_left, and_right, le_test, le_tested, same_tested, some_test, other_test}
+use Rattle.script_lang.proofs.Conditions.{and_both, chosen, never, same_ok, and_left, and_right, le_test, le_tested, same_tested, some_test, other_test}
 use Rattle.script_lang.proofs.Spaces.{spaced_is, spaced_printable, is_spaced}
 use Rattle.script_lang.proofs.FirstWords.{verb_back, verb_word, speaks}
 use Rattle.script_lang.proofs.WordTexts.{word_is_text, text_is_word}
@@ -116,7 +116,8 @@ some_length n h = grind (arith, nat_tests)
 ends_is : (c : ℕ) (octets : List ℕ) → ends_with c octets ≡ true → octets ≡ without_last octets ++ c ∷ []
 ends_is c octets h =
     let some = and_left (not (eqb (length octets) 0)) _ h in
-    let last = same_tested (slice_index octets (length octets - 1)) c (and_right _ _ h) in
+    let last : slice_index octets (length octets - 1) ≡ c =
+        same_tested (slice_index octets (length octets - 1)) c (and_right _ _ h) in
     let more : 0 < length octets = some_length (length octets) some in
     let inside : length octets - 1 < length octets = omega arith in
     let all : suc (length octets - 1) ≡ length octets = omega arith in

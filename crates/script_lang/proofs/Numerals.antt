@@ -13,7 +13,7 @@ use Rattle.std.proofs.lemmas.Fmt.{decimal_by_steps, length-decimal-le, decimal_n
 use Rattle.std.proofs.lemmas.List.Folds.{list_all-append}
 use Rattle.std.proofs.lemmas.Str.Parse.{IsNumeralModel, numerals_by_value}
 use Rattle.script_lang.specs.Kinds.{is_numeral}
-use Rattle.script_lang.proofs.Tests.{and_left, and_right, and_both, le_test, other_test}
+use Rattle.script_lang.proofs.Conditions.{and_left, and_right, and_both, le_test, other_test}
 
 digit_below : (c : ℕ) → is_ascii_digit c ≡ true → digit_value c < 10
 digit_below c h = grind (arith, nat_tests)
@@ -96,4 +96,4 @@ pub printed_again : (word : List ℕ) → is_numeral word ≡ true → decimal (
 printed_again [] h = absurd (false≢true h)
 printed_again (c ∷ cs) h =
     let low = below_limit (c ∷ cs) h in
-    decimal-digits_value own (c ∷ cs) (are_digits (c ∷ cs) h) (omega arith) (λ e. (let none = zero_first c (length cs) (and_right _ _ (and_left _ _ h)) e in omega arith)) (omega (arith, low))
+    decimal-digits_value own (c ∷ cs) (are_digits (c ∷ cs) h) (omega arith) (λ e. (let none : length cs ≡ 0 = zero_first c (length cs) (and_right _ _ (and_left _ _ h)) e in omega arith)) (omega (arith, low))

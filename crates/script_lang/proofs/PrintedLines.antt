@@ -17,7 +17,7 @@ use Rattle.script_lang.specs.Kinds.{Kind, LABEL, N, URI, HEX, CONTENT, Value, Te
 use Rattle.script_lang.specs.Forms.{Stated, form}
 use Rattle.script_lang.specs.Lines.{are_within, line_of}
 use Rattle.script_lang.specs.Texts.{IsOf, IsWordText, digits, AreOf, AreWordTexts, is_graphic, IsWord, IsSpaced, by_input, word_text, words_text, printed, IsPlainValue, ArePlainValues}
-use Rattle.script_lang.proofs.Tests.{and_left, and_right, and_both, or_left, weaker}
+use Rattle.script_lang.proofs.Conditions.{and_left, and_right, and_both, or_left, weaker}
 use Rattle.script_lang.proofs.Numerals.{decimal_digits}
 use Rattle.script_lang.proofs.HexTexts.{decoded_digits}
 use Rattle.script_lang.proofs.FirstWords.{verb_is_word}

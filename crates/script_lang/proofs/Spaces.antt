@@ -6,7 +6,7 @@ use Rattle.std.proofs.lemmas.Bool.Decides.{nat_tests, eqb_tells}
 use Rattle.std.proofs.lemmas.List.Folds.{list_all-append}
 use Rattle.script_lang.specs.Lines.{spaced, is_printable}
 use Rattle.script_lang.specs.Texts.{is_graphic, IsWord, IsSpaced}
-use Rattle.script_lang.proofs.Tests.{and_left, and_right, and_both, some_test, weaker}
+use Rattle.script_lang.proofs.Conditions.{and_left, and_right, and_both, some_test, weaker}
 
 abbrev is_space : ℕ → Bool
 is_space octet = eqb octet 32

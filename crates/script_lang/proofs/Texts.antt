@@ -5,7 +5,7 @@ use Rattle.std.specs.List.{list_all}
 use Rattle.std.proofs.lemmas.Str.{IsUtf8-from_ascii}
 use Rattle.std.proofs.lemmas.Bool.Decides.{nat_tests}
 use Rattle.script_lang.specs.Lines.{is_printable}
-use Rattle.script_lang.proofs.Tests.{and_left, and_right}
+use Rattle.script_lang.proofs.Conditions.{and_left, and_right}
 
 printable_is_ascii : (b : ℕ) → is_printable b ≡ true → b < 128
 printable_is_ascii b h = grind (arith, nat_tests)

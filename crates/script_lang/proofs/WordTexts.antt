@@ -17,7 +17,7 @@ use Rattle.script_lang.specs.declared.line_fault.LineFault.{LineFault}
 use Rattle.script_lang.specs.declared.line_fault.LineFault.TheVariants.{Syntax, Limit}
 use Rattle.script_lang.specs.Kinds.{Kind, LABEL, N, URI, HEX, CONTENT, Value, Text, Number, Named, Octets, word_of, mapped, is_label, label_of, is_numeral, number_of, octets_within, decoded_within, hex_of, filled, filled_of, content_by, content_of, name_within, name_of}
 use Rattle.script_lang.specs.Texts.{IsOf, IsWordText, IsContentText, plain, digits, filled as fills}
-use Rattle.script_lang.proofs.Tests.{chosen, never, same_ok, and_left, and_right, le_test, le_tested}
+use Rattle.script_lang.proofs.Conditions.{chosen, never, same_ok, and_left, and_right, le_test, le_tested}
 use Rattle.script_lang.proofs.Numerals.{decimal_digits, below_limit, printed_again, decimal_numeral, decimal_value}
 use Rattle.script_lang.proofs.HexTexts.{digits_decoded, decoded_digits}
 use Rattle.script_lang.proofs.Cuts.{front_of, cut_found, cut_is}
@@ -121,8 +121,8 @@ filled_ok least most (Some x) octets counts cut h =
     let e : octets ≡ replicate (digits_value 10 x.0) (digits_value 10 x.1) = sym (same_ok _ octets s) in
     let l : length octets ≡ digits_value 10 x.0 = ap length e ∙ length-replicate (digits_value 10 x.0) (digits_value 10 x.1) in
     let front = and_left (nat_le least (digits_value 10 x.0) && nat_le (digits_value 10 x.0) most) _ r in
-    let low = le_tested least (digits_value 10 x.0) (and_left _ _ front) in
-    let high = le_tested (digits_value 10 x.0) most (and_right _ _ front) in
+    let low : least ≤ digits_value 10 x.0 = le_tested least (digits_value 10 x.0) (and_left _ _ front) in
+    let high : digits_value 10 x.0 ≤ most = le_tested (digits_value 10 x.0) most (and_right _ _ front) in
     (fills (digits_value 10 x.0) (digits_value 10 x.1) (below_limit x.0 a) (le_tested (digits_value 10 x.1) 255 (and_right _ _ r)) e
         (ap (λ t. codes "fill:" ++ t) (cut x refl ∙ rw (printed_again x.0 a, printed_again x.1 b) refl)), omega (arith, low, l), omega (arith, high, l))))
     (λ r s. never Limit octets s))
