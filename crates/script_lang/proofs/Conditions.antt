@@ -24,6 +24,9 @@ le_test a b h = grind (arith, nat_tests)
 pub le_tested : (a b : ℕ) → nat_le a b ≡ true → a ≤ b
 le_tested a b h = grind (arith, nat_tests)
 
+pub lt_tested : (a b : ℕ) → nat_lt a b ≡ true → a < b
+lt_tested a b h = grind (arith, nat_tests)
+
 pub same_tested : (a b : ℕ) → eqb a b ≡ true → a ≡ b
 same_tested a b h = grind (arith, nat_tests)
 
@@ -33,12 +36,16 @@ other_test a b other = elim (eqb_tells a b) [ inl p ↦ absurd (other p.1) | inr
 pub some_test : (n : ℕ) → 0 < n → not (eqb n 0) ≡ true
 some_test n h = grind (arith, nat_tests)
 
-pub weaker : (p q : ℕ → Bool) → ((x : ℕ) → p x ≡ true → q x ≡ true) → (xs : List ℕ) → list_all p xs ≡ true → list_all q xs ≡ true
+pub weaker : (p q : ℕ → Bool) → ((x : ℕ) → p x ≡ true → q x ≡ true) →
+    (xs : List ℕ) → list_all p xs ≡ true
+    → list_all q xs ≡ true
 weaker p q f [] h = refl
-weaker p q f (x ∷ xs) h = and_both (q x) (list_all q xs) (f x (and_left (p x) _ h)) (weaker p q f xs (and_right (p x) _ h))
+weaker p q f (x ∷ xs) h = and_both (q x) (list_all q xs) (f x (and_left (p x) _ h))
+    (weaker p q f xs (and_right (p x) _ h))
 
 -- where a test chose an answer
-pub chosen : {A E P : Type 0} (b : Bool) (x y : Result A E) (v : A) → (if b then x else y) ≡ Ok v → (b ≡ true → x ≡ Ok v → P) → (b ≡ false → y ≡ Ok v → P) → P
+pub chosen : {A E P : Type 0} (b : Bool) (x y : Result A E) (v : A) → (if b then x else y) ≡ Ok v
+    → (b ≡ true → x ≡ Ok v → P) → (b ≡ false → y ≡ Ok v → P) → P
 chosen true x y v h f g = f refl h
 chosen false x y v h f g = g refl h
 

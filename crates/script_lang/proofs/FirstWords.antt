@@ -101,11 +101,16 @@ speaks Traffic rest = refl
 same_word : (a b : List ℕ) → bytes_eq a b ≡ true → a ≡ b
 same_word a b h = (bytes_eq-Decides a b).0 h
 
-one_of : (vs : List Verb) (word : List ℕ) (verb : Verb) → named (map (λ v. ((form v).word, v)) vs) word ≡ Some verb → word ≡ (form verb).word
+one_of : (vs : List Verb) (word : List ℕ) (verb : Verb) → named
+    (map (λ v. ((form v).word, v)) vs) word ≡ Some verb
+    → word ≡ (form verb).word
 unfolding named
 one_of [] word verb h = cc
 one_of (v ∷ vs) word verb h = go (bytes_eq (form v).word word) refl h (one_of vs word verb) where
-  go : (b : Bool) → bytes_eq (form v).word word ≡ b → (if b then Some v else named (map (λ x. ((form x).word, x)) vs) word) ≡ Some verb → (named (map (λ x. ((form x).word, x)) vs) word ≡ Some verb → word ≡ (form verb).word) → word ≡ (form verb).word
+  go : (b : Bool) → bytes_eq (form v).word word ≡ b
+      → (if b then Some v else named (map (λ x. ((form x).word, x)) vs) word) ≡ Some verb
+      → (named (map (λ x. ((form x).word, x)) vs) word ≡ Some verb → word ≡ (form verb).word)
+      → word ≡ (form verb).word
   go true e k others = (let s : v ≡ verb = cc in sym (same_word (form v).word word e) ∙ ap (λ x. (form x).word) s)
   go false e k others = others k
 

@@ -19,13 +19,18 @@ use Rattle.script_lang.proofs.WordTexts.{word_is_text, text_is_word}
 
 -- ---- the words of a form
 
-values_ok : (kinds : List Kind) (words : List (List ℕ)) (values : List Value) → values_of kinds words ≡ Ok values → AreOf kinds values × AreWordTexts kinds values words
+values_ok : (kinds : List Kind) (words : List (List ℕ)) (values : List Value) → values_of kinds words ≡ Ok values
+    → AreOf kinds values × AreWordTexts kinds values words
 unfolding values_of
 values_ok [] [] values h = rw (sym (same_ok [] values h)) (tt, tt)
 values_ok [] (word ∷ words) values h = never Syntax values h
 values_ok (kind ∷ kinds) [] values h = never Syntax values h
-values_ok (kind ∷ kinds) (word ∷ words) values h = go (word_of kind word) refl (values_of kinds words) refl h (values_ok kinds words) where
-  go : (r : Result Value LineFault) → word_of kind word ≡ r → (others : Result (List Value) LineFault) → values_of kinds words ≡ others → word_then r others ≡ Ok values → ((vs : List Value) → values_of kinds words ≡ Ok vs → AreOf kinds vs × AreWordTexts kinds vs words) → AreOf (kind ∷ kinds) values × AreWordTexts (kind ∷ kinds) values (word ∷ words)
+values_ok (kind ∷ kinds) (word ∷ words) values h = go (word_of kind word) refl
+    (values_of kinds words) refl h (values_ok kinds words) where
+  go : (r : Result Value LineFault) → word_of kind word ≡ r → (others : Result (List Value) LineFault)
+      → values_of kinds words ≡ others → word_then r others ≡ Ok values
+      → ((vs : List Value) → values_of kinds words ≡ Ok vs → AreOf kinds vs × AreWordTexts kinds vs words)
+      → AreOf (kind ∷ kinds) values × AreWordTexts (kind ∷ kinds) values (word ∷ words)
   go (Ok value) e (Ok vs) f k behind =
       let v = word_is_text kind value word e in
       let b = behind vs f in
@@ -36,10 +41,12 @@ values_ok (kind ∷ kinds) (word ∷ words) values h = go (word_of kind word) re
   go (Err Syntax) e others f k behind = never Syntax values k
   go (Err NoMemory) e others f k behind = never NoMemory values k
 
-values_back : (kinds : List Kind) (values : List Value) (words : List (List ℕ)) → AreOf kinds values → AreWordTexts kinds values words → values_of kinds words ≡ Ok values
+values_back : (kinds : List Kind) (values : List Value) (words : List (List ℕ)) → AreOf kinds values
+    → AreWordTexts kinds values words → values_of kinds words ≡ Ok values
 unfolding values_of
 values_back [] [] [] of texts = refl
-values_back (kind ∷ kinds) (value ∷ values) (word ∷ words) of texts = rw (text_is_word kind value word of.0 texts.0, values_back kinds values words of.1 texts.1) refl
+values_back (kind ∷ kinds) (value ∷ values) (word ∷ words) of texts = rw
+    (text_is_word kind value word of.0 texts.0, values_back kinds values words of.1 texts.1) refl
 values_back [] [] (word ∷ words) of texts = absurd texts
 values_back [] (value ∷ values) words of texts = absurd of
 values_back (kind ∷ kinds) [] words of texts = absurd of
@@ -55,12 +62,15 @@ record AreWordsOf (s : Stated) (words : List (List ℕ)) : Type 0 where
 words_ok : (words : List (List ℕ)) (s : Stated) → line_in_words words ≡ Ok s → AreWordsOf s words
 words_ok [] s h = never Syntax s h
 words_ok (word ∷ words) s h = by_verb (verb_of word) refl h where
-  by_values : (verb : Verb) → verb_of word ≡ Some verb → (r : Result (List Value) LineFault) → values_of (form verb).kinds words ≡ r → stated_of verb r ≡ Ok s → AreWordsOf s (word ∷ words)
+  by_values : (verb : Verb) → verb_of word ≡ Some verb → (r : Result (List Value) LineFault)
+      → values_of (form verb).kinds words ≡ r → stated_of verb r ≡ Ok s → AreWordsOf s (word ∷ words)
   by_values verb e (Err fault) f k = never fault s k
   by_values verb e (Ok values) f k = chosen (are_within verb values) (Ok (said verb values)) (Err Limit) s k
       (λ w q. (let v = values_ok (form verb).kinds words values f in
       let same : said verb values ≡ s = same_ok (said verb values) s q in
-      let here : AreWordsOf (said verb values) (word ∷ words) = record { others = words; are = ap (λ (x : List ℕ). x ∷ words) (verb_word word verb e); texts = v.1; ranges = v.0; within = w } in
+      let here : AreWordsOf (said verb values) (word ∷ words) = record
+          { others = words; are = ap (λ (x : List ℕ). x ∷ words)
+          (verb_word word verb e); texts = v.1; ranges = v.0; within = w } in
       subst (λ (x : Stated). AreWordsOf x (word ∷ words)) same here))
       (λ w q. never Limit s q)
 
@@ -68,8 +78,11 @@ words_ok (word ∷ words) s h = by_verb (verb_of word) refl h where
   by_verb None e k = never Syntax s k
   by_verb (Some verb) e k = by_values verb e (values_of (form verb).kinds words) refl k
 
-words_back : (s : Stated) (others : List (List ℕ)) → AreWordTexts (form s.verb).kinds s.values others → AreOf (form s.verb).kinds s.values → are_within s.verb s.values ≡ true → line_in_words ((form s.verb).word ∷ others) ≡ Ok s
-words_back s others texts ranges within = rw (verb_back s.verb, values_back (form s.verb).kinds s.values others ranges texts, within) refl
+words_back : (s : Stated) (others : List (List ℕ)) → AreWordTexts (form s.verb).kinds s.values others
+    → AreOf (form s.verb).kinds s.values → are_within s.verb s.values ≡ true
+    → line_in_words ((form s.verb).word ∷ others) ≡ Ok s
+words_back s others texts ranges within = rw (verb_back s.verb, values_back
+    (form s.verb).kinds s.values others ranges texts, within) refl
 
 -- ---- the body of a line
 
@@ -88,14 +101,17 @@ none_read s h = cc
 body_ok : (octets body : List ℕ) (s : Stated) → line_within octets body ≡ Ok (Some s) → IsRead s octets body
 body_ok octets body s h =
     chosen (nat_le (length octets) line_octets) (line_in body) (Err Limit) (Some s) h
-    (λ fits q. chosen (says_nothing body) (Ok None) (if list_all is_printable body then mapped_line (line_in_words (spaced body)) else Err Syntax) (Some s) q
+    (λ fits q. chosen (says_nothing body) (Ok None)
+        (if list_all is_printable body then mapped_line (line_in_words (spaced body)) else Err Syntax) (Some s) q
     (λ _ r. none_read s r)
     (λ _ r. chosen (list_all is_printable body) (mapped_line (line_in_words (spaced body))) (Err Syntax) (Some s) r
-    (λ p x. record { fits = le_tested (length octets) line_octets fits; printable = p; words = line_ok (line_in_words (spaced body)) s x })
+    (λ p x. record { fits = le_tested (length octets) line_octets fits; printable = p; words = line_ok
+        (line_in_words (spaced body)) s x })
     (λ _ x. never Syntax (Some s) x)))
     (λ _ q. never Limit (Some s) q)
 
-line_text : (s : Stated) (octets line body : List ℕ) → IsRead s line body → IsEnded body octets → IsLineText s octets
+line_text : (s : Stated) (octets line body : List ℕ) → IsRead s line body → IsEnded body octets →
+    IsLineText s octets
 line_text s octets line body read ended =
     let w = words_ok (spaced body) s read.words in
     record {
@@ -121,23 +137,29 @@ ends_is c octets h =
     let more : 0 < length octets = some_length (length octets) some in
     let inside : length octets - 1 < length octets = omega arith in
     let all : suc (length octets - 1) ≡ length octets = omega arith in
-    sym (take-length octets) ∙ ap (λ n. take n octets) (sym all) ∙ take-suc octets (length octets - 1) 0 inside ∙ ap (λ (x : ℕ). take (length octets - 1) octets ++ x ∷ []) last
+    sym (take-length octets) ∙ ap (λ n. take n octets) (sym all) ∙ take-suc octets (length octets - 1) 0 inside
+        ∙ ap (λ (x : ℕ). take (length octets - 1) octets ++ x ∷ []) last
 
 line_is_text : (s : Stated) (octets : List ℕ) → line_of octets ≡ Ok (Some s) → IsLineText s octets
 line_is_text s octets h =
-    chosen (ends_with 10 octets) (line_within (without_last octets) (without_return (without_last octets))) (line_within octets octets) (Some s) h
+    chosen (ends_with 10 octets) (line_within (without_last octets)
+        (without_return (without_last octets))) (line_within octets octets) (Some s) h
     (λ feed q. with_feed feed (ends_with 13 (without_last octets)) refl q)
     (λ _ q. (let r = body_ok octets octets s q in line_text s octets octets octets r (by_input refl r.fits)))
   where
-  with_feed : ends_with 10 octets ≡ true → (b : Bool) → ends_with 13 (without_last octets) ≡ b → line_within (without_last octets) (if b then without_last (without_last octets) else without_last octets) ≡ Ok (Some s) → IsLineText s octets
+  with_feed : ends_with 10 octets ≡ true → (b : Bool) → ends_with 13 (without_last octets) ≡ b
+      → line_within (without_last octets) (if b then without_last
+          (without_last octets) else without_last octets) ≡ Ok (Some s) → IsLineText s octets
   with_feed feed false e q =
       let r = body_ok (without_last octets) (without_last octets) s q in
       line_text s octets (without_last octets) (without_last octets) r (by_feed (ends_is 10 octets feed) r.fits)
   with_feed feed true e q =
       let r = body_ok (without_last octets) (without_last (without_last octets)) s q in
       let is = ends_is 13 (without_last octets) e in
-      let long : length (without_last (without_last octets)) + 1 ≤ line_octets = omega (arith, ap length is, length-append (without_last (without_last octets)) (13 ∷ []), r.fits) in
-      line_text s octets (without_last octets) (without_last (without_last octets)) r (by_return (ends_is 10 octets feed ∙ ap (λ (t : List ℕ). t ++ 10 ∷ []) is) long)
+      let long : length (without_last (without_last octets)) + 1 ≤ line_octets = omega
+          (arith, ap length is, length-append (without_last (without_last octets)) (13 ∷ []), r.fits) in
+      line_text s octets (without_last octets) (without_last (without_last octets)) r
+          (by_return (ends_is 10 octets feed ∙ ap (λ (t : List ℕ). t ++ 10 ∷ []) is) long)
 
 -- ---- and back
 
@@ -154,7 +176,8 @@ at_end c front =
 gone : (c : ℕ) (front : List ℕ) → without_last (front ++ c ∷ []) ≡ front
 gone c front = ap (λ n. take n (front ++ c ∷ [])) (one_shorter c front) ∙ take-append_seam front (c ∷ [])
 
-element_at : (p : ℕ → Bool) (xs : List ℕ) (i : ℕ) → list_all p xs ≡ true → i < length xs → p (slice_index xs i) ≡ true
+element_at : (p : ℕ → Bool) (xs : List ℕ) (i : ℕ) → list_all p xs ≡ true → i < length xs → p
+    (slice_index xs i) ≡ true
 element_at p [] i h lt = absurd (omega arith)
 element_at p (x ∷ xs) zero h lt = and_left (p x) _ h
 element_at p (x ∷ xs) (suc i) h lt = element_at p xs i (and_right (p x) _ h) (omega arith)
@@ -164,9 +187,12 @@ unlike c d low h = grind (arith, nat_tests)
 
 no_end : (c : ℕ) (text : List ℕ) → c < 32 → list_all is_printable text ≡ true → ends_with c text ≡ false
 no_end c [] low h = refl
-no_end c (x ∷ xs) low h = rw (some_test (length (x ∷ xs)) (omega arith)) (unlike c (slice_index (x ∷ xs) (length (x ∷ xs) - 1)) low (element_at is_printable (x ∷ xs) (length (x ∷ xs) - 1) h (omega arith)))
+no_end c (x ∷ xs) low h = rw (some_test (length (x ∷ xs)) (omega arith))
+    (unlike c (slice_index (x ∷ xs) (length (x ∷ xs) - 1)) low
+    (element_at is_printable (x ∷ xs) (length (x ∷ xs) - 1) h (omega arith)))
 
-loud : (n : ℕ) (verb : Verb) (rest : List ℕ) → says_nothing (replicate n 32 ++ ((form verb).word ++ rest)) ≡ false
+loud : (n : ℕ) (verb : Verb) (rest : List ℕ) → says_nothing
+    (replicate n 32 ++ ((form verb).word ++ rest)) ≡ false
 loud zero verb rest = speaks verb rest
 loud (suc n) verb rest = loud n verb rest
 
@@ -174,21 +200,27 @@ body_back : (s : Stated) (octets : List ℕ) → (h : IsLineText s octets) → l
 body_back s octets h =
     let quiet : says_nothing h.body ≡ false = ap says_nothing h.spaced.2 ∙ loud h.spaced.0 s.verb h.spaced.1 in
     let printable = spaced_printable ((form s.verb).word ∷ h.words) h.body h.spaced in
-    let words : spaced h.body ≡ (form s.verb).word ∷ h.words = spaced_is ((form s.verb).word ∷ h.words) h.body h.spaced in
-    let line : line_in_words ((form s.verb).word ∷ h.words) ≡ Ok s = words_back s h.words h.texts h.ranges h.within in
+    let words : spaced h.body ≡ (form s.verb).word ∷ h.words = spaced_is
+        ((form s.verb).word ∷ h.words) h.body h.spaced in
+    let line : line_in_words ((form s.verb).word ∷ h.words) ≡ Ok s = words_back s h.words h.texts
+        h.ranges h.within in
     rw (quiet, printable, words, line) refl
 
-ended_back : (s : Stated) (body octets : List ℕ) → IsEnded body octets → list_all is_printable body ≡ true → line_in body ≡ Ok (Some s) → line_of octets ≡ Ok (Some s)
+ended_back : (s : Stated) (body octets : List ℕ) → IsEnded body octets → list_all is_printable body ≡ true
+    → line_in body ≡ Ok (Some s) → line_of octets ≡ Ok (Some s)
 ended_back s body octets (by_input e fits) printable line =
     rw (e, no_end 10 body (lit< tt) printable, le_test (length body) line_octets fits) line
 ended_back s body octets (by_feed e fits) printable line =
-    rw (e, at_end 10 body, gone 10 body, no_end 13 body (lit< tt) printable, le_test (length body) line_octets fits) line
+    rw (e, at_end 10 body, gone 10 body, no_end 13 body (lit< tt) printable, le_test
+        (length body) line_octets fits) line
 ended_back s body octets (by_return e fits) printable line =
     let long : length (body ++ 13 ∷ []) ≤ line_octets = omega (arith, length-append body (13 ∷ [])) in
-    rw (e, at_end 10 (body ++ 13 ∷ []), gone 10 (body ++ 13 ∷ []), at_end 13 body, gone 13 body, le_test (length (body ++ 13 ∷ [])) line_octets long) line
+    rw (e, at_end 10 (body ++ 13 ∷ []), gone 10 (body ++ 13 ∷ []), at_end 13 body, gone 13 body, le_test
+        (length (body ++ 13 ∷ [])) line_octets long) line
 
 text_is_line : (s : Stated) (octets : List ℕ) → IsLineText s octets → line_of octets ≡ Ok (Some s)
-text_is_line s octets h = ended_back s h.body octets h.ended (spaced_printable ((form s.verb).word ∷ h.words) h.body h.spaced) (body_back s octets h)
+text_is_line s octets h = ended_back s h.body octets h.ended
+    (spaced_printable ((form s.verb).word ∷ h.words) h.body h.spaced) (body_back s octets h)
 
 pub line_texts : (s : Stated) (octets : List ℕ) → (line_of octets ≡ Ok (Some s)) ↔ IsLineText s octets
 line_texts s octets = (line_is_text s octets, text_is_line s octets)

@@ -103,7 +103,8 @@ stated (line.Ask m octets) =
 stated (line.Feed m f octets) =
     said Feed (Text (string_bytes m) ∷ Number f ∷ Octets octets.items ∷ [])
 stated (line.Insert m client name first last) =
-    said Insert (Text (string_bytes m) ∷ Text (string_bytes client) ∷ Named name ∷ Number first ∷ Number last ∷ [])
+    said Insert
+    (Text (string_bytes m) ∷ Text (string_bytes client) ∷ Named name ∷ Number first ∷ Number last ∷ [])
 stated (line.Block m process index content) =
     said Block (Text (string_bytes m) ∷ Number process ∷ Number index ∷ Octets content.items ∷ [])
 stated (line.Status m client process) =

@@ -58,9 +58,10 @@ named [] word = None
 named (first ∷ others) word = if bytes_eq first.0 word then Some first.1 else named others word
 
 abbrev pub verbs : List Verb
-verbs = Group ∷ Member ∷ Client ∷ Publish ∷ Deliver ∷ Sync ∷ Advance ∷ Fire ∷ Restart ∷ Vector ∷ Catalogue ∷ Claim
-    ∷ Lose ∷ Answer ∷ Fetch ∷ Settle ∷ Dump ∷ Hear ∷ Order ∷ Ask ∷ Feed ∷ Insert ∷ Block ∷ Status ∷ Delete ∷ Summary
-    ∷ Traffic ∷ []
+verbs =
+    Group ∷ Member ∷ Client ∷ Publish ∷ Deliver ∷ Sync ∷ Advance ∷ Fire ∷ Restart ∷ Vector
+    ∷ Catalogue ∷ Claim ∷ Lose ∷ Answer ∷ Fetch ∷ Settle ∷ Dump ∷ Hear ∷ Order ∷ Ask ∷ Feed
+    ∷ Insert ∷ Block ∷ Status ∷ Delete ∷ Summary ∷ Traffic ∷ []
 
 abbrev pub first_words : List (List ℕ × Verb)
 first_words = map (λ verb. ((form verb).word, verb)) verbs

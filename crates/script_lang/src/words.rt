@@ -1,4 +1,4 @@
-ghost use Rattle.std.specs.Prelude.{◌≡◌, ◌<◌, ◌⊎◌, map, length, slice_get, IfErr, OnOk, OnErr, Ok, Err, Some};
+ghost use Rattle.std.specs.Prelude.{◌≡◌, ◌<◌, ◌⊎◌, map, length, slice_get, IfErr, IfSome, OnOk, OnErr, Ok, Err, Some};
 ghost use Rattle.script_lang.specs.Forms.{stated};
 ghost use Rattle.script_lang.specs.Checking.{Declared, after_event, after_line, label_of, may_declare, nothing_declared, party, place_of};
 
@@ -130,14 +130,16 @@ impl Words {
 
     /// The number of the member with this label, in the order of their declarations from 0.
     pub fn member(&self, label: &str) -> Option<u32>
-        ensures { result ≡ place_of label.now self.now.members }
+        ensures value { result ≡ place_of label.now self.now.members }
+        ensures named { IfSome result (λ n. slice_get (map label_of self.now.members) n ≡ Some label.now) }
     {
         place_of(label, &self.members).map(|place| place as u32)
     }
 
     /// The number of the client with this label, in the order of their declarations from 0.
     pub fn client(&self, label: &str) -> Option<u32>
-        ensures { result ≡ place_of label.now self.now.clients }
+        ensures value { result ≡ place_of label.now self.now.clients }
+        ensures named { IfSome result (λ n. slice_get (map label_of self.now.clients) n ≡ Some label.now) }
     {
         place_of(label, &self.clients).map(|place| place as u32)
     }

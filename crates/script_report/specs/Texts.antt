@@ -49,16 +49,13 @@ restart_text m = line (codes "restart") (m ∷ [])
 
 -- ---- parts
 
-abbrev pub claim_part_text : List ℕ → ℕ → List ℕ → ℕ → ℕ → List ℕ
-claim_part_text m f label seq x = line (codes "claim")
+-- A fetcher of a member, and the part that it claimed or gave back: its publisher's label, the number, the place.
+abbrev pub part_text : List ℕ → List ℕ → ℕ → List ℕ → ℕ → ℕ → List ℕ
+part_text verb m f label seq x = line verb
     (m ∷ decimal f ∷ codes "part" ∷ label ∷ decimal seq ∷ decimal x ∷ [])
 
 abbrev pub claim_none_text : List ℕ → ℕ → List ℕ
 claim_none_text m f = line (codes "claim") (m ∷ decimal f ∷ codes "none" ∷ [])
-
-abbrev pub lose_text : List ℕ → ℕ → List ℕ → ℕ → ℕ → List ℕ
-lose_text m f label seq x = line (codes "lose")
-    (m ∷ decimal f ∷ codes "part" ∷ label ∷ decimal seq ∷ decimal x ∷ [])
 
 abbrev pub answer_kept_text : List ℕ → ℕ → List ℕ
 answer_kept_text m f = line (codes "answer") (m ∷ decimal f ∷ codes "kept" ∷ [])
@@ -68,7 +65,8 @@ answer_none_text m f = line (codes "answer") (m ∷ decimal f ∷ codes "none" �
 
 abbrev pub fetch_text : List ℕ → ℕ → ℕ → ℕ → List ℕ
 fetch_text m planned kept attempts = line (codes "fetch")
-    (m ∷ codes "planned" ∷ decimal planned ∷ codes "kept" ∷ decimal kept ∷ codes "attempts" ∷ decimal attempts ∷ [])
+    (m ∷ codes "planned" ∷ decimal planned ∷ codes "kept" ∷ decimal kept
+    ∷ codes "attempts" ∷ decimal attempts ∷ [])
 
 abbrev pub settle_text : ℕ → ℕ → List ℕ
 settle_text syncs kept = line (codes "settle")
@@ -116,7 +114,8 @@ field word (Some n) = word ∷ decimal n ∷ []
 -- What a command was answered.
 abbrev pub command_text : List ℕ → List ℕ → ℕ → Option ℕ → Option ℕ → Option ℕ → List ℕ
 command_text verb m code process inserted deleted = line verb
-    (m ∷ decimal code ∷ field (codes "process") process ++ field (codes "inserted") inserted ++ field (codes "packets") deleted)
+    (m ∷ decimal code ∷ field (codes "process") process ++ field (codes "inserted") inserted
+    ++ field (codes "packets") deleted)
 
 abbrev pub block_300_text : List ℕ → List ℕ
 block_300_text m = line (codes "block") (m ∷ codes "300" ∷ [])
@@ -145,8 +144,8 @@ vector_text m labels numbers = line (codes "vector") (m ∷ numbered labels numb
 -- An entry of a catalogue, under its publisher's label.
 abbrev pub entry_text : List ℕ → Entry → List ℕ
 entry_text label e = line (codes "entry")
-    (label ∷ decimal e.seq ∷ uri e.name ∷ codes "segments" ∷ decimal e.segments ∷ codes "octets" ∷ decimal e.octets
-    ∷ codes "sha256" ∷ encode_lower e.digest ∷ [])
+    (label ∷ decimal e.seq ∷ uri e.name ∷ codes "segments" ∷ decimal e.segments
+    ∷ codes "octets" ∷ decimal e.octets ∷ codes "sha256" ∷ encode_lower e.digest ∷ [])
 
 unfoldable pub entries_text : List (List ℕ) → List Entry → List ℕ
 entries_text [] entries = []
@@ -160,7 +159,8 @@ catalogue_text m count labels entries =
 -- What a member holds.
 abbrev pub totals_text : List ℕ → ℕ → ℕ → ℕ → List ℕ
 totals_text label entries segments octets = line (codes "summary")
-    (label ∷ codes "entries" ∷ decimal entries ∷ codes "segments" ∷ decimal segments ∷ codes "octets" ∷ decimal octets ∷ [])
+    (label ∷ codes "entries" ∷ decimal entries ∷ codes "segments" ∷ decimal segments
+    ∷ codes "octets" ∷ decimal octets ∷ [])
 
 unfoldable pub summary_text : List (List ℕ) → List ℕ → List ℕ → List ℕ → List ℕ
 summary_text [] entries segments octets = []
@@ -172,8 +172,8 @@ summary_text (label ∷ labels) (e ∷ entries) (s ∷ segments) (o ∷ octets) 
 
 abbrev pub traffic_text : ℕ → ℕ → ℕ → ℕ → ℕ → List ℕ
 traffic_text syncs delivered attempts parts octets = line (codes "traffic")
-    (codes "syncs" ∷ decimal syncs ∷ codes "delivered" ∷ decimal delivered ∷ codes "attempts" ∷ decimal attempts
-    ∷ codes "parts" ∷ decimal parts ∷ codes "octets" ∷ decimal octets ∷ [])
+    (codes "syncs" ∷ decimal syncs ∷ codes "delivered" ∷ decimal delivered
+    ∷ codes "attempts" ∷ decimal attempts ∷ codes "parts" ∷ decimal parts ∷ codes "octets" ∷ decimal octets ∷ [])
 
 -- ---- the end
 

@@ -7,6 +7,7 @@ use crate::piece::Piece::{Counts, Hex, Number, Uri, Word};
 use repo_catalog::Entry;
 use std::alloc::AllocError;
 
+/// A member's state vector, one number for each label.
 pub fn put_vector(
     out: &mut Vec<u8>,
     m: &str,
@@ -14,7 +15,8 @@ pub fn put_vector(
     numbers: &[u64],
 ) -> Result<(), AllocError>
     requires { length labels.now ≡ length numbers.now }
-    ensures { Appends (vector_text m.now (map string_bytes labels.now) numbers.now) out.old.items out.new.items result }
+    ensures { Appends (vector_text m.now (map string_bytes labels.now) numbers.now)
+        out.old.items out.new.items result }
 {
     put_line(out, "vector", &[Word(m), Counts(labels, numbers)])
 }
@@ -28,7 +30,8 @@ pub fn put_catalogue(
     entries: &[Entry],
 ) -> Result<(), AllocError>
     requires { length labels.now ≡ length entries.now }
-    ensures { Appends (catalogue_text m.now count (map string_bytes labels.now) entries.now) out.old.items out.new.items result }
+    ensures { Appends (catalogue_text m.now count (map string_bytes labels.now) entries.now)
+        out.old.items out.new.items result }
 {
     let before = out.len();
     let written = write_catalogue(out, m, count, labels, entries);
@@ -97,7 +100,8 @@ pub fn put_summary(
     requires entries { length labels.now ≡ length entries.now }
     requires segments { length labels.now ≡ length segments.now }
     requires octets { length labels.now ≡ length octets.now }
-    ensures { Appends (summary_text (map string_bytes labels.now) entries.now segments.now octets.now) out.old.items out.new.items result }
+    ensures { Appends (summary_text (map string_bytes labels.now) entries.now segments.now octets.now)
+        out.old.items out.new.items result }
 {
     let before = out.len();
     let written = write_summary(out, labels, entries, segments, octets);
@@ -126,19 +130,19 @@ fn write_summary(
 
 fn write_totals(
     out: &mut Vec<u8>,
-    label: &str,
+    member: &str,
     entries: u64,
     segments: u64,
     octets: u64,
 ) -> Result<(), AllocError>
-    ensures ok { OnOk result (out.new.items ≡ out.old.items ++ totals_text label.now entries segments octets) }
+    ensures ok { OnOk result (out.new.items ≡ out.old.items ++ totals_text member.now entries segments octets) }
     ensures kept { Keeps out.old.items out.new.items }
 {
     write_line(
         out,
         "summary",
         &[
-            Word(label),
+            Word(member),
             Word("entries"),
             Number(entries),
             Word("segments"),
@@ -149,6 +153,7 @@ fn write_totals(
     )
 }
 
+/// What was sent, heard, tried and newly held over the script.
 pub fn put_traffic(
     out: &mut Vec<u8>,
     syncs: u64,
@@ -157,7 +162,8 @@ pub fn put_traffic(
     parts: u64,
     octets: u64,
 ) -> Result<(), AllocError>
-    ensures { Appends (traffic_text syncs delivered attempts parts octets) out.old.items out.new.items result }
+    ensures { Appends (traffic_text syncs delivered attempts parts octets)
+        out.old.items out.new.items result }
 {
     put_line(
         out,

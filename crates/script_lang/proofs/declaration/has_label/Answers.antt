@@ -10,5 +10,7 @@ use Rattle.script_lang.proofs.Parties.{any-map}
 use Rattle.script_lang.proofs.declaration.has_label.Goals as goal
 
 pub returns : goal.returns
-returns c = any_from_yields_List (λ (d : Declaration). bytes_eq (string_bytes d.label) c.args.label.now) _ _ c.any.result c.any.ensures.ran (YieldsList-from_slice c.args.parties.now c.iter.ensures.rest) (λ x b q k. search (rules, tests))
+returns c = any_from_yields_List (λ (d : Declaration). bytes_eq (string_bytes d.label) c.args.label.now)
+    _ _ c.any.result c.any.ensures.ran (YieldsList-from_slice c.args.parties.now c.iter.ensures.rest)
+    (λ x b q k. search (rules, tests))
     ∙ any-map party_of (λ (p : Party). bytes_eq p.label c.args.label.now) c.args.parties.now

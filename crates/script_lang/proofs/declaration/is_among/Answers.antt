@@ -11,5 +11,9 @@ use Rattle.script_lang.proofs.Parties.{any-map}
 use Rattle.script_lang.proofs.declaration.is_among.Goals as goal
 
 pub returns : goal.returns
-returns c = any_from_yields_List (λ (d : Declaration). bytes_eq (string_bytes d.label) c.args.label.now || bytes_eq (encoding d.node) (encoding c.args.node.now)) _ _ c.any.result c.any.ensures.ran (YieldsList-from_slice c.args.parties.now c.iter.ensures.rest) (λ x b q k. search (rules, tests))
-    ∙ any-map party_of (λ (p : Party). bytes_eq p.label c.args.label.now || bytes_eq (encoding p.node) (encoding c.args.node.now)) c.args.parties.now
+returns c = any_from_yields_List (λ (d : Declaration). bytes_eq
+    (string_bytes d.label) c.args.label.now || bytes_eq (encoding d.node) (encoding c.args.node.now)) _
+    _ c.any.result c.any.ensures.ran (YieldsList-from_slice c.args.parties.now c.iter.ensures.rest)
+    (λ x b q k. search (rules, tests))
+    ∙ any-map party_of (λ (p : Party). bytes_eq p.label c.args.label.now || bytes_eq (encoding p.node)
+        (encoding c.args.node.now)) c.args.parties.now

@@ -7,7 +7,8 @@ use Rattle.std.proofs.Common.{refl}
 use Rattle.script_lang.proofs.laws.worked_lines.Goals as goal
 
 pub returns : goal.returns
-unfolding label_of number_of hex_of content_of filled_of behind cut_at component_of_text components_of_texts name_of_text octets_of_digits unescaped name_of values_of named encoding number
+unfolding label_of number_of hex_of content_of filled_of behind cut_at component_of_text
+    components_of_texts name_of_text octets_of_digits unescaped name_of values_of named encoding number
 returns c = record {
   group = refl;
   claim = refl;
