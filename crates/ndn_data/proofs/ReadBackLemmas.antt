@@ -21,11 +21,9 @@ use Rattle.ndn_packet.specs.Written.{written_info}
 use Rattle.ndn_packet.proofs.Lengths.{length-element}
 use Rattle.ndn_packet.proofs.ReadBack.{alone, followed, outer_again, name_again, info_again, gathers, gathered-nothing}
 use Rattle.ndn_data.specs.declared.meta_info.MetaField.TheVariants.{FinalBlockId}
-use Rattle.ndn_data.specs.declared.meta_info.TheConstants.{META_INFO}
 use Rattle.ndn_data.specs.declared.data_fields.DataField.TheVariants.{Name, MetaInfo, Content, SignatureInfo, SignatureValue}
-use Rattle.ndn_data.specs.declared.data_fields.TheConstants.{DATA}
-use Rattle.ndn_data.specs.MetaInfo.{Meta, plain, only_component, final_block_in, with_meta_field, meta_in}
-use Rattle.ndn_data.specs.Data.{Data, DataSoFar, no_field, with_data_field, data_fields, data_from, data_of}
+use Rattle.ndn_data.specs.MetaInfo.{meta_info_table, Meta, plain, only_component, final_block_in, with_meta_field, meta_in}
+use Rattle.ndn_data.specs.Data.{data_table, Data, DataSoFar, no_field, with_data_field, data_fields, data_from, data_of}
 use Rattle.ndn_data.specs.WrittenData.{final_block, written_signed, signed, written_data, read_back}
 
 regroup : (a b c d e : List ℕ) → (((a ++ b) ++ c) ++ d) ++ e ≡ a ++ (b ++ (c ++ (d ++ e)))
@@ -33,7 +31,7 @@ regroup a b c d e = simp append_assoc
 
 -- ---- the meta info
 
-meta_table : (a : Item) → a.typ ≡ 0x1a → fields META_INFO (a then nothing) ≡ ((FinalBlockId, a) then nothing)
+meta_table : (a : Item) → a.typ ≡ 0x1a → fields meta_info_table (a then nothing) ≡ ((FinalBlockId, a) then nothing)
 unfolding fields_among place_of
 meta_table a h = rw h refl
 
@@ -58,7 +56,7 @@ meta_again o n short =
     ap (gathered with_component name_faults.Tlv []) (alone a.value_start 0x32 (number_field n) (omega arith) (omega arith) (omega arith)) ∙ one_component a.value_start (number_field n) in
     let block : final_block_in a ≡ Ok (0x32, number_field n) = ap (λ (r : Result (List Component) NameFault). name_or bad r >>= only_component bad) name in
     let step : with_meta_field plain (FinalBlockId, a) ≡ Ok (last_of n) = ap (λ (r : Result Component PacketFault). r >>= λ c. Ok (record plain { last = Some c })) block in
-    ap (λ (l : Listing Item TlvFault). gathered with_meta_field packet_fault plain (fields META_INFO l)) read
+    ap (λ (l : Listing Item TlvFault). gathered with_meta_field packet_fault plain (fields meta_info_table l)) read
     ∙ ap (gathered with_meta_field packet_fault plain) (meta_table a refl)
     ∙ gathers with_meta_field packet_fault plain (last_of n) (FinalBlockId, a) nothing step
     ∙ gathered-nothing with_meta_field packet_fault (last_of n)
@@ -66,12 +64,12 @@ meta_again o n short =
 -- ---- the fields
 
 plain_table : (a b c d : Item) → a.typ ≡ 0x07 → b.typ ≡ 0x15 → c.typ ≡ 0x16 → d.typ ≡ 0x17
-    → fields DATA (a then (b then (c then (d then nothing)))) ≡ ((Name, a) then ((Content, b) then ((SignatureInfo, c) then ((SignatureValue, d) then nothing))))
+    → fields data_table (a then (b then (c then (d then nothing)))) ≡ ((Name, a) then ((Content, b) then ((SignatureInfo, c) then ((SignatureValue, d) then nothing))))
 unfolding fields_among place_of
 plain_table a b c d h i j k = rw (h, i, j, k) refl
 
 whole_table : (a m b c d : Item) → a.typ ≡ 0x07 → m.typ ≡ 0x14 → b.typ ≡ 0x15 → c.typ ≡ 0x16 → d.typ ≡ 0x17
-    → fields DATA (a then (m then (b then (c then (d then nothing))))) ≡ ((Name, a) then ((MetaInfo, m) then ((Content, b) then ((SignatureInfo, c) then ((SignatureValue, d) then nothing)))))
+    → fields data_table (a then (m then (b then (c then (d then nothing))))) ≡ ((Name, a) then ((MetaInfo, m) then ((Content, b) then ((SignatureInfo, c) then ((SignatureValue, d) then nothing)))))
 unfolding fields_among place_of
 whole_table a m b c d h l i j k = rw (h, l, i, j, k) refl
 
@@ -186,7 +184,7 @@ plain_again name key_name content key valid key_valid short =
     let read = ap (elements o) parts ∙ followed o 0x07 (encoding name) rest _ (omega arith) (omega arith) (omega arith) (behind_read name key_name content mac octets valid key_valid p (omega arith)) in
     let take = with_data_field octets in
     let fields_read : data_fields octets (placed 0 0x06 value) ≡ Ok (all_fields name key_name content mac octets valid key_valid o r plain) =
-    ap (λ (l : Listing Item TlvFault). gathered take packet_fault no_field (fields DATA l)) read
+    ap (λ (l : Listing Item TlvFault). gathered take packet_fault no_field (fields data_table l)) read
     ∙ ap (gathered take packet_fault no_field) (plain_table (placed o 0x07 (encoding name)) (placed p 0x15 content) (placed q 0x16 info) (placed r 0x17 mac) refl refl refl refl)
     ∙ gathers take packet_fault no_field (named name key_name content mac octets valid key_valid o) (Name, placed o 0x07 (encoding name)) _ (name_step name key_name content mac octets valid key_valid o)
     ∙ others name key_name content mac octets valid key_valid o p q r plain (omega arith) in
@@ -225,7 +223,7 @@ last_again name key_name n content key valid key_valid short =
     (followed k 0x14 (final_block n) rest _ (omega arith) (omega arith) (omega arith) (behind_read name key_name content mac octets valid key_valid p (omega arith))) in
     let take = with_data_field octets in
     let fields_read : data_fields octets (placed 0 0x06 value) ≡ Ok (all_fields name key_name content mac octets valid key_valid o r (last_of n)) =
-    ap (λ (l : Listing Item TlvFault). gathered take packet_fault no_field (fields DATA l)) read
+    ap (λ (l : Listing Item TlvFault). gathered take packet_fault no_field (fields data_table l)) read
     ∙ ap (gathered take packet_fault no_field) (whole_table (placed o 0x07 (encoding name)) (placed k 0x14 (final_block n)) (placed p 0x15 content) (placed q 0x16 info) (placed r 0x17 mac) refl refl refl refl refl)
     ∙ gathers take packet_fault no_field (named name key_name content mac octets valid key_valid o) (Name, placed o 0x07 (encoding name)) _ (name_step name key_name content mac octets valid key_valid o)
     ∙ gathers take packet_fault (named name key_name content mac octets valid key_valid o) (record (named name key_name content mac octets valid key_valid o) { meta = last_of n }) (MetaInfo, placed k 0x14 (final_block n)) _ (meta_step name key_name content mac octets valid key_valid o k n (omega arith))

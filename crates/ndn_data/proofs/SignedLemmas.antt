@@ -1,7 +1,7 @@
 -- What a Data packet's signature signs stands in the packet, from the Name on.
-use Rattle.std.proofs.Common.{◌≡◌, ℕ, zero, suc, ◌+◌, ◌-◌, ◌^◌, ◌<◌, ◌≤◌, Bool, false, cond, List, [], ◌∷◌, ◌++◌, length, length-append, length-drop, take, drop, Option, Some, None, slice_get, slice_range, drop_at, Result, Ok, Err, IfSome, refl, sym, ap, subst, ◌∙◌, arith}
+use Rattle.std.proofs.Common.{◌≡◌, ℕ, zero, suc, ◌+◌, ◌-◌, ◌^◌, ◌<◌, ◌≤◌, Bool, false, cond, List, ◌++◌, length, length-append, length-drop, take, drop, Option, Some, None, slice_get, slice_range, drop_at, Result, Ok, Err, IfSome, refl, sym, ap, subst, ◌∙◌, arith}
 use Rattle.std.proofs.Math.Seq.{take-append-add}
-use Rattle.std.proofs.lemmas.List.{append-nil}
+use Rattle.std.proofs.lemmas.List.{append-nil, nil_from_length}
 use Rattle.std.proofs.lemmas.List.Folds.{drop_split}
 use Rattle.ndn_tlv.specs.Spelling.{head, element}
 use Rattle.ndn_tlv.specs.Listing.{◌>>=◌}
@@ -16,16 +16,16 @@ use Rattle.ndn_name.specs.declared.fault.Field.TheVariants as field
 use Rattle.ndn_name.specs.declared.fault.PacketFault.TheVariants.{BadField, Missing}
 use Rattle.ndn_name.specs.declared.name_fault.NameFault.{NameFault}
 use Rattle.ndn_name.specs.Names.{Component, encoding, name_of}
-use Rattle.ndn_name.proofs.Encodings.{bind_ok, IsOctets-before, IsOctets-behind, name_of-encoded}
+use Rattle.ndn_tlv.proofs.Steps.{bind_ok, ok_is}
+use Rattle.ndn_name.proofs.Encodings.{IsOctets-before, IsOctets-behind, name_of-encoded}
 use Rattle.ndn_packet.specs.Contents.{ok_or, name_or, name_in}
 use Rattle.ndn_packet.specs.SignatureInfo.{Info, info_in}
-use Rattle.ndn_packet.proofs.Gathering.{Stands, elements_stand, keeps}
+use Rattle.ndn_packet.proofs.Gathering.{none_before, Stands, elements_stand, keeps}
 use Rattle.ndn_data.specs.declared.data_fields.DataField.{DataField}
 use Rattle.ndn_data.specs.declared.data_fields.DataField.TheVariants.{Name, MetaInfo, Content, SignatureInfo, SignatureValue}
-use Rattle.ndn_data.specs.declared.data_fields.TheConstants.{DATA}
 use Rattle.ndn_data.specs.Signed.{Signs}
 use Rattle.ndn_data.specs.MetaInfo.{Meta, meta_in}
-use Rattle.ndn_data.specs.Data.{Data, DataSoFar, no_field, signed_before, with_data_field, data_fields, data_from, data_of, IsSpelled}
+use Rattle.ndn_data.specs.Data.{data_table, Data, DataSoFar, no_field, signed_before, with_data_field, data_fields, data_from, data_of, IsSpelled}
 use Rattle.ndn_packet.specs.Outer.{outer_of}
 use Rattle.ndn_packet.proofs.Outers.{outer_ok}
 
@@ -58,7 +58,7 @@ place_is f place e =
     let same : place_for f ≡ place = cc in
     subst (IsPlace (place_number f)) same (record { number = refl; typ = refl; once = refl })
 
-place_at : (k : ℕ) (place : Place DataField) → slice_get DATA k ≡ Some place → IsPlace k place
+place_at : (k : ℕ) (place : Place DataField) → slice_get data_table k ≡ Some place → IsPlace k place
 place_at zero place e = place_is Name place e
 place_at (suc zero) place e = place_is MetaInfo place e
 place_at (suc (suc zero)) place e = place_is Content place e
@@ -105,12 +105,6 @@ name_later whole start low more None h s = tt
 name_later whole start low more (Some n) h s =
     record { behind_start = s.behind_start; behind = s.behind; parts = s.parts; ends = omega (arith, s.ends) }
 
--- no signature has come where a field before it comes
-no_signature : (o : Option Signature) (P Q : Signature → Type 0) (from k : ℕ) → IfSome o (λ _. 5 ≤ from)
-    → from ≤ k → k < 5 → IfSome o Q
-no_signature None P Q from k h le lt = tt
-no_signature (Some g) P Q from k h le lt = absurd (omega (arith, h))
-
 later : (whole : List ℕ) (start from low more : ℕ) (s : DataSoFar) → low ≤ more
     → Keeps whole start from low s → Keeps whole start from more s
 later whole start from low more s h j =
@@ -118,9 +112,6 @@ later whole start from low more s h j =
 
 abbrev done : DataSoFar → Result DataSoFar PacketFault
 done s = Ok s
-
-ok_is : (s t : DataSoFar) → done s ≡ done t → s ≡ t
-ok_is s t e = cc
 
 -- a name that was read is spelled in its element
 name_or_ok : (bad : PacketFault) (r : Result (List Component) NameFault) (name : List Component)
@@ -186,8 +177,8 @@ module _ (whole : List ℕ) (start : ℕ) (fits : IsOctets whole) (short : lengt
       subst (Keeps whole start 1 e.end) (ok_is (record s { name = Some (e.start, name) }) t b.2) (record {
         above = omega (arith, j.above);
         name = stands_here;
-        signature = no_signature s.signature (λ _. Unit {0}) (SignatureStands (drop start whole) (Some (e.start, name))) from 0 j.last le (omega arith);
-        last = no_signature s.signature (λ _. Unit {0}) (λ _. 5 ≤ 1) from 0 j.last le (omega arith);
+        signature = none_before s.signature 5 (SignatureStands (drop start whole) (Some (e.start, name))) from 0 j.last le (omega arith);
+        last = none_before s.signature 5 (λ _. 5 ≤ 1) from 0 j.last le (omega arith);
       })
 
   -- a field that changes neither the name nor the signature
@@ -195,7 +186,7 @@ module _ (whole : List ℕ) (start : ℕ) (fits : IsOctets whole) (short : lengt
       → low ≤ e.end → s.name ≡ u.name → s.signature ≡ u.signature → done u ≡ Ok t → Keeps whole start (suc k) e.end t
   passes from low k s u t e le below j above same_name same_signature h =
       let P : Option Named → Option Signature → Type 0 = λ name signature. IfSome name (NameStands whole start e.end) × IfSome signature (SignatureStands (drop start whole) name) × IfSome signature (λ _. 5 ≤ suc k) in
-      let here : P s.name s.signature = (name_later whole start low e.end s.name above j.name, j.signature, no_signature s.signature (λ _. Unit {0}) (λ _. 5 ≤ suc k) from k j.last le (omega arith)) in
+      let here : P s.name s.signature = (name_later whole start low e.end s.name above j.name, j.signature, none_before s.signature 5 (λ _. 5 ≤ suc k) from k j.last le (omega arith)) in
       let Q : Option Named → Type 0 = λ name. P name s.signature in
       let named = subst Q same_name here in
       let R : Option Signature → Type 0 = λ signature. P u.name signature in
@@ -228,7 +219,7 @@ module _ (whole : List ℕ) (start : ℕ) (fits : IsOctets whole) (short : lengt
   with_field SignatureValue from low s t e le typ j above begins long stands h =
       with_signature from low s t e typ j above (omega arith) stands h
 
-  at_place : (from low k : ℕ) (place : Place DataField) (s t : DataSoFar) (e : Item) → from ≤ k → slice_get DATA k ≡ Some place → place.typ ≡ e.typ → Keeps whole start from low s
+  at_place : (from low k : ℕ) (place : Place DataField) (s t : DataSoFar) (e : Item) → from ≤ k → slice_get data_table k ≡ Some place → place.typ ≡ e.typ → Keeps whole start from low s
       → low ≤ e.start → e.start < e.value_start → e.value_start + length e.value ≡ e.end → Stands whole e
       → with_data_field whole s (place.field, e) ≡ Ok t → Keeps whole start (cond place.repeats k (suc k)) e.end t
   at_place from low k place s t e le at same j above begins long stands h =
@@ -252,8 +243,8 @@ data_gathers octets e s fits short whole at h =
     let are = elements_are e.value_start e.value octet in
     let stand = elements_stand octets e.value_start e.value read.items read.fault value are in
     let first : Keeps octets e.value_start 0 e.value_start no_field = record { above = omega arith; name = tt; signature = tt; last = tt } in
-    let kept = keeps DATA (with_data_field octets) (e.value_start + length e.value) (Stands octets) (Keeps octets e.value_start) (at_place octets e.value_start fits short) (λ from low more t le j. later octets e.value_start from low more t le j)
-    0 read.items read.fault (fields DATA read) (fields_stand DATA read.fault read.items 0 DATA refl) e.value_start no_field s first (elements_within_octets e.value_start e.value) stand h in
+    let kept = keeps data_table (with_data_field octets) (e.value_start + length e.value) (Stands octets) (Keeps octets e.value_start) (at_place octets e.value_start fits short) (λ from low more t le j. later octets e.value_start from low more t le j)
+    0 read.items read.fault (fields data_table read) (fields_stand data_table read.fault read.items 0 data_table refl) e.value_start no_field s first (elements_within_octets e.value_start e.value) stand h in
     let P : List ℕ → Type 0 = λ v. IfSome s.signature (SignatureStands v s.name) in
     record { signature = subst P value kept.holds.signature }
 
@@ -305,10 +296,6 @@ data_spelled octets d fits h =
 
 -- ---- what the view keeps
 
-none_left : (xs : List ℕ) → length xs ≡ 0 → xs ≡ []
-none_left [] h = refl
-none_left (x ∷ xs) h = absurd (omega arith)
-
 pub signs_of : (value : List ℕ) (name : Option Named) (g : Signature) → length value ≤ 8800 → SignatureStands value name g → Signs value g.1 g.0
 signs_of value name g small stands =
     let last = element 0x17 g.0 in
@@ -318,7 +305,7 @@ signs_of value name g small stands =
     record {
       short = omega (arith, long, inner, inmost, length-append (head 0x17 (length g.0)) g.0);
       whole = λ same.
-          let before = none_left stands.before (omega (arith, long, inner, inmost)) in
-          let behind = none_left stands.behind (omega (arith, long, inner, inmost)) in
+          let before = nil_from_length stands.before (omega (arith, long, inner, inmost)) in
+          let behind = nil_from_length stands.behind (omega (arith, long, inner, inmost)) in
           stands.parts ∙ ap (λ (b : List ℕ). b ++ (g.1 ++ (last ++ stands.behind))) before ∙ ap (λ (b : List ℕ). g.1 ++ (last ++ b)) behind ∙ ap (λ (b : List ℕ). g.1 ++ b) (append-nil last);
     }

@@ -1,9 +1,11 @@
 -- What octets are as a Data packet, or the first fault (NDN Packet Format 0.3, "Data Packet").
-use Rattle.std.specs.Prelude.{◌≡◌, ◌⊎◌, ℕ, ◌≤◌, Bool, IsTrue, List, [], ◌++◌, Option, Some, None, option_map, IfSome, Result, Ok, slice_range}
+use Rattle.std.specs.Prelude.{◌≡◌, ◌⊎◌, ℕ, ◌≤◌, Bool, IsTrue, List, [], ◌∷◌, ◌++◌, Option, Some, None, option_map, IfSome, Result, Ok, slice_range}
+use Rattle.ndn_tlv.specs.Types as types
 use Rattle.ndn_tlv.specs.Spelling.{element}
 use Rattle.ndn_tlv.specs.Listing.{gathered, ◌>>=◌}
 use Rattle.ndn_tlv.specs.Elements.{Item, elements}
-use Rattle.ndn_tlv.specs.OrderTable.{fields}
+use Rattle.ndn_tlv.specs.OrderTable.{once, fields}
+use Rattle.ndn_tlv.specs.declared.order_table.Place.{Place}
 use Rattle.ndn_name.specs.declared.fault.Field.TheVariants as field
 use Rattle.ndn_name.specs.declared.fault.PacketFault.{PacketFault}
 use Rattle.ndn_name.specs.declared.fault.PacketFault.TheVariants.{Missing, BadField}
@@ -18,8 +20,17 @@ use Rattle.ndn_data.specs.MetaInfo.{Meta, plain, meta_in, meta}
 use Rattle.ndn_data.specs.declared.data_fields.DataField.{DataField}
 use Rattle.ndn_data.specs.declared.data_fields.DataField.TheVariants.{Name, MetaInfo, Content, SignatureInfo, SignatureValue}
 use Rattle.ndn_data.specs.declared.data_fields.Gathered.{Gathered}
-use Rattle.ndn_data.specs.declared.data_fields.TheConstants.{DATA}
 use Rattle.ndn_data.specs.declared.data_view.DataView.{DataView}
+
+-- The places of the fields of a Data packet.
+abbrev pub data_table : List (Place DataField)
+data_table =
+    once types.Name Name
+    ∷ once types.MetaInfo MetaInfo
+    ∷ once types.Content Content
+    ∷ once types.SignatureInfo SignatureInfo
+    ∷ once types.SignatureValue SignatureValue
+    ∷ []
 
 -- A Data packet: its fields, the octets that are signed, and the value of the packet's element.
 pub record Data : Type 0 where
@@ -64,7 +75,7 @@ with_data_field octets s (SignatureValue, e) =
 abbrev pub data_fields : List ℕ → Item → Result DataSoFar PacketFault
 data_fields octets e =
     gathered (with_data_field octets) packet_fault no_field
-    (fields DATA (elements e.value_start e.value))
+    (fields data_table (elements e.value_start e.value))
 
 -- The packet that the fields make, where none is missing.
 abbrev pub data_from : List ℕ → DataSoFar → Result Data PacketFault
@@ -87,11 +98,11 @@ data_from value s =
 -- The Data packet that octets are.
 abbrev pub data_of : List ℕ → Result Data PacketFault
 data_of octets =
-    outer_of 0x06 octets >>= λ e. data_fields octets e >>= data_from e.value
+    outer_of types.Data octets >>= λ e. data_fields octets e >>= data_from e.value
 
 -- The packet has no octets but those that are signed, and the signature's element behind them.
 abbrev pub IsAllSigned : Data → Type 0
-IsAllSigned d = d.value ≡ d.signed ++ element 0x17 d.signature
+IsAllSigned d = d.value ≡ d.signed ++ element types.SignatureValue d.signature
 
 -- The octets are the packet's element, whose value has what is signed, from the beginning of the
 -- Name on, and right behind that the SignatureValue. What stands around them was passed over.
@@ -99,9 +110,9 @@ pub record IsSpelled (octets : List ℕ) (d : Data) : Type 0 where
   pub before : List ℕ
   pub fields : List ℕ
   pub behind : List ℕ
-  pub packet : octets ≡ element 0x06 d.value
-  pub value : d.value ≡ before ++ (d.signed ++ (element 0x17 d.signature ++ behind))
-  pub signed : d.signed ≡ element 0x07 (encoding d.name) ++ fields
+  pub packet : octets ≡ element types.Data d.value
+  pub value : d.value ≡ before ++ (d.signed ++ (element types.SignatureValue d.signature ++ behind))
+  pub signed : d.signed ≡ element types.Name (encoding d.name) ++ fields
 
 -- An Interest of this name asks for the packet of this digest: by its name, by its full name, or
 -- where the Interest allows that by a front of the full name.

@@ -1,8 +1,10 @@
 -- What a Data packet says of its content (NDN Packet Format 0.3, "Data Packet").
 use Rattle.std.specs.Prelude.{ℕ, List, [], ◌∷◌, Option, Some, None, option_map, Result, Ok, Err}
+use Rattle.ndn_tlv.specs.Types as types
 use Rattle.ndn_tlv.specs.Listing.{gathered, ◌>>=◌}
 use Rattle.ndn_tlv.specs.Elements.{Item, elements}
-use Rattle.ndn_tlv.specs.OrderTable.{fields}
+use Rattle.ndn_tlv.specs.OrderTable.{once, fields}
+use Rattle.ndn_tlv.specs.declared.order_table.Place.{Place}
 use Rattle.ndn_name.specs.declared.fault.Field.TheVariants as field
 use Rattle.ndn_name.specs.declared.fault.PacketFault.{PacketFault}
 use Rattle.ndn_name.specs.declared.fault.PacketFault.TheVariants.{BadField}
@@ -12,16 +14,27 @@ use Rattle.ndn_packet.specs.Contents.{number_in, name_in}
 use Rattle.ndn_data.specs.declared.meta_info.MetaField.{MetaField}
 use Rattle.ndn_data.specs.declared.meta_info.MetaField.TheVariants.{ContentType, FreshnessPeriod, FinalBlockId}
 use Rattle.ndn_data.specs.declared.meta_info.MetaInfo as declared_meta
-use Rattle.ndn_data.specs.declared.meta_info.TheConstants.{META_INFO}
+
+-- The places of the fields of a MetaInfo.
+abbrev pub meta_info_table : List (Place MetaField)
+meta_info_table =
+    once types.ContentType ContentType
+    ∷ once types.FreshnessPeriod FreshnessPeriod
+    ∷ once types.FinalBlockId FinalBlockId
+    ∷ []
+
+-- The content type of a plain content, under the name that the standard gives it.
+abbrev pub Blob : ℕ
+Blob = 0
 
 -- The content's type, and the last component of the name of the object's last segment. A packet
--- that says neither has a plain content, which is type 0, and names no last segment.
+-- that says neither has a plain content, and names no last segment.
 pub record Meta : Type 0 where
   pub content_type : ℕ
   pub last : Option Component
 
 abbrev pub plain : Meta
-plain = record { content_type = 0; last = None }
+plain = record { content_type = Blob; last = None }
 
 -- The one component of a name.
 abbrev pub only_component : PacketFault → List Component → Result Component PacketFault
@@ -46,7 +59,7 @@ with_meta_field m (FinalBlockId, e) = final_block_in e >>= λ c. Ok (record m { 
 -- The meta info that an element is.
 abbrev pub meta_in : Item → Result Meta PacketFault
 meta_in e =
-    gathered with_meta_field packet_fault plain (fields META_INFO (elements e.value_start e.value))
+    gathered with_meta_field packet_fault plain (fields meta_info_table (elements e.value_start e.value))
 
 -- A meta info without where its octets lie in memory.
 abbrev pub meta : declared_meta.MetaInfo → Meta

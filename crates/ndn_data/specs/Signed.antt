@@ -1,15 +1,17 @@
 -- Where a signature and the octets that it signs stand in the value of a packet.
 use Rattle.std.specs.Prelude.{◌≡◌, ℕ, ◌+◌, ◌≤◌, List, ◌++◌, length}
+use Rattle.ndn_tlv.specs.Types as types
 use Rattle.ndn_tlv.specs.Spelling.{element}
+use Rattle.ndn_packet.specs.Outer.{packet_limit}
 
 abbrev pub IsShort : List ℕ → List ℕ → Type 0
-IsShort signed signature = length signed + length signature ≤ 8800
+IsShort signed signature = length signed + length signature ≤ packet_limit
 
 -- What is signed and the signature's element are the whole value where they are as long.
 abbrev pub IsWholeWhenLong : List ℕ → List ℕ → List ℕ → Type 0
 IsWholeWhenLong value signed signature =
-    length value ≡ length signed + length (element 0x17 signature)
-    → value ≡ signed ++ element 0x17 signature
+    length value ≡ length signed + length (element types.SignatureValue signature)
+    → value ≡ signed ++ element types.SignatureValue signature
 
 pub record Signs (value signed signature : List ℕ) : Type 0 where
   pub short : IsShort signed signature

@@ -1,13 +1,15 @@
 ghost use Rattle.std.specs.Prelude.{◌≡◌, ◌+◌, ◌≤◌, length, MatchResult, Ok, Err, IfOk, OnOk, IfSome};
+ghost use Rattle.ndn_tlv.specs.Types as standard;
 ghost use Rattle.ndn_tlv.specs.Spelling.{element};
 ghost use Rattle.ndn_tlv.specs.Elements.{item, placed};
+ghost use Rattle.ndn_packet.specs.Outer.{packet_limit};
 ghost use Rattle.ndn_data.specs.Signed.{Signs};
 ghost use Rattle.ndn_data.specs.Data.{with_data_field, data_fields, so_far, StartsBy};
 
 use crate::meta_info::{MetaInfo, PLAIN};
 use ndn_name::{Field, NameView, PacketFault};
 use ndn_packet::{SignatureInfo, bad_field, name_in};
-use ndn_tlv::{Element, FieldReader, Place, Reader};
+use ndn_tlv::{Element, FieldReader, Place, Reader, types};
 
 #[derive(Clone, Copy)]
 enum DataField {
@@ -20,27 +22,27 @@ enum DataField {
 
 const DATA: [Place<DataField>; 5] = [
     Place {
-        typ: 0x07,
+        typ: types::NAME,
         field: DataField::Name,
         repeats: false,
     },
     Place {
-        typ: 0x14,
+        typ: types::META_INFO,
         field: DataField::MetaInfo,
         repeats: false,
     },
     Place {
-        typ: 0x15,
+        typ: types::CONTENT,
         field: DataField::Content,
         repeats: false,
     },
     Place {
-        typ: 0x16,
+        typ: types::SIGNATURE_INFO,
         field: DataField::SignatureInfo,
         repeats: false,
     },
     Place {
-        typ: 0x17,
+        typ: types::SIGNATURE_VALUE,
         field: DataField::SignatureValue,
         repeats: false,
     },
@@ -64,9 +66,9 @@ impl<'p> Gathered<'p> {
         octets: &'p [u8],
         outer: Element<'p>,
     ) -> Result<Gathered<'p>, PacketFault>
-        requires whole { octets.now ≡ element 0x06 outer.value.now }
-        requires placed { item outer ≡ placed 0 0x06 outer.value.now }
-        requires short { length octets.now ≤ 8_800 }
+        requires whole { octets.now ≡ element standard.Data outer.value.now }
+        requires placed { item outer ≡ placed 0 standard.Data outer.value.now }
+        requires short { length octets.now ≤ packet_limit }
         ensures read { MatchResult result
             (λ g. data_fields octets.now (item outer.entry) ≡ Ok (so_far g))
             (λ fault. data_fields octets.now (item outer.entry) ≡ Err fault) }

@@ -4,6 +4,7 @@ use crate::data_fields::Gathered;
 use crate::full_name::{is_full_name, is_same_name};
 use ndn_name::{ComponentView, Field, NameView, PacketFault};
 use ndn_packet::{element_len, outer_element};
+use ndn_tlv::types;
 
 /// A Data packet whose octets are lent.
 #[derive(Debug, Drop)]
@@ -11,11 +12,11 @@ pub struct DataView<'p> {
     pub name: NameView<'p>,
     /// Empty where the packet has none.
     pub content: &'p [u8],
-    /// 0, for a plain content, where the packet says nothing.
+    /// That of a plain content (0), where the packet says nothing.
     pub content_type: u64,
     /// The last component of the name of the object's last segment (FinalBlockId).
     pub last: Option<ComponentView<'p>>,
-    /// 4 is HMAC with SHA-256.
+    /// As `ndn_packet::SIGNATURE_HMAC_WITH_SHA256`.
     pub signature_type: u64,
     /// The key's name, where the key locator is a name.
     pub locator: Option<NameView<'p>>,
@@ -40,7 +41,7 @@ impl<'p> DataView<'p> {
             (λ d. data_of octets.now ≡ Ok (packet d))
             (λ fault. data_of octets.now ≡ Err fault) }
     {
-        let outer = outer_element(octets, 0x06)?;
+        let outer = outer_element(octets, types::DATA)?;
         let gathered = Gathered::of_fields(octets, outer)?;
         DataView::of(outer.value, gathered)
     }
@@ -81,7 +82,8 @@ impl<'p> DataView<'p> {
     pub fn all_signed(&self) -> bool
         ensures { IsTrue result ↔ IsAllSigned (packet self.now) }
     {
-        self.value.len() == self.signed.len() + element_len(0x17, self.signature.len())
+        let signature = element_len(types::SIGNATURE_VALUE, self.signature.len());
+        self.value.len() == self.signed.len() + signature
     }
 
     /// Whether an Interest of this name asks for the packet, whose digest is given: by its name or

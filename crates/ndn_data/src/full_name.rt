@@ -2,6 +2,7 @@ ghost use Rattle.std.specs.Prelude.{◌≡◌, ◌↔◌, IsTrue};
 ghost use Rattle.ndn_data.specs.FullName.{full_name};
 
 use ndn_name::NameView;
+use ndn_tlv::types;
 
 // Whether the names are the same.
 pub(crate) fn is_same_name(a: &NameView<'_>, b: &NameView<'_>) -> bool
@@ -21,7 +22,7 @@ pub(crate) fn is_full_name(name: &NameView<'_>, of: &NameView<'_>, digest: &[u8;
         return false;
     }
     let last = name.component(of.len());
-    if last.typ != 1 {
+    if last.typ != types::IMPLICIT_SHA256_DIGEST_COMPONENT {
         return false;
     }
     last.value == digest.as_slice()

@@ -5,7 +5,7 @@ ghost use Rattle.ndn_data.specs.MetaInfo.{with_meta_field, meta_in, final_block_
 
 use ndn_name::{ComponentView, Field, PacketFault};
 use ndn_packet::{bad_field, name_in, number_in};
-use ndn_tlv::{Element, FieldReader, Place, Reader};
+use ndn_tlv::{Element, FieldReader, Place, Reader, types};
 
 // What a packet says of its content.
 #[derive(Clone, Copy)]
@@ -24,25 +24,28 @@ enum MetaField {
 
 const META_INFO: [Place<MetaField>; 3] = [
     Place {
-        typ: 0x18,
+        typ: types::CONTENT_TYPE,
         field: MetaField::ContentType,
         repeats: false,
     },
     Place {
-        typ: 0x19,
+        typ: types::FRESHNESS_PERIOD,
         field: MetaField::FreshnessPeriod,
         repeats: false,
     },
     Place {
-        typ: 0x1a,
+        typ: types::FINAL_BLOCK_ID,
         field: MetaField::FinalBlockId,
         repeats: false,
     },
 ];
 
-// The meta info of a packet that has none: type 0 is a plain content.
+// The content type of a plain content (BLOB).
+const BLOB: u64 = 0;
+
+// The meta info of a packet that has none.
 pub(crate) const PLAIN: MetaInfo<'static> = MetaInfo {
-    content_type: 0,
+    content_type: BLOB,
     last: None,
 };
 

@@ -5,7 +5,7 @@ mod worked;
 
 use super::*;
 use hostile::HOSTILE;
-use ndn_name::{ComponentView, Field, Name, NameFault, NameView, PacketFault, PacketWriteFault};
+use ndn_name::{Field, Name, NameFault, NameView, PacketFault};
 use ndn_sign::{digest, hmac};
 use ndn_tlv::TlvFault;
 use std::alloc::Global;
@@ -70,30 +70,6 @@ fn hostile_packets(rt: HostRuntime) {
     for (octets, fault) in HOSTILE {
         assert_eq!(rt; DataView::read(octets).err(), Some(fault), "{octets:?}");
     }
-}
-
-#[test]
-fn packets_have_8800_octets_at_most(rt: HostRuntime) -> Result<(), Fail> {
-    let alloc = rt.alloc();
-    let zeros = [0; 8_801];
-    assert_eq!(rt;
-        DataView::read(&zeros).err(),
-        Some(PacketFault::PacketTooLong)
-    );
-    assert_eq!(rt;
-        DataView::read(&zeros[..8_800]).err(),
-        Some(PacketFault::Tlv(TlvFault::ZeroType { at: 0 }))
-    );
-    let doc = name(alloc, &[8, 1, 0x61])?;
-    let key_name = name(alloc, &[8, 1, 0x6b])?;
-    let packet = write_signed(alloc, &doc, None, &zeros[..8_741], &key_name, KEY)?;
-    assert_eq!(rt; packet.len(), 8_800);
-    assert_eq!(rt; DataView::read(&packet)?.content.len(), 8_741);
-    assert_eq!(rt;
-        write_signed(alloc, &doc, None, &zeros[..8_742], &key_name, KEY).err(),
-        Some(PacketWriteFault::TooLong { octets: 8_801 })
-    );
-    Ok(())
 }
 
 // Packets with strangers that are passed over: where the signed portion begins, where it ends, and
@@ -252,17 +228,45 @@ fn signature_infos(rt: HostRuntime) -> Result<(), Fail> {
     Ok(())
 }
 
+// Packets with a MetaInfo: the content type, and the type of the last segment's component.
+const META_INFOS: [(&[u8], u64, Option<u16>); 3] = [
+    // The MetaInfo 14 03 18 01 02: content type 2 (KEY).
+    (
+        &[
+            0x06, 0x12, 0x07, 0x03, 0x08, 0x01, 0x61, 0x14, 0x03, 0x18, 0x01, 0x02, 0x16, 0x03,
+            0x1b, 0x01, 0x04, 0x17, 0x01, 0x00,
+        ],
+        2,
+        None,
+    ),
+    // The MetaInfo 14 03 19 01 02: fresh for two milliseconds.
+    (
+        &[
+            0x06, 0x12, 0x07, 0x03, 0x08, 0x01, 0x61, 0x14, 0x03, 0x19, 0x01, 0x02, 0x16, 0x03,
+            0x1b, 0x01, 0x04, 0x17, 0x01, 0x00,
+        ],
+        0,
+        None,
+    ),
+    // All three fields, with leading zeros.
+    (
+        &[
+            0x06, 0x1d, 0x07, 0x03, 0x08, 0x01, 0x61, 0x14, 0x0e, 0x18, 0x04, 0x00, 0x00, 0x01,
+            0x02, 0x19, 0x02, 0x00, 0x00, 0x1a, 0x02, 0x08, 0x00, 0x16, 0x03, 0x1b, 0x01, 0x04,
+            0x17, 0x01, 0x00,
+        ],
+        258,
+        Some(8),
+    ),
+];
+
 #[test]
-fn numbers_of_a_meta_info(rt: HostRuntime) -> Result<(), Fail> {
-    let octets = [
-        0x06, 0x1d, 0x07, 0x03, 0x08, 0x01, 0x61, 0x14, 0x0e, 0x18, 0x04, 0x00, 0x00, 0x01, 0x02,
-        0x19, 0x02, 0x00, 0x00, 0x1a, 0x02, 0x08, 0x00, 0x16, 0x03, 0x1b, 0x01, 0x04, 0x17, 0x01,
-        0x00,
-    ];
-    let data = DataView::read(&octets)?;
-    assert_eq!(rt; data.content_type, 258);
-    let last = ComponentView { typ: 8, value: &[] };
-    assert_eq!(rt; data.last, Some(last));
+fn meta_infos(rt: HostRuntime) -> Result<(), Fail> {
+    for (octets, content_type, last) in META_INFOS {
+        let data = DataView::read(octets)?;
+        assert_eq!(rt; data.content_type, content_type);
+        assert_eq!(rt; data.last.map(|component| component.typ), last);
+    }
     Ok(())
 }
 

@@ -1,16 +1,18 @@
 ghost use Rattle.std.specs.Prelude.{◌≡◌, ℕ, ◌+◌, ◌^◌, ◌-◌, ◌<◌, ◌≤◌, ◌++◌, ◌↔◌, length, min, IfOk, OnOk, Err};
+ghost use Rattle.ndn_packet.specs.Outer.{packet_limit};
 ghost use Rattle.ndn_data.specs.WrittenData.{final_block, written_meta, written_data, unsigned, signed};
 
 use ndn_name::{Name, PacketWriteFault};
 use ndn_packet::{
-    PACKET_LIMIT, element_len, number_field_len, put_signature_info, signature_info_len,
+    DIGEST_ELEMENT_LEN, PACKET_LIMIT, element_len, number_field_len, put_signature_info,
+    signature_info_len,
 };
 use ndn_sign::hmac;
-use ndn_tlv::{Writer, head_len};
+use ndn_tlv::{Writer, head_len, types};
 use std::alloc::{AllocError, Global};
 
-/// How many octets the element of a mac has.
-const MAC_ELEMENT: usize = 34;
+// The type of the component that names a segment, as an element's.
+const SEGMENT: u32 = types::SEGMENT_NAME_COMPONENT as u32;
 
 // A packet before it is signed.
 #[derive(Clone, Copy)]
@@ -36,9 +38,9 @@ pub fn write_signed(
     ensures ok { IfOk result
         (λ octets. octets.items ≡ written_data name.now last content.now key_name.now key.now) }
     ensures fits { OnOk result
-        (length (written_data name.now last content.now key_name.now key.now) ≤ PACKET_LIMIT) }
+        (length (written_data name.now last content.now key_name.now key.now) ≤ packet_limit) }
     ensures too_long { (n : ℕ) → (result ≡ Err (PacketWriteFault.TooLong n))
-        ↔ ((PACKET_LIMIT < length (written_data name.now last content.now key_name.now key.now))
+        ↔ ((packet_limit < length (written_data name.now last content.now key_name.now key.now))
         × (n ≡ min (length (written_data name.now last content.now key_name.now key.now))
         usize.MAX)) }
 {
@@ -49,7 +51,7 @@ pub fn write_signed(
         key_name,
     };
     let body = unsigned.body_len();
-    let octets = body.saturating_add(head_len(0x06, body));
+    let octets = body.saturating_add(head_len(types::DATA, body));
     if octets > PACKET_LIMIT {
         return Err(PacketWriteFault::TooLong { octets });
     }
@@ -64,27 +66,27 @@ impl Unsigned<'_> {
     fn body_len(&self) -> usize
         ensures { result ≡ min (length (unsigned self.now) + 34) usize.MAX }
     {
-        let around = element_len(0x07, self.name.octets().len())
+        let around = element_len(types::NAME, self.name.octets().len())
             + meta_len(self.last)
-            + element_len(0x16, signature_info_len(self.key_name))
-            + MAC_ELEMENT;
+            + element_len(types::SIGNATURE_INFO, signature_info_len(self.key_name))
+            + DIGEST_ELEMENT_LEN;
         let content = self.content.len();
-        content.saturating_add(around + head_len(0x15, content))
+        content.saturating_add(around + head_len(types::CONTENT, content))
     }
 
     // The packet, signed, whose element's value has so many octets.
     fn write(&self, alloc: Global, body: usize, key: &[u8]) -> Result<Vec<u8>, AllocError>
         requires long { body ≡ length (unsigned self.now) + 34 }
-        requires short { body ≤ PACKET_LIMIT }
+        requires short { body ≤ packet_limit }
         ensures { IfOk result (λ octets. octets.items ≡ signed (unsigned self.now) key.now) }
     {
-        let mut writer = Writer::with_capacity(alloc, element_len(0x06, body))?;
-        writer.put_head(0x06, body)?;
+        let mut writer = Writer::with_capacity(alloc, element_len(types::DATA, body))?;
+        writer.put_head(types::DATA, body)?;
         let head = writer.octets().len();
         self.put(&mut writer)?;
         let (_, portion) = writer.octets().split_at(head);
         let mac = hmac(key, portion, &[]);
-        writer.put(0x17, &mac)?;
+        writer.put(types::SIGNATURE_VALUE, &mac)?;
         Ok(writer.finish())
     }
 
@@ -92,10 +94,10 @@ impl Unsigned<'_> {
     fn put(&self, writer: &mut Writer) -> Result<(), AllocError>
         ensures { OnOk result (writer.new ≡ writer.old ++ unsigned self.now) }
     {
-        writer.put(0x07, self.name.octets())?;
+        writer.put(types::NAME, self.name.octets())?;
         put_meta(writer, self.last)?;
-        writer.put(0x15, self.content)?;
-        put_signature_info(writer, 0x16, self.key_name)
+        writer.put(types::CONTENT, self.content)?;
+        put_signature_info(writer, types::SIGNATURE_INFO, self.key_name)
     }
 }
 
@@ -106,7 +108,7 @@ fn meta_len(last: Option<u64>) -> usize
 {
     match last {
         None => 0,
-        Some(last) => element_len(0x14, final_block_len(last)),
+        Some(last) => element_len(types::META_INFO, final_block_len(last)),
     }
 }
 
@@ -115,7 +117,8 @@ fn final_block_len(last: u64) -> usize
     ensures exact { result ≡ length (final_block last) }
     ensures small { result ≤ 80 }
 {
-    element_len(0x1a, element_len(0x32, number_field_len(last)))
+    let component = element_len(SEGMENT, number_field_len(last));
+    element_len(types::FINAL_BLOCK_ID, component)
 }
 
 // Appends the meta info, if there is one.
@@ -125,7 +128,8 @@ fn put_meta(writer: &mut Writer, last: Option<u64>) -> Result<(), AllocError>
     let Some(last) = last else {
         return Ok(());
     };
-    writer.put_head(0x14, final_block_len(last))?;
-    writer.put_head(0x1a, element_len(0x32, number_field_len(last)))?;
-    writer.put_number(0x32, last)
+    let component = element_len(SEGMENT, number_field_len(last));
+    writer.put_head(types::META_INFO, final_block_len(last))?;
+    writer.put_head(types::FINAL_BLOCK_ID, component)?;
+    writer.put_number(SEGMENT, last)
 }

@@ -18,11 +18,11 @@ use Rattle.ndn_name.proofs.Encodings.{IsName-append}
 use Rattle.ndn_sign.specs.Hmac.{hmac}
 use Rattle.ndn_packet.specs.SignatureInfo.{Info}
 use Rattle.ndn_packet.specs.Written.{written_info}
+use Rattle.ndn_packet.proofs.Ends.{slice_get-push}
 use Rattle.ndn_packet.proofs.Lengths.{length-element}
 use Rattle.ndn_packet.proofs.ReadBack.{alone, followed, outer_again, name_again, info_again, gathers, gathered-nothing}
 use Rattle.ndn_interest.specs.declared.interest_fields.InterestField.TheVariants.{Name, CanBePrefix, ApplicationParameters, InterestSignatureInfo, InterestSignatureValue}
-use Rattle.ndn_interest.specs.declared.interest_fields.TheConstants.{INTEREST}
-use Rattle.ndn_interest.specs.Interest.{Interest, InterestSoFar, no_field, some_name, interest_name_in, with_interest_field, interest_fields, last_component, without_last, ends_in_digest, interest_from, interest_of}
+use Rattle.ndn_interest.specs.Interest.{interest_table, Interest, InterestSoFar, no_field, some_name, interest_name_in, with_interest_field, interest_fields, last_component, without_last, ends_in_digest, interest_from, interest_of}
 use Rattle.ndn_interest.specs.WrittenInterest.{written_plain, written_parameters, written_digested, written_interest, read_plain, read_signed}
 use Rattle.ndn_interest.proofs.DigestLemmas.{IsOctets-sha256}
 
@@ -37,10 +37,6 @@ interest_name_again : (o : ℕ) (name : List Component) → IsName name → 0 < 
 interest_name_again o name valid some =
     let bad = BadField field.Name o in
     ap (λ (r : Result (List Component) PacketFault). r >>= some_name bad) (name_again bad o 0x07 name valid) ∙ some_again bad name some
-
-slice_get-push : (name : List Component) (c : Component) → slice_get (name ++ c ∷ []) (length name) ≡ Some c
-slice_get-push [] c = refl
-slice_get-push (d ∷ name) c = slice_get-push name c
 
 last_place : (name : List Component) (c : Component) → length (name ++ c ∷ []) - 1 ≡ length name
 last_place name c = omega (arith, length-append name (c ∷ []))
@@ -60,16 +56,16 @@ digest_component digested =
 
 -- ---- the tables
 
-flag_table : (a b : Item) → a.typ ≡ 0x07 → b.typ ≡ 0x21 → fields INTEREST (a then (b then nothing)) ≡ ((Name, a) then ((CanBePrefix, b) then nothing))
+flag_table : (a b : Item) → a.typ ≡ 0x07 → b.typ ≡ 0x21 → fields interest_table (a then (b then nothing)) ≡ ((Name, a) then ((CanBePrefix, b) then nothing))
 unfolding fields_among place_of
 flag_table a b h k = rw (h, k) refl
 
-name_table : (a : Item) → a.typ ≡ 0x07 → fields INTEREST (a then nothing) ≡ ((Name, a) then nothing)
+name_table : (a : Item) → a.typ ≡ 0x07 → fields interest_table (a then nothing) ≡ ((Name, a) then nothing)
 unfolding fields_among place_of
 name_table a h = rw h refl
 
 signed_table : (a b c d : Item) → a.typ ≡ 0x07 → b.typ ≡ 0x24 → c.typ ≡ 0x2c → d.typ ≡ 0x2e
-    → fields INTEREST (a then (b then (c then (d then nothing)))) ≡ ((Name, a) then ((ApplicationParameters, b) then ((InterestSignatureInfo, c) then ((InterestSignatureValue, d) then nothing))))
+    → fields interest_table (a then (b then (c then (d then nothing)))) ≡ ((Name, a) then ((ApplicationParameters, b) then ((InterestSignatureInfo, c) then ((InterestSignatureValue, d) then nothing))))
 unfolding fields_among place_of
 signed_table a b c d h i j k = rw (h, i, j, k) refl
 
@@ -108,7 +104,7 @@ plain_again name true valid some short =
     let take = with_interest_field octets in
     let t = record (named name) { can_be_prefix = true } in
     let all : interest_fields octets (placed 0 0x05 value) ≡ Ok t =
-    ap (λ (l : Listing Item TlvFault). gathered take packet_fault no_field (fields INTEREST l)) read
+    ap (λ (l : Listing Item TlvFault). gathered take packet_fault no_field (fields interest_table l)) read
     ∙ ap (gathered take packet_fault no_field) (flag_table (placed o 0x07 (encoding name)) (placed p 0x21 []) refl refl)
     ∙ gathers take packet_fault no_field (named name) (Name, placed o 0x07 (encoding name)) ((CanBePrefix, placed p 0x21 []) then nothing) (name_step octets o name valid some)
     ∙ gathers take packet_fault (named name) t (CanBePrefix, placed p 0x21 []) nothing refl
@@ -125,7 +121,7 @@ plain_again name false valid some short =
     let read = ap (elements o) (append-nil first) ∙ alone o 0x07 (encoding name) (omega arith) (omega arith) (omega arith) in
     let take = with_interest_field octets in
     let all : interest_fields octets (placed 0 0x05 value) ≡ Ok (named name) =
-    ap (λ (l : Listing Item TlvFault). gathered take packet_fault no_field (fields INTEREST l)) read
+    ap (λ (l : Listing Item TlvFault). gathered take packet_fault no_field (fields interest_table l)) read
     ∙ ap (gathered take packet_fault no_field) (name_table (placed o 0x07 (encoding name)) refl)
     ∙ gathers take packet_fault no_field (named name) (Name, placed o 0x07 (encoding name)) nothing (name_step octets o name valid some)
     ∙ gathered-nothing take packet_fault (named name) in
@@ -231,7 +227,7 @@ module _ (name key_name : List Component) (parameters key : List ℕ) where
       let u = record t { info = Some info } in
       let infos_read : take t (InterestSignatureInfo, c) ≡ Ok u = ap (λ (x : Result Info PacketFault). x >>= λ i. Ok (record t { info = Some i })) (info_again q 0x2c key_name key_valid (omega arith)) in
       let all : interest_fields octets (placed 0 0x05 value) ≡ Ok (all_fields p r) =
-      ap (λ (l : Listing Item TlvFault). gathered take packet_fault no_field (fields INTEREST l)) read
+      ap (λ (l : Listing Item TlvFault). gathered take packet_fault no_field (fields interest_table l)) read
       ∙ ap (gathered take packet_fault no_field) (signed_table a b c d refl refl refl refl)
       ∙ gathers take packet_fault no_field (named full) (Name, a) ((ApplicationParameters, b) then ((InterestSignatureInfo, c) then ((InterestSignatureValue, d) then nothing))) (name_step octets o full full_valid some)
       ∙ gathers take packet_fault (named full) t (ApplicationParameters, b) ((InterestSignatureInfo, c) then ((InterestSignatureValue, d) then nothing)) refl

@@ -1,13 +1,13 @@
 -- The octets of an Interest that is written, and how many they are.
-use Rattle.std.proofs.Common.{◌≡◌, ℕ, ◌+◌, ◌-◌, ◌^◌, min, List, [], ◌∷◌, ◌++◌, length, length-append, refl, sym, ap, ◌∙◌, append_assoc, arith}
+use Rattle.std.proofs.Common.{◌≡◌, ℕ, ◌+◌, ◌-◌, ◌^◌, min, List, [], ◌∷◌, ◌++◌, length, length-append, sym, ap, ◌∙◌, append_assoc, arith}
 use Rattle.sha2.specs.Sha256.{sha256}
 use Rattle.sha2.proofs.Facts256.{length-sha256}
-use Rattle.ndn_tlv.specs.Spelling.{number, head, element}
+use Rattle.ndn_tlv.specs.Spelling.{head, element}
 use Rattle.ndn_name.specs.Names.{Component, encoding}
 use Rattle.ndn_name.proofs.Encodings.{encoding-push}
 use Rattle.ndn_sign.specs.Hmac.{hmac}
 use Rattle.ndn_packet.proofs.Lengths.{length-element, length-digest_element, packet_len}
-use Rattle.ndn_interest.specs.WrittenInterest.{written_parameters, written_digested, with_digest, written_interest}
+use Rattle.ndn_interest.specs.WrittenInterest.{written_parameters, written_digested, with_digest_of, with_digest, written_interest}
 
 -- how many octets the name with its digest has
 abbrev pub name_octets : List Component → ℕ
@@ -47,30 +47,22 @@ total name key_name parameters key digested body heads octets d b h o =
 
 -- ---- an Interest that is written in its parts
 
-digest_head : head 2 32 ≡ 2 ∷ 32 ∷ []
-unfolding number
-digest_head = refl
+regroup : (a b c d e : List ℕ) → (((a ++ b) ++ c) ++ d) ++ e ≡ a ++ ((b ++ (c ++ d)) ++ e)
+regroup a b c d e = simp append_assoc
 
-digest_spelled : (digest : List ℕ) → length digest ≡ 32 → element 2 digest ≡ (2 ∷ 32 ∷ []) ++ digest
-digest_spelled digest long = ap (λ (n : ℕ). head 2 n ++ digest) long ∙ ap (λ (h : List ℕ). h ++ digest) digest_head
-
-regroup : (a b c d e f : List ℕ) → ((((a ++ b) ++ c) ++ d) ++ e) ++ f ≡ a ++ ((b ++ (c ++ (d ++ e))) ++ f)
-regroup a b c d e f = simp append_assoc
-
-pub writes : (name : List Component) (digested digest begun named joined marked filled whole : List ℕ) (len body : ℕ)
+pub writes : (name : List Component) (digested digest begun named joined filled whole : List ℕ) (len body : ℕ)
     → len ≡ length (encoding name) + 34 → body ≡ length (head 0x07 len) + len + length digested → digest ≡ sha256 digested
-    → begun ≡ head 0x05 body → named ≡ begun ++ head 0x07 len → joined ≡ named ++ encoding name → marked ≡ joined ++ (2 ∷ 32 ∷ [])
-    → filled ≡ marked ++ digest → whole ≡ filled ++ digested → whole ≡ with_digest name digested
-writes name digested digest begun named joined marked filled whole len body is_len is_body is_digest h1 h2 h3 h4 h5 h6 =
-    let value = encoding (name ++ (2, sha256 digested) ∷ []) in
-    let long : length digest ≡ 32 = ap length is_digest ∙ length-sha256 digested in
-    let spelled : encoding name ++ ((2 ∷ 32 ∷ []) ++ digest) ≡ value = ap (λ (d : List ℕ). encoding name ++ d) (sym (digest_spelled digest long)) ∙ ap (λ (d : List ℕ). encoding name ++ element 2 d) is_digest ∙ sym (encoding-push name (2, sha256 digested)) in
+    → begun ≡ head 0x05 body → named ≡ begun ++ head 0x07 len → joined ≡ named ++ encoding name
+    → filled ≡ joined ++ element 2 digest → whole ≡ filled ++ digested → whole ≡ with_digest name digested
+writes name digested digest begun named joined filled whole len body is_len is_body is_digest h1 h2 h3 h4 h5 =
+    let value = encoding (with_digest_of digested name) in
+    let spelled : encoding name ++ element 2 digest ≡ value = ap (λ (d : List ℕ). encoding name ++ element 2 d) is_digest ∙ sym (encoding-push name (2, sha256 digested)) in
     let size : len ≡ length value = is_len ∙ sym (length-named name (sha256 digested) (length-sha256 digested)) in
     let bodies : body ≡ length (element 0x07 value ++ digested) = omega (arith, is_body, length-append (element 0x07 value) digested, length-element 0x07 value, size, ap (λ (n : ℕ). length (head 0x07 n)) size) in
-    let joins : whole ≡ ((((head 0x05 body ++ head 0x07 len) ++ encoding name) ++ (2 ∷ 32 ∷ [])) ++ digest) ++ digested =
-    h6 ∙ ap (λ (f : List ℕ). f ++ digested) (h5 ∙ ap (λ (m : List ℕ). m ++ digest) (h4 ∙ ap (λ (j : List ℕ). j ++ (2 ∷ 32 ∷ [])) (h3 ∙ ap (λ (n : List ℕ). n ++ encoding name) (h2 ∙ ap (λ (b : List ℕ). b ++ head 0x07 len) h1)))) in
+    let joins : whole ≡ (((head 0x05 body ++ head 0x07 len) ++ encoding name) ++ element 2 digest) ++ digested =
+    h5 ∙ ap (λ (f : List ℕ). f ++ digested) (h4 ∙ ap (λ (j : List ℕ). j ++ element 2 digest) (h3 ∙ ap (λ (n : List ℕ). n ++ encoding name) (h2 ∙ ap (λ (b : List ℕ). b ++ head 0x07 len) h1))) in
     joins
-    ∙ regroup (head 0x05 body) (head 0x07 len) (encoding name) (2 ∷ 32 ∷ []) digest digested
+    ∙ regroup (head 0x05 body) (head 0x07 len) (encoding name) (element 2 digest) digested
     ∙ ap (λ (v : List ℕ). head 0x05 body ++ ((head 0x07 len ++ v) ++ digested)) spelled
     ∙ ap (λ (n : ℕ). head 0x05 body ++ ((head 0x07 n ++ value) ++ digested)) size
     ∙ ap (λ (n : ℕ). head 0x05 n ++ (element 0x07 value ++ digested)) bodies

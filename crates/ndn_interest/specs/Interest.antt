@@ -5,10 +5,12 @@ use Rattle.std.specs.Borrow.{Bor}
 use Rattle.std.specs.Int.{w32, from_be_bytes}
 use Rattle.std.specs.Option.{option_map_or}
 use Rattle.sha2.specs.Sha256.{sha256}
+use Rattle.ndn_tlv.specs.Types as types
 use Rattle.ndn_tlv.specs.Spelling.{element}
 use Rattle.ndn_tlv.specs.Listing.{gathered, ◌>>=◌}
 use Rattle.ndn_tlv.specs.Elements.{Item, elements}
-use Rattle.ndn_tlv.specs.OrderTable.{fields}
+use Rattle.ndn_tlv.specs.OrderTable.{once, fields}
+use Rattle.ndn_tlv.specs.declared.order_table.Place.{Place}
 use Rattle.ndn_name.specs.declared.fault.Field.{Field}
 use Rattle.ndn_name.specs.declared.fault.Field.TheVariants as field
 use Rattle.ndn_name.specs.declared.fault.PacketFault.{PacketFault}
@@ -21,8 +23,22 @@ use Rattle.ndn_packet.specs.Outer.{outer_of}
 use Rattle.ndn_interest.specs.declared.interest_fields.InterestField.{InterestField}
 use Rattle.ndn_interest.specs.declared.interest_fields.InterestField.TheVariants.{Name, CanBePrefix, MustBeFresh, ForwardingHint, Nonce, InterestLifetime, HopLimit, ApplicationParameters, InterestSignatureInfo, InterestSignatureValue}
 use Rattle.ndn_interest.specs.declared.interest_fields.Gathered.{Gathered}
-use Rattle.ndn_interest.specs.declared.interest_fields.TheConstants.{INTEREST}
 use Rattle.ndn_interest.specs.declared.interest_view.InterestView.{InterestView}
+
+-- The places of the fields of an Interest.
+abbrev pub interest_table : List (Place InterestField)
+interest_table =
+    once types.Name Name
+    ∷ once types.CanBePrefix CanBePrefix
+    ∷ once types.MustBeFresh MustBeFresh
+    ∷ once types.ForwardingHint ForwardingHint
+    ∷ once types.Nonce Nonce
+    ∷ once types.InterestLifetime InterestLifetime
+    ∷ once types.HopLimit HopLimit
+    ∷ once types.ApplicationParameters ApplicationParameters
+    ∷ once types.InterestSignatureInfo InterestSignatureInfo
+    ∷ once types.InterestSignatureValue InterestSignatureValue
+    ∷ []
 
 -- An Interest: its fields, the two pieces of what is signed where it is signed, and what the
 -- parameters digest is of where it has parameters.
@@ -124,7 +140,7 @@ with_interest_field octets s (InterestSignatureValue, e) =
 abbrev pub interest_fields : List ℕ → Item → Result InterestSoFar PacketFault
 interest_fields octets e =
     gathered (with_interest_field octets) packet_fault no_field
-    (fields INTEREST (elements e.value_start e.value))
+    (fields interest_table (elements e.value_start e.value))
 
 -- ---- the whole
 
@@ -136,7 +152,8 @@ without_last name = take (length name - 1) name
 
 -- The name ends in a parameters digest.
 abbrev pub ends_in_digest : List Component → Bool
-ends_in_digest name = option_map_or (λ c. c.0 == 2) (last_component name) false
+ends_in_digest name =
+    option_map_or (λ c. c.0 == types.ParametersSha256DigestComponent) (last_component name) false
 
 -- What is signed: the name's components without the last, which is the parameters digest, and the
 -- octets from the parameters up to the signature. Nothing is signed where parameters, signature
@@ -173,20 +190,21 @@ interest_from octets s = ok_or s.name (Missing field.Name) >>= interest_named oc
 -- The Interest that octets are.
 abbrev pub interest_of : List ℕ → Result Interest PacketFault
 interest_of octets =
-    outer_of 0x05 octets >>= λ e. interest_fields octets e >>= interest_from octets
+    outer_of types.Interest octets >>= λ e. interest_fields octets e >>= interest_from octets
 
 -- The Interest has parameters, and the last component of its name is their digest.
 abbrev pub IsDigested : Interest → Type 0
 IsDigested i =
-    MatchOption i.digested ⊥ (λ octets. last_component i.name ≡ Some (2, sha256 octets))
+    MatchOption i.digested ⊥
+    (λ octets. last_component i.name ≡ Some (types.ParametersSha256DigestComponent, sha256 octets))
 
 -- The element of the parameters stands in the value of the packet, and the parameters digest is of
 -- that and of all that follows it.
 pub record IsDigestedFrom (value : List ℕ) (i : Interest) (parameters : List ℕ) : Type 0 where
   pub before : List ℕ
   pub behind : List ℕ
-  pub digested : i.digested ≡ Some (element 0x24 parameters ++ behind)
-  pub parts : value ≡ before ++ (element 0x24 parameters ++ behind)
+  pub digested : i.digested ≡ Some (element types.ApplicationParameters parameters ++ behind)
+  pub parts : value ≡ before ++ (element types.ApplicationParameters parameters ++ behind)
 
 -- The two pieces of what is signed: the name without the parameters digest at its end, and the
 -- element of the parameters with what stands between that and the element of the signature.
@@ -197,18 +215,18 @@ pub record IsSignedUpTo (i : Interest) (pieces : List ℕ × List ℕ) : Type 0 
   pub signature : List ℕ
   pub fields : List ℕ
   pub behind : List ℕ
-  pub name : i.name ≡ front ++ (2, digest) ∷ []
+  pub name : i.name ≡ front ++ (types.ParametersSha256DigestComponent, digest) ∷ []
   pub has_parameters : i.parameters ≡ Some parameters
   pub has_signature : i.signature ≡ Some signature
   pub first : pieces.0 ≡ encoding front
-  pub second : pieces.1 ≡ element 0x24 parameters ++ fields
-  pub digested : i.digested ≡ Some (pieces.1 ++ (element 0x2e signature ++ behind))
+  pub second : pieces.1 ≡ element types.ApplicationParameters parameters ++ fields
+  pub digested : i.digested ≡ Some (pieces.1 ++ (element types.InterestSignatureValue signature ++ behind))
 
 -- The octets are the packet's element, in which parameters and signature stand where they are
 -- digested and signed.
 pub record IsSpelled (octets : List ℕ) (i : Interest) : Type 0 where
   pub value : List ℕ
-  pub packet : octets ≡ element 0x05 value
+  pub packet : octets ≡ element types.Interest value
   pub digested : MatchOption i.parameters (i.digested ≡ None) (IsDigestedFrom value i)
   pub signed : IfSome i.signed (IsSignedUpTo i)
 

@@ -4,7 +4,7 @@ ghost use Rattle.ndn_interest.specs.Interest.{interest_name_in, flag_in, nonce_i
 
 use ndn_name::{Field, NameView, PacketFault};
 use ndn_packet::{SignatureInfo, bad_field, name_in, number_in};
-use ndn_tlv::{Element, FieldReader, Place, Reader};
+use ndn_tlv::{Element, FieldReader, Place, Reader, types};
 
 #[derive(Clone, Copy)]
 enum InterestField {
@@ -22,52 +22,52 @@ enum InterestField {
 
 const INTEREST: [Place<InterestField>; 10] = [
     Place {
-        typ: 0x07,
+        typ: types::NAME,
         field: InterestField::Name,
         repeats: false,
     },
     Place {
-        typ: 0x21,
+        typ: types::CAN_BE_PREFIX,
         field: InterestField::CanBePrefix,
         repeats: false,
     },
     Place {
-        typ: 0x12,
+        typ: types::MUST_BE_FRESH,
         field: InterestField::MustBeFresh,
         repeats: false,
     },
     Place {
-        typ: 0x1e,
+        typ: types::FORWARDING_HINT,
         field: InterestField::ForwardingHint,
         repeats: false,
     },
     Place {
-        typ: 0x0a,
+        typ: types::NONCE,
         field: InterestField::Nonce,
         repeats: false,
     },
     Place {
-        typ: 0x0c,
+        typ: types::INTEREST_LIFETIME,
         field: InterestField::InterestLifetime,
         repeats: false,
     },
     Place {
-        typ: 0x22,
+        typ: types::HOP_LIMIT,
         field: InterestField::HopLimit,
         repeats: false,
     },
     Place {
-        typ: 0x24,
+        typ: types::APPLICATION_PARAMETERS,
         field: InterestField::ApplicationParameters,
         repeats: false,
     },
     Place {
-        typ: 0x2c,
+        typ: types::INTEREST_SIGNATURE_INFO,
         field: InterestField::InterestSignatureInfo,
         repeats: false,
     },
     Place {
-        typ: 0x2e,
+        typ: types::INTEREST_SIGNATURE_VALUE,
         field: InterestField::InterestSignatureValue,
         repeats: false,
     },

@@ -8,6 +8,7 @@ use crate::parameters_digest::{before_digest, ends_in_digest, last_component};
 use ndn_name::{Field, NameView, PacketFault};
 use ndn_packet::{SignatureInfo, outer_element};
 use ndn_sign::digest;
+use ndn_tlv::types;
 
 /// An Interest whose octets are lent.
 #[derive(Debug, Drop)]
@@ -20,7 +21,7 @@ pub struct InterestView<'p> {
     pub lifetime: Option<u64>,
     pub hop_limit: Option<u8>,
     pub parameters: Option<&'p [u8]>,
-    /// 4 is HMAC with SHA-256.
+    /// As `ndn_packet::SIGNATURE_HMAC_WITH_SHA256`.
     pub signature_type: Option<u64>,
     /// The key's name, where the key locator is a name.
     pub locator: Option<NameView<'p>>,
@@ -41,7 +42,7 @@ impl<'p> InterestView<'p> {
             (λ i. interest_of octets.now ≡ Ok (packet i))
             (λ fault. interest_of octets.now ≡ Err fault) }
     {
-        let outer = outer_element(octets, 0x05)?;
+        let outer = outer_element(octets, types::INTEREST)?;
         let gathered = Gathered::of_fields(octets, outer)?;
         InterestView::of(octets, gathered)
     }
@@ -98,7 +99,10 @@ impl<'p> InterestView<'p> {
         ensures { IsTrue result ↔ IsDigested (packet self.now) }
     {
         match (self.digested, last_component(&self.name)) {
-            (Some(octets), Some(last)) => last.typ == 2 && last.value == digest(octets).as_slice(),
+            (Some(octets), Some(last)) => {
+                last.typ == types::PARAMETERS_SHA256_DIGEST_COMPONENT
+                    && last.value == digest(octets).as_slice()
+            }
             _ => false,
         }
     }

@@ -1,6 +1,7 @@
 ghost use Rattle.std.specs.Prelude.{◌≡◌, ◌&&◌, ◌<◌, ◌≤◌, ℕ, Bool, List, Ok, length, is_some};
 ghost use Rattle.ndn_tlv.specs.Elements.{IsOctets};
 ghost use Rattle.ndn_name.specs.Names.{Component, IsName};
+ghost use Rattle.ndn_packet.specs.Outer.{packet_limit};
 ghost use Rattle.ndn_interest.specs.Interest.{Interest, interest_of, IsDigested, IsSpelled};
 ghost use Rattle.ndn_interest.specs.WrittenInterest.{written_plain, written_interest, read_plain, read_signed};
 
@@ -23,7 +24,7 @@ pub fn signed_interests_are_complete()
 /// A plain Interest that was written is read back: the fields that were given, and no other.
 pub fn written_plain_is_read()
     ensures { (name : List Component) (can_be_prefix : Bool) → IsName name → 0 < length name
-        → length (written_plain name can_be_prefix) ≤ 8800
+        → length (written_plain name can_be_prefix) ≤ packet_limit
         → interest_of (written_plain name can_be_prefix) ≡ Ok (read_plain name can_be_prefix) }
 {}
 
@@ -32,7 +33,7 @@ pub fn written_plain_is_read()
 pub fn written_interest_is_read()
     ensures { (name key_name : List Component) (parameters key : List ℕ)
         → IsName name → IsName key_name
-        → length (written_interest name parameters key_name key) ≤ 8800
+        → length (written_interest name parameters key_name key) ≤ packet_limit
         → interest_of (written_interest name parameters key_name key)
         ≡ Ok (read_signed name parameters key_name key) }
 {}

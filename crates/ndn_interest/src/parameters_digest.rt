@@ -3,9 +3,8 @@ ghost use Rattle.ndn_name.specs.Names.{component, encoding};
 ghost use Rattle.ndn_interest.specs.Interest.{last_component, without_last, ends_in_digest};
 
 use ndn_name::{ComponentView, NameView};
-
-/// How many octets the component of a digest has.
-pub(crate) const DIGEST_ELEMENT: usize = 34;
+use ndn_packet::DIGEST_ELEMENT_LEN;
+use ndn_tlv::types;
 
 // The last component of a name, if it has one.
 pub(crate) fn last_component<'p>(name: &NameView<'p>) -> Option<ComponentView<'p>>
@@ -22,7 +21,7 @@ pub(crate) fn ends_in_digest(name: &NameView<'_>) -> bool
     ensures { result ≡ ends_in_digest name.now }
 {
     match last_component(name) {
-        Some(last) => last.typ == 2,
+        Some(last) => last.typ == types::PARAMETERS_SHA256_DIGEST_COMPONENT,
         None => false,
     }
 }
@@ -33,6 +32,6 @@ pub(crate) fn before_digest<'p>(name: &NameView<'p>) -> &'p [u8]
     ensures { result.now ≡ encoding (without_last name.now) }
 {
     let octets = name.octets();
-    let (components, _) = octets.split_at(octets.len() - DIGEST_ELEMENT);
+    let (components, _) = octets.split_at(octets.len() - DIGEST_ELEMENT_LEN);
     components
 }

@@ -4,7 +4,7 @@ mod hostile;
 
 use super::*;
 use hostile::HOSTILE;
-use ndn_name::{Name, NameFault, NameView, PacketFault, PacketWriteFault};
+use ndn_name::{Name, NameFault, NameView, PacketFault};
 use ndn_sign::{digest, hmac};
 use ndn_tlv::TlvFault;
 use std::alloc::Global;
@@ -111,30 +111,6 @@ fn hostile_packets(rt: HostRuntime) {
     for (octets, fault) in HOSTILE {
         assert_eq!(rt; InterestView::read(octets).err(), Some(fault), "{octets:?}");
     }
-}
-
-#[test]
-fn packets_have_8800_octets_at_most(rt: HostRuntime) -> Result<(), Fail> {
-    let alloc = rt.alloc();
-    let zeros = [0; 8_801];
-    assert_eq!(rt;
-        InterestView::read(&zeros).err(),
-        Some(PacketFault::PacketTooLong)
-    );
-    assert_eq!(rt;
-        InterestView::read(&zeros[..8_800]).err(),
-        Some(PacketFault::Tlv(TlvFault::ZeroType { at: 0 }))
-    );
-    let a = name(alloc, &[8, 1, 0x61])?;
-    let key_name = name(alloc, &[8, 1, 0x6b])?;
-    let packet = write_signed(alloc, &a, &zeros[..8707], &key_name, KEY)?;
-    assert_eq!(rt; packet.len(), 8_800);
-    assert!(rt; InterestView::read(&packet)?.params_digest_matches());
-    assert_eq!(rt;
-        write_signed(alloc, &a, &zeros[..8708], &key_name, KEY).err(),
-        Some(PacketWriteFault::TooLong { octets: 8_801 })
-    );
-    Ok(())
 }
 
 #[test]

@@ -228,6 +228,12 @@ begins_escape = record { only = λ t m. digits t m.0 m.1; goes = λ h l a b. ([]
   digits t [] e = absurd cc
   digits t (o ∷ octets) e = of_first o e.0 e.1 t e.3 e.2
 
+-- digits that are none are told at their place
+pub pair-fails : (at : ℕ) (text : List ℕ) (f : NameFault) → pair_at at text ≡ Err f → (place : ℕ) × (BadUri place ≡ f)
+pair-fails at text f e =
+    let p = pair-leaves (λ t. IsEscapedText (37 ∷ t)) begins_escape at text f e in
+    (at + p.place, p.fault)
+
 begins_otherwise : (c : ℕ) (more octets : List ℕ) → (eqb c 37 ≡ false) → is_unreserved c ≡ false → IsEscaped octets (c ∷ more) → ⊥
 begins_otherwise c more [] other reserved e = absurd cc
 begins_otherwise c more (o ∷ octets) other reserved e = of_first o e.0 e.3 e.2 where

@@ -14,3 +14,9 @@ pub mod Limits
 pub mod Verdicts
 pub mod PrintedTexts
 pub mod OneAnswer
+pub mod ComputedValues
+pub mod ComputedNames
+pub mod VisibleTexts
+pub mod Appends
+pub mod PlainTexts
+pub mod SizeLemmas

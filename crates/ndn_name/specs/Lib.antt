@@ -7,4 +7,5 @@ pub mod CanonicalOrder
 pub mod Faults
 pub mod Uri
 pub mod UriVerdict
+pub mod UriText
 pub mod UriReading

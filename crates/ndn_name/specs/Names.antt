@@ -4,6 +4,7 @@ use Rattle.std.specs.Prelude.{◌≡◌, ℕ, ◌<◌, ◌≤◌, ◌^◌, List,
 use Rattle.ndn_tlv.specs.Spelling.{element}
 use Rattle.ndn_tlv.specs.Listing.{gathered, ◌>>=◌}
 use Rattle.ndn_tlv.specs.Elements.{IsOctets, Item, elements}
+use Rattle.ndn_tlv.specs.Types as types
 use Rattle.ndn_name.specs.declared.component_view.ComponentView.{ComponentView}
 use Rattle.ndn_name.specs.declared.name_fault.NameFault.{NameFault}
 use Rattle.ndn_name.specs.declared.name_fault.NameFault.TheVariants.{Tlv, BadComponent, BadDigestLength}
@@ -16,11 +17,15 @@ Component = ℕ × List ℕ
 abbrev pub component : ComponentView → Component
 component c = (c.typ, c.value.now)
 
--- What a component may be. Types 1 and 2 are digests.
+-- The greatest type of a component.
+abbrev pub greatest_type : ℕ
+greatest_type = 65535
+
+-- What a component may be. The first two types, 1 and 2, are digests.
 pub record IsComponent (c : Component) : Type 0 where
   pub above : 0 < c.0
-  pub below : c.0 < 2 ^ 16
-  pub digest : c.0 ≤ 2 → length c.1 ≡ 32
+  pub below : c.0 ≤ greatest_type
+  pub digest : c.0 ≤ types.ParametersSha256DigestComponent → length c.1 ≡ 32
   pub long : length c.1 < 2 ^ 64
   pub octets : IsOctets c.1
 
@@ -28,6 +33,14 @@ pub record IsComponent (c : Component) : Type 0 where
 abbrev pub IsName : List Component → Type 0
 IsName [] = Unit {0}
 IsName (c ∷ cs) = IsComponent c × IsName cs
+
+-- The full name of a packet: its name, and its implicit digest behind it.
+abbrev pub full_name : List Component → List ℕ → List Component
+full_name name digest = name ++ (types.ImplicitSha256DigestComponent, digest) ∷ []
+
+-- How many octets of value a name may have that this repository keeps (a limit of its own).
+abbrev pub name_limit : ℕ
+name_limit = 1000
 
 -- The value of a Name element: the elements of the components, one after another.
 unfoldable pub encoding : List Component → List ℕ
@@ -39,8 +52,9 @@ encoding (c ∷ cs) = element c.0 c.1 ++ encoding cs
 -- The component that an element is.
 abbrev pub component_of : Item → Result Component NameFault
 component_of e =
-    if nat_lt 65535 e.typ then Err (BadComponent e.start)
-    else if nat_le e.typ 2 && not (length e.value == 32) then Err (BadDigestLength e.start)
+    if nat_lt greatest_type e.typ then Err (BadComponent e.start)
+    else if nat_le e.typ types.ParametersSha256DigestComponent && not (length e.value == 32)
+    then Err (BadDigestLength e.start)
     else Ok (e.typ, e.value)
 
 abbrev pub with_component : List Component → Item → Result (List Component) NameFault

@@ -5,7 +5,8 @@ use Rattle.std.specs.Char.{digit_value, is_ascii_alphanumeric}
 use Rattle.std.specs.Fmt.{decimal, digit_glyph}
 use Rattle.std.specs.List.{flat_map, list_all}
 use Rattle.ndn_tlv.specs.NumberField.{number_field, number_of}
-use Rattle.ndn_name.specs.Names.{Component}
+use Rattle.ndn_tlv.specs.Types as types
+use Rattle.ndn_name.specs.Names.{Component, greatest_type}
 
 -- ---- values
 
@@ -67,19 +68,19 @@ headed head tail = head ++ 61 ∷ tail
 
 -- The texts of a component.
 pub data IsComponentText (c : Component) (text : List ℕ) : Type 0 where
-  generic : c.0 ≡ 8 → IsValueText c.1 text → IsComponentText c text
-  typed : (tail : List ℕ) → 0 < c.0 → c.0 < 2 ^ 16 → text ≡ headed (decimal c.0) tail
+  generic : c.0 ≡ types.GenericNameComponent → IsValueText c.1 text → IsComponentText c text
+  typed : (tail : List ℕ) → 0 < c.0 → c.0 ≤ greatest_type → text ≡ headed (decimal c.0) tail
       → IsValueText c.1 tail → IsComponentText c text
-  implicit_digest : (tail : List ℕ) → c.0 ≡ 1 → text ≡ headed (codes "sha256digest") tail
-      → IsDigestText c.1 tail → IsComponentText c text
-  parameters_digest : (tail : List ℕ) → c.0 ≡ 2 → text ≡ headed (codes "params-sha256") tail
-      → IsDigestText c.1 tail → IsComponentText c text
-  segment : (tail : List ℕ) → c.0 ≡ 50 → text ≡ headed (codes "seg") tail → IsNumberText c.1 tail
-      → IsComponentText c text
-  version : (tail : List ℕ) → c.0 ≡ 54 → text ≡ headed (codes "v") tail → IsNumberText c.1 tail
-      → IsComponentText c text
-  sequence : (tail : List ℕ) → c.0 ≡ 58 → text ≡ headed (codes "seq") tail → IsNumberText c.1 tail
-      → IsComponentText c text
+  implicit_digest : (tail : List ℕ) → c.0 ≡ types.ImplicitSha256DigestComponent
+      → text ≡ headed (codes "sha256digest") tail → IsDigestText c.1 tail → IsComponentText c text
+  parameters_digest : (tail : List ℕ) → c.0 ≡ types.ParametersSha256DigestComponent
+      → text ≡ headed (codes "params-sha256") tail → IsDigestText c.1 tail → IsComponentText c text
+  segment : (tail : List ℕ) → c.0 ≡ types.SegmentNameComponent → text ≡ headed (codes "seg") tail
+      → IsNumberText c.1 tail → IsComponentText c text
+  version : (tail : List ℕ) → c.0 ≡ types.VersionNameComponent → text ≡ headed (codes "v") tail
+      → IsNumberText c.1 tail → IsComponentText c text
+  sequence : (tail : List ℕ) → c.0 ≡ types.SequenceNumNameComponent
+      → text ≡ headed (codes "seq") tail → IsNumberText c.1 tail → IsComponentText c text
 
 -- ---- names
 
@@ -129,19 +130,26 @@ in_shortest_width value None = None
 in_shortest_width value (Some n) = if length (number_field n) == length value then Some n else None
 
 abbrev pub plain_text : Component → List ℕ
-plain_text c = if c.0 == 8 then value_text c.1 else decimal c.0 ++ 61 ∷ value_text c.1
+plain_text c =
+    if c.0 == types.GenericNameComponent then value_text c.1
+    else decimal c.0 ++ 61 ∷ value_text c.1
 
+-- A number, where the value is one in its shortest width.
 abbrev pub number_text : List ℕ → Option ℕ → Component → List ℕ
 number_text word None c = plain_text c
 number_text word (Some n) c = word ++ decimal n
 
+abbrev pub shortest_text : List ℕ → Component → List ℕ
+shortest_text word c = number_text word (in_shortest_width c.1 (number_of c.1)) c
+
 abbrev pub component_text : Component → List ℕ
 component_text c =
-    if c.0 == 1 then codes "sha256digest=" ++ digest_text c.1
-    else if c.0 == 2 then codes "params-sha256=" ++ digest_text c.1
-    else if c.0 == 50 then number_text (codes "seg=") (in_shortest_width c.1 (number_of c.1)) c
-    else if c.0 == 54 then number_text (codes "v=") (in_shortest_width c.1 (number_of c.1)) c
-    else if c.0 == 58 then number_text (codes "seq=") (in_shortest_width c.1 (number_of c.1)) c
+    if c.0 == types.ImplicitSha256DigestComponent then codes "sha256digest=" ++ digest_text c.1
+    else if c.0 == types.ParametersSha256DigestComponent
+    then codes "params-sha256=" ++ digest_text c.1
+    else if c.0 == types.SegmentNameComponent then shortest_text (codes "seg=") c
+    else if c.0 == types.VersionNameComponent then shortest_text (codes "v=") c
+    else if c.0 == types.SequenceNumNameComponent then shortest_text (codes "seq=") c
     else plain_text c
 
 abbrev pub path_text : List Component → List ℕ

@@ -3,6 +3,7 @@ use Rattle.std.specs.Prelude.{◌≡◌, ◌≢◌, ℕ, ◌+◌, ◌*◌, ◌<�
 use Rattle.std.specs.Char.{digit_value}
 use Rattle.ndn_tlv.specs.Listing.{◌>>=◌}
 use Rattle.ndn_tlv.specs.NumberField.{number_field}
+use Rattle.ndn_tlv.specs.Types as types
 use Rattle.ndn_name.specs.declared.name_fault.NameFault.{NameFault}
 use Rattle.ndn_name.specs.declared.name_fault.NameFault.TheVariants.{Tlv, BadComponent, BadDigestLength, NameTooLong, BadUri, NoMemory}
 use Rattle.ndn_name.specs.declared.uri_form.Form.{Form}
@@ -10,8 +11,9 @@ use Rattle.ndn_name.specs.declared.uri_form.Form.TheVariants.{Digest, Number, Es
 use Rattle.ndn_name.specs.declared.uri_form.PartValue.{PartValue}
 use Rattle.ndn_name.specs.declared.uri_form.PartValue.TheVariants as value
 use Rattle.ndn_name.specs.declared.uri_form.UriPart.{UriPart}
-use Rattle.ndn_name.specs.Names.{Component}
+use Rattle.ndn_name.specs.Names.{Component, greatest_type}
 use Rattle.ndn_name.specs.Uri.{Part, IsDecimal, IsDigestText, IsNumberText, IsValueText, headed, is_unreserved}
+use Rattle.ndn_name.specs.UriText.{digest_of_text, number_of_text, typed, value_of_text}
 use Rattle.ndn_name.specs.UriVerdict.{Leaves}
 
 -- The text that begins at this place leaves the language of all values at the place that is told.
@@ -73,11 +75,13 @@ with_digit most (Some n) c =
 -- How a value is written behind a head, and of which type it is.
 abbrev pub IsHead : Form → List ℕ → Type 0
 IsHead (Digest typ) head =
-    ((typ ≡ 1) × (head ≡ codes "sha256digest")) ⊎ ((typ ≡ 2) × (head ≡ codes "params-sha256"))
+    ((typ ≡ types.ImplicitSha256DigestComponent) × (head ≡ codes "sha256digest"))
+    ⊎ ((typ ≡ types.ParametersSha256DigestComponent) × (head ≡ codes "params-sha256"))
 IsHead (Number typ) head =
-    ((typ ≡ 50) × (head ≡ codes "seg"))
-    ⊎ (((typ ≡ 54) × (head ≡ codes "v")) ⊎ ((typ ≡ 58) × (head ≡ codes "seq")))
-IsHead (Escaped typ) head = (0 < typ) × IsDecimal 65535 typ head
+    ((typ ≡ types.SegmentNameComponent) × (head ≡ codes "seg"))
+    ⊎ (((typ ≡ types.VersionNameComponent) × (head ≡ codes "v"))
+    ⊎ ((typ ≡ types.SequenceNumNameComponent) × (head ≡ codes "seq")))
+IsHead (Escaped typ) head = (0 < typ) × IsDecimal greatest_type typ head
 
 abbrev pub HasNoHead : List ℕ → Type 0
 HasNoHead text = (form : Form) (head tail : List ℕ) → IsHead form head → text ≡ headed head tail → ⊥
@@ -85,11 +89,13 @@ HasNoHead text = (form : Form) (head tail : List ℕ) → IsHead form head → t
 -- The form that a keyword says.
 abbrev pub keyword_of : List ℕ → Option Form
 keyword_of head =
-    if bytes_eq head (codes "sha256digest") then Some (Digest 1)
-    else if bytes_eq head (codes "params-sha256") then Some (Digest 2)
-    else if bytes_eq head (codes "seg") then Some (Number 50)
-    else if bytes_eq head (codes "v") then Some (Number 54)
-    else if bytes_eq head (codes "seq") then Some (Number 58)
+    if bytes_eq head (codes "sha256digest")
+    then Some (Digest types.ImplicitSha256DigestComponent)
+    else if bytes_eq head (codes "params-sha256")
+    then Some (Digest types.ParametersSha256DigestComponent)
+    else if bytes_eq head (codes "seg") then Some (Number types.SegmentNameComponent)
+    else if bytes_eq head (codes "v") then Some (Number types.VersionNameComponent)
+    else if bytes_eq head (codes "seq") then Some (Number types.SequenceNumNameComponent)
     else None
 
 -- The components that have such a tail.
@@ -108,7 +114,7 @@ uri_part p = (p.at, (p.typ, value_octets p.value))
 
 -- A part that may be appended to a name.
 abbrev pub IsSound : Component → Type 0
-IsSound c = (0 < c.0) × (c.0 ≤ 2 → length c.1 ≡ 32)
+IsSound c = (0 < c.0) × (c.0 ≤ types.ParametersSha256DigestComponent → length c.1 ≡ 32)
 
 -- The text is empty, or its first octet is another.
 abbrev pub BeginsOtherwise : ℕ → List ℕ → Type 0
@@ -120,3 +126,13 @@ abbrev pub BreaksOff : List ℕ → List ℕ → ℕ → Type 0
 BreaksOff word text place =
     (rest : List ℕ) × (text ≡ take place word ++ rest) × (place < length word)
     × BeginsOtherwise (slice_index word place) rest
+
+-- The component that a tail is computed as.
+abbrev pub tail_of_text : Form → List ℕ → Option Component
+tail_of_text (Digest typ) tail = typed typ (digest_of_text tail)
+tail_of_text (Number typ) tail = typed typ (number_of_text tail)
+tail_of_text (Escaped typ) tail = typed typ (value_of_text tail)
+
+-- The type of a component, and how many octets its value has.
+abbrev pub shape : Component → ℕ × ℕ
+shape c = (c.0, length c.1)

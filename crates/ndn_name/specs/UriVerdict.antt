@@ -1,8 +1,9 @@
 -- What a text is as the URI of a name: the name, or why it is none.
 use Rattle.std.specs.Prelude.{◌≡◌, ℕ, ◌+◌, ◌<◌, ◌≤◌, Bool, not, ◌&&◌, nat_le, ◌==◌, List, [], ◌∷◌, ◌++◌, length, take, Option, Some, None, Result, Ok, Err, if◌then◌else◌}
+use Rattle.ndn_tlv.specs.Types as types
 use Rattle.ndn_name.specs.declared.name_fault.NameFault.{NameFault}
 use Rattle.ndn_name.specs.declared.name_fault.NameFault.TheVariants.{Tlv, BadComponent, BadDigestLength, NameTooLong, BadUri, NoMemory}
-use Rattle.ndn_name.specs.Names.{Component, encoding}
+use Rattle.ndn_name.specs.Names.{Component, encoding, name_limit}
 use Rattle.ndn_name.specs.Uri.{Part, IsUri, name_in}
 
 -- The text leaves a language at this place: what is before it can be continued to a text of the
@@ -17,8 +18,12 @@ pub record Leaves (L : List ℕ → Type 0) (text : List ℕ) (place : ℕ) : Ty
 abbrev pub IsUriText : List ℕ → Type 0
 IsUriText text = (parts : List Part) × IsUri parts text
 
+-- The name has this URI.
+abbrev pub HasUri : List Component → List ℕ → Type 0
+HasUri name text = (parts : List Part) × IsUri parts text × (name ≡ name_in parts)
+
 abbrev pub is_bad_digest : Component → Bool
-is_bad_digest c = nat_le c.0 2 && not (length c.1 == 32)
+is_bad_digest c = nat_le c.0 types.ParametersSha256DigestComponent && not (length c.1 == 32)
 
 -- Where the first digest stands that has not 32 octets.
 abbrev pub first_bad_digest : List Part → Option ℕ
@@ -31,13 +36,13 @@ first_bad_digest (part ∷ parts) =
 abbrev pub IsAnswer : List ℕ → Result (List Component) NameFault → Type 0
 IsAnswer text (Ok name) =
     (parts : List Part) × IsUri parts text × (first_bad_digest parts ≡ None)
-    × (length (encoding name) ≤ 1000) × (name ≡ name_in parts)
+    × (length (encoding name) ≤ name_limit) × (name ≡ name_in parts)
 IsAnswer text (Err (BadUri place)) = Leaves IsUriText text place
 IsAnswer text (Err (BadDigestLength at)) = (parts : List Part) × IsUri parts text
     × (first_bad_digest parts ≡ Some at)
 IsAnswer text (Err NameTooLong) =
     (parts : List Part) × IsUri parts text × (first_bad_digest parts ≡ None)
-    × (1000 < length (encoding (name_in parts)))
+    × (name_limit < length (encoding (name_in parts)))
 IsAnswer text (Err NoMemory) = ⊥
 IsAnswer text (Err (Tlv f)) = ⊥
 IsAnswer text (Err (BadComponent at)) = ⊥

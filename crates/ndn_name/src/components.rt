@@ -4,7 +4,7 @@ ghost use Rattle.ndn_name.specs.Names.{IsName, IsValue, component, component_of,
 
 use crate::component_view::ComponentView;
 use crate::name_fault::NameFault;
-use ndn_tlv::{Element, Reader};
+use ndn_tlv::{Element, Reader, types};
 
 // The component that an element is.
 pub(crate) fn component_of(element: Element<'_>) -> Result<ComponentView<'_>, NameFault>
@@ -14,7 +14,7 @@ pub(crate) fn component_of(element: Element<'_>) -> Result<ComponentView<'_>, Na
     let Ok(typ) = u16::try_from(element.typ) else {
         return Err(NameFault::BadComponent { at: element.start });
     };
-    if typ <= 2 && element.value.len() != 32 {
+    if typ <= types::PARAMETERS_SHA256_DIGEST_COMPONENT && element.value.len() != 32 {
         return Err(NameFault::BadDigestLength { at: element.start });
     }
     Ok(ComponentView {

@@ -1,10 +1,12 @@
 ghost use Rattle.std.specs.Prelude.{◌≡◌, ◌<◌, ◌≤◌, ◌↔◌, ◌⊎◌, [], ◌∷◌, ◌++◌, length, IfOk, IfErr, OnOk, OnErr, Err};
 ghost use Rattle.ndn_tlv.specs.NumberField.{number_field};
-ghost use Rattle.ndn_name.specs.Names.{IsName, encoding};
+ghost use Rattle.ndn_tlv.specs.Types as types;
+ghost use Rattle.ndn_name.specs.Names.{IsName, encoding, full_name};
 
 use crate::append::append_component;
 use crate::name_fault::NameFault;
 use crate::name_view::NameView;
+use ndn_tlv::types;
 use std::alloc::{AllocError, Global};
 use std::marker::Model;
 
@@ -23,13 +25,13 @@ pub struct Name {
 // A name is seen as the list of its components.
 impl Model for Name {
     ghost use Rattle.std.specs.Prelude.{ℕ, List, ◌≤◌, length};
-    ghost use Rattle.ndn_name.specs.Names.{IsValue, components};
+    ghost use Rattle.ndn_name.specs.Names.{IsValue, components, name_limit};
 
     ghost Value = { List (ℕ × List ℕ) };
 
     ghost view = { λ n. components n.octets.items };
 
-    ghost invariant = { λ n. IsValue n.octets.items n.len × (length n.octets.items ≤ 1000) };
+    ghost invariant = { λ n. IsValue n.octets.items n.len × (length n.octets.items ≤ name_limit) };
 }
 
 impl Name {
@@ -80,7 +82,7 @@ impl Name {
     /// Appends a component.
     pub fn push(&mut self, typ: u16, value: &[u8]) -> Result<(), NameFault>
         requires typ { 0 < typ }
-        requires digest { typ ≤ 2 → length value.now ≡ 32 }
+        requires digest { typ ≤ types.ParametersSha256DigestComponent → length value.now ≡ 32 }
         ensures ok { OnOk result (self.new ≡ self.old ++ (typ, value.now) ∷ []) }
         ensures too_long { (result ≡ Err NameFault.NameTooLong)
             ↔ (NAME_LIMIT < length (encoding (self.old ++ (typ, value.now) ∷ []))) }
@@ -96,7 +98,7 @@ impl Name {
     /// Appends a component whose value is a number, in the fewest octets that a number field may
     /// have.
     pub fn push_number(&mut self, typ: u16, n: u64) -> Result<(), NameFault>
-        requires { 2 < typ }
+        requires { types.ParametersSha256DigestComponent < typ }
         ensures ok { OnOk result (self.new ≡ self.old ++ (typ, number_field n) ∷ []) }
         ensures too_long { (result ≡ Err NameFault.NameTooLong)
             ↔ (NAME_LIMIT < length (encoding (self.old ++ (typ, number_field n) ∷ []))) }
@@ -130,14 +132,14 @@ impl Clone for Name {
 /// The full name of a Data packet: its name with its implicit digest, the SHA-256 of the packet,
 /// behind it.
 pub fn full_name(alloc: Global, name: &Name, digest: &[u8; 32]) -> Result<Name, NameFault>
-    ensures ok { IfOk result (λ full. full ≡ name.now ++ (1, digest.now) ∷ []) }
-    ensures fits { OnOk result (length (encoding (name.now ++ (1, digest.now) ∷ [])) ≤ NAME_LIMIT) }
+    ensures ok { IfOk result (λ full. full ≡ full_name name.now digest.now) }
+    ensures fits { OnOk result (length (encoding (full_name name.now digest.now)) ≤ NAME_LIMIT) }
     ensures too_long { result ≡ Err NameFault.NameTooLong
-        → NAME_LIMIT < length (encoding (name.now ++ (1, digest.now) ∷ [])) }
+        → NAME_LIMIT < length (encoding (full_name name.now digest.now)) }
     ensures refused { IfErr result
         (λ fault. (fault ≡ NameFault.NameTooLong) ⊎ (fault ≡ NameFault.NoMemory)) }
 {
     let mut full = Name::from_view(alloc, &name.view())?;
-    full.push(1, digest)?;
+    full.push(types::IMPLICIT_SHA256_DIGEST_COMPONENT, digest)?;
     Ok(full)
 }

@@ -198,3 +198,46 @@ fn names_are_in_order(rt: HostRuntime) -> Result<(), Fail> {
     }
     Ok(())
 }
+
+// Texts, and how many octets the value has of the plain name whose URI each is.
+const SIZES: [(&str, Option<usize>); 22] = [
+    ("/", Some(0)),
+    ("ndn:/", Some(0)),
+    ("/a/seg=0", Some(6)),
+    ("ndn:/a/b", Some(6)),
+    ("/8=a", Some(3)),
+    ("/%61%2d%7E", Some(5)),
+    ("/...", Some(2)),
+    ("/.....", Some(4)),
+    ("/%2E.%2e", Some(2)),
+    ("/9=...", Some(2)),
+    ("/253=x", Some(5)),
+    ("/65535=abc", Some(7)),
+    ("/v=65535/seq=65536", Some(10)),
+    ("/seg=18446744073709551615", Some(10)),
+    ("", None),
+    ("/a/", None),
+    ("/..", None),
+    ("/9=", None),
+    ("/seg=01", None),
+    ("/a=b", None),
+    ("/a/1=x", None),
+    ("/2=%00/b", None),
+];
+
+#[test]
+fn plain_texts_tell_their_size(rt: HostRuntime) -> Result<(), Fail> {
+    for (text, len) in SIZES {
+        assert_eq!(rt; plain_uri_len(text), len, "{text}");
+    }
+    let letters = vec![in rt.alloc(); b'a'; 70_000]?;
+    let long = String::from_utf8(letters).ok().ok_or("letters")?;
+    let text = format!(in rt.alloc(); "/{long}/b")?;
+    assert_eq!(rt; plain_uri_len(text.as_str()), Some(70_009));
+    let text = format!(in rt.alloc(); "/{long}/params-sha256=00")?;
+    assert_eq!(rt; plain_uri_len(text.as_str()), None);
+    let digits = "e3b0c44298fc1c149afbf4c8996fb92427ae41e4649b934ca495991b7852b855";
+    let text = format!(in rt.alloc(); "/{long}/sha256digest={digits}")?;
+    assert_eq!(rt; plain_uri_len(text.as_str()), None);
+    Ok(())
+}

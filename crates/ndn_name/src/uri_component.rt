@@ -8,6 +8,7 @@ use crate::name_fault::NameFault;
 use crate::uri_digits::{read_decimal, read_digest};
 use crate::uri_form::{Form, PartValue};
 use crate::uri_value::read_value;
+use ndn_tlv::types;
 use std::alloc::Global;
 
 // The component whose text this is, which begins at place `at`.
@@ -23,13 +24,13 @@ pub(crate) fn read_component(
         Some((form, head, tail)) => read_tail(alloc, form, tail, at + head.len() + 1),
         None => {
             let value = read_value(alloc, text, at)?;
-            Ok((8, PartValue::Octets(value)))
+            Ok((types::GENERIC_NAME_COMPONENT, PartValue::Octets(value)))
         }
     }
 }
 
 // The form that the text has, its head, and what follows the equals sign, where it has a head.
-fn split_head(text: &[u8]) -> Option<(Form, &[u8], &[u8])>
+pub(crate) fn split_head(text: &[u8]) -> Option<(Form, &[u8], &[u8])>
     ensures some { IfSome result (λ x. IsHead x.0 x.1.now × (text.now ≡ headed x.1.now x.2.now)) }
     ensures none { IfNone result (HasNoHead text.now) }
 {
@@ -81,15 +82,15 @@ fn keyword(head: &[u8]) -> Option<Form>
     ensures { result ≡ keyword_of head.now }
 {
     if head == b"sha256digest".as_slice() {
-        Some(Form::Digest(1))
+        Some(Form::Digest(types::IMPLICIT_SHA256_DIGEST_COMPONENT))
     } else if head == b"params-sha256".as_slice() {
-        Some(Form::Digest(2))
+        Some(Form::Digest(types::PARAMETERS_SHA256_DIGEST_COMPONENT))
     } else if head == b"seg".as_slice() {
-        Some(Form::Number(50))
+        Some(Form::Number(types::SEGMENT_NAME_COMPONENT))
     } else if head == b"v".as_slice() {
-        Some(Form::Number(54))
+        Some(Form::Number(types::VERSION_NAME_COMPONENT))
     } else if head == b"seq".as_slice() {
-        Some(Form::Number(58))
+        Some(Form::Number(types::SEQUENCE_NUM_NAME_COMPONENT))
     } else {
         None
     }

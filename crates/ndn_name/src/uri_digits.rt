@@ -35,7 +35,8 @@ pub(crate) fn pair_at(text: &[u8], at: usize) -> Result<(u8, &[u8]), NameFault>
 // The digest whose digits are the text.
 pub(crate) fn read_digest(text: &[u8], at: usize) -> Result<[u8; 32], NameFault>
     requires { at + length text.now < 2 ^ 63 }
-    ensures { Reads (λ d. d) IsDigestText at text.now result }
+    ensures read { Reads (λ d. d) IsDigestText at text.now result }
+    ensures told { result ≢ Err NameFault.NoMemory }
 {
     let mut digest = [0; 32];
     let mut rest = text;

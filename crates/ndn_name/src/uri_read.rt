@@ -1,14 +1,16 @@
-ghost use Rattle.std.specs.Prelude.{◌≡◌, ◌≢◌, ◌+◌, ◌^◌, ◌<◌, ◌≤◌, [], ◌∷◌, ◌++◌, ◌⊎◌, ◌↔◌, length, map, codes, MatchOption, MatchResult, IfOk, IfErr, OnOk, None, Err};
+ghost use Rattle.std.specs.Prelude.{◌≡◌, ◌≢◌, ◌+◌, ◌^◌, ◌<◌, ◌≤◌, [], ◌∷◌, ◌++◌, ◌⊎◌, ◌↔◌, length, map, codes, MatchOption, MatchResult, IfOk, IfErr, OnOk, None, Some, Ok, Err, List};
 ghost use Rattle.std.specs.List.{AllByRecursion};
-ghost use Rattle.ndn_name.specs.Names.{encoding};
+ghost use Rattle.ndn_name.specs.Names.{Component, encoding};
 ghost use Rattle.ndn_name.specs.Uri.{IsPath, IsRooted, IsUri, name_in};
 ghost use Rattle.ndn_name.specs.UriVerdict.{IsAnswer, first_bad_digest};
 ghost use Rattle.ndn_name.specs.UriReading.{BeginsOtherwise, BreaksOff, IsSound, Reads, uri_part};
+ghost use Rattle.ndn_name.specs.UriText.{plain_name_of_text};
 
 use crate::name::{NAME_LIMIT, Name};
 use crate::name_fault::NameFault;
 use crate::uri_component::{read_component, split_once};
 use crate::uri_form::{PartValue, UriPart};
+use ndn_tlv::types;
 use std::alloc::Global;
 
 impl Name {
@@ -16,7 +18,10 @@ impl Name {
     ///
     /// A place in a fault counts the octets of the text before it.
     pub fn from_uri(alloc: Global, text: &str) -> Result<Name, NameFault>
-        ensures { result ≢ Err NameFault.NoMemory → IsAnswer text.now result }
+        ensures answer { result ≢ Err NameFault.NoMemory → IsAnswer text.now result }
+        ensures plain { (name : List Component)
+            → plain_name_of_text text.now ≡ Some name → length (encoding name) ≤ NAME_LIMIT
+            → (result ≡ Ok name) ⊎ (result ≡ Err NameFault.NoMemory) }
     {
         let parts = read_uri(alloc, text.as_bytes())?;
         if let Some(at) = first_bad_digest(&parts) {
@@ -39,7 +44,7 @@ fn read_uri(alloc: Global, text: &[u8]) -> Result<Vec<UriPart>, NameFault>
 }
 
 // What follows the scheme at the front, or how much of the scheme is there.
-fn behind_scheme(text: &[u8]) -> Result<&[u8], usize>
+pub(crate) fn behind_scheme(text: &[u8]) -> Result<&[u8], usize>
     ensures { MatchResult result
         (λ path. text.now ≡ codes "ndn:" ++ path.now) (BreaksOff (codes "ndn:") text.now) }
 {
@@ -54,7 +59,7 @@ fn behind_scheme(text: &[u8]) -> Result<&[u8], usize>
 }
 
 // What follows an octet at the front, where it is there.
-fn behind_octet(text: &[u8], octet: u8) -> Option<&[u8]>
+pub(crate) fn behind_octet(text: &[u8], octet: u8) -> Option<&[u8]>
     ensures { MatchOption result (BeginsOtherwise octet text.now)
         (λ rest. text.now ≡ octet ∷ rest.now) }
 {
@@ -100,7 +105,7 @@ fn first_bad_digest(parts: &[UriPart]) -> Option<usize>
     ensures { result ≡ first_bad_digest (map uri_part parts.now) }
 {
     for part in parts {
-        if part.typ <= 2 && !part.value.is_digest() {
+        if part.typ <= types::PARAMETERS_SHA256_DIGEST_COMPONENT && !part.value.is_digest() {
             return Some(part.at);
         }
     }

@@ -15,7 +15,7 @@ pub(crate) fn is_unreserved(octet: u8) -> bool
 
 // The octet whose text is at the front of a text that begins at place `at`, and what follows it.
 #[tactic(auto, unfolding(crate::specs::UriReading::octet_at))]
-fn octet_at(text: &[u8], at: usize) -> Result<(u8, &[u8]), NameFault>
+pub(crate) fn octet_at(text: &[u8], at: usize) -> Result<(u8, &[u8]), NameFault>
     requires { at + length text.now < 2 ^ 63 }
     ensures { MatchResult result (λ x. octet_at at text.now ≡ Ok (x.0, x.1.now))
         (λ f. octet_at at text.now ≡ Err f) }

@@ -17,10 +17,9 @@ use Rattle.ndn_name.specs.Faults.{packet_fault}
 use Rattle.ndn_name.proofs.Encodings.{name_of-encoding}
 use Rattle.ndn_packet.specs.Contents.{first_among, first_of, name_or, name_in}
 use Rattle.ndn_packet.specs.Outer.{outer_of}
-use Rattle.ndn_packet.specs.SignatureInfo.{InfoSoFar, locator_from, locator_in, with_info_field, info_fields, info_from, info_in}
+use Rattle.ndn_packet.specs.SignatureInfo.{signature_info_table, InfoSoFar, locator_from, locator_in, with_info_field, info_fields, info_from, info_in}
 use Rattle.ndn_packet.specs.Written.{written_info}
 use Rattle.ndn_packet.specs.declared.signature_info.InfoField.TheVariants.{SignatureType, KeyLocator}
-use Rattle.ndn_packet.specs.declared.signature_info.TheConstants.{SIGNATURE_INFO}
 use Rattle.ndn_packet.proofs.Lengths.{length-element}
 
 -- an element that nothing follows
@@ -69,7 +68,7 @@ gathered-nothing take named s = refl
 
 -- ---- a signature info
 
-info_table : (a b : Item) → a.typ ≡ 0x1b → b.typ ≡ 0x1c → fields SIGNATURE_INFO (a then (b then nothing)) ≡ ((SignatureType, a) then ((KeyLocator, b) then nothing))
+info_table : (a b : Item) → a.typ ≡ 0x1b → b.typ ≡ 0x1c → fields signature_info_table (a then (b then nothing)) ≡ ((SignatureType, a) then ((KeyLocator, b) then nothing))
 unfolding fields_among place_of
 info_table a b h k = rw (h, k) refl
 
@@ -101,7 +100,7 @@ info_again o typ key_name valid fits =
     let first : with_info_field s (SignatureType, a) ≡ Ok t = refl in
     let second : with_info_field t (KeyLocator, b) ≡ Ok u = ap (λ (r : Result (Option (List Component)) PacketFault). r >>= λ l. Ok (record t { locator = l })) (locator_again b key_name refl valid (omega arith)) in
     let all : info_fields (placed o typ (written_info key_name)) ≡ Ok u =
-    ap (λ (l : Listing Item TlvFault). gathered with_info_field packet_fault s (fields SIGNATURE_INFO l)) read
+    ap (λ (l : Listing Item TlvFault). gathered with_info_field packet_fault s (fields signature_info_table l)) read
     ∙ ap (gathered with_info_field packet_fault s) (info_table a b refl refl)
     ∙ gathers with_info_field packet_fault s t (SignatureType, a) ((KeyLocator, b) then nothing) first
     ∙ gathers with_info_field packet_fault t u (KeyLocator, b) nothing second

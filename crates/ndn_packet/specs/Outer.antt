@@ -8,6 +8,10 @@ use Rattle.ndn_name.specs.declared.fault.PacketFault.{PacketFault}
 use Rattle.ndn_name.specs.declared.fault.PacketFault.TheVariants.{Tlv, PacketTooLong, WrongType, TrailingOctets}
 use Rattle.ndn_packet.specs.Contents.{first_of}
 
+-- How many octets a packet may have.
+abbrev pub packet_limit : ℕ
+packet_limit = 8800
+
 -- An element must be of the wanted type, and be all of so many octets.
 abbrev pub only_of : ℕ → ℕ → Item → Result Item PacketFault
 only_of typ len e =
@@ -17,5 +21,5 @@ only_of typ len e =
 -- The element of this type that the octets are. No octets are an element that is cut off.
 abbrev pub outer_of : ℕ → List ℕ → Result Item PacketFault
 outer_of typ octets =
-    if nat_lt 8800 (length octets) then Err PacketTooLong
+    if nat_lt packet_limit (length octets) then Err PacketTooLong
     else first_of (Tlv (Truncated 0)) 0 octets >>= only_of typ (length octets)

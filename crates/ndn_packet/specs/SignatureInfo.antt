@@ -1,8 +1,10 @@
 -- What a packet says of its signature (NDN Packet Format 0.3, "Signature").
-use Rattle.std.specs.Prelude.{ℕ, List, Option, Some, None, Result, Ok, Err, ◌==◌, if◌then◌else◌}
+use Rattle.std.specs.Prelude.{ℕ, List, [], ◌∷◌, Option, Some, None, Result, Ok, Err, ◌==◌, if◌then◌else◌}
+use Rattle.ndn_tlv.specs.Types as types
 use Rattle.ndn_tlv.specs.Listing.{gathered, ◌>>=◌}
 use Rattle.ndn_tlv.specs.Elements.{Item, elements}
-use Rattle.ndn_tlv.specs.OrderTable.{fields}
+use Rattle.ndn_tlv.specs.OrderTable.{once, fields}
+use Rattle.ndn_tlv.specs.declared.order_table.Place.{Place}
 use Rattle.ndn_name.specs.declared.fault.Field.TheVariants as field
 use Rattle.ndn_name.specs.declared.fault.PacketFault.{PacketFault}
 use Rattle.ndn_name.specs.declared.fault.PacketFault.TheVariants.{Missing, BadField}
@@ -13,7 +15,17 @@ use Rattle.ndn_packet.specs.declared.signature_info.InfoField.{InfoField}
 use Rattle.ndn_packet.specs.declared.signature_info.InfoField.TheVariants.{SignatureType, KeyLocator}
 use Rattle.ndn_packet.specs.declared.signature_info.SignatureInfo as declared_info
 use Rattle.ndn_packet.specs.declared.signature_info.Gathered.{Gathered}
-use Rattle.ndn_packet.specs.declared.signature_info.TheConstants.{SIGNATURE_INFO}
+
+-- The signature type of HMAC with SHA-256, under the name that the standard gives it.
+abbrev pub SignatureHmacWithSha256 : ℕ
+SignatureHmacWithSha256 = 4
+
+-- The places of the fields of a SignatureInfo, and of an InterestSignatureInfo.
+abbrev pub signature_info_table : List (Place InfoField)
+signature_info_table =
+    once types.SignatureType SignatureType
+    ∷ once types.KeyLocator KeyLocator
+    ∷ []
 
 -- How the packet is signed, and the name of the key, where its locator is a name.
 pub record Info : Type 0 where
@@ -29,8 +41,8 @@ pub record InfoSoFar : Type 0 where
 -- other is the fault.
 abbrev pub locator_from : PacketFault → Item → Result (Option (List Component)) PacketFault
 locator_from bad first =
-    if first.typ == 7 then (name_in bad first >>= λ name. Ok (Some name))
-    else if first.typ == 29 then Ok None
+    if first.typ == types.Name then (name_in bad first >>= λ name. Ok (Some name))
+    else if first.typ == types.KeyDigest then Ok None
     else Err bad
 
 -- A key locator is what its first element is. What follows that element is not looked at.
@@ -48,7 +60,7 @@ with_info_field s (KeyLocator, e) = locator_in e >>= λ locator. Ok (record s { 
 abbrev pub info_fields : Item → Result InfoSoFar PacketFault
 info_fields e =
     gathered with_info_field packet_fault (record { signature_type = None; locator = None })
-    (fields SIGNATURE_INFO (elements e.value_start e.value))
+    (fields signature_info_table (elements e.value_start e.value))
 
 abbrev pub info_from : InfoSoFar → Result Info PacketFault
 info_from s =

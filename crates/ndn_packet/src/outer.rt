@@ -1,7 +1,7 @@
 ghost use Rattle.std.specs.Prelude.{◌≡◌, ◌≤◌, length, MatchResult, Ok, Err, IfOk, OnOk};
 ghost use Rattle.ndn_tlv.specs.Spelling.{element};
 ghost use Rattle.ndn_tlv.specs.Elements.{item, placed};
-ghost use Rattle.ndn_packet.specs.Outer.{outer_of};
+ghost use Rattle.ndn_packet.specs.Outer.{packet_limit, outer_of};
 
 use crate::contents::first_element;
 use ndn_name::PacketFault;
@@ -17,7 +17,7 @@ pub fn outer_element(octets: &[u8], typ: u32) -> Result<Element<'_>, PacketFault
         (λ fault. outer_of typ octets.now ≡ Err fault) }
     ensures whole { IfOk result (λ e. octets.now ≡ element typ e.value.now) }
     ensures placed { IfOk result (λ e. item e ≡ placed 0 typ e.value.now) }
-    ensures short { OnOk result (length octets.now ≤ PACKET_LIMIT) }
+    ensures short { OnOk result (length octets.now ≤ packet_limit) }
 {
     if octets.len() > PACKET_LIMIT {
         return Err(PacketFault::PacketTooLong);

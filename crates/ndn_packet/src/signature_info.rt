@@ -4,12 +4,14 @@ ghost use Rattle.ndn_packet.specs.SignatureInfo.{locator_in, with_info_field, in
 
 use crate::contents::{bad_field, first_element, name_in, number_in};
 use ndn_name::{Field, NameView, PacketFault};
-use ndn_tlv::{Element, FieldReader, Place, Reader};
+use ndn_tlv::{Element, FieldReader, Place, Reader, types};
+
+/// The signature type of HMAC with SHA-256 (SignatureHmacWithSha256).
+pub const SIGNATURE_HMAC_WITH_SHA256: u64 = 4;
 
 /// What a packet says of its signature (NDN Packet Format 0.3, "Signature").
 #[derive(Debug, Drop)]
 pub struct SignatureInfo<'p> {
-    /// 4 is HMAC with SHA-256.
     pub signature_type: u64,
     /// The key's name, where the key locator is a name.
     pub locator: Option<NameView<'p>>,
@@ -23,12 +25,12 @@ enum InfoField {
 
 const SIGNATURE_INFO: [Place<InfoField>; 2] = [
     Place {
-        typ: 0x1b,
+        typ: types::SIGNATURE_TYPE,
         field: InfoField::SignatureType,
         repeats: false,
     },
     Place {
-        typ: 0x1c,
+        typ: types::KEY_LOCATOR,
         field: InfoField::KeyLocator,
         repeats: false,
     },
@@ -116,8 +118,8 @@ fn locator_in(element: Element<'_>) -> Result<Option<NameView<'_>>, PacketFault>
     let bad = bad_field(Field::KeyLocator, element);
     let first = first_element(bad, element.value, element.value_start)?;
     match first.typ {
-        0x07 => Ok(Some(name_in(bad, first)?)),
-        0x1d => Ok(None),
+        types::NAME => Ok(Some(name_in(bad, first)?)),
+        types::KEY_DIGEST => Ok(None),
         _ => Err(bad),
     }
 }

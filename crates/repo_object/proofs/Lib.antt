@@ -9,3 +9,4 @@ pub mod Packing
 pub mod Asking
 pub mod CutLemmas
 pub mod Passing
+pub mod Telling

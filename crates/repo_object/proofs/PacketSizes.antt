@@ -13,6 +13,7 @@ use Rattle.ndn_data.proofs.WriteLemmas.{length-mac_element}
 use Rattle.repo_object.specs.Objects.{key_name, record_name, segment_name}
 use Rattle.repo_object.specs.Publication.{Listed, record_content, segment_packet}
 use Rattle.repo_object.specs.Records.{IsDigest}
+use Rattle.repo_object.specs.Wants.{IsAskable}
 use Rattle.repo_object.proofs.Sizes.{element-at_most, element-narrow, number_field-one, number_field-two, pushed-size, appended-size}
 
 info-size : (key_name : List Component) → length (encoding key_name) ≤ 205 → length (written_info key_name) ≤ 216
@@ -61,6 +62,19 @@ record_name-size node group seq short_node short_group low =
     let two = number_field-two seq low in
     omega (arith, two, appended-size node group, pushed-size (node ++ group) 0x3a (number_field seq) (omega arith) (omega arith))
 
+-- an Interest may ask for the names of records and segments
+pub record_askable : (node group : List Component) (seq : ℕ) → length (encoding node) ≤ 200 → length (encoding group) ≤ 200 → seq < 2 ^ 16 → IsAskable (record_name node group seq)
+record_askable node group seq short_node short_group low = record {
+  some = omega (arith, length-append (node ++ group) ((0x3a, number_field seq) ∷ []));
+  short = omega (arith, record_name-size node group seq short_node short_group low);
+}
+
+pub segment_askable : (name : List Component) (i : ℕ) → length (encoding name) ≤ 400 → i < 256 → IsAskable (segment_name name i)
+segment_askable name i short low = record {
+  some = omega (arith, length-append name ((0x32, number_field i) ∷ []));
+  short = omega (arith, segment_name-size name i low);
+}
+
 pub segment-size : (key_name : List Component) (key : List ℕ) (name : List Component) (last i : ℕ) (content : List ℕ)
     → length (encoding key_name) ≤ 205 → length (encoding name) ≤ 400 → last < 256 → i < 256 → length content ≤ 8000
     → length (segment_packet key_name key name last i content) ≤ 8800
@@ -81,9 +95,8 @@ content-size l short few long =
     let one = number_field-one (length l.digests) (omega arith) in
     omega (arith, one, digests-size l.digests long, element-at_most 0x07 (encoding l.name) (omega arith) (omega arith), element-narrow 0x81 (number_field (length l.digests)) (omega arith) (omega arith), length-append (first ++ second) others, length-append first second)
 
-pub record-size : (node group : List Component) (seq : ℕ) (l : Listed) (key_name : List Component) (key : List ℕ)
-    → length (encoding node) ≤ 200 → length (encoding group) ≤ 200 → seq < 2 ^ 16 → length (encoding key_name) ≤ 205
-    → length (encoding l.name) ≤ 400 → length l.digests ≤ 200 → All IsDigest l.digests
-    → length (written_data (record_name node group seq) None (record_content l) key_name key) ≤ 8800
-record-size node group seq l key_name key short_node short_group low short_key short few long =
-    packet-size (record_name node group seq) None (record_content l) key_name key short_key (record_name-size node group seq short_node short_group low) (omega arith) (content-size l short few long)
+pub record-size : (name : List Component) (l : Listed) (key_name : List Component) (key : List ℕ)
+    → length (encoding name) ≤ 404 → length (encoding key_name) ≤ 205 → length (encoding l.name) ≤ 400 → length l.digests ≤ 200 → All IsDigest l.digests
+    → length (written_data name None (record_content l) key_name key) ≤ 8800
+record-size name l key_name key short_name short_key short few long =
+    packet-size name None (record_content l) key_name key short_key short_name (omega arith) (content-size l short few long)

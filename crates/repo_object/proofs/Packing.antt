@@ -1,8 +1,7 @@
 -- Packets and records, written one after another.
-use Rattle.std.proofs.Common.{◌≡◌, ℕ, ◌+◌, ◌-◌, ◌<◌, ◌≤◌, zero, suc, List, [], ◌∷◌, ◌++◌, length, map, drop, append_assoc, get_or, Vec, Global, Option, Some, None, option_map, Result, Err, refl, sym, ap, subst, ◌∙◌, arith}
+use Rattle.std.proofs.Common.{◌≡◌, ℕ, ◌+◌, ◌-◌, ◌<◌, ◌≤◌, zero, suc, List, [], ◌∷◌, ◌++◌, length, map, drop, append_assoc, get_or, Vec, Global, Option, Some, option_map, Result, Err, refl, sym, ap, subst, ◌∙◌, arith}
 use Rattle.std.specs.List.{All, flat_map, slice_get}
 use Rattle.std.proofs.lemmas.List.{append-nil, at_drop_more, at_drop_all, length-map, get_or-map}
-use Rattle.std.proofs.lemmas.List.Folds.{flat_map-map}
 use Rattle.std.proofs.lemmas.Simd.{map-map}
 use Rattle.std.proofs.lemmas.List.Elements.{All-get_or}
 use Rattle.sha2.specs.Sha256.{sha256}
@@ -14,6 +13,7 @@ use Rattle.ndn_name.specs.Names.{Component, encoding}
 use Rattle.repo_object.specs.Objects.{NamedContents, IsContent, Publisher, key_name}
 use Rattle.repo_object.specs.Publication.{record_content, packet_at, segment_packet, segment_packets_from, segment_packets, published_segments, published_listing}
 use Rattle.repo_object.specs.Records.{listed}
+use Rattle.repo_object.proofs.RecordLemmas.{mapped_some}
 
 abbrev pub items : Vec ℕ Global → List ℕ
 items v = v.items
@@ -64,16 +64,12 @@ segment_at keyed key name last j (content ∷ contents) (suc i) =
     segment_at keyed key name last (j + 1) contents i
     ∙ ap (λ (n : ℕ). option_map (segment_packet keyed key name last n) (slice_get contents i)) same
 
-mapped_from : {A : Type 0} (f : A → List ℕ) (o : Option A) (octets : List ℕ) → option_map f o ≡ Some octets → (x : A) × (o ≡ Some x) × (f x ≡ octets)
-mapped_from f None octets h = absurd cc
-mapped_from f (Some x) octets h = let same : f x ≡ octets = cc in (x, refl, same)
-
 -- so a packet at a place is that of the content there
 pub segment_from : (keyed : List Component) (key : List ℕ) (name : List Component) (last j : ℕ) (contents : List (List ℕ)) (i : ℕ) (octets : List ℕ)
     → slice_get (segment_packets_from keyed key name last j contents) i ≡ Some octets
     → (content : List ℕ) × (slice_get contents i ≡ Some content) × (segment_packet keyed key name last (j + i) content ≡ octets)
 segment_from keyed key name last j contents i octets h =
-    mapped_from (segment_packet keyed key name last (j + i)) (slice_get contents i) octets (sym (segment_at keyed key name last j contents i) ∙ h)
+    mapped_some (segment_packet keyed key name last (j + i)) (slice_get contents i) octets (sym (segment_at keyed key name last j contents i) ∙ h)
 
 pub packet_behind : (publisher : Publisher) (seq : ℕ) (object : NamedContents) (x : ℕ) → (x ≡ 0 → ⊥)
     → packet_at publisher seq object x
@@ -88,23 +84,19 @@ packet_behind publisher seq object (suc i) behind =
 
 -- ---- a record's content
 
-abbrev digest_of : Vec ℕ Global → List ℕ
-digest_of segment = sha256 segment.items
-
-pub content_written : (name : List Component) (segments : List (Vec ℕ Global)) (written : List ℕ) (i : ℕ) → length segments ≤ i
-    → written ++ flat_map (λ (segment : Vec ℕ Global). element 0x83 (sha256 segment.items)) (drop i segments)
-    ≡ (element 0x07 (encoding name) ++ element 0x81 (number_field (length segments))) ++ flat_map (λ (segment : Vec ℕ Global). element 0x83 (sha256 segment.items)) segments
-    → written ≡ record_content (listed name (map digest_of segments))
-content_written name segments written i past so_far =
-    let each = λ (segment : Vec ℕ Global). element 0x83 (sha256 segment.items) in
-    let digests = map digest_of segments in
+pub content_written : (name : List Component) (digests : List (List ℕ)) (written : List ℕ) (i : ℕ) → length digests ≤ i
+    → written ++ flat_map (element 0x83) (drop i digests)
+    ≡ (element 0x07 (encoding name) ++ element 0x81 (number_field (length digests))) ++ flat_map (element 0x83) digests
+    → written ≡ record_content (listed name digests)
+content_written name digests written i past so_far =
     sym (append-nil written)
-    ∙ ap (λ (ds : List ℕ). written ++ ds) (sym (at_drop_all (flat_map each) segments i past))
+    ∙ ap (λ (ds : List ℕ). written ++ ds) (sym (at_drop_all (flat_map (element 0x83)) digests i past))
     ∙ so_far
-    ∙ ap (λ (n : ℕ). (element 0x07 (encoding name) ++ element 0x81 (number_field n)) ++ flat_map each segments) (sym (length-map segments digest_of))
-    ∙ ap (λ (ds : List ℕ). (element 0x07 (encoding name) ++ element 0x81 (number_field (length digests))) ++ ds) (sym (flat_map-map (element 0x83) digest_of segments))
 
 -- ---- the record
+
+abbrev pub digest_of : Vec ℕ Global → List ℕ
+digest_of segment = sha256 segment.items
 
 -- what the record of packets lists that were written
 pub listing_is : (publisher : Publisher) (object : NamedContents) (keyed name : List Component) (packets : List (Vec ℕ Global)) → keyed ≡ key_name publisher.node → name ≡ object.name

@@ -7,7 +7,7 @@ use Rattle.std.proofs.lemmas.List.Elements.{All-nil, All-cons, All-head, All-tai
 use Rattle.std.proofs.lemmas.Option.{slice_get-map, slice_get_within}
 use Rattle.sha2.specs.Sha256.{sha256}
 use Rattle.sha2.proofs.Facts256.{length-sha256}
-use Rattle.ndn_name.specs.Names.{Component, encoding}
+use Rattle.ndn_name.specs.Names.{Component, IsName, encoding}
 use Rattle.ndn_name.proofs.Encodings.{IsName-append}
 use Rattle.ndn_data.specs.Data.{Data, data_of}
 use Rattle.ndn_data.specs.WrittenData.{read_back}
@@ -20,7 +20,7 @@ use Rattle.repo_object.specs.Wants.{want_record, want_segment}
 use Rattle.repo_object.specs.Verdict.{part_verdict, listing_within, listing_in}
 use Rattle.repo_object.proofs.Sizes.{named_short}
 use Rattle.repo_object.proofs.NameLemmas.{IsName-number, IsName-key}
-use Rattle.repo_object.proofs.PacketSizes.{key_name-size, segment-size, record-size}
+use Rattle.repo_object.proofs.PacketSizes.{key_name-size, record_name-size, segment-size, record-size}
 use Rattle.repo_object.proofs.Written.{written_is_listed}
 use Rattle.repo_object.proofs.Packing.{segment_from}
 use Rattle.repo_object.proofs.Passing.{passing_is_ok}
@@ -28,10 +28,10 @@ use Rattle.repo_object.proofs.Passing.{passing_is_ok}
 abbrev Short : List ℕ → Type 0
 Short octets = length octets ≤ 8800
 
-abbrev some : List ℕ → Option (List ℕ)
+abbrev pub some : List ℕ → Option (List ℕ)
 some octets = Some octets
 
-some_is : (a b : List ℕ) → some a ≡ some b → a ≡ b
+pub some_is : (a b : List ℕ) → some a ≡ some b → a ≡ b
 some_is a b e = cc
 
 -- ---- segments
@@ -54,6 +54,22 @@ module _ (keyed : List Component) (key : List ℕ) (name : List Component) (last
 -- the record and the segments
 pub packets-length : (publisher : Publisher) (seq : ℕ) (object : NamedContents) → length (packets publisher seq object) ≡ length object.contents + 1
 packets-length publisher seq object = omega (arith, segments-length (key_name publisher.node) publisher.key object.name (length object.contents - 1) 0 object.contents)
+
+-- ---- what the packet of a segment is
+
+-- what it is read as
+abbrev pub segment_read : Publisher → NamedContents → ℕ → List ℕ → Data
+segment_read publisher object k content =
+    read_back (segment_name object.name k) (Some (length object.contents - 1)) content (key_name publisher.node) publisher.key
+
+pub record SegmentPacket (publisher : Publisher) (object : NamedContents) (k : ℕ) (octets : List ℕ) : Type 0 where
+  pub content : List ℕ
+  pub place : slice_get object.contents k ≡ Some content
+  pub low : k < 2 ^ 8
+  pub stands : slice_get (published_segments publisher object) k ≡ Some octets
+  pub named : IsName (segment_name object.name k)
+  pub read : data_of octets ≡ Ok (segment_read publisher object k content)
+  pub digest : slice_get (map sha256 (published_segments publisher object)) k ≡ Some (sha256 octets)
 
 -- ---- a publication within the limits
 
@@ -83,20 +99,23 @@ module _ (publisher : Publisher) (object : NamedContents) (is_publisher : IsPubl
 
   record_short : (seq : ℕ) → seq < 2 ^ 16 → Short (record_packet publisher seq (published_listing publisher object))
   record_short seq low =
-      record-size publisher.node publisher.group seq (published_listing publisher object) keyed publisher.key is_publisher.node.1 is_publisher.group.1 low keyed-short name-short within.few within.digests
+      record-size (record_name publisher.node publisher.group seq) (published_listing publisher object) keyed publisher.key
+      (record_name-size publisher.node publisher.group seq is_publisher.node.1 is_publisher.group.1 low) keyed-short name-short within.few within.digests
 
   pub all_fit : (seq : ℕ) → seq < 2 ^ 16 → All Short (packets publisher seq object)
   all_fit seq low =
       All-cons Short (record_packet publisher seq (published_listing publisher object)) (published_segments publisher object) (record_short seq low)
       (segments_fit keyed publisher.key object.name last 0 object.contents keyed-short name-short (omega (arith, is_object.few)) (omega (arith, is_object.few)) is_object.contents)
 
-  abbrev record_read : ℕ → Data
+  abbrev pub record_read : ℕ → Data
   record_read seq = read_back (record_name publisher.node publisher.group seq) None (record_content (published_listing publisher object)) keyed publisher.key
 
-  record_again : (seq : ℕ) → seq < 2 ^ 16 → data_of (record_packet publisher seq (published_listing publisher object)) ≡ Ok (record_read seq)
+  pub record_named : (seq : ℕ) → seq < 2 ^ 16 → IsName (record_name publisher.node publisher.group seq)
+  record_named seq low = IsName-number (publisher.node ++ publisher.group) 0x3a seq (IsName-append publisher.node publisher.group is_publisher.node.0 is_publisher.group.0) (omega arith) (omega arith) low
+
+  pub record_again : (seq : ℕ) → seq < 2 ^ 16 → data_of (record_packet publisher seq (published_listing publisher object)) ≡ Ok (record_read seq)
   record_again seq low =
-      let named = IsName-number (publisher.node ++ publisher.group) 0x3a seq (IsName-append publisher.node publisher.group is_publisher.node.0 is_publisher.group.0) (omega arith) (omega arith) low in
-      data_again (record_name publisher.node publisher.group seq) keyed None (record_content (published_listing publisher object)) publisher.key named (IsName-key publisher.node is_publisher.node.0) (record_short seq low)
+      data_again (record_name publisher.node publisher.group seq) keyed None (record_content (published_listing publisher object)) publisher.key (record_named seq low) (IsName-key publisher.node is_publisher.node.0) (record_short seq low)
 
   pub record_listed : (seq : ℕ) → seq < 2 ^ 16 → listing_in (record_packet publisher seq (published_listing publisher object)) ≡ Some (published_listing publisher object)
   record_listed seq low =
@@ -124,12 +143,12 @@ module _ (publisher : Publisher) (object : NamedContents) (is_publisher : IsPubl
   behind_first zero first octets others above h = absurd (omega arith)
   behind_first (suc x) first octets others above h = let same : suc x - 1 ≡ x = omega arith in ap (slice_get others) same ∙ h
 
-  pub segment_passes : (part : Part) (octets : List ℕ) → 0 < part.part → packet_at publisher part.seq object part.part ≡ Some octets
-      → IsOk (part_verdict (want_segment part (published_listing publisher object)) (encoding keyed) publisher.key octets)
-  segment_passes part octets above h =
-      let k = part.part - 1 in
+  -- what the packet of a part behind the record is
+  pub segment_is : (seq x : ℕ) (octets : List ℕ) → 0 < x → packet_at publisher seq object x ≡ Some octets → SegmentPacket publisher object (x - 1) octets
+  segment_is seq x octets above h =
+      let k = x - 1 in
       let segments = published_segments publisher object in
-      let at = behind_first part.part (record_packet publisher part.seq (published_listing publisher object)) octets segments above h in
+      let at = behind_first x (record_packet publisher seq (published_listing publisher object)) octets segments above h in
       let s = segment_from keyed publisher.key object.name last 0 object.contents k octets at in
       let content = s.0 in
       let from_first : k ≡ 0 + k = omega arith in
@@ -140,20 +159,15 @@ module _ (publisher : Publisher) (object : NamedContents) (is_publisher : IsPubl
       let short : length content ≤ 8000 = content_short k content s.1 in
       let named = IsName-number object.name 0x32 k is_object.name (omega arith) (omega arith) (omega (arith, low)) in
       let read = data_again (segment_name object.name k) keyed (Some last) content publisher.key named (IsName-key publisher.node is_publisher.node.0) (segment-size keyed publisher.key object.name last k content keyed-short name-short low_last low short) in
-      let digest : slice_get (map sha256 segments) k ≡ Some (sha256 octets) = slice_get-map sha256 segments k ∙ ap (option_map sha256) at in
-      let P : Option (List ℕ) → Type 0 = λ o. IfSome o (λ d. sha256 octets ≡ d) in
-      passing_is_ok (want_segment part (published_listing publisher object)) (encoding keyed) publisher.key octets (read_back (segment_name object.name k) (Some last) content keyed publisher.key) (record {
+      record {
+        content = content;
+        place = s.1;
+        low = low;
+        stands = at;
+        named = named;
         read = ap data_of (sym is) ∙ read;
-        all_signed = refl;
-        name = refl;
-        digest = subst P (sym digest) refl;
-        signature_type = refl;
-        locator = keyed;
-        located = refl;
-        key_named = refl;
-        signature = refl;
-        listing = λ zero. absurd (omega arith);
-      })
+        digest = slice_get-map sha256 segments k ∙ ap (option_map sha256) at;
+      }
     where
       content_short : (k : ℕ) (content : List ℕ) → slice_get object.contents k ≡ Some content → length content ≤ 8000
       content_short k content h = (all_get object.contents k content is_object.contents h).1 where
@@ -161,3 +175,22 @@ module _ (publisher : Publisher) (object : NamedContents) (is_publisher : IsPubl
         all_get [] k content all h = absurd cc
         all_get (c ∷ cs) zero content all h = subst IsContent (some_is c content h) (All-head IsContent c cs all)
         all_get (c ∷ cs) (suc k) content all h = all_get cs k content (All-tail IsContent c cs all) h
+
+  pub segment_passes : (part : Part) (octets : List ℕ) → 0 < part.part → packet_at publisher part.seq object part.part ≡ Some octets
+      → IsOk (part_verdict (want_segment part (published_listing publisher object)) (encoding keyed) publisher.key octets)
+  segment_passes part octets above h =
+      let k = part.part - 1 in
+      let s = segment_is part.seq part.part octets above h in
+      let P : Option (List ℕ) → Type 0 = λ o. IfSome o (λ d. sha256 octets ≡ d) in
+      passing_is_ok (want_segment part (published_listing publisher object)) (encoding keyed) publisher.key octets (segment_read publisher object k s.content) (record {
+        read = s.read;
+        all_signed = refl;
+        name = refl;
+        digest = subst P (sym s.digest) refl;
+        signature_type = refl;
+        locator = keyed;
+        located = refl;
+        key_named = refl;
+        signature = refl;
+        listing = λ zero. absurd (omega arith);
+      })

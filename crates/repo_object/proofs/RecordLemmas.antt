@@ -1,5 +1,6 @@
 -- What a content lists is what its fields say.
 use Rattle.std.proofs.Common.{◌≡◌, ℕ, ◌^◌, ◌<◌, Bool, true, false, cond, eqb, leb, List, [], ◌∷◌, length, length-append, map, Option, Some, None, option_map, Result, Ok, Err, refl, sym, ap, subst, ◌∙◌, arith}
+use Rattle.std.specs.Prelude.{IsSome, unwrap_or}
 use Rattle.std.specs.List.{All}
 use Rattle.std.specs.Option.{option_and_then}
 use Rattle.std.proofs.lemmas.Bool.{eq-eqb, eqb-true, le-leb, leb-true}
@@ -20,10 +21,10 @@ use Rattle.ndn_name.proofs.Encodings.{IsOctets-behind, IsOctets-before, name_of-
 use Rattle.ndn_packet.proofs.Gathering.{Each}
 use Rattle.repo_object.specs.declared.record_fields.RecordField.{RecordField}
 use Rattle.repo_object.specs.declared.record_fields.RecordField.TheVariants as field
-use Rattle.repo_object.specs.declared.record_fields.TheConstants.{RECORD}
 use Rattle.repo_object.specs.Objects.{is_object_name}
 use Rattle.repo_object.specs.Publication.{Listed}
-use Rattle.repo_object.specs.Records.{that_passes, read_name, object_name_in, segment_count_in, digest_in, digests_among, counted_digests, listed, listing_among, record_fields, listing_of, IsDigest, IsListing, Lists}
+use Rattle.repo_object.specs.declared.record_fields.DigestReader.{DigestReader}
+use Rattle.repo_object.specs.Records.{record_table, that_passes, read_name, object_name_in, segment_count_in, digest_in, digests_among, counted_digests, listed, listing_among, record_fields, listing_of, IsDigest, IsListing, IsRead, digests_to_come, Lists}
 
 abbrev Field : Type 0
 Field = RecordField × Item
@@ -34,7 +35,7 @@ and_then_some : {A B : Type 0} (f : A → Option B) (o : Option A) (y : B) → o
 and_then_some f None y e = absurd cc
 and_then_some f (Some x) y e = (x, refl, e)
 
-mapped_some : {A B : Type 0} (f : A → B) (o : Option A) (y : B) → option_map f o ≡ Some y → (x : A) × (o ≡ Some x) × (f x ≡ y)
+pub mapped_some : {A B : Type 0} (f : A → B) (o : Option A) (y : B) → option_map f o ≡ Some y → (x : A) × (o ≡ Some x) × (f x ≡ y)
 mapped_some f None y e = absurd cc
 mapped_some {A} {B} f (Some x) y e = (x, refl, same (f x) y e) where
   found : B → Option B
@@ -241,7 +242,26 @@ fields_fit table (e ∷ es) fault fits =
 pub lists_within : (content : List ℕ) (l : Listed) → IsOctets content → length content < 2 ^ 64 → Lists content l → IsListing l
 lists_within content l fits short s =
     let read = elements 0 content in
-    let each = fields_fit RECORD read.items read.fault (elements_fit 0 content read.items read.fault fits short (elements_are 0 content fits)) in
+    let each = fields_fit record_table read.items read.fault (elements_fit 0 content read.items read.fault fits short (elements_are 0 content fits)) in
     let P : Listing Field FieldFault → Type 0 = λ f. Each Fits (elements_of f) in
     let first = (subst P s.fields each).0 in
     record { name = (name_of-encoded s.name.value_start s.name.value l.name first.octets first.long s.names).0; named = s.named; few = s.few; digests = s.are }
+
+-- ---- what a reader of a record has read
+
+pub some_mapped : {A B : Type 0} (f : A → B) (o : Option A) → IsSome (option_map f o) → IsSome o
+some_mapped f None s = s
+some_mapped f (Some x) s = refl
+
+-- a record's name and digests were read, where they are what its content lists
+pub record_is_read : (content : List ℕ) (name : List Component) (reader : DigestReader) → IsOctets content → length content < 2 ^ 64
+    → listing_of content ≡ option_map (listed name) (digests_to_come reader) → IsSome (digests_to_come reader) → IsRead name reader
+record_is_read content name reader fits short is all = go (digests_to_come reader) refl all where
+  go : (o : Option (List (List ℕ))) → digests_to_come reader ≡ o → IsSome o → IsRead name reader
+  go None p s = absurd cc
+  go (Some digests) p s =
+      let read : listing_of content ≡ Some (listed name digests) = is ∙ ap (option_map (listed name)) p in
+      record {
+        all = subst IsSome (sym p) s;
+        within = subst (λ (o : Option (List (List ℕ))). IsListing (listed name (unwrap_or o []))) (sym p) (lists_within content (listed name digests) fits short (lists content (listed name digests) read));
+      }

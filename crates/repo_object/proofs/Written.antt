@@ -17,9 +17,8 @@ use Rattle.ndn_name.proofs.Encodings.{name_of-encoding}
 use Rattle.ndn_packet.proofs.ReadBack.{followed}
 use Rattle.repo_object.specs.declared.record_fields.RecordField.{RecordField}
 use Rattle.repo_object.specs.declared.record_fields.RecordField.TheVariants as field
-use Rattle.repo_object.specs.declared.record_fields.TheConstants.{RECORD}
 use Rattle.repo_object.specs.Publication.{Listed, record_content}
-use Rattle.repo_object.specs.Records.{listing_of, IsDigest, IsListing, Lists}
+use Rattle.repo_object.specs.Records.{record_table, listing_of, IsDigest, IsListing, Lists}
 use Rattle.repo_object.proofs.Sizes.{number_field-one, named_short}
 use Rattle.repo_object.proofs.RecordLemmas.{listing_from}
 
@@ -58,7 +57,7 @@ digest_values o [] = refl
 digest_values o (d ∷ ds) = ap (λ (xs : List (List ℕ)). d ∷ xs) (digest_values (o + length (element 0x83 d)) ds)
 
 table : (a b : Item) (rest : List Item) → a.typ ≡ 0x07 → b.typ ≡ 0x81
-    → fields RECORD (a then (b then only_items rest)) ≡ ((field.Name, a) then ((field.SegmentCount, b) then fields_among (digest_place ∷ []) rest None))
+    → fields record_table (a then (b then only_items rest)) ≡ ((field.Name, a) then ((field.SegmentCount, b) then fields_among (digest_place ∷ []) rest None))
 unfolding fields_among place_of
 table a b rest h k = rw (h, k) refl
 
@@ -83,7 +82,7 @@ written_lists l within =
       name = a;
       count = b;
       digests = digest_items p l.digests;
-      fields = ap (fields RECORD) read ∙ table a b (digest_items p l.digests) refl refl ∙ ap (λ (f : Listing Field FieldFault). (field.Name, a) then ((field.SegmentCount, b) then f)) (digests_are_fields p l.digests);
+      fields = ap (fields record_table) read ∙ table a b (digest_items p l.digests) refl refl ∙ ap (λ (f : Listing Field FieldFault). (field.Name, a) then ((field.SegmentCount, b) then f)) (digests_are_fields p l.digests);
       names = name_of-encoding a.value_start l.name within.name;
       named = within.named;
       counts = number_of-number_field n (omega (arith, within.few));

@@ -1,3 +1,4 @@
+pub use Rattle.ndn_tlv.specs.Types
 pub use Rattle.ndn_tlv.specs.Spelling
 pub use Rattle.ndn_tlv.specs.NumberField
 pub use Rattle.ndn_name.specs.Names
@@ -6,8 +7,11 @@ pub use Rattle.ndn_data.specs.Data
 pub use Rattle.ndn_data.specs.WrittenData
 pub use Rattle.ndn_interest.specs.WrittenInterest
 pub use Rattle.repo_plan.specs.Parts
+pub mod Limits
+pub mod RecordTypes
 pub mod Objects
 pub mod Publication
+pub mod Published
 pub mod Records
 pub mod Wants
 pub mod Verdict

@@ -1,29 +1,32 @@
 -- Objects, who publishes them, and the names of what is published.
 use Rattle.std.specs.Prelude.{◌<◌, ◌≤◌, ℕ, ◌&&◌, Bool, IsTrue, List, [], ◌∷◌, ◌++◌, length, nat_lt, nat_le}
 use Rattle.std.specs.List.{All, list_all}
+use Rattle.ndn_tlv.specs.Types as types
 use Rattle.ndn_tlv.specs.NumberField.{number_field}
 use Rattle.ndn_name.specs.Names.{Component, IsName, encoding}
+use Rattle.repo_object.specs.Limits.{node_name_limit, object_name_limit, segment_limit, content_limit}
 
 -- An object as contracts see it: a name and the contents of its segments, in order.
 pub record NamedContents : Type 0 where
   pub name : List Component
   pub contents : List (List ℕ)
 
--- An object's name has 1 to 400 octets of value, and no component that is a digest.
+-- An object's name has 1 to 400 octets of value, and no component that is a digest: the two types of
+-- those are the least.
 abbrev pub is_object_name : List Component → Bool
 is_object_name name =
     nat_lt 0 (length (encoding name))
-    && nat_le (length (encoding name)) 400
-    && list_all (λ c. nat_lt 2 c.0) name
+    && nat_le (length (encoding name)) object_name_limit
+    && list_all (λ c. nat_lt types.ParametersSha256DigestComponent c.0) name
 
 abbrev pub IsContent : List ℕ → Type 0
-IsContent content = (0 < length content) × (length content ≤ 8000)
+IsContent content = (0 < length content) × (length content ≤ content_limit)
 
 -- The limits that every object is within.
 pub record IsObject (object : NamedContents) : Type 0 where
   pub name : IsName object.name
   pub named : IsTrue (is_object_name object.name)
-  pub few : length object.contents ≤ 200
+  pub few : length object.contents ≤ segment_limit
   pub contents : All IsContent object.contents
 
 -- Who publishes: its node's name, its group's name, and its key.
@@ -37,20 +40,25 @@ publisher node group key = record { node = node; group = group; key = key }
 
 -- The name of a node or a group has at most 200 octets of value.
 abbrev pub IsShortName : List Component → Type 0
-IsShortName name = IsName name × (length (encoding name) ≤ 200)
+IsShortName name = IsName name × (length (encoding name) ≤ node_name_limit)
 
 pub record IsPublisher (publisher : Publisher) : Type 0 where
   pub node : IsShortName publisher.node
   pub group : IsShortName publisher.group
 
--- The name of a node's key: the node's with the generic component `KEY` behind it.
+-- The word `KEY`.
+abbrev pub key_word : List ℕ
+key_word = 75 ∷ 69 ∷ 89 ∷ []
+
+-- The name of a node's key: the node's with that word behind it.
 abbrev pub key_name : List Component → List Component
-key_name node = node ++ (8, 75 ∷ 69 ∷ 89 ∷ []) ∷ []
+key_name node = node ++ (types.GenericNameComponent, key_word) ∷ []
 
 -- The name of a publication's record, by the node, the group and the publication's number.
 abbrev pub record_name : List Component → List Component → ℕ → List Component
-record_name node group seq = node ++ group ++ (0x3a, number_field seq) ∷ []
+record_name node group seq =
+    node ++ group ++ (types.SequenceNumNameComponent, number_field seq) ∷ []
 
 -- The name of an object's segment, counted from 0.
 abbrev pub segment_name : List Component → ℕ → List Component
-segment_name name i = name ++ (0x32, number_field i) ∷ []
+segment_name name i = name ++ (types.SegmentNameComponent, number_field i) ∷ []

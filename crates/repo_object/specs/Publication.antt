@@ -2,10 +2,12 @@
 use Rattle.std.specs.Prelude.{ℕ, ◌+◌, ◌-◌, List, [], ◌∷◌, ◌++◌, length, map, Option, Some, None, slice_get}
 use Rattle.std.specs.List.{flat_map}
 use Rattle.sha2.specs.Sha256.{sha256}
+use Rattle.ndn_tlv.specs.Types as types
 use Rattle.ndn_tlv.specs.Spelling.{element}
 use Rattle.ndn_tlv.specs.NumberField.{number_field}
 use Rattle.ndn_name.specs.Names.{Component, encoding}
 use Rattle.ndn_data.specs.WrittenData.{written_data}
+use Rattle.repo_object.specs.RecordTypes as record_types
 use Rattle.repo_object.specs.Objects.{NamedContents, Publisher, key_name, record_name, segment_name}
 
 -- What a record lists: an object's name, and the digest of each of its segments' packets, in order.
@@ -16,9 +18,9 @@ pub record Listed : Type 0 where
 -- The content of a record: Name, SegmentCount and a Digest for each segment.
 abbrev pub record_content : Listed → List ℕ
 record_content l =
-    element 0x07 (encoding l.name)
-    ++ element 0x81 (number_field (length l.digests))
-    ++ flat_map (element 0x83) l.digests
+    element types.Name (encoding l.name)
+    ++ element record_types.SegmentCount (number_field (length l.digests))
+    ++ flat_map (element record_types.Digest) l.digests
 
 -- The packet of a segment, which names the object's last one, signed with the key of that name.
 abbrev pub segment_packet : List Component → List ℕ → List Component → ℕ → ℕ → List ℕ → List ℕ

@@ -1,21 +1,36 @@
 -- What the content of a record is read as.
-use Rattle.std.specs.Prelude.{◌≡◌, ◌≤◌, ℕ, Bool, IsTrue, List, [], ◌∷◌, length, map, Option, Some, None, option_map, Result, Ok, Err, nat_le, ◌==◌, if◌then◌else◌}
+use Rattle.std.specs.Prelude.{◌≡◌, ◌≤◌, ℕ, Bool, IsTrue, IsSome, List, [], ◌∷◌, length, map, Option, Some, None, option_map, unwrap_or, Result, Ok, Err, nat_le, ◌==◌, if◌then◌else◌}
 use Rattle.std.specs.List.{All}
 use Rattle.std.specs.Option.{option_and_then}
+use Rattle.ndn_tlv.specs.Types as types
 use Rattle.ndn_tlv.specs.declared.order_table.FieldFault.{FieldFault}
+use Rattle.ndn_tlv.specs.declared.order_table.Place.{Place}
 use Rattle.ndn_tlv.specs.Listing.{Listing}
 use Rattle.ndn_tlv.specs.Elements.{Item, elements}
 use Rattle.ndn_tlv.specs.NumberField.{number_of}
-use Rattle.ndn_tlv.specs.OrderTable.{fields}
+use Rattle.ndn_tlv.specs.OrderTable.{once, repeated, fields}
 use Rattle.ndn_name.specs.declared.name_fault.NameFault.{NameFault}
 use Rattle.ndn_name.specs.Names.{Component, IsName, name_of}
 use Rattle.repo_object.specs.declared.record_fields.RecordField.{RecordField}
 use Rattle.repo_object.specs.declared.record_fields.RecordField.TheVariants as field
 use Rattle.repo_object.specs.declared.record_fields.DigestReader.{DigestReader}
 use Rattle.repo_object.specs.declared.record_fields.RecordReader.{RecordReader}
-use Rattle.repo_object.specs.declared.record_fields.TheConstants.{RECORD}
+use Rattle.repo_object.specs.Limits.{segment_limit}
+use Rattle.repo_object.specs.RecordTypes as record_types
 use Rattle.repo_object.specs.Objects.{is_object_name}
 use Rattle.repo_object.specs.Publication.{Listed}
+
+-- The places of the fields of a record.
+abbrev pub record_table : List (Place RecordField)
+record_table =
+    once types.Name field.Name
+    ∷ once record_types.SegmentCount field.SegmentCount
+    ∷ repeated record_types.Digest field.Digest
+    ∷ []
+
+-- How many octets a digest has.
+abbrev pub digest_len : ℕ
+digest_len = 32
 
 -- What was read, where it passes a test.
 abbrev pub that_passes : {A : Type 0} → (A → Bool) → Option A → Option A
@@ -32,11 +47,11 @@ object_name_in e = that_passes is_object_name (read_name (name_of e.value_start 
 
 -- The number of segments that an element's value is: 0 to 200.
 abbrev pub segment_count_in : Item → Option ℕ
-segment_count_in e = that_passes (λ n. nat_le n 200) (number_of e.value)
+segment_count_in e = that_passes (λ n. nat_le n segment_limit) (number_of e.value)
 
 -- The digest that a field is: a Digest of 32 octets.
 abbrev pub digest_in : RecordField × Item → Option (List ℕ)
-digest_in (field.Digest, e) = if length e.value == 32 then Some e.value else None
+digest_in (field.Digest, e) = if length e.value == digest_len then Some e.value else None
 digest_in (field.Name, e) = None
 digest_in (field.SegmentCount, e) = None
 
@@ -67,9 +82,9 @@ listing_among ((field.Name, n) ∷ (field.SegmentCount, c) ∷ digests) fault =
     (object_name_in n)
 listing_among _ fault = None
 
--- The fields of a content by the order table Name, SegmentCount, Digest, the last of which repeats.
+-- The fields of a content by the order table of records.
 abbrev pub record_fields : List ℕ → Listing (RecordField × Item) FieldFault
-record_fields content = fields RECORD (elements 0 content)
+record_fields content = fields record_table (elements 0 content)
 
 -- What the content of a record lists, or None where it is no record's.
 abbrev pub listing_of : List ℕ → Option Listed
@@ -80,20 +95,29 @@ listing_of content = listing_among (record_fields content).items (record_fields 
 abbrev pub digests_to_come : DigestReader → Option (List (List ℕ))
 digests_to_come reader = counted_digests reader.left reader.fields
 
+-- The same, where they are all there.
+abbrev pub digests_left : DigestReader → List (List ℕ)
+digests_left reader = unwrap_or (digests_to_come reader) []
+
 abbrev pub listing_to_come : RecordReader → Option Listed
 listing_to_come reader = option_map (listed reader.name) (digests_to_come reader.digests)
 
 -- ---- the same in the words of the format
 
 abbrev pub IsDigest : List ℕ → Type 0
-IsDigest digest = length digest ≡ 32
+IsDigest digest = length digest ≡ digest_len
 
 -- What every listing is within that was read.
 pub record IsListing (l : Listed) : Type 0 where
   pub name : IsName l.name
   pub named : IsTrue (is_object_name l.name)
-  pub few : length l.digests ≤ 200
+  pub few : length l.digests ≤ segment_limit
   pub digests : All IsDigest l.digests
+
+-- A record's name and digests were read, and are within the limits.
+pub record IsRead (name : List Component) (digests : DigestReader) : Type 0 where
+  pub all : IsSome (digests_to_come digests)
+  pub within : IsListing (listed name (digests_left digests))
 
 -- A content has the fields of a record that lists this: a Name, a SegmentCount, then Digests.
 pub record Lists (content : List ℕ) (l : Listed) : Type 0 where
@@ -107,6 +131,6 @@ pub record Lists (content : List ℕ) (l : Listed) : Type 0 where
   pub names : name_of name.value_start name.value ≡ Ok l.name
   pub named : IsTrue (is_object_name l.name)
   pub counts : number_of count.value ≡ Some (length l.digests)
-  pub few : length l.digests ≤ 200
+  pub few : length l.digests ≤ segment_limit
   pub values : map (λ (d : Item). d.value) digests ≡ l.digests
   pub are : All IsDigest l.digests

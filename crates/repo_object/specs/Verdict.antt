@@ -2,12 +2,14 @@
 use Rattle.std.specs.Prelude.{◌≡◌, ℕ, ◌&&◌, ◌||◌, not, Bool, true, false, IsSome, IfSome, List, [], ◌++◌, Option, Some, None, is_some, unwrap_or, slice_get, Result, Ok, Err, IsOk, ◌==◌, if◌then◌else◌}
 use Rattle.std.specs.Str.{bytes_eq}
 use Rattle.sha2.specs.Sha256.{sha256}
+use Rattle.ndn_tlv.specs.Types as types
 use Rattle.ndn_tlv.specs.Spelling.{element}
 use Rattle.ndn_tlv.specs.Listing.{◌>>=◌}
 use Rattle.ndn_name.specs.declared.fault.PacketFault.{PacketFault}
 use Rattle.ndn_name.specs.Names.{Component, encoding}
 use Rattle.ndn_sign.specs.Hmac.{hmac}
 use Rattle.ndn_sign.specs.Ring.{Pair, pair}
+use Rattle.ndn_packet.specs.SignatureInfo.{SignatureHmacWithSha256}
 use Rattle.ndn_data.specs.Data.{Data, data_of, IsAllSigned}
 use Rattle.repo_object.specs.declared.part_refusal.PartRefusal.{PartRefusal}
 use Rattle.repo_object.specs.declared.part_refusal.PartRefusal.TheVariants.{Packet, UnsignedOctets, OtherName, OtherDigest, UnknownKey, BadSignature, BadRecord}
@@ -17,7 +19,7 @@ use Rattle.repo_object.specs.Wants.{WantedPart}
 
 -- The packet has no octets but those that are signed, and the signature behind them.
 abbrev pub is_all_signed : Data → Bool
-is_all_signed d = bytes_eq d.value (d.signed ++ element 0x17 d.signature)
+is_all_signed d = bytes_eq d.value (d.signed ++ element types.SignatureValue d.signature)
 
 -- Names are the same exactly where their octets are.
 abbrev pub has_name : List Component → Data → Bool
@@ -35,7 +37,8 @@ locates key_name (Some name) = bytes_eq (encoding name) key_name
 
 -- The packet says that it is signed by HMAC with SHA-256 under the key of the name of these octets.
 abbrev pub names_key : List ℕ → Data → Bool
-names_key key_name d = d.signature_type == 4 && locates key_name d.locator
+names_key key_name d =
+    d.signature_type == SignatureHmacWithSha256 && locates key_name d.locator
 
 -- The signature is the mac of what is signed.
 abbrev pub is_signed_by : List ℕ → Data → Bool
@@ -72,7 +75,7 @@ pub record Passes (want : WantedPart) (key_name key octets : List ℕ) (d : Data
   pub all_signed : IsAllSigned d
   pub name : encoding d.name ≡ encoding want.name
   pub digest : IfSome want.digest (λ digest. sha256 octets ≡ digest)
-  pub signature_type : d.signature_type ≡ 4
+  pub signature_type : d.signature_type ≡ SignatureHmacWithSha256
   pub locator : List Component
   pub located : d.locator ≡ Some locator
   pub key_named : encoding locator ≡ key_name
@@ -109,6 +112,14 @@ checked_part want ring octets =
 abbrev pub ring_verdict : WantedPart → List Pair → List ℕ → Result Data PartRefusal
 ring_verdict want ring octets =
     part_verdict want (publisher_key ring want).name (publisher_key ring want).key octets
+
+abbrev pub content_within : Result Data PacketFault → Option (List ℕ)
+content_within (Ok d) = Some d.content
+content_within (Err fault) = None
+
+-- The content of the packet that the octets are.
+abbrev pub content_in : List ℕ → Option (List ℕ)
+content_in octets = content_within (data_of octets)
 
 abbrev pub listing_within : Result Data PacketFault → Option Listed
 listing_within (Ok d) = listing_of d.content

@@ -1,6 +1,6 @@
 -- Parts that are wanted, and the Interests that ask for them.
-use Rattle.std.specs.Prelude.{ℕ, ◌-◌, false, List, Option, Some, None, slice_get}
-use Rattle.ndn_name.specs.Names.{Component}
+use Rattle.std.specs.Prelude.{◌<◌, ◌≤◌, ℕ, ◌-◌, false, List, length, Option, Some, None, slice_get}
+use Rattle.ndn_name.specs.Names.{Component, encoding}
 use Rattle.ndn_data.specs.FullName.{full_name}
 use Rattle.ndn_interest.specs.WrittenInterest.{written_plain}
 use Rattle.repo_plan.specs.declared.part.Part.{Part}
@@ -14,6 +14,11 @@ pub record WantedPart : Type 0 where
   pub name : List Component
   pub digest : Option (List ℕ)
   pub interest : List ℕ
+
+-- A name that an Interest may ask for, with a digest behind it too: it has a component, and is short.
+pub record IsAskable (name : List Component) : Type 0 where
+  pub some : 0 < length name
+  pub short : length (encoding name) ≤ 900
 
 -- The name that is asked for: the full name, where the digest is known.
 abbrev pub asked_name : List Component → Option (List ℕ) → List Component

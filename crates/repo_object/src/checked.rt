@@ -2,9 +2,7 @@ ghost use Rattle.std.specs.Prelude.{◌≡◌, ◌<◌, length, MatchResult, IfO
 ghost use Rattle.repo_object.specs.Verdict.{ring_verdict, checked_part, IsChecked};
 
 use crate::part_refusal::PartRefusal;
-use crate::verdict::judge;
 use crate::want::Want;
-use ndn_data::DataView;
 use ndn_sign::KeyRing;
 use repo_plan::Part;
 use std::marker::Model;
@@ -53,16 +51,13 @@ pub fn check_part<'p>(
         (λ refusal. ring_verdict want.now ring.now octets.now ≡ Err refusal) }
     ensures checked { IfOk result (λ checked. checked ≡ checked_part want.now ring.now octets.now) }
 {
+    want.expected().check(octets, ring)?;
     let publisher = want.part().publisher;
-    let key_name = ring.name(publisher);
-    let key = ring.key(publisher);
-    let data = DataView::read(octets)?;
-    judge(want, key_name, key, octets, &data)?;
     Ok(Checked {
         want,
         octets,
-        key_name,
-        key,
+        key_name: ring.name(publisher),
+        key: ring.key(publisher),
     })
 }
 

@@ -1,6 +1,7 @@
 ghost use Rattle.std.specs.Prelude.{◌≡◌, ◌<◌, ◌≤◌, ◌↔◌, ℕ, length, map, IfOk, Err};
 ghost use Rattle.std.specs.List.{All};
 ghost use Rattle.std.specs.Int.{div_ceil};
+ghost use Rattle.repo_object.specs.Limits.{content_limit, segment_limit};
 ghost use Rattle.repo_object.specs.Objects.{IsContent};
 ghost use Rattle.repo_object.specs.Cuts.{pieces};
 
@@ -34,11 +35,11 @@ pub fn cut(alloc: Global, content: &[u8], size: usize) -> Result<Vec<Vec<u8>>, C
     requires { 0 < size }
     ensures ok { IfOk result (λ made. map (λ piece. piece.items) made.items ≡ pieces size content.now) }
     ensures too_many { (n : ℕ) → (result ≡ Err (CutFault.TooMany n))
-        ↔ ((SEGMENT_LIMIT < n) × (n ≡ div_ceil (length content.now) size)) }
-    ensures few { IfOk result (λ made. length made.items ≤ SEGMENT_LIMIT) }
+        ↔ ((segment_limit < n) × (n ≡ div_ceil (length content.now) size)) }
+    ensures few { IfOk result (λ made. length made.items ≤ segment_limit) }
     ensures sizes { IfOk result
         (λ made. All (λ piece. (0 < length piece.items) × (length piece.items ≤ size)) made.items) }
-    ensures contents { size ≤ CONTENT_LIMIT → IfOk result (λ made. All (λ piece. IsContent piece.items) made.items) }
+    ensures contents { size ≤ content_limit → IfOk result (λ made. All (λ piece. IsContent piece.items) made.items) }
 {
     let segments = content.len().div_ceil(size);
     if segments > SEGMENT_LIMIT {

@@ -1,9 +1,10 @@
-ghost use Rattle.std.specs.Prelude.{◌≡◌, None, Some, Err, is_some, IfOk};
-ghost use Rattle.repo_object.specs.Records.{listing_of, digests_to_come, IsListing};
+ghost use Rattle.std.specs.Prelude.{◌≡◌, ◌↔◌, ◌<◌, None, Some, Err, IsSome, is_some, IfOk, option_map, slice_get};
+ghost use Rattle.std.specs.Option.{option_and_then};
+ghost use Rattle.repo_object.specs.Records.{listing_of, digests_to_come, digests_left, IsListing};
 
-use crate::names::owned_name;
 use crate::record_fault::RecordFault;
-use crate::record_fields::{DigestReader, RecordReader};
+use crate::record_fields::DigestReader;
+use crate::record_view::RecordView;
 use ndn_name::Name;
 use std::alloc::{AllocError, Global};
 use std::marker::Model;
@@ -27,46 +28,41 @@ impl Model for Listing {
 pub fn is_record(content: &[u8]) -> bool
     ensures { result ≡ is_some (listing_of content.now) }
 {
-    match RecordReader::new(content) {
-        Some(record) => has_its_digests(record.digests),
-        None => false,
-    }
+    RecordView::read(content).is_some()
 }
 
-// Whether there are as many digests as were counted.
-fn has_its_digests(mut digests: DigestReader<'_>) -> bool
-    ensures { result ≡ is_some (digests_to_come digests.entry) }
+/// The digest of the packet of segment `i`, counted from 0, that the record of this content lists;
+/// `None` where the content is no record or counts fewer segments. It takes no memory.
+pub fn digest_at(content: &[u8], i: usize) -> Option<&[u8; 32]>
+    ensures { option_map (λ digest. digest.now) result
+        ≡ option_and_then (λ l. slice_get l.digests i) (listing_of content.now) }
 {
-    while let Ok(next) = digests.next() {
-        if next.is_none() {
-            return true;
-        }
-    }
-    false
+    RecordView::read(content)?.digest(i)
 }
 
 /// What the record of this content lists.
 pub fn read_record(alloc: Global, content: &[u8]) -> Result<Listing, RecordFault>
     ensures ok { IfOk result (λ listing. listing_of content.now ≡ Some listing) }
     ensures within { IfOk result (λ listing. IsListing listing) }
-    ensures bad { result ≡ Err RecordFault.BadRecord → listing_of content.now ≡ None }
+    ensures bad { (result ≡ Err RecordFault.BadRecord) ↔ (listing_of content.now ≡ None) }
 {
-    let Some(record) = RecordReader::new(content) else {
-        return Err(RecordFault::BadRecord);
-    };
-    let digests = read_digests(alloc, record.digests)?;
-    let name = owned_name(alloc, &record.name)?;
-    Ok(Listing { name, digests })
+    match RecordView::read(content) {
+        Some(record) => Ok(record.to_listing(alloc)?),
+        None => Err(RecordFault::BadRecord),
+    }
 }
 
-// The digests that are still to come.
-fn read_digests(alloc: Global, mut digests: DigestReader<'_>) -> Result<Vec<[u8; 32]>, RecordFault>
-    ensures ok { IfOk result (λ read. digests_to_come digests.entry ≡ Some read.items) }
-    ensures bad { result ≡ Err RecordFault.BadRecord → digests_to_come digests.entry ≡ None }
+// The digests that are still to come, which are all there.
+pub(crate) fn read_digests(
+    alloc: Global,
+    mut digests: DigestReader<'_>,
+) -> Result<Vec<[u8; 32]>, AllocError>
+    requires { IsSome (digests_to_come digests) }
+    ensures { IfOk result (λ read. read.items ≡ digests_left digests.entry) }
 {
     let mut read = Vec::with_capacity(alloc, digests.left())?;
-    while let Some(digest) = digests.next()? {
-        read.push(*digest).map_err(AllocError::from)?;
+    while let Ok(Some(digest)) = digests.next() {
+        read.push(*digest)?;
     }
     Ok(read)
 }

@@ -1,9 +1,11 @@
 ghost use Rattle.std.specs.Prelude.{◌≡◌, ◌+◌, ◌≤◌, ◌++◌, length, IfOk, OnOk};
 ghost use Rattle.ndn_name.specs.Names.{encoding};
+ghost use Rattle.ndn_data.specs.FullName.{full_name};
+ghost use Rattle.repo_object.specs.Limits.{node_name_limit, object_name_limit};
 ghost use Rattle.repo_object.specs.Objects.{key_name, record_name, segment_name};
 
-use ndn_name::{NAME_LIMIT, Name, NameFault, NameView};
-use ndn_tlv::Reader;
+use ndn_name::{NAME_LIMIT, Name, NameFault, NameView, full_name};
+use ndn_tlv::{Reader, types};
 use std::alloc::{AllocError, Global};
 
 /// How many octets of value the name of a node or a group may have.
@@ -11,34 +13,45 @@ pub const NODE_NAME_LIMIT: usize = 200;
 
 /// The name of a node's key, which packets of the node name in their key locators.
 pub fn key_name(node: &Name) -> Result<Name, AllocError>
-    requires { length (encoding node.now) ≤ NODE_NAME_LIMIT }
+    requires { length (encoding node.now) ≤ node_name_limit }
     ensures { IfOk result (λ name. name ≡ key_name node.now) }
 {
     let mut name = node.clone()?;
-    name.push(8, b"KEY").map_err(only_memory)?;
+    name.push(types::GENERIC_NAME_COMPONENT, b"KEY")
+        .map_err(only_memory)?;
     Ok(name)
 }
 
 // The name of the record of a publication of that number.
 pub(crate) fn record_name(node: &Name, group: &Name, seq: u16) -> Result<Name, AllocError>
-    requires node { length (encoding node.now) ≤ NODE_NAME_LIMIT }
-    requires group { length (encoding group.now) ≤ NODE_NAME_LIMIT }
+    requires node { length (encoding node.now) ≤ node_name_limit }
+    requires group { length (encoding group.now) ≤ node_name_limit }
     ensures { IfOk result (λ name. name ≡ record_name node.now group.now seq) }
 {
     let mut name = node.clone()?;
     append(&mut name, group)?;
-    name.push_number(0x3a, u64::from(seq)).map_err(only_memory)?;
+    name.push_number(types::SEQUENCE_NUM_NAME_COMPONENT, u64::from(seq))
+        .map_err(only_memory)?;
     Ok(name)
 }
 
-// The name of an object's segment.
-pub(crate) fn segment_name(object: &Name, i: u8) -> Result<Name, AllocError>
-    requires { length (encoding object.now) ≤ 400 }
-    ensures { IfOk result (λ name. name ≡ segment_name object.now i) }
+// The name of a segment, made of its object's name.
+pub(crate) fn segment_name(mut object: Name, i: u8) -> Result<Name, AllocError>
+    requires { length (encoding object) ≤ object_name_limit }
+    ensures { IfOk result (λ name. name ≡ segment_name object i) }
 {
-    let mut name = object.clone()?;
-    name.push_number(0x32, u64::from(i)).map_err(only_memory)?;
-    Ok(name)
+    object
+        .push_number(types::SEGMENT_NAME_COMPONENT, u64::from(i))
+        .map_err(only_memory)?;
+    Ok(object)
+}
+
+// The full name of a packet of this name and digest.
+pub(crate) fn asked_name(alloc: Global, name: &Name, digest: &[u8; 32]) -> Result<Name, AllocError>
+    requires { length (encoding name.now) ≤ 900 }
+    ensures { IfOk result (λ full. full ≡ full_name name.now digest.now) }
+{
+    full_name(alloc, name, digest).map_err(only_memory)
 }
 
 // The name of a view, with octets of its own.

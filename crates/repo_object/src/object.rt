@@ -1,10 +1,12 @@
 ghost use Rattle.std.specs.Prelude.{◌≡◌, ◌≤◌, length, map, nat_lt, IfOk, IsTrue};
 ghost use Rattle.std.specs.List.{All, list_all};
+ghost use Rattle.ndn_tlv.specs.Types as standard;
 ghost use Rattle.ndn_name.specs.Names.{encoding};
+ghost use Rattle.repo_object.specs.Limits.{object_name_limit, segment_limit};
 ghost use Rattle.repo_object.specs.Objects.{is_object_name, IsContent, IsObject};
 
 use ndn_name::{Name, NameView};
-use ndn_tlv::Reader;
+use ndn_tlv::{Reader, types};
 use std::alloc::{AllocError, Global};
 use std::marker::Model;
 
@@ -46,7 +48,7 @@ impl Object {
     /// The object of this name and these contents, which are copied.
     pub fn new(alloc: Global, name: &Name, contents: &[Vec<u8>]) -> Result<Object, AllocError>
         requires name { IsTrue (is_object_name name.now) }
-        requires few { length contents.now ≤ SEGMENT_LIMIT }
+        requires few { length contents.now ≤ segment_limit }
         requires contents { All (λ c. IsContent c.items) contents.now }
         ensures { IfOk result (λ object. object
             ≡ record { name = name.now; contents = map (λ c. c.items) contents.now }) }
@@ -83,19 +85,22 @@ impl Object {
 /// (types 1 and 2).
 pub fn is_object_name(name: &NameView<'_>) -> bool
     ensures test { result ≡ is_object_name name.now }
-    ensures short { IsTrue result → length (encoding name.now) ≤ OBJECT_NAME_LIMIT }
+    ensures short { IsTrue result → length (encoding name.now) ≤ object_name_limit }
 {
     let octets = name.octets().len();
     0 < octets && octets <= OBJECT_NAME_LIMIT && has_no_digest(name)
 }
 
+// The greater of the types of digests, which are the least types that there are.
+const GREATEST_DIGEST: u32 = types::PARAMETERS_SHA256_DIGEST_COMPONENT as u32;
+
 // Whether no component of the name is a digest.
 fn has_no_digest(name: &NameView<'_>) -> bool
-    ensures { result ≡ list_all (λ c. nat_lt 2 c.0) name.now }
+    ensures { result ≡ list_all (λ c. nat_lt standard.ParametersSha256DigestComponent c.0) name.now }
 {
     let mut components = Reader::new(name.octets(), 0);
     while let Ok(Some(component)) = components.next() {
-        if component.typ <= 2 {
+        if component.typ <= GREATEST_DIGEST {
             return false;
         }
     }

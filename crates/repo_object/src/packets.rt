@@ -1,18 +1,22 @@
-ghost use Rattle.std.specs.Prelude.{◌≡◌, ◌≤◌, ◌<◌, length, map, option_map, IfOk};
+ghost use Rattle.std.specs.Prelude.{◌≡◌, ◌≤◌, ◌<◌, length, map, option_map, IfOk, None};
 ghost use Rattle.sha2.specs.Sha256.{sha256};
 ghost use Rattle.ndn_name.specs.Names.{encoding};
+ghost use Rattle.ndn_packet.specs.Outer.{packet_limit};
 ghost use Rattle.ndn_data.specs.WrittenData.{written_data};
+ghost use Rattle.repo_object.specs.Limits.{node_name_limit, object_name_limit, segment_limit, content_limit};
 ghost use Rattle.repo_object.specs.Objects.{publisher};
-ghost use Rattle.repo_object.specs.Publication.{record_content, packets, packet_at, segment_packet, segment_packets};
+ghost use Rattle.repo_object.specs.Publication.{record_content, record_packet, packets, packet_at, segment_packet, segment_packets};
 ghost use Rattle.repo_object.specs.Records.{listed};
 
-use crate::names::{NODE_NAME_LIMIT, key_name, record_name, segment_name};
-use crate::object::{CONTENT_LIMIT, OBJECT_NAME_LIMIT, Object, SEGMENT_LIMIT};
+use crate::listing::Listing;
+use crate::names::{key_name, record_name, segment_name};
+use crate::object::Object;
+use crate::record_types;
 use ndn_data::write_signed;
 use ndn_name::{Name, PacketWriteFault};
-use ndn_packet::PACKET_LIMIT;
+use ndn_packet::{DIGEST_ELEMENT_LEN, element_len};
 use ndn_sign::digest;
-use ndn_tlv::Writer;
+use ndn_tlv::{Writer, types};
 use std::alloc::{AllocError, Global};
 
 /// The packets of an object as the publication of that number by a node of a group, signed with the
@@ -25,23 +29,53 @@ pub fn packets_of(
     group: &Name,
     key: &[u8],
 ) -> Result<Vec<Vec<u8>>, AllocError>
-    requires node { length (encoding node.now) ≤ NODE_NAME_LIMIT }
-    requires group { length (encoding group.now) ≤ NODE_NAME_LIMIT }
+    requires node { length (encoding node.now) ≤ node_name_limit }
+    requires group { length (encoding group.now) ≤ node_name_limit }
     ensures { IfOk result (λ made. map (λ packet. packet.items) made.items
         ≡ packets (publisher node.now group.now key.now) seq object.now) }
 {
     let key_name = key_name(node)?;
     let mut packets = segment_packets(alloc, object, &key_name, key)?;
+    let digests = digests_of(alloc, &packets)?;
     let name = record_name(node, group, seq)?;
-    let content = record_content(alloc, object.name(), &packets)?;
-    let record = write_packet(alloc, &name, None, &content, &key_name, key)?;
+    let record = write_record(alloc, &name, object.name(), &digests, &key_name, key)?;
     packets.insert(0, record)?;
     Ok(packets)
 }
 
+/// The packet of the record that lists this, of the publication of that number by a node of a group,
+/// signed with the node's key. No segment's packet is made.
+pub fn record_packet(
+    alloc: Global,
+    listing: &Listing,
+    seq: u16,
+    node: &Name,
+    group: &Name,
+    key: &[u8],
+) -> Result<Vec<u8>, AllocError>
+    requires name { length (encoding listing.now.name) ≤ object_name_limit }
+    requires few { length listing.now.digests ≤ segment_limit }
+    requires node { length (encoding node.now) ≤ node_name_limit }
+    requires group { length (encoding group.now) ≤ node_name_limit }
+    ensures { IfOk result (λ packet. packet.items
+        ≡ record_packet (publisher node.now group.now key.now) seq listing.now) }
+{
+    let key_name = key_name(node)?;
+    let name = record_name(node, group, seq)?;
+    write_record(
+        alloc,
+        &name,
+        &listing.name,
+        &listing.digests,
+        &key_name,
+        key,
+    )
+}
+
 /// The packet of one part of such a publication, counted from 0, or `None` where it has no such part.
 ///
-/// A segment's packet is made alone.
+/// A segment's packet is made alone. For the record's all others are made too; where their digests
+/// are at hand, [`record_packet`] makes it alone.
 pub fn packet_of(
     alloc: Global,
     object: &Object,
@@ -51,8 +85,8 @@ pub fn packet_of(
     group: &Name,
     key: &[u8],
 ) -> Result<Option<Vec<u8>>, AllocError>
-    requires node { length (encoding node.now) ≤ NODE_NAME_LIMIT }
-    requires group { length (encoding group.now) ≤ NODE_NAME_LIMIT }
+    requires node { length (encoding node.now) ≤ node_name_limit }
+    requires group { length (encoding group.now) ≤ node_name_limit }
     ensures { IfOk result (λ packet. option_map (λ p. p.items) packet
         ≡ packet_at (publisher node.now group.now key.now) seq object.now part) }
 {
@@ -102,28 +136,62 @@ fn segment_packet(
     key_name: &Name,
     key: &[u8],
 ) -> Result<Vec<u8>, AllocError>
-    requires name { length (encoding name.now) ≤ OBJECT_NAME_LIMIT }
-    requires last { last < SEGMENT_LIMIT }
-    requires content { length content.now ≤ CONTENT_LIMIT }
+    requires name { length (encoding name.now) ≤ object_name_limit }
+    requires last { last < segment_limit }
+    requires content { length content.now ≤ content_limit }
     requires key_name { length (encoding key_name.now) ≤ 205 }
     ensures { IfOk result (λ packet. packet.items
         ≡ segment_packet key_name.now key.now name.now last i content.now) }
 {
-    let name = segment_name(name, i)?;
+    let name = segment_name(name.clone()?, i)?;
     write_packet(alloc, &name, Some(last), content, key_name, key)
 }
 
-// The content of a record that lists an object of this name and these packets of segments.
-fn record_content(alloc: Global, name: &Name, segments: &[Vec<u8>]) -> Result<Vec<u8>, AllocError>
-    ensures { IfOk result (λ content. content.items
-        ≡ record_content (listed name.now (map (λ segment. sha256 segment.items) segments.now))) }
+// The digests of packets.
+fn digests_of(alloc: Global, packets: &[Vec<u8>]) -> Result<Vec<[u8; 32]>, AllocError>
+    ensures { IfOk result
+        (λ digests. digests.items ≡ map (λ packet. sha256 packet.items) packets.now) }
+{
+    let mut digests = Vec::with_capacity(alloc, packets.len())?;
+    for packet in packets {
+        digests.push(digest(packet))?;
+    }
+    Ok(digests)
+}
+
+// The packet of a record of this name that lists an object of that name and these digests.
+fn write_record(
+    alloc: Global,
+    name: &Name,
+    object: &Name,
+    digests: &[[u8; 32]],
+    key_name: &Name,
+    key: &[u8],
+) -> Result<Vec<u8>, AllocError>
+    requires name { length (encoding name.now) ≤ 404 }
+    requires object { length (encoding object.now) ≤ object_name_limit }
+    requires few { length digests.now ≤ segment_limit }
+    requires key_name { length (encoding key_name.now) ≤ 205 }
+    ensures { IfOk result (λ packet. packet.items ≡ written_data name.now None
+        (record_content (listed object.now digests.now)) key_name.now key.now) }
+{
+    let content = record_content(alloc, object, digests)?;
+    write_packet(alloc, name, None, &content, key_name, key)
+}
+
+// The content of a record that lists an object of this name and these digests.
+fn record_content(alloc: Global, name: &Name, digests: &[[u8; 32]]) -> Result<Vec<u8>, AllocError>
+    requires { length digests.now ≤ segment_limit }
+    ensures { IfOk result
+        (λ content. content.items ≡ record_content (listed name.now digests.now)) }
 {
     let octets = name.octets();
-    let mut writer = Writer::with_capacity(alloc, octets.len() + 16 + 34 * segments.len())?;
-    writer.put(0x07, octets)?;
-    writer.put_number(0x81, segments.len() as u64)?;
-    for segment in segments {
-        writer.put(0x83, &digest(segment))?;
+    let room = element_len(types::NAME, octets.len()) + DIGEST_ELEMENT_LEN * (1 + digests.len());
+    let mut writer = Writer::with_capacity(alloc, room)?;
+    writer.put(types::NAME, octets)?;
+    writer.put_number(record_types::SEGMENT_COUNT, digests.len() as u64)?;
+    for digest in digests {
+        writer.put(record_types::DIGEST, digest)?;
     }
     Ok(writer.finish())
 }
@@ -137,7 +205,7 @@ fn write_packet(
     key_name: &Name,
     key: &[u8],
 ) -> Result<Vec<u8>, AllocError>
-    requires { length (written_data name.now last content.now key_name.now key.now) ≤ PACKET_LIMIT }
+    requires { length (written_data name.now last content.now key_name.now key.now) ≤ packet_limit }
     ensures { IfOk result
         (λ packet. packet.items ≡ written_data name.now last content.now key_name.now key.now) }
 {

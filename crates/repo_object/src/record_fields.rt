@@ -1,12 +1,14 @@
-ghost use Rattle.std.specs.Prelude.{◌≡◌, ◌+◌, ◌^◌, ◌<◌, ◌≤◌, [], ◌∷◌, length, option_map, MatchOption, IfSome, IfOk, IfErr};
+ghost use Rattle.std.specs.Prelude.{◌≡◌, ◌+◌, ◌^◌, ◌<◌, ◌≤◌, [], ◌∷◌, length, option_map, slice_get, IsSome, is_some, MatchOption, IfSome, IfOk, IfErr};
 ghost use Rattle.ndn_tlv.specs.Elements.{item};
 ghost use Rattle.ndn_name.specs.Names.{encoding};
-ghost use Rattle.repo_object.specs.Records.{listing_of, digest_in, object_name_in, segment_count_in, digests_to_come, listing_to_come};
+ghost use Rattle.repo_object.specs.Limits.{object_name_limit, segment_limit};
+ghost use Rattle.repo_object.specs.Records.{listing_of, digest_in, object_name_in, segment_count_in, digests_to_come, digests_left, listing_to_come};
 
-use crate::object::{OBJECT_NAME_LIMIT, SEGMENT_LIMIT, is_object_name};
+use crate::object::{SEGMENT_LIMIT, is_object_name};
 use crate::record_fault::RecordFault;
+use crate::record_types;
 use ndn_name::NameView;
-use ndn_tlv::{Element, FieldReader, Place, Reader, read_number};
+use ndn_tlv::{Element, FieldReader, Place, Reader, read_number, types};
 
 #[derive(Clone, Copy, Debug)]
 pub(crate) enum RecordField {
@@ -15,26 +17,26 @@ pub(crate) enum RecordField {
     Digest,
 }
 
-pub(crate) const RECORD: [Place<RecordField>; 3] = [
+const RECORD: [Place<RecordField>; 3] = [
     Place {
-        typ: 0x07,
+        typ: types::NAME,
         field: RecordField::Name,
         repeats: false,
     },
     Place {
-        typ: 0x81,
+        typ: record_types::SEGMENT_COUNT,
         field: RecordField::SegmentCount,
         repeats: false,
     },
     Place {
-        typ: 0x83,
+        typ: record_types::DIGEST,
         field: RecordField::Digest,
         repeats: true,
     },
 ];
 
 // The digests that a record still has, as many as it counts.
-#[derive(Drop)]
+#[derive(Debug, Drop)]
 pub(crate) struct DigestReader<'p> {
     fields: FieldReader<'p, RecordField>,
     // How many there have to be.
@@ -54,7 +56,7 @@ impl<'p> RecordReader<'p> {
         ensures read { MatchOption result
             (listing_of content.now ≡ None)
             (λ reader. listing_of content.now ≡ listing_to_come reader) }
-        ensures short { IfSome result (λ reader. length (encoding reader.name) ≤ OBJECT_NAME_LIMIT) }
+        ensures short { IfSome result (λ reader. length (encoding reader.name) ≤ object_name_limit) }
     {
         let mut fields = FieldReader::new(Reader::new(content, 0), &RECORD);
         let Ok(Some(first)) = fields.next() else {
@@ -82,7 +84,7 @@ impl<'p> RecordReader<'p> {
 fn object_name_in(element: Element<'_>) -> Option<NameView<'_>>
     requires { element.value_start + length element.value.now < 2 ^ 64 }
     ensures read { result ≡ object_name_in (item element.entry) }
-    ensures short { IfSome result (λ name. length (encoding name) ≤ OBJECT_NAME_LIMIT) }
+    ensures short { IfSome result (λ name. length (encoding name) ≤ object_name_limit) }
 {
     let name = NameView::read(element.value, element.value_start).ok()?;
     if !is_object_name(&name) {
@@ -93,7 +95,7 @@ fn object_name_in(element: Element<'_>) -> Option<NameView<'_>>
 
 // The number of segments that an element's value is.
 fn segment_count_in(element: Element<'_>) -> Option<usize>
-    ensures few { IfSome result (λ n. n ≤ SEGMENT_LIMIT) }
+    ensures few { IfSome result (λ n. n ≤ segment_limit) }
     ensures read { result ≡ segment_count_in (item element.entry) }
 {
     let count = read_number(element.value)?;
@@ -104,6 +106,16 @@ fn segment_count_in(element: Element<'_>) -> Option<usize>
 }
 
 impl<'p> DigestReader<'p> {
+    // Another reader of the same digests.
+    pub(crate) fn copy(&self) -> DigestReader<'p>
+        ensures { result ≡ self.now }
+    {
+        DigestReader {
+            fields: self.fields.copy(),
+            left: self.left,
+        }
+    }
+
     // How many there have to be.
     pub(crate) fn left(&self) -> usize
         ensures { result ≡ self.now.left }
@@ -140,6 +152,34 @@ impl<'p> DigestReader<'p> {
         };
         self.left = left;
         Ok(Some(digest))
+    }
+
+    // Whether there are as many as were counted.
+    pub(crate) fn are_all(mut self) -> bool
+        ensures { result ≡ is_some (digests_to_come self.entry) }
+    {
+        while let Ok(next) = self.next() {
+            if next.is_none() {
+                return true;
+            }
+        }
+        false
+    }
+
+    // The digest at a place, of those that are all there.
+    pub(crate) fn at(mut self, place: usize) -> Option<&'p [u8; 32]>
+        requires { IsSome (digests_to_come self) }
+        ensures { option_map (λ digest. digest.now) result
+            ≡ slice_get (digests_left self.entry) place }
+    {
+        let mut before = place;
+        while let Ok(Some(digest)) = self.next() {
+            if before == 0 {
+                return Some(digest);
+            }
+            before -= 1;
+        }
+        None
     }
 }
 

@@ -2,37 +2,35 @@ ghost use Rattle.std.specs.Prelude.{◌≡◌, MatchResult, Ok, Err};
 ghost use Rattle.ndn_data.specs.Data.{packet};
 ghost use Rattle.repo_object.specs.Verdict.{is_all_signed, locates, names_key, is_signed_by, lists_if_record, packet_verdict};
 
+use crate::expected::Expected;
 use crate::listing::is_record;
 use crate::part_refusal::PartRefusal;
-use crate::want::Want;
 use ndn_data::DataView;
 use ndn_name::NameView;
+use ndn_packet::SIGNATURE_HMAC_WITH_SHA256;
 use ndn_sign::hmac;
 
-// HMAC with SHA-256, as a signature type.
-const HMAC_WITH_SHA256: u64 = 4;
-
-// Whether octets that are this packet pass for the want, under the publisher's key of that name.
+// Whether octets that are this packet are what is expected, under the publisher's key of that name.
 pub(crate) fn judge(
-    want: &Want,
+    expected: &Expected,
     key_name: &[u8],
     key: &[u8],
     octets: &[u8],
     view: &DataView<'_>,
 ) -> Result<(), PartRefusal>
     ensures { MatchResult result
-        (λ _. packet_verdict want.now key_name.now key.now octets.now (packet view.now)
+        (λ _. packet_verdict expected.now key_name.now key.now octets.now (packet view.now)
         ≡ Ok (packet view.now))
-        (λ refusal. packet_verdict want.now key_name.now key.now octets.now (packet view.now)
+        (λ refusal. packet_verdict expected.now key_name.now key.now octets.now (packet view.now)
         ≡ Err refusal) }
 {
     if !is_all_signed(view) {
         return Err(PartRefusal::UnsignedOctets);
     }
-    if !want.has_name(view) {
+    if !expected.has_name(view) {
         return Err(PartRefusal::OtherName);
     }
-    if !want.has_digest(octets) {
+    if !expected.has_digest(octets) {
         return Err(PartRefusal::OtherDigest);
     }
     if !names_key(key_name, view) {
@@ -41,7 +39,7 @@ pub(crate) fn judge(
     if !is_signed_by(key, view) {
         return Err(PartRefusal::BadSignature);
     }
-    if !lists_if_record(want, view) {
+    if !lists_if_record(expected, view) {
         return Err(PartRefusal::BadRecord);
     }
     Ok(())
@@ -58,7 +56,7 @@ fn is_all_signed(view: &DataView<'_>) -> bool
 fn names_key(key_name: &[u8], view: &DataView<'_>) -> bool
     ensures { result ≡ names_key key_name.now (packet view.now) }
 {
-    view.signature_type == HMAC_WITH_SHA256 && locates(key_name, &view.locator)
+    view.signature_type == SIGNATURE_HMAC_WITH_SHA256 && locates(key_name, &view.locator)
 }
 
 fn locates(key_name: &[u8], locator: &Option<NameView<'_>>) -> bool
@@ -77,9 +75,9 @@ fn is_signed_by(key: &[u8], view: &DataView<'_>) -> bool
     hmac(key, view.signed_portion(), &[]).as_slice() == view.signature
 }
 
-// Whether the content is a record, where a record is wanted.
-fn lists_if_record(want: &Want, view: &DataView<'_>) -> bool
-    ensures { result ≡ lists_if_record want.now.part.part (packet view.now) }
+// Whether the content is a record, where a record is expected.
+fn lists_if_record(expected: &Expected, view: &DataView<'_>) -> bool
+    ensures { result ≡ lists_if_record expected.now.part.part (packet view.now) }
 {
-    want.part().part != 0 || is_record(view.content)
+    expected.part().part != 0 || is_record(view.content)
 }

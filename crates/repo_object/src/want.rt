@@ -1,97 +1,77 @@
-ghost use Rattle.std.specs.Prelude.{◌≡◌, ◌≤◌, ◌<◌, length, IfOk, Some};
+ghost use Rattle.std.specs.Prelude.{◌≡◌, ◌≤◌, ◌<◌, length, IfOk};
 ghost use Rattle.ndn_name.specs.Names.{encoding};
-ghost use Rattle.repo_object.specs.Wants.{want_record, want_segment, wanted_part};
-ghost use Rattle.repo_object.specs.Verdict.{has_name, has_digest};
-ghost use Rattle.ndn_data.specs.Data.{packet};
+ghost use Rattle.repo_object.specs.Limits.{node_name_limit, object_name_limit};
+ghost use Rattle.repo_object.specs.Wants.{want_record, want_segment};
 
+use crate::expected::{Expected, expect_record, expect_segment};
 use crate::listing::Listing;
-use crate::names::{NODE_NAME_LIMIT, only_memory, record_name, segment_name};
-use crate::object::OBJECT_NAME_LIMIT;
-use ndn_data::DataView;
-use ndn_interest::write_plain;
-use ndn_name::{Name, full_name};
-use ndn_sign::digest as digest_of;
+use ndn_name::Name;
 use repo_plan::Part;
 use std::alloc::{AllocError, Global};
 use std::marker::Model;
 
-/// A part that is wanted, with what its packet has to have, and the Interest that asks for it.
+/// A part that is wanted: the packet that is expected for it, and the Interest that asks for that.
 #[derive(Debug, Drop)]
 pub struct Want {
-    part: Part,
-    name: Name,
-    // Of a segment's packet.
-    digest: Option<[u8; 32]>,
+    expected: Expected,
     interest: Vec<u8>,
 }
 
 impl Model for Want {
+    ghost use Rattle.std.specs.Prelude.{◌≡◌};
     ghost use Rattle.repo_object.specs.Wants.{WantedPart};
 
     ghost Value = { WantedPart };
 
-    ghost view = { λ w. record {
-      part = w.part;
-      name = w.name;
-      digest = w.digest;
-      interest = w.interest.items;
-    } };
+    ghost view = { λ w. w.expected };
+
+    ghost invariant = { λ w. w.interest.items ≡ w.expected.interest };
 }
 
 /// The want of the record of a publication of that node in that group.
 pub fn want_record(alloc: Global, part: Part, node: &Name, group: &Name) -> Result<Want, AllocError>
     requires part { part.part ≡ 0 }
-    requires node { length (encoding node.now) ≤ NODE_NAME_LIMIT }
-    requires group { length (encoding group.now) ≤ NODE_NAME_LIMIT }
+    requires node { length (encoding node.now) ≤ node_name_limit }
+    requires group { length (encoding group.now) ≤ node_name_limit }
     ensures { IfOk result (λ want. want ≡ want_record part node.now group.now) }
 {
-    let name = record_name(node, group, part.seq)?;
-    let interest = write_plain(alloc, &name, false)?;
-    Ok(Want {
-        part,
-        name,
-        digest: None,
-        interest,
-    })
+    Want::new(alloc, expect_record(part, node, group)?)
 }
 
 /// The want of a segment that a record lists.
 pub fn want_segment(alloc: Global, part: Part, listing: &Listing) -> Result<Want, AllocError>
     requires segment { 0 < part.part }
     requires listed { part.part ≤ length listing.now.digests }
-    requires name { length (encoding listing.now.name) ≤ OBJECT_NAME_LIMIT }
+    requires name { length (encoding listing.now.name) ≤ object_name_limit }
     ensures { IfOk result (λ want. want ≡ want_segment part listing.now) }
 {
-    let i = part.part - 1;
-    let name = segment_name(&listing.name, i)?;
-    Want::of_digest(alloc, part, name, &listing.digests[usize::from(i)])
+    let digest = &listing.digests[usize::from(part.part - 1)];
+    Want::new(
+        alloc,
+        expect_segment(alloc, part, &listing.name.view(), digest)?,
+    )
 }
 
 impl Want {
-    // The want of a packet of this name and digest.
-    fn of_digest(
-        alloc: Global,
-        part: Part,
-        name: Name,
-        digest: &[u8; 32],
-    ) -> Result<Want, AllocError>
-        requires { length (encoding name) ≤ 900 }
-        ensures { IfOk result (λ want. want ≡ wanted_part part name (Some digest.now)) }
+    /// The want of the packet that is expected.
+    pub fn new(alloc: Global, expected: Expected) -> Result<Want, AllocError>
+        ensures { IfOk result (λ want. want ≡ expected) }
     {
-        let full = full_name(alloc, &name, digest).map_err(only_memory)?;
-        let interest = write_plain(alloc, &full, false)?;
-        Ok(Want {
-            part,
-            name,
-            digest: Some(*digest),
-            interest,
-        })
+        let interest = expected.interest(alloc)?;
+        Ok(Want { expected, interest })
     }
 
     pub fn part(&self) -> Part
         ensures { result ≡ self.now.part }
     {
-        self.part
+        self.expected.part()
+    }
+
+    /// The packet that is expected.
+    pub fn expected(&self) -> &Expected
+        ensures { result.now ≡ self.now }
+    {
+        &self.expected
     }
 
     /// The octets of the Interest that asks for the part.
@@ -99,22 +79,5 @@ impl Want {
         ensures { result.now ≡ self.now.interest }
     {
         &self.interest
-    }
-
-    // Whether the packet has the wanted name.
-    pub(crate) fn has_name(&self, view: &DataView<'_>) -> bool
-        ensures { result ≡ has_name self.now.name (packet view.now) }
-    {
-        view.name.octets() == self.name.octets()
-    }
-
-    // Whether the octets have the wanted digest, where one is known.
-    pub(crate) fn has_digest(&self, octets: &[u8]) -> bool
-        ensures { result ≡ has_digest self.now.digest octets.now }
-    {
-        match &self.digest {
-            Some(wanted) => digest_of(octets) == *wanted,
-            None => true,
-        }
     }
 }

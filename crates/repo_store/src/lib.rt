@@ -3,7 +3,7 @@
 #![tactic(auto)]
 
 mod laws;
-mod name_index;
+mod index;
 mod packet;
 mod store;
 

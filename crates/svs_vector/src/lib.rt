@@ -7,6 +7,7 @@ mod laws;
 mod read;
 mod roster;
 mod roster_fault;
+mod types;
 mod vector;
 mod vector_fault;
 mod vector_laws;
@@ -22,8 +23,9 @@ pub use roster_fault::RosterFault;
 pub use vector::Vector;
 pub use vector_fault::VectorFault;
 pub use vector_laws::{
-    entries_are_written_in_canonical_order, entries_tell_the_same_in_any_order,
-    state_vectors_tell_their_entries, written_vectors_are_read_back,
+    constants_are_the_formats, entries_are_written_in_canonical_order,
+    entries_tell_the_same_in_any_order, state_vectors_tell_their_entries,
+    written_vectors_are_read_back,
 };
 
 #[cfg(test)]

@@ -4,6 +4,7 @@ ghost use Rattle.svs_vector.specs.StateVector.{with_entry, vector_in, vector_amo
 
 use crate::entry::{entry_in, fault_in};
 use crate::roster::Roster;
+use crate::types;
 use crate::vector::Vector;
 use crate::vector_fault::VectorFault;
 use ndn_tlv::{Element, FieldReader, Place, Reader};
@@ -14,8 +15,8 @@ pub(crate) enum VectorField {
     Entry,
 }
 
-const STATE_VECTOR: [Place<VectorField>; 1] = [Place {
-    typ: 202,
+pub(crate) const VECTOR_PLACES: [Place<VectorField>; 1] = [Place {
+    typ: types::STATE_VECTOR_ENTRY,
     field: VectorField::Entry,
     repeats: true,
 }];
@@ -55,7 +56,7 @@ impl Vector {
         ensures width { OnOk result (length self.new ≡ length roster.now) }
     {
         let elements = Reader::new(element.value, element.value_start);
-        let mut fields = FieldReader::new(elements, &STATE_VECTOR);
+        let mut fields = FieldReader::new(elements, &VECTOR_PLACES);
         loop {
             match fields.next() {
                 Ok(Some(next)) => self.take_entry(next.0, next.1, roster)?,
@@ -98,7 +99,7 @@ fn vector_element(octets: &[u8]) -> Result<Element<'_>, VectorFault>
     ensures fits { IfOk result (λ e. e.value_start + length e.value.now < 2 ^ 64) }
 {
     match Reader::new(octets, 0).next() {
-        Ok(Some(element)) if element.typ == 201 => Ok(element),
+        Ok(Some(element)) if element.typ == types::STATE_VECTOR => Ok(element),
         _ => Err(VectorFault::BadVector { at: 0 }),
     }
 }

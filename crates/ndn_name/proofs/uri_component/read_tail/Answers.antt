@@ -23,7 +23,7 @@ returns-in_err-digest-in-Digest c =
     let p = err_from_is_err_and c.from_residual.result c.from_residual.ensures.1 in
     let f = c.in_err-digest-in-Digest.field-0.0 in
     let P : Form → Type 0 = λ x. FailsIn (IsTail x) c.args.at c.args.tail.now f in
-    rw (p.1, p.2) (subst P (sym c.in-Digest.is) (digest c.in-Digest.typ c.args.at c.args.tail.now f c.in_err-digest-in-Digest.ensures))
+    rw (p.1, p.2) (subst P (sym c.in-Digest.is) (digest c.in-Digest.typ c.args.at c.args.tail.now f c.in_err-digest-in-Digest.ensures.read))
 
 pub returns-in_err-read_decimal-in-Number : goal.returns-in_err-read_decimal-in-Number
 returns-in_err-read_decimal-in-Number c =

@@ -2,18 +2,24 @@ use Rattle.std.proofs.Common.{◌≡◌, ◌+◌, ◌<◌, ℕ, List, [], ◌∷
 use Rattle.std.proofs.lemmas.Result.{err_from_is_err_and}
 use Rattle.std.proofs.lemmas.List.{length-take, take_more_set}
 use Rattle.ndn_name.specs.Uri.{IsDigits}
-use Rattle.ndn_name.proofs.Escapes.{pair-takes}
+use Rattle.ndn_name.proofs.Escapes.{pair-fails, pair-takes}
 use Rattle.ndn_name.proofs.Digests.{digest-pair_fails, digest-long, digits-push, length-digits, IsSomeDigest}
 use Rattle.ndn_name.specs.UriVerdict.{Leaves}
 use Rattle.ndn_name.proofs.uri_digits.read_digest.Goals as goal
 
-pub returns-in_err-value : goal.returns-in_err-value
-returns-in_err-value c =
+pub returns-in_err-value-clause-read : goal.returns-in_err-value-clause-read
+returns-in_err-value-clause-read c =
     let p = err_from_is_err_and c.from_residual.result c.from_residual.ensures.1 in
     let inv = c.loop-octet.invariant in
     let i = c.loop-octet.octet-index in
     let short : length (take i c.loop-octet.octet-items) < 32 = omega (arith, length-take i c.loop-octet.octet-items, c.loop-octet-test.true) in
     rw (p.1, p.2) (digest-pair_fails c.args.at (take i c.loop-octet.octet-items) inv.front c.loop-octet.rest.now c.args.text.now c.in_err-value.field-0.0 inv.read short inv.split c.in_err-value.ensures)
+
+pub returns-in_err-value-clause-told : goal.returns-in_err-value-clause-told
+returns-in_err-value-clause-told c =
+    let p = err_from_is_err_and c.from_residual.result c.from_residual.ensures.1 in
+    let f = pair-fails _ c.loop-octet.rest.now c.in_err-value.field-0.0 c.in_err-value.ensures in
+    rw (p.1, p.2, ← f.1) (λ e. cc)
 
 pub loop-octet-preserved : goal.loop-octet-preserved
 loop-octet-preserved c =
@@ -34,8 +40,8 @@ long at a front [] text read size some split = absurd (omega arith)
 long at a front (c ∷ rest) text read size some split =
     (length front + 0, omega (arith, size, length-digits a front read), digest-long a front text c rest read size split)
 
-pub returns-else-is_empty : goal.returns-else-is_empty
-returns-else-is_empty c =
+pub returns-else-is_empty-clause-read : goal.returns-else-is_empty-clause-read
+returns-else-is_empty-clause-read c =
     let inv = c.loop-octet.invariant in
     let a = take c.loop-octet.octet-index c.loop-octet.octet-items in
     long c.args.at a inv.front c.loop-octet.rest.now c.args.text.now inv.read (omega (arith, length-take c.loop-octet.octet-index c.loop-octet.octet-items)) (search rules) inv.split

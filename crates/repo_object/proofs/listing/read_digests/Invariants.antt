@@ -1,9 +1,13 @@
-use Rattle.std.proofs.Common.{◌≡◌, ◌++◌, option_map}
-use Rattle.repo_object.specs.Records.{digests_to_come}
+use Rattle.std.proofs.Common.{◌≡◌, ◌++◌}
+use Rattle.std.specs.Prelude.{IsSome}
+use Rattle.repo_object.specs.Records.{digests_to_come, digests_left}
 use Rattle.repo_object.proofs.listing.read_digests.Given as goal
 
-abbrev pub invariant-loop-read : goal.invariant-loop-read
-invariant-loop-read l = option_map (λ digests. l.read.items ++ digests) (digests_to_come l.digests) ≡ digests_to_come l.initial.digests
+abbrev pub invariant-loop-digest : goal.invariant-loop-digest
+invariant-loop-digest l = record {
+  all : IsSome (digests_to_come l.digests);
+  whole : l.read.items ++ digests_left l.digests ≡ digests_left l.initial.digests;
+}
 
-abbrev pub decreases-loop-read : goal.decreases-loop-read
-decreases-loop-read l = l.digests.left
+abbrev pub decreases-loop-digest : goal.decreases-loop-digest
+decreases-loop-digest l = l.digests.left

@@ -1,10 +1,12 @@
-use Rattle.std.proofs.Common.{List, Some, length, ap, arith}
+use Rattle.std.proofs.Common.{List, Some, length, ap, ◌∙◌, arith}
 use Rattle.ndn_name.specs.Names.{Component}
 use Rattle.ndn_data.specs.WrittenData.{written_data}
+use Rattle.repo_object.specs.Objects.{segment_name}
 use Rattle.repo_object.proofs.PacketSizes.{segment-size}
 use Rattle.repo_object.proofs.packets.segment_packet.Goals as goal
 
 pub write_packet-requires : goal.write_packet-requires
 write_packet-requires c =
-    let named = ap (λ (n : List Component). length (written_data n (Some c.args.last) c.args.content.now c.args.key_name.now c.args.key.now)) c.in_ok-name.ensures in
+    let name = c.in_ok-name.ensures ∙ ap (λ (n : List Component). segment_name n c.args.i) c.in_ok-clone.ensures.cases in
+    let named = ap (λ (n : List Component). length (written_data n (Some c.args.last) c.args.content.now c.args.key_name.now c.args.key.now)) name in
     omega (arith, named, segment-size c.args.key_name.now c.args.key.now c.args.name.now c.args.last c.args.i c.args.content.now c.requires.key_name c.requires.name (omega (arith, c.requires.last)) (omega arith) c.requires.content)

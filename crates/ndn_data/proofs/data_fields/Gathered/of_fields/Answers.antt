@@ -11,8 +11,7 @@ use Rattle.ndn_name.specs.Faults.{packet_fault}
 use Rattle.ndn_name.specs.Names.{Component}
 use Rattle.ndn_data.specs.declared.data_fields.DataField.{DataField}
 use Rattle.ndn_data.specs.declared.data_fields.Gathered.{Gathered}
-use Rattle.ndn_data.specs.declared.data_fields.TheConstants.{DATA}
-use Rattle.ndn_data.specs.Data.{no_field, with_data_field, data_fields, so_far, StartsBy}
+use Rattle.ndn_data.specs.Data.{data_table, no_field, with_data_field, data_fields, so_far, StartsBy}
 use Rattle.ndn_data.specs.Signed.{Signs}
 use Rattle.ndn_data.proofs.SignedLemmas.{SignatureStands, data_gathers, signs_of}
 use Rattle.ndn_packet.proofs.Outers.{value_ends}
@@ -26,7 +25,7 @@ starts_later low later g h s = starts_of g.name s where
 
 pub loop-next-init : goal.loop-next-init
 loop-next-init c = record {
-  so_far = ap (gathered (with_data_field c.args.octets.now) packet_fault no_field) (c.new-fields.ensures.fields ∙ ap (fields DATA) c.new-elements.ensures.elements);
+  so_far = ap (gathered (with_data_field c.args.octets.now) packet_fault no_field) (c.new-fields.ensures.fields ∙ ap (fields data_table) c.new-elements.ensures.elements);
   low = c.args.outer.value_start;
   starts = tt;
   within = c.new-fields.ensures.within c.args.outer.value_start (c.args.outer.value_start + length c.args.outer.value.now) c.new-elements.ensures.within;

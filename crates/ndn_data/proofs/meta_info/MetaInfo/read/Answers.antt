@@ -7,13 +7,12 @@ use Rattle.ndn_tlv.specs.declared.order_table.FieldFault.{FieldFault}
 use Rattle.ndn_tlv.proofs.Gathers.{all_gathered, ends_at_fault, ends_at_step, goes_on}
 use Rattle.ndn_name.specs.Faults.{packet_fault}
 use Rattle.ndn_data.specs.declared.meta_info.MetaField.{MetaField}
-use Rattle.ndn_data.specs.declared.meta_info.TheConstants.{META_INFO}
-use Rattle.ndn_data.specs.MetaInfo.{plain, with_meta_field, meta_in, meta}
+use Rattle.ndn_data.specs.MetaInfo.{meta_info_table, plain, with_meta_field, meta_in, meta}
 use Rattle.ndn_data.proofs.meta_info.MetaInfo.read.Goals as goal
 
 pub loop-next-init : goal.loop-next-init
 loop-next-init c = record {
-  so_far = ap (gathered with_meta_field packet_fault plain) (c.new-fields.ensures.fields ∙ ap (fields META_INFO) c.new-elements.ensures.elements);
+  so_far = ap (gathered with_meta_field packet_fault plain) (c.new-fields.ensures.fields ∙ ap (fields meta_info_table) c.new-elements.ensures.elements);
   low = c.args.element.value_start;
   within = c.new-fields.ensures.within c.args.element.value_start (c.args.element.value_start + length c.args.element.value.now) c.new-elements.ensures.within;
 }

@@ -10,8 +10,7 @@ use Rattle.ndn_tlv.proofs.Gathers.{all_gathered, ends_at_fault, ends_at_step, go
 use Rattle.ndn_name.specs.Faults.{packet_fault}
 use Rattle.ndn_interest.specs.declared.interest_fields.InterestField.{InterestField}
 use Rattle.ndn_interest.specs.declared.interest_fields.Gathered.{Gathered}
-use Rattle.ndn_interest.specs.declared.interest_fields.TheConstants.{INTEREST}
-use Rattle.ndn_interest.specs.Interest.{no_field, with_interest_field, interest_fields, so_far, StartsBy}
+use Rattle.ndn_interest.specs.Interest.{interest_table, no_field, with_interest_field, interest_fields, so_far, StartsBy}
 use Rattle.ndn_interest.proofs.interest_fields.Gathered.of_fields.Goals as goal
 
 starts_later : (low later : ℕ) (g : Gathered) → low ≤ later → StartsBy low g → StartsBy later g
@@ -22,7 +21,7 @@ starts_later low later g h s = starts_of g.parameters s where
 
 pub loop-next-init : goal.loop-next-init
 loop-next-init c = record {
-  so_far = ap (gathered (with_interest_field c.args.octets.now) packet_fault no_field) (c.new-fields.ensures.fields ∙ ap (fields INTEREST) c.new-elements.ensures.elements);
+  so_far = ap (gathered (with_interest_field c.args.octets.now) packet_fault no_field) (c.new-fields.ensures.fields ∙ ap (fields interest_table) c.new-elements.ensures.elements);
   low = c.args.outer.value_start;
   starts = tt;
   within = c.new-fields.ensures.within c.args.outer.value_start (c.args.outer.value_start + length c.args.outer.value.now) c.new-elements.ensures.within;

@@ -22,7 +22,7 @@ overflow_add-self c = omega (arith, count-fits c.self.inside.octets.items c.self
 
 more : (octets : List ℕ) (typ : ℕ) (value : List ℕ) → 0 < typ → typ < 2 ^ 16 → (typ ≤ 2 → length value ≡ 32) → length (octets ++ element typ value) ≤ 1000 → ((i : ℕ) → get_or value i 0 < 256) → IsComponent (typ, value)
 more octets typ value above below digest short fits =
-    record { above = above; below = below; digest = digest; long = omega (arith, short, length-append octets (element typ value), length-append (number typ ++ number (length value)) value); octets = fits }
+    record { above = above; below = omega (arith, below); digest = digest; long = omega (arith, short, length-append octets (element typ value), length-append (number typ ++ number (length value)) value); octets = fits }
 
 pub invariant_of-self-2 : goal.invariant_of-self-2
 invariant_of-self-2 c =

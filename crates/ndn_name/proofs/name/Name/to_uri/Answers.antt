@@ -1,21 +1,16 @@
 use Rattle.std.proofs.Common.{ℕ, List, ◌++◌, sym, ap, subst, ◌∙◌}
-use Rattle.ndn_tlv.specs.declared.tlv_fault.TlvFault.{TlvFault}
-use Rattle.ndn_tlv.specs.Listing.{Listing}
-use Rattle.ndn_tlv.specs.Elements.{Item, elements}
-use Rattle.ndn_name.specs.Names.{Component, IsName}
-use Rattle.ndn_name.specs.Uri.{path_text}
-use Rattle.ndn_name.proofs.Encodings.{Reads, pairs, elements-encoding}
+use Rattle.std.specs.Str.{IsUtf8}
+use Rattle.std.proofs.lemmas.Str.{IsUtf8-from_ascii}
+use Rattle.ndn_name.specs.Names.{Component}
+use Rattle.ndn_name.specs.Uri.{uri}
+use Rattle.ndn_name.proofs.VisibleTexts.{uri-ascii}
 use Rattle.ndn_name.proofs.name.Name.to_uri.Goals as goal
 
-pub loop-element-init : goal.loop-element-init
-loop-element-init c =
+pub unwrap-requires : goal.unwrap-requires
+unwrap-requires c =
     let name = c.args.self.now in
-    let P : Listing Item TlvFault → Type 0 = λ read. Reads name read in
-    let same = c.new-elements.ensures.elements ∙ ap (elements 0) c.octets.ensures.spelled in
-    let read = subst P (sym same) (elements-encoding 0 name c.octets.ensures.name) in
-    let Q : List Component → Type 0 = λ n. IsName n in
-    record {
-      so_far = ap (λ (t : List ℕ). t ++ path_text (pairs c.new-elements.result.items)) c.new-text.ensures.bytes ∙ ap path_text read.items;
-      name = subst Q (sym read.items) c.octets.ensures.name;
-      fault = read.fault;
-    }
+    let P : List ℕ → Type 0 = λ text. IsUtf8 text in
+    let start = c.in_ok-text.text.items in
+    let seen = ap (λ (n : List Component). start ++ uri n) c.view.ensures in
+    let printed = c.in_ok-put_uri.ensures.ok ∙ seen ∙ ap (λ (t : List ℕ). t ++ uri name) c.in_ok-text.ensures.items in
+    c.from_utf8.ensures.succeeds (subst P (sym printed) (IsUtf8-from_ascii (uri name) (uri-ascii name c.octets.ensures.name)))

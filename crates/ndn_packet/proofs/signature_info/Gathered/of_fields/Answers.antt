@@ -7,13 +7,12 @@ use Rattle.ndn_tlv.specs.declared.order_table.FieldFault.{FieldFault}
 use Rattle.ndn_tlv.proofs.Gathers.{all_gathered, ends_at_fault, ends_at_step, goes_on}
 use Rattle.ndn_name.specs.Faults.{packet_fault}
 use Rattle.ndn_packet.specs.declared.signature_info.InfoField.{InfoField}
-use Rattle.ndn_packet.specs.declared.signature_info.TheConstants.{SIGNATURE_INFO}
-use Rattle.ndn_packet.specs.SignatureInfo.{with_info_field, info_fields, info_so_far}
+use Rattle.ndn_packet.specs.SignatureInfo.{signature_info_table, with_info_field, info_fields, info_so_far}
 use Rattle.ndn_packet.proofs.signature_info.Gathered.of_fields.Goals as goal
 
 pub loop-next-init : goal.loop-next-init
 loop-next-init c = record {
-  so_far = ap (gathered with_info_field packet_fault (record { signature_type = None; locator = None })) (c.new-fields.ensures.fields ∙ ap (fields SIGNATURE_INFO) c.new-elements.ensures.elements);
+  so_far = ap (gathered with_info_field packet_fault (record { signature_type = None; locator = None })) (c.new-fields.ensures.fields ∙ ap (fields signature_info_table) c.new-elements.ensures.elements);
   low = c.args.element.value_start;
   within = c.new-fields.ensures.within c.args.element.value_start (c.args.element.value_start + length c.args.element.value.now) c.new-elements.ensures.within;
 }
