@@ -18,3 +18,4 @@ pub mod Noted
 pub mod Views
 pub mod Gaps
 pub mod Ends
+pub mod Listed

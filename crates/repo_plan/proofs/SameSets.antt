@@ -10,7 +10,7 @@ use Rattle.repo_plan.proofs.Sets.{In, in_contains, contains_in, each_before, eq_
 use Rattle.repo_plan.proofs.RunOrder.{lt_irrefl, lt_trans}
 
 module _ {K : Type 0} {R : K → K → Ordering} (e : Exact R) where
-  head_least : (x : K) (xs : List K) (y : K) → Rises R (x ∷ xs) → contains R (x ∷ xs) y ≡ true → (x ≡ y) ⊎ (R x y ≡ Less)
+  pub head_least : (x : K) (xs : List K) (y : K) → Rises R (x ∷ xs) → contains R (x ∷ xs) y ≡ true → (x ≡ y) ⊎ (R x y ≡ Less)
   head_least x xs y r h = go (in_contains e (x ∷ xs) y h) where
     go : In y (x ∷ xs) → (x ≡ y) ⊎ (R x y ≡ Less)
     go (inl s) = inl (sym s)
@@ -19,7 +19,7 @@ module _ {K : Type 0} {R : K → K → Ordering} (e : Exact R) where
   has_head : (x : K) (xs : List K) → contains R (x ∷ xs) x ≡ true
   has_head x xs = contains_in e (x ∷ xs) x (inl refl)
 
-  not_behind : (x : K) (xs : List K) → IsBefore R x xs → contains R xs x ≡ false
+  pub not_behind : (x : K) (xs : List K) → IsBefore R x xs → contains R xs x ≡ false
   not_behind x xs b = false_from_ne_true (contains R xs x) (λ h. lt_irrefl e x (each_before e.total x xs b x (in_contains e xs x h)))
 
   same_tail : (x : K) (xs ys : List K) → Rises R (x ∷ xs) → Rises R (x ∷ ys) → ((q : K) → contains R (x ∷ xs) q ≡ contains R (x ∷ ys) q) → (q : K) → contains R xs q ≡ contains R ys q
