@@ -58,7 +58,7 @@ module _ {T : Type 0} (tries seats : ℕ) (s : St T) (r : Kept tries seats s) (i
         let all : total (λ u. items i u.passed) s.views ≡ items i v.passed = alone (λ u. items i u.passed) refl in
         let owed : total (λ u. items i u.owed) s.views ≡ items i v.owed = alone (λ u. items i u.owed) refl in
         let z : items i v.owed ≡ 0 = ap (items i) owes_none in
-            let c = r.owes i (subst IsWanted (sym is) tt) (omega arith) in absurd (omega arith)
+        let c = r.owes i (subst IsWanted (sym is) tt) (omega arith) in absurd (omega arith)
     ended (held a) is = let c : pairs i a v.held ≡ due tries (held a) (holds a) = all_mine i (holds a)
         ∙ ap (λ p. due tries p (holds a)) is in let z : pairs i a v.held ≡ 0 = ap (pairs i a) holds_none in
         let o : one (eqb a a) ≡ 1 = ap one (own a) in absurd (omega arith)
@@ -77,8 +77,15 @@ module _ {T : Type 0} (tries seats : ℕ) (s : St T) (r : Kept tries seats s) (i
         let f = found_triple i a v.done (omega arith) in
         let low : a < tries = subst (Within tries) is (r.within i) in (
           f.0,
-          (a, f.1, refl, mine spends, (λ k. mine (finished k)), (λ k. mine (tried k)),
-              subst (λ n. a < n) (sym told) low),
+          (
+            a,
+            f.1,
+            refl,
+            mine spends,
+            (λ k. mine (finished k)),
+            (λ k. mine (tried k)),
+            subst (λ n. a < n) (sym told) low,
+          ),
           r.values id v at i a f.0 f.1,
         )
 
@@ -93,7 +100,7 @@ module _ {T : Type 0} (tries seats id : ℕ) (v : Hand T) (ws : List ℕ) (xs : 
       → v.placing ≡ [] → v.owed ≡ []
       → (i n : ℕ) (h : Option T) → 0 < items i v.passed → get_elem? ws i ≡ some n → get_elem? xs i ≡ some h
       → ((n ≡ 3) × Settled (data_of b v) i h tries)
-          ⊎ ((n ≢ 3) × (n / 4 < tries) × Settled (data_of b v) i h (n / 4 + 1))
+      ⊎ ((n ≢ 3) × (n / 4 < tries) × Settled (data_of b v) i h (n / 4 + 1))
   closes fin told every hs ps os i n h passed word value =
       let s : St T = fin.0 in
       let r : Kept tries seats s = fin.1.0 in
@@ -111,14 +118,19 @@ module _ {T : Type 0} (tries seats id : ℕ) (v : Hand T) (ws : List ℕ) (xs : 
       let num : 4 * a + 2 ≡ n = sym (ap code e.1) ∙ is_n in
       let low : a < tries = subst (Within tries) e.1 (r.within i) in
       let quot : a ≡ n / 4 = omega arith in
-      inr ((λ e. omega arith), omega arith,
-          subst (λ o. Settled d i o (n / 4 + 1)) same (subst (λ k. Settled d i (Some x) (k + 1)) quot got.1)))
+      inr (
+        (λ e. omega arith),
+        omega arith,
+        subst (λ o. Settled d i o (n / 4 + 1)) same (subst (λ k. Settled d i (Some x) (k + 1)) quot got.1),
+      ))
       (λ e.
       let t = there s.homes i near in
       let none_is : t.0 ≡ some None = subst (λ q. Lies q t.0) e (r.lies i t.0 t.1) in
       let same : None ≡ h = some-injective None h (sym (fin.4 i None (t.1 ∙ ap some none_is)) ∙ value) in
-      inl (sym is_n ∙ ap code e,
-          subst (λ o. Settled d i o tries) same (at_spent tries seats s r id v at told every b i hs ps os passed e)))
+      inl (
+        sym is_n ∙ ap code e,
+        subst (λ o. Settled d i o tries) same (at_spent tries seats s r id v at told every b i hs ps os passed e),
+      ))
       (ended tries seats s r id v at told every b i hs ps os passed p refl)
 
   -- the same, by what `settle` says
@@ -126,7 +138,7 @@ module _ {T : Type 0} (tries seats id : ℕ) (v : Hand T) (ws : List ℕ) (xs : 
       → v.placing ≡ [] → v.owed ≡ []
       → (i : ℕ) → 0 < items i v.passed → (h : Option T) → get_elem? xs i ≡ some h → (m : ℕ)
       → (n : ℕ) × (get_elem? ws i ≡ some n) × (n ≡ 3 → m ≡ tries) × (n ≢ 3 → m ≡ n / 4 + 1)
-          → Settled (data_of b v) i h m
+      → Settled (data_of b v) i h m
   closes_at fin told every hs ps os i passed h value m tells = ⊎_elim
       (λ e. subst (Settled (data_of b v) i h) (sym (tells.2 e.0)) e.1)
       (λ e. subst (Settled (data_of b v) i h) (sym (tells.3 e.0)) e.2)

@@ -62,7 +62,7 @@ module _ {T : Type 0} (tries seats : ℕ) where
   look_move : (s : St T) (r : Kept tries seats s) (i id : ℕ) (v : Hand T) → get_elem? s.views id ≡ some v
       → i < length r.phases → 0 < v.shares
       → Move tries seats s r i id v (looked i (word_of (phase r.phases i)) v) (phase r.phases i)
-          (phase r.phases i) s.homes
+      (phase r.phases i) s.homes
   look_move s r i id v at near some_share = let p : Phase = phase r.phases i in let w : Word = word_of p in record {
     seat = at;
     item = near;
@@ -90,19 +90,28 @@ module _ {T : Type 0} (tries seats : ℕ) where
   pub stands : (s : St T) (r : Kept tries seats s) (i id : ℕ) (v : Hand T) → get_elem? s.views id ≡ some v
       → i < length s.homes → 0 < v.shares
       → (w : Word)
-          × Kept tries seats record { words = set s.words i (get_or s.words i 0); homes = s.homes;
-          views = set s.views id (looked i w v) } × Finds v i (get_or s.words i 0) w (looked i w v)
+      × Kept tries seats record {
+        words = set s.words i (get_or s.words i 0);
+        homes = s.homes;
+        views = set s.views id (looked i w v);
+      } × Finds v i (get_or s.words i 0) w (looked i w v)
   stands s r i id v at near some_share = let p : Phase = phase r.phases i in let w : Word = word_of p in
       let is : get_or s.words i 0 ≡ code p = found tries seats s r i in (
-    w,
-    subst (λ n. Kept tries seats record { words = set s.words i n; homes = s.homes;
-        views = set s.views id (looked i w v) }) (sym is)
-        (moved tries seats s r i id v (looked i w v) p p s.homes
+        w,
+        subst (λ n. Kept tries seats record {
+          words = set s.words i n;
+          homes = s.homes;
+          views = set s.views id (looked i w v);
+        }) (sym is)
+            (moved tries seats s r i id v (looked i w v) p p s.homes
             (look_move s r i id v at (subst (λ n. i < n) r.long near) some_share)),
-    (is ∙ coded_word p,
-        subst (λ n. IsWithin n w) (sym (r.told id v at some_share)) (within_word tries p (r.within i)),
-        (λ a h. at_most_word a p (r.seen id v at i a h)), refl),
-  )
+        (
+          is ∙ coded_word p,
+          subst (λ n. IsWithin n w) (sym (r.told id v at some_share)) (within_word tries p (r.within i)),
+          (λ a h. at_most_word a p (r.seen id v at i a h)),
+          refl,
+        ),
+      )
 
   pub looks_kept : (n id i : ℕ) (me : Knows T) → i < n → 0 < me.0.shares
       → Allows (Kept tries seats) n id me i (λ k. k) (looks (step n i 0 0 none) me)

@@ -92,8 +92,8 @@ zero_of h = omega arith
 below : (a b : ℕ) → 0 < one (ltb a b) → a < b
 below a b h = ⊎_elim (λ l. l) (λ ge. let z : one (ltb a b) ≡ 0 = ap one (le-ltb a b ge) in absurd (omega arith))
     (less_or a b) where
-  less_or : (a b : ℕ) → (a < b) ⊎ (b ≤ a)
-  less_or a b = ⊎_elim (λ e. inr (omega arith)) (λ o. ⊎_elim (λ l. inl l) (λ g. inr (omega arith)) o) (cases_order a b)
+      less_or : (a b : ℕ) → (a < b) ⊎ (b ≤ a)
+      less_or a b = ⊎_elim (λ e. inr (omega arith)) (λ o. ⊎_elim (λ l. inl l) (λ g. inr (omega arith)) o) (cases_order a b)
 
 -- an item that stands with no attempt in a list doesn't stand there, and one that stands with one attempt, once,
 -- stands there once
@@ -101,25 +101,25 @@ none_paired : (i : ℕ) (xs : List (ℕ × ℕ)) → ((a : ℕ) → pairs i a xs
 none_paired i [] z = refl
 none_paired i (x ∷ xs) z = let rest = none_paired i xs (λ a. let c = z a in omega arith) in
     ⊎_elim (λ e. let c = z x.1 in
-        let p = subst (λ k. 0 < one (eqb x.0 k && eqb x.1 x.1) + pairs k x.1 xs) e
-        (pair_own x.0 x.1 (pairs x.0 x.1 xs)) in absurd (omega arith))
+    let p = subst (λ k. 0 < one (eqb x.0 k && eqb x.1 x.1) + pairs k x.1 xs) e
+    (pair_own x.0 x.1 (pairs x.0 x.1 xs)) in absurd (omega arith))
     (λ ne. let o : one (eqb x.0 i) ≡ 0 = ap one (ne_eqb x.0 i ne) in omega arith) (cases_eq x.0 i)
 
 one_paired : (i b : ℕ) (xs : List (ℕ × ℕ)) → ((a : ℕ) → pairs i a xs ≤ one (eqb b a)) → items i (items_of xs) ≤ 1
 one_paired i b [] h = omega arith
 one_paired i b (x ∷ xs) h = ⊎_elim
     (λ e. let p : one (eqb x.0 i && eqb x.1 x.1) ≡ 1 = subst (λ k. one (eqb x.0 k && eqb x.1 x.1) ≡ 1) e
-        (mine x.0 (eqb x.1 x.1) ∙ ap one (own x.1)) in
+    (mine x.0 (eqb x.1 x.1) ∙ ap one (own x.1)) in
     let rest : (a : ℕ) → pairs i a xs ≡ 0 = λ a. ⊎_elim
     (λ s. let c = h x.1 in let m = one_most (eqb b x.1) in subst (λ k. pairs i k xs ≡ 0) (sym s) (omega arith))
     (λ ne. ⊎_elim
-        (λ t. let c = h x.1 in let z : one (eqb b x.1) ≡ 0 = ap one (ne_eqb b x.1 (λ q. ne (sym (sym q ∙ t)))) in
-        absurd (omega arith))
+    (λ t. let c = h x.1 in let z : one (eqb b x.1) ≡ 0 = ap one (ne_eqb b x.1 (λ q. ne (sym (sym q ∙ t)))) in
+    absurd (omega arith))
     (λ nt. let c = h a in let z : one (eqb b a) ≡ 0 = ap one (ne_eqb b a nt) in omega arith) (cases_eq b a))
-        (cases_eq a x.1) in
+    (cases_eq a x.1) in
     let none = none_paired i xs rest in let m = one_most (eqb x.0 i) in omega arith)
     (λ ne. let o : one (eqb x.0 i) ≡ 0 = ap one (ne_eqb x.0 i ne) in
-        let rest = one_paired i b xs (λ a. let c = h a in omega arith) in omega arith)
+    let rest = one_paired i b xs (λ a. let c = h a in omega arith) in omega arith)
     (cases_eq x.0 i)
 
 -- the same of entries with values
@@ -167,19 +167,19 @@ module _ {T : Type 0} (tries seats : ℕ) (s : St T) (r : Kept tries seats s) wh
     ended_at i p is = ends p (λ a. subst (λ q. pairs i a v.held ≤ due tries q (holds a)) is (count_at i (holds a)))
         (λ a. subst (λ q. triples i a v.done ≤ due tries q (finished a)) is (count_at i (finished a)))
         (subst (λ q. items i v.spent ≤ due tries q spends) is (count_at i spends)) where
-      ends : (p : Phase) → ((a : ℕ) → pairs i a v.held ≤ due tries p (holds a))
-          → ((a : ℕ) → triples i a v.done ≤ due tries p (finished a)) → items i v.spent ≤ due tries p spends
-          → items i (items_of v.held) + items i (items_of_done v.done) + items i v.spent ≤ 1
-      ends (wanted b) h d s = let x = none_paired i v.held (λ a. zero_of (h a)) in
-          let y = none_tripled i v.done (λ a. zero_of (d a)) in omega arith
-      ends (held b) h d s = let x = one_paired i b v.held h in let y = none_tripled i v.done (λ a. zero_of (d a)) in
-          omega arith
-      ends (placing b) h d s = let x = none_paired i v.held (λ a. zero_of (h a)) in
-          let y = none_tripled i v.done (λ a. zero_of (d a)) in omega arith
-      ends (done b) h d s = let x = none_paired i v.held (λ a. zero_of (h a)) in let y = one_tripled i b v.done d in
-          omega arith
-      ends spent h d s = let x = none_paired i v.held (λ a. zero_of (h a)) in
-          let y = none_tripled i v.done (λ a. zero_of (d a)) in omega arith
+          ends : (p : Phase) → ((a : ℕ) → pairs i a v.held ≤ due tries p (holds a))
+              → ((a : ℕ) → triples i a v.done ≤ due tries p (finished a)) → items i v.spent ≤ due tries p spends
+              → items i (items_of v.held) + items i (items_of_done v.done) + items i v.spent ≤ 1
+          ends (wanted b) h d s = let x = none_paired i v.held (λ a. zero_of (h a)) in
+              let y = none_tripled i v.done (λ a. zero_of (d a)) in omega arith
+          ends (held b) h d s = let x = one_paired i b v.held h in let y = none_tripled i v.done (λ a. zero_of (d a)) in
+              omega arith
+          ends (placing b) h d s = let x = none_paired i v.held (λ a. zero_of (h a)) in
+              let y = none_tripled i v.done (λ a. zero_of (d a)) in omega arith
+          ends (done b) h d s = let x = none_paired i v.held (λ a. zero_of (h a)) in let y = one_tripled i b v.done d in
+              omega arith
+          ends spent h d s = let x = none_paired i v.held (λ a. zero_of (h a)) in
+              let y = none_tripled i v.done (λ a. zero_of (d a)) in omega arith
 
     tried_within : (i a : ℕ) (p : Phase) → Within tries p → 0 < due tries p (tried a) → a < tries
     tried_within i a (wanted b) w h = let c = below a b h in omega arith

@@ -74,8 +74,8 @@ module _ {T : Type 0} where
   abbrev pub Settled : SeatData T → ℕ → Option T → ℕ → Type 0
   Settled v i (Some x) n =
       (a : ℕ) × Has (i, a, x) v.done × (n ≡ a + 1) × (items i v.spent ≡ 0)
-          × ((b : ℕ) → triples i b v.done ≡ one (a == b))
+      × ((b : ℕ) → triples i b v.done ≡ one (a == b))
       × ((b : ℕ) → pairs i b v.tried ≡ one (ltb b n)) × (a < v.tries)
   Settled v i None n =
       (items i v.spent ≡ 1) × ((b : ℕ) → triples i b v.done ≡ 0) × (n ≡ v.tries)
-          × ((b : ℕ) → pairs i b v.tried ≡ one (ltb b n))
+      × ((b : ℕ) → pairs i b v.tried ≡ one (ltb b n))

@@ -37,12 +37,20 @@ module _ {T : Type 0} where
     pub some_share : 0 < m.0.shares
 
   abbrev pub looked : ℕ → Word → Hand T → Hand T
-  looked i w v = record v { learnt = Some (i, w); seen = seen_after i w v.seen; passed = passed_after i w v.passed;
-      owed = owed_after i w v.owed }
+  looked i w v = record v {
+    learnt = Some (i, w);
+    seen = seen_after i w v.seen;
+    passed = passed_after i w v.passed;
+    owed = owed_after i w v.owed;
+  }
 
   abbrev pub claimed : ℕ → ℕ → Hand T → Hand T
-  claimed i a v = record v { held = (i, a) ∷ v.held; tried = (i, a) ∷ v.tried; passed = i ∷ v.passed;
-      owed = paid i v.owed }
+  claimed i a v = record v {
+    held = (i, a) ∷ v.held;
+    tried = (i, a) ∷ v.tried;
+    passed = i ∷ v.passed;
+    owed = paid i v.owed;
+  }
 
   abbrev pub returned : ℕ → Hand T → Hand T
   returned i v = record v { held = released i v.held; owed = i ∷ v.owed }
@@ -99,8 +107,8 @@ module _ {T : Type 0} where
   claims st m r m' =
       (m'.1 ≡ m.1)
       × (r ≡ st.first
-          → (a : ℕ) × (st.first ≡ 4 * a) × (a < m.0.tries) × (pairs st.word a m.0.tried ≡ 0)
-          × (m'.0 ≡ claimed st.word a m.0))
+      → (a : ℕ) × (st.first ≡ 4 * a) × (a < m.0.tries) × (pairs st.word a m.0.tried ≡ 0)
+      × (m'.0 ≡ claimed st.word a m.0))
       × (r ≢ st.first → (w : Word) × Finds m.0 st.word r w m'.0)
 
   -- What the seats that were joined into this one know together.
@@ -121,7 +129,7 @@ module _ {T : Type 0} where
   abbrev pub files : Step (Option T) → Knows T → ℕ → Knows T → Type 0
   files st m r m' =
       (a : ℕ) × (x : T) × (st.first ≡ 4 * a + 2) × (m.1 ≡ (st.word, Some x) ∷ rest m.1) × (m'.1 ≡ rest m.1)
-          × (m'.0 ≡ filed st.word a x m.0)
+      × (m'.0 ≡ filed st.word a x m.0)
 
   abbrev pub spends : Step (Option T) → Knows T → ℕ → Knows T → Type 0
   spends st m r m' = (m'.1 ≡ m.1) × (m'.0 ≡ forgone st.word m.0)

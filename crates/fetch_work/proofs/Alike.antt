@@ -19,7 +19,7 @@ module _ {T : Type 0} (f : ℕ → Option T) (tries : ℕ) where
   one_first (Some x) (Some y) n m p q = ⊎_elim
       (λ e. (sym p.3 ∙ (ap f e ∙ q.3), p.2 ∙ (ap (λ a. a + 1) e ∙ sym q.2)))
       (λ o. ⊎_elim (λ l. absurd (none-some x (sym (q.4 p.0 l) ∙ p.3)))
-          (λ l. absurd (none-some y (sym (p.4 q.0 l) ∙ q.3))) o)
+      (λ l. absurd (none-some y (sym (p.4 q.0 l) ∙ q.3))) o)
       (cases_order p.0 q.0)
 
 same_cons : {A : Type 0} (x y : A) (xs ys : List A) → x ≡ y → xs ≡ ys → x ∷ xs ≡ y ∷ ys

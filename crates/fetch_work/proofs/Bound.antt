@@ -46,10 +46,10 @@ module _ (n t : ℕ) where
   lone : (x : Pair) → x.0 < n → x.1 < t → upto (λ i. upto (λ a. one (eqb x.0 i && eqb x.1 a)) t) n ≡ 1
   lone x l m = let row : ℕ → ℕ = λ i. upto (λ a. one (eqb x.0 i && eqb x.1 a)) t in
       let cell : row x.0 ≡ one (eqb x.0 x.0 && eqb x.1 x.1) = upto_at (λ a. one (eqb x.0 x.0 && eqb x.1 a)) x.1 t m
-          (λ a ne. mine x.0 (eqb x.1 a) ∙ ap one (ne_eqb x.1 a (λ e. ne (sym e)))) in
+      (λ a ne. mine x.0 (eqb x.1 a) ∙ ap one (ne_eqb x.1 a (λ e. ne (sym e)))) in
       let hit : one (eqb x.0 x.0 && eqb x.1 x.1) ≡ 1 = mine x.0 (eqb x.1 x.1) ∙ ap one (own x.1) in
       upto_at row x.0 n l
-          (λ i ne. upto_zero (λ a. one (eqb x.0 i && eqb x.1 a)) t (λ a b. other x.0 i (eqb x.1 a) ne)) ∙ (cell ∙ hit)
+      (λ i ne. upto_zero (λ a. one (eqb x.0 i && eqb x.1 a)) t (λ a b. other x.0 i (eqb x.1 a) ne)) ∙ (cell ∙ hit)
 
   squared : (xs : List Pair) → ((i a : ℕ) → 0 < pairs i a xs → (i < n) × (a < t)) → square xs ≡ length xs
   unfolding square
@@ -58,7 +58,7 @@ module _ (n t : ℕ) where
       let h = squared xs (λ i a some. w i a (omega arith)) in let l = lone x in_range.0 in_range.1 in
       let f : ℕ → ℕ → ℕ = λ i a. one (eqb x.0 i && eqb x.1 a) in let g : ℕ → ℕ → ℕ = λ i a. pairs i a xs in
       let both : upto (λ i. upto (λ a. f i a + g i a) t) n ≡ upto (λ i. upto (f i) t + upto (g i) t) n = upto_same
-          (λ i. upto (λ a. f i a + g i a) t) (λ i. upto (f i) t + upto (g i) t) n (λ i. upto_add (f i) (g i) t) in
+      (λ i. upto (λ a. f i a + g i a) t) (λ i. upto (f i) t + upto (g i) t) n (λ i. upto_add (f i) (g i) t) in
       let split = upto_add (λ i. upto (f i) t) (λ i. upto (g i) t) n in
       both ∙ (split ∙ (let k : 1 + length xs ≡ suc (length xs) = omega arith in (λ j. l j + h j) ∙ k))
 
@@ -68,7 +68,7 @@ module _ (n t : ℕ) where
   few xs w once = let e = squared xs w in
       let m = upto_most (λ i. upto (λ a. pairs i a xs) t) (t * 1) n (λ i. upto_most (λ a. pairs i a xs) 1 t (once i)) in
       let same : n * (t * 1) ≡ n * t = ap (λ k. n * k) (let q : t * 1 ≡ t = omega arith in q) in
-          subst (λ k. k ≤ n * t) e (subst (λ k. square xs ≤ k) same m)
+      subst (λ k. k ≤ n * t) e (subst (λ k. square xs ≤ k) same m)
 
 -- what is left gets less
 pub less_left : (m a b : ℕ) → b ≤ m → a < b → m - b < m - a

@@ -13,8 +13,8 @@ module _ (answer : WantedPart → ℕ → Option (List ℕ)) (ring : List Pair) 
   pub each_first : (jobs : List Job) (parts : List (Option CheckedPart)) (ns : List ℕ) → length parts ≡ length jobs
       → length ns ≡ length jobs
       → ((i : ℕ) → i < length jobs
-          → IsFirst (brings answer ring (job_at jobs i)) tries (get_or parts i None) (get_or ns i 0))
-          → AreFirst answer ring tries jobs parts ns
+      → IsFirst (brings answer ring (job_at jobs i)) tries (get_or parts i None) (get_or ns i 0))
+      → AreFirst answer ring tries jobs parts ns
   each_first [] [] [] a b h = tt
   each_first [] [] (n ∷ ns) a b h = absurd (omega arith)
   each_first [] (p ∷ ps) ns a b h = absurd (omega arith)

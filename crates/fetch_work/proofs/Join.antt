@@ -16,9 +16,10 @@ use Rattle.fetch_work.specs.Teams.{Knows, HasWorked, IsFirst}
 -- what holds of each element of a list holds of its front and of its last
 pub all_parts : {A : Type 0} (F : A → Type 0) (xs : List A) (x : A) (ys : List A) → ys ≡ xs ++ x ∷ [] → All F ys
     → All F xs × F x
-all_parts F xs x ys e h = let h' : All F (xs ++ x ∷ []) = subst (All F) e h in
-    ((λ k d l. subst F (get_or_append_left xs (x ∷ []) d k l) (h' k d (omega (arith, length-append xs (x ∷ []))))),
-        subst F (get_or-append_seam xs x [] x) (h' (length xs) x (omega (arith, length-append xs (x ∷ [])))))
+all_parts F xs x ys e h = let h' : All F (xs ++ x ∷ []) = subst (All F) e h in (
+  (λ k d l. subst F (get_or_append_left xs (x ∷ []) d k l) (h' k d (omega (arith, length-append xs (x ∷ []))))),
+  subst F (get_or-append_seam xs x [] x) (h' (length xs) x (omega (arith, length-append xs (x ∷ [])))),
+)
 
 module _ {T : Type 0} (brings : ℕ → ℕ → Option T) (count : ℕ) where
   pub knows_both : (v w : SeatData T) → Knows brings count v → Knows brings count w → Knows brings count (combined v w)
@@ -29,7 +30,7 @@ module _ {T : Type 0} (brings : ℕ → ℕ → Option T) (count : ℕ) where
     brought = λ i a x has. ⊎_elim (p.brought i a x) (q.brought i a x) (has-append (i, a, x) v.done w.done has);
     missed = λ i a some z. let t = triples-append i a v.done w.done in let k = pairs-append i a v.tried w.tried in
         ⊎_elim (λ l. p.missed i a l (omega arith)) (λ l. q.missed i a l (omega arith))
-            (either (pairs i a v.tried) (pairs i a w.tried) (omega arith));
+        (either (pairs i a v.tried) (pairs i a w.tried) (omega arith));
   }
 
   pub first_found : (v : SeatData T) → Knows brings count v → (i n : ℕ) (h : Option T) → Settled v i h n
@@ -43,9 +44,11 @@ module _ {T : Type 0} (brings : ℕ → ℕ → Option T) (count : ℕ) where
         let d : triples i b v.done ≡ 0 = s.4 b ∙ ap one (ne_eqb s.0 b (λ e. omega arith)) in
         p.missed i b (omega arith) d,
   )
-  first_found v p i n None s =
-      (s.2, λ b l. let t : pairs i b v.tried ≡ 1 = s.3 b ∙ ap one (lt-ltb b n (omega (arith, s.2))) in
-      p.missed i b (omega arith) (s.1 b))
+  first_found v p i n None s = (
+    s.2,
+    λ b l. let t : pairs i b v.tried ≡ 1 = s.3 b ∙ ap one (lt-ltb b n (omega (arith, s.2))) in
+        p.missed i b (omega arith) (s.1 b),
+  )
 
   -- the seats of all that have worked, joined into one
   pub knows_all : (board : BoardTerms) (v : SeatData T) (vs : List (SeatData T)) → Knows brings count v
@@ -55,7 +58,7 @@ module _ {T : Type 0} (brings : ℕ → ℕ → Option T) (count : ℕ) where
   knows_all board v (w ∷ ws) k all =
       let one = All-head (λ u. HasWorked brings count board u) w ws all in
       let rest = knows_all board (combined v w) ws (knows_both v w k one.knows)
-          (All-tail (λ u. HasWorked brings count board u) w ws all) in
+      (All-tail (λ u. HasWorked brings count board u) w ws all) in
       let sum = rest.1 in
       let share = one.share in (rest.0, omega arith)
 
@@ -78,8 +81,8 @@ module _ {T : Type 0} (brings : ℕ → ℕ → Option T) (count : ℕ) where
       → (r : Result (Outcome T) E)
       → IfOk r (λ o. (i : ℕ) → i < n → Settled v i (get_or o.values.items i None) (get_or o.attempts.items i 0))
       → IfOk r
-          (λ o. (i : ℕ) → i < count
-          → IsFirst (brings i) tries (get_or o.values.items i None) (get_or o.attempts.items i 0))
+      (λ o. (i : ℕ) → i < count
+      → IsFirst (brings i) tries (get_or o.values.items i None) (get_or o.attempts.items i 0))
   first_all n tries v k same is (Ok o) h = λ i l. subst
       (λ m. IsFirst (brings i) m (get_or o.values.items i None) (get_or o.attempts.items i 0)) is
       (first_found brings count v k i (get_or o.attempts.items i 0) (get_or o.values.items i None) (h i (omega arith)))

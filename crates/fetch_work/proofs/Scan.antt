@@ -76,8 +76,8 @@ module _ {T : Type 0} (brings : ℕ → ℕ → Option T) (count : ℕ) (tries :
             let b = t.owes_less both.1 j in omega arith;
         owes_none = λ e i from low. let both = or_false gave more e in
             ⊎_elim (λ f. subst (λ j. items j w.owed ≡ 0) (sym f) (t.owes_none both.1))
-                (λ l. let a = s.owes_none both.0 i from l in let b = t.owes_less both.1 i in omega arith)
-                (last_or i k low);
+            (λ l. let a = s.owes_none both.0 i from l in let b = t.owes_less both.1 i in omega arith)
+            (last_or i k low);
       }
 
   -- what lies behind an item, and then what lies before it, is all
@@ -97,8 +97,8 @@ module _ {T : Type 0} (brings : ℕ → ℕ → Option T) (count : ℕ) (tries :
             let b = t.owes_less both.1 j in omega arith;
         owes_none = λ e i from low. let both = or_false gave more e in
             ⊎_elim (λ l. t.owes_none both.1 i from l)
-                (λ g. let a = s.owes_none both.0 i g low in let b = t.owes_less both.1 i in omega arith)
-                (below_or i mid);
+            (λ g. let a = s.owes_none both.0 i g low in let b = t.owes_less both.1 i in omega arith)
+            (below_or i mid);
       }
 
   pub rests_after : (u w : SeatData T) → Scans brings count tries 0 count u false w → w.owed ≡ []

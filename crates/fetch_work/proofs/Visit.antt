@@ -19,11 +19,11 @@ count_new : (i a : ℕ) (xs : List (ℕ × ℕ)) → pairs i a xs ≡ 0 → ((j 
 count_new i a xs z once j b = ⊎_elim
     (λ e. ⊎_elim
     (λ f. let m = one_most (eqb i j && eqb a b) in
-        let k : pairs j b xs ≡ 0 = subst (λ y. pairs y b xs ≡ 0) (sym e) (subst (λ y. pairs i y xs ≡ 0) (sym f) z) in
-        omega arith)
+    let k : pairs j b xs ≡ 0 = subst (λ y. pairs y b xs ≡ 0) (sym e) (subst (λ y. pairs i y xs ≡ 0) (sym f) z) in
+    omega arith)
     (λ ne. let h : one (eqb i j && eqb a b) ≡ one (eqb a b) = subst (λ y. one (eqb i y && eqb a b) ≡ one (eqb a b))
-        (sym e) (mine i (eqb a b)) in let k : one (eqb a b) ≡ 0 = ap one (ne_eqb a b (λ q. ne (sym q))) in
-        let m = once j b in omega arith)
+    (sym e) (mine i (eqb a b)) in let k : one (eqb a b) ≡ 0 = ap one (ne_eqb a b (λ q. ne (sym q))) in
+    let m = once j b in omega arith)
     (cases_eq b a))
     (λ ne. let h = other i j (eqb a b) ne in let m = once j b in omega arith) (cases_eq j i)
 
@@ -33,12 +33,24 @@ let_go i a xs e = ap (λ b. keep_unless b (i, a) (released i xs)) (own i) ∙ ap
 module _ {T : Type 0} (brings : ℕ → ℕ → Option T) (count : ℕ) (tries : ℕ) where
   -- what was seen and learnt doesn't count
   hidden : (v : SeatData T) → Works brings count tries v → Works brings count tries (known v)
-  hidden v h = record { holds = h.holds; owes = h.owes; once = h.once; within = h.within; brought = h.brought;
-      missed = h.missed }
+  hidden v h = record {
+    holds = h.holds;
+    owes = h.owes;
+    once = h.once;
+    within = h.within;
+    brought = h.brought;
+    missed = h.missed;
+  }
 
   shown : (v : SeatData T) → Works brings count tries (known v) → Works brings count tries v
-  shown v h = record { holds = h.holds; owes = h.owes; once = h.once; within = h.within; brought = h.brought;
-      missed = h.missed }
+  shown v h = record {
+    holds = h.holds;
+    owes = h.owes;
+    once = h.once;
+    within = h.within;
+    brought = h.brought;
+    missed = h.missed;
+  }
 
   visits_known : (i : ℕ) (v w : SeatData T) (gave : Bool) → Visits brings count tries i (known v) gave (known w)
       → Visits brings count tries i v gave w
@@ -95,8 +107,8 @@ module _ {T : Type 0} (brings : ℕ → ℕ → Option T) (count : ℕ) (tries :
           (h.brought j b y) has;
       missed = λ j b some z. ⊎_elim
           (λ e. let k = pair_own i a (triples i a u.done) in
-              let z' : triples i a ((i, a, x) ∷ u.done) ≡ 0 = subst (λ y. triples y a ((i, a, x) ∷ u.done) ≡ 0) e.0
-              (subst (λ y. triples j y ((i, a, x) ∷ u.done) ≡ 0) e.1 z) in absurd (omega arith))
+          let z' : triples i a ((i, a, x) ∷ u.done) ≡ 0 = subst (λ y. triples y a ((i, a, x) ∷ u.done) ≡ 0) e.0
+          (subst (λ y. triples j y ((i, a, x) ∷ u.done) ≡ 0) e.1 z) in absurd (omega arith))
           (λ old. h.missed j b old (omega arith)) (newest i j a b (pairs j b u.tried) some);
     }
 
@@ -107,8 +119,14 @@ module _ {T : Type 0} (brings : ℕ → ℕ → Option T) (count : ℕ) (tries :
         (λ old. h.missed j b old z) (newest i j a b (pairs j b u.tried) some)
 
     works_forgone : brings i a ≡ None → Works brings count tries (forgone i (claimed i a u))
-    works_forgone is = record { holds = let_go i a u.held h.holds; owes = owes_paid;
-        once = count_new i a u.tried free h.once; within = within_new; brought = h.brought; missed = missed_new is }
+    works_forgone is = record {
+      holds = let_go i a u.held h.holds;
+      owes = owes_paid;
+      once = count_new i a u.tried free h.once;
+      within = within_new;
+      brought = h.brought;
+      missed = missed_new is;
+    }
 
     works_returned : brings i a ≡ None → Works brings count tries (returned i (claimed i a u))
     works_returned is = record {
@@ -174,14 +192,14 @@ module _ {T : Type 0} (brings : ℕ → ℕ → Option T) (count : ℕ) (tries :
       pub visit_finished : (x : T) → brings i a ≡ Some x → w ≡ finished i a x u → Visits brings count tries i v false w
       visit_finished x came e = visits_known i v w false
           (subst (Visits brings count tries i (known v) false) (sym (ap known e ∙ ap (finished i a x) is))
-              (visit_some i a (known v) near low free (hidden v h) x came))
+          (visit_some i a (known v) near low free (hidden v h) x came))
 
       pub visit_forgone : brings i a ≡ None → w ≡ forgone i u → Visits brings count tries i v false w
       visit_forgone lost e = visits_known i v w false
           (subst (Visits brings count tries i (known v) false) (sym (ap known e ∙ ap (forgone i) is))
-              (visit_last i a (known v) near low free (hidden v h) lost))
+          (visit_last i a (known v) near low free (hidden v h) lost))
 
       pub visit_returned : brings i a ≡ None → w ≡ returned i u → Visits brings count tries i v true w
       visit_returned lost e = visits_known i v w true
           (subst (Visits brings count tries i (known v) true) (sym (ap known e ∙ ap (returned i) is))
-              (visit_lost i a (known v) near low free (hidden v h) lost))
+          (visit_lost i a (known v) near low free (hidden v h) lost))

@@ -31,8 +31,15 @@ brings answer ring job before = checked_reply job.want ring (answer job.want (jo
 
 abbrev pub no_job : Job
 no_job =
-    record { want = record { part = record { publisher = 0; seq = 0; part = 0 }; name = []; digest = None;
-        interest = [] }; base = 0 }
+    record {
+      want = record {
+        part = record { publisher = 0; seq = 0; part = 0 };
+        name = [];
+        digest = None;
+        interest = [];
+      };
+      base = 0;
+    }
 
 abbrev pub job_at : List Job → ℕ → Job
 job_at jobs i = slice_index_or jobs i no_job

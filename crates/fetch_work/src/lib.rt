@@ -17,6 +17,5 @@ pub use outcome::PhaseOutcome;
 pub use phases::phase;
 pub use worker::Worker;
 
-
 #[cfg(test)]
 mod tests;

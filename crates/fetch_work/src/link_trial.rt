@@ -19,7 +19,7 @@ impl<'p, L: Link> Trial for LinkTrial<'p, L> {
     type Value = Checked<'p>;
 
     ghost can = { λ t i a. (i < length t.jobs.now)
-      × All (λ job. CanBeTried (length t.ring.now) (a + 1) job) t.jobs.now };
+        × All (λ job. CanBeTried (length t.ring.now) (a + 1) job) t.jobs.now };
 
     ghost brings = { λ t i a. brings (L.answer t.link.now) t.ring.now (job_at t.jobs.now i) a };
 

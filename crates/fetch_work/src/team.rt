@@ -101,7 +101,7 @@ pub(crate) fn run<T: Trial + Sync, R: Threads + Sync>(
     ensures counts { IfOk result (λ o. length o.attempts.items ≡ items) }
     ensures first { IfOk result (λ o. (i : ℕ) → i < items
         → IsFirst (T.brings trial.now i) tries
-            (slice_index_or o.values.items i None) (slice_index_or o.attempts.items i 0)) }
+        (slice_index_or o.values.items i None) (slice_index_or o.attempts.items i 0)) }
 {
     let (board, seats) = Board::new(alloc, items, tries, workers as usize)?;
     let team = spread(alloc, seats, items)?;

@@ -6,7 +6,9 @@ use super::*;
 use fetch_board::Board;
 use ndn_name::{Name, NameFault};
 use ndn_sign::KeyRing;
-use repo_object::{Job, NODE_NAME_LIMIT, Object, Want, is_object_name, key_name, packets_of, want_record};
+use repo_object::{
+    Job, NODE_NAME_LIMIT, Object, Want, is_object_name, key_name, packets_of, want_record,
+};
 use repo_plan::Part;
 use std::alloc::{AllocError, Global};
 use std::process::Abort;
@@ -27,8 +29,8 @@ impl<'w> Link for OneAttempt<'w> {
     ghost use Rattle.std.specs.Prelude.{◌+◌, ◌-◌, ◌%◌, ◌==◌, if◌then◌else◌, option_map, slice_get, None};
 
     ghost answer = { λ l want attempt. if attempt == want.part.seq % 7 + 1
-      then option_map (λ packet. packet.items) (slice_get l.records.now (want.part.seq - 1))
-      else None };
+        then option_map (λ packet. packet.items) (slice_get l.records.now (want.part.seq - 1))
+        else None };
 
     fn ask<'a>(&'a self, want: &Want, attempt: u32) -> Reply<'a> {
         let seq = want.part().seq;
@@ -124,7 +126,13 @@ fn jobs(
 }
 
 // The records of the publications from 1 on. In the place of every tenth lies the one before.
-fn records(alloc: Global, count: u16, object: &Object, node: &Name, group: &Name) -> Result<Vec<Vec<u8>>, AllocError>
+fn records(
+    alloc: Global,
+    count: u16,
+    object: &Object,
+    node: &Name,
+    group: &Name,
+) -> Result<Vec<Vec<u8>>, AllocError>
     requires node { length (encoding node.now) ≤ 200 }
     requires group { length (encoding group.now) ≤ 200 }
 {
@@ -217,9 +225,7 @@ fn outcomes_are_the_same_for_any_number_of_workers(rt: HostRuntime) -> Result<()
     let ring = ring_of(alloc, &node)?;
     let jobs = jobs(alloc, 1, 500, &node, &group)?;
     let records = records(alloc, 500, &object, &node, &group)?;
-    let link = OneAttempt {
-        records: &records,
-    };
+    let link = OneAttempt { records: &records };
     let alone = work_alone(alloc, &link, &jobs, &ring)?;
     assert!(rt; is_expected(&alone, &jobs, &records));
     for workers in [1u32, 2, 4, 16] {

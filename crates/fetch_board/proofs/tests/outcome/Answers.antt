@@ -9,10 +9,10 @@ both : (xs ys : List ℕ) → (0 < items 0 xs) × (0 < items 1 xs) → (i : ℕ)
 both xs ys h i low =
     ⊎_elim (λ e. subst (λ k. 0 < items k (xs ++ ys)) (sym e) (omega (arith, items-append 0 xs ys, h.0)))
     (λ ne. let e : i ≡ 1 = omega arith in
-        subst (λ k. 0 < items k (xs ++ ys)) (sym e) (omega (arith, items-append 1 xs ys, h.1)))
+    subst (λ k. 0 < items k (xs ++ ys)) (sym e) (omega (arith, items-append 1 xs ys, h.1)))
     (cases_eq i 0)
 
 pub close-requires-clause-passed : goal.close-requires-clause-passed
 close-requires-clause-passed c = λ i low.
     subst (λ xs. 0 < items i xs) (sym (ap (λ v. v.passed) c.join.ensures.joined))
-        (both _ _ c.in_ok-share.ensures.passed i (omega (arith, low, c.in-Ok.ensures.board.0)))
+    (both _ _ c.in_ok-share.ensures.passed i (omega (arith, low, c.in-Ok.ensures.board.0)))

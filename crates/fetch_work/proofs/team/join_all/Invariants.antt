@@ -7,4 +7,4 @@ abbrev pub invariant-loop-other : goal.invariant-loop-other
 invariant-loop-other g l =
     let rest = into_iter_items l.other-iterator in
     IsSeatOf l.board l.seat × (fold combined l.seat rest ≡ fold combined l.initial.seat l.fn.others.items)
-        × All (λ other. IsSeatOf l.board other) rest
+    × All (λ other. IsSeatOf l.board other) rest

@@ -26,16 +26,16 @@ returns-in-None-clause-known g c = known_after c.args.item
 pub returns-in-Some-Held-clause-known : goal.returns-in-Some-Held-clause-known
 returns-in-Some-Held-clause-known g c =
     let arm = c.in-Some-Held in
-        known_after c.args.item Held _ _ _ c.loop-ended.invariant.1
-        (arm.field-0-0, finds_word arm.field-0-is arm.ensures.claimed.0)
+    known_after c.args.item Held _ _ _ c.loop-ended.invariant.1
+    (arm.field-0-0, finds_word arm.field-0-is arm.ensures.claimed.0)
 
 pub returns-in-Some-Done-clause-known : goal.returns-in-Some-Done-clause-known
 returns-in-Some-Done-clause-known g c =
     let arm = c.in-Some-Done in
-        known_after c.args.item Done _ _ _ c.loop-ended.invariant.1
-        (arm.field-0-0, finds_word arm.field-0-is arm.ensures.claimed.0)
+    known_after c.args.item Done _ _ _ c.loop-ended.invariant.1
+    (arm.field-0-0, finds_word arm.field-0-is arm.ensures.claimed.0)
 
 pub returns-in-Some-Spent-clause-known : goal.returns-in-Some-Spent-clause-known
 returns-in-Some-Spent-clause-known g c =
     let arm = c.in-Some-Spent in
-        known_after c.args.item Spent _ _ _ c.loop-ended.invariant.1 (finds_word arm.field-0-is arm.ensures.claimed.0)
+    known_after c.args.item Spent _ _ _ c.loop-ended.invariant.1 (finds_word arm.field-0-is arm.ensures.claimed.0)
