@@ -1,2 +1,3 @@
 pub mod Hmac
+pub mod Prepared
 pub mod Ring

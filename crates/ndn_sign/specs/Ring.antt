@@ -1,5 +1,6 @@
 -- Rings of keys, as lists of pairs whose names differ. A pair's number is its place, from 0.
-use Rattle.std.specs.Prelude.{ℕ, List, Option, position}
+use Rattle.std.specs.Prelude.{ℕ, ◌≤◌, Bool, List, Option, length, position}
+use Rattle.std.specs.List.{IsDistinct}
 use Rattle.std.specs.Str.{bytes_eq}
 
 -- The octets of a key name, and the key.
@@ -13,3 +14,15 @@ pair name key = record { name = name; key = key }
 -- The number of the pair of this name.
 abbrev pub number_of : List ℕ → List Pair → Option ℕ
 number_of name ring = position (λ pair. bytes_eq name pair.name) ring
+
+abbrev pub has_same_name : Pair → Pair → Bool
+has_same_name a b = bytes_eq a.name b.name
+
+-- How many pairs a ring may have: a number has 32 bits.
+abbrev pub pair_limit : ℕ
+pair_limit = 4294967295
+
+-- The names of a ring differ, and its numbers have 32 bits.
+pub record IsRing (ring : List Pair) : Type 0 where
+  pub few : length ring ≤ pair_limit
+  pub different : IsDistinct has_same_name ring

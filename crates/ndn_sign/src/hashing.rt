@@ -1,6 +1,7 @@
-ghost use Rattle.std.specs.Prelude.{◌≡◌, ◌≤◌, ◌-◌, ◌++◌, bit_xor, length, map, replicate};
+ghost use Rattle.std.specs.Prelude.{◌≡◌, ◌≤◌, ◌-◌, ◌++◌, ℕ, List, bit_xor, length, map, replicate};
 ghost use Rattle.sha2.specs.Sha256.{sha256};
-ghost use Rattle.ndn_sign.specs.Hmac.{block_key, hmac};
+ghost use Rattle.ndn_sign.specs.Hmac.{block_key, hmac, inner_pad, outer_pad, under_pad};
+ghost use Rattle.ndn_sign.specs.Prepared.{IsBegun};
 
 use sha2::{Digest, Sha256};
 
@@ -24,13 +25,30 @@ pub fn digest(octets: &[u8]) -> [u8; 32]
 pub fn hmac(key: &[u8], first: &[u8], second: &[u8]) -> [u8; 32]
     ensures { result ≡ hmac key.now (first.now ++ second.now) }
 {
+    let (inner, outer) = begin(key);
+    finish(inner, outer, first, second)
+}
+
+// SHA-256 that has taken in the key under the inner pad, and under the outer one: one block each.
+pub(crate) fn begin(key: &[u8]) -> (Sha256, Sha256)
+    ensures inner { IsBegun inner_pad key.now result.0 }
+    ensures outer { IsBegun outer_pad key.now result.1 }
+{
     let block = block_key(key);
     let mut inner = Sha256::new();
     inner.update(&masked(block, INNER_PAD));
-    inner.update(first);
-    inner.update(second);
     let mut outer = Sha256::new();
     outer.update(&masked(block, OUTER_PAD));
+    (inner, outer)
+}
+
+// The mac of `first` and then `second` under the key that the two were begun with.
+pub(crate) fn finish(mut inner: Sha256, mut outer: Sha256, first: &[u8], second: &[u8]) -> [u8; 32]
+    ensures { (key : List ℕ) → IsBegun inner_pad key inner → IsBegun outer_pad key outer
+        → result ≡ hmac key (first.now ++ second.now) }
+{
+    inner.update(first);
+    inner.update(second);
     outer.update(&inner.finalize());
     outer.finalize()
 }

@@ -4,10 +4,13 @@
 
 mod hashing;
 mod key_ring;
+mod laws;
+mod prepared_key;
 mod ring_fault;
 
 pub use hashing::{digest, hmac};
 pub use key_ring::KeyRing;
+pub use laws::names_tell_pairs_apart;
 pub use ring_fault::RingFault;
 
 #[cfg(test)]
