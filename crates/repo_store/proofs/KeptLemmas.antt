@@ -1,7 +1,7 @@
 -- How many different packets are kept.
 use Rattle.std.proofs.Common.{◌≡◌, ◌≢◌, ℕ, zero, suc, ◌+◌, ◌<◌, Bool, true, false, cond, ◌⊎◌, inl, inr, ◌||◌, List, [], ◌∷◌, map, length, get_or, Option, Some, None, refl, sym, ap, subst, ◌∙◌, arith}
 use Rattle.std.specs.Prelude.{IsSome, is_some, unwrap_or}
-use Rattle.std.specs.List.{filter}
+use Rattle.std.specs.List.{filter, list_any}
 use Rattle.std.proofs.lemmas.List.Sums.{length-filter}
 use Rattle.std.specs.Ordering.{nat_cmp, eq_by_cmp}
 use Rattle.std.specs.Cmp.Lexicographic.{slice_cmp}
@@ -78,7 +78,7 @@ same_members (x ∷ xs) (y ∷ ys) ra rb ab ba = ap suc (same_members xs ys ra.1
 
 -- ---- the different octets of packets
 
-rises_different : (es : List (Part × Octets)) → Rises by_octets (different_octets es)
+pub rises_different : (es : List (Part × Octets)) → Rises by_octets (different_octets es)
 rises_different [] = tt
 rises_different (e ∷ es) = rises_insert exact_octets.total e.1 (different_octets es) (rises_different es)
 
@@ -93,6 +93,10 @@ different_in : (es : List (Part × Octets)) (e : Part × Octets) → In e es →
 different_in [] e i = absurd i
 different_in (x ∷ es) e (inl same) = subst (λ (o : Octets). In o (different_octets (x ∷ es))) (sym (ap (λ (y : Part × Octets). y.1) same)) (insert_there x.1 (different_octets es))
 different_in (x ∷ es) e (inr j) = insert_kept x.1 (different_octets es) e.1 (different_in es e j)
+
+pub contains_different : (es : List (Part × Octets)) (o : Octets) → contains by_octets (different_octets es) o ≡ list_any (λ e. eq_by_cmp by_octets o e.1) es
+contains_different [] o = refl
+contains_different (e ∷ es) o = contains-insert_key exact_octets e.1 (different_octets es) o ∙ ap (λ (b : Bool). eq_by_cmp by_octets o e.1 || b) (contains_different es o)
 
 -- ---- the octets in slots
 

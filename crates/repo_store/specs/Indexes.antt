@@ -15,6 +15,8 @@ use Rattle.repo_plan.specs.SortedList.{Rises}
 use Rattle.repo_plan.specs.Parts.{part_cmp}
 use Rattle.repo_plan.proofs.Sets.{In}
 use Rattle.repo_store.specs.declared.index.Held.{Held}
+use Rattle.repo_store.specs.declared.index.Index.{Index}
+use Rattle.repo_store.specs.declared.index.Key.{Key}
 use Rattle.repo_store.specs.declared.index.Order.{Order}
 use Rattle.repo_store.specs.declared.index.Order.TheVariants.{Names, FullNames}
 use Rattle.repo_store.specs.Served.{satisfies}
@@ -51,6 +53,17 @@ key_in order packets h = (key_of order (get packets h.slot), h.part)
 
 abbrev pub keys_in : Order → Slab (List ℕ) → List Held → List (FullName × Part)
 keys_in order packets held = map (key_in order packets) held
+
+-- The keys of an index, and that they rise.
+abbrev pub keys_of : Index → List (FullName × Part)
+keys_of i = keys_in i.order i.packets.now i.held.now
+
+abbrev pub IsInOrder : Index → Type 0
+IsInOrder i = Rises key_cmp (keys_of i)
+
+-- What is searched for.
+abbrev pub as_full_name : Key → FullName
+as_full_name key = (key.name.now, key.digest.now)
 
 -- An index of what is held: the same, in order.
 pub record IsIndexOf (order : Order) (packets : Slab (List ℕ)) (held index : List Held) : Type 0 where

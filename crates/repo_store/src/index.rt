@@ -3,7 +3,7 @@ ghost use Rattle.repo_store.specs.declared.index.Order.TheVariants.{Names, FullN
 ghost use Rattle.slab.specs.Slab.{get};
 ghost use Rattle.repo_plan.specs.SortedList.{Rises};
 ghost use Rattle.repo_store.specs.Kept.{name_of};
-ghost use Rattle.repo_store.specs.Indexes.{digest_in, key_of, names_cmp, key_cmp, key_in, keys_in, has_key, has_full_name, begins_with, lesser, IsPlace, IsFrom, IsBehind, IsFirstOf, IsSlotOf, GainsOne, LacksPart};
+ghost use Rattle.repo_store.specs.Indexes.{digest_in, key_of, names_cmp, key_cmp, key_in, keys_in, keys_of, as_full_name, has_key, has_full_name, begins_with, lesser, IsInOrder, IsPlace, IsFrom, IsBehind, IsFirstOf, IsSlotOf, GainsOne, LacksPart};
 
 use crate::packet::{Packet, Packets};
 use repo_plan::Part;
@@ -65,7 +65,7 @@ impl Order {
 impl Key<'_> {
     // By name, then by digest.
     fn cmp(&self, other: &Key<'_>) -> Ordering
-        ensures { result ≡ names_cmp (self.now.name.now, self.now.digest.now) (other.now.name.now, other.now.digest.now) }
+        ensures { result ≡ names_cmp (as_full_name self.now) (as_full_name other.now) }
     {
         self.name
             .cmp(&other.name)
@@ -75,8 +75,10 @@ impl Key<'_> {
 
 impl Index<'_> {
     fn key(&self, held: &Held) -> Key<'_>
-        ensures name { result.name.now ≡ (key_of self.now.order (get self.now.packets.now held.now.slot)).0 }
-        ensures digest { result.digest.now ≡ (key_of self.now.order (get self.now.packets.now held.now.slot)).1 }
+        ensures name { result.name.now
+            ≡ (key_of self.now.order (get self.now.packets.now held.now.slot)).0 }
+        ensures digest { result.digest.now
+            ≡ (key_of self.now.order (get self.now.packets.now held.now.slot)).1 }
     {
         match self.packets.get(held.slot) {
             Some(packet) => self.order.key(packet),
@@ -88,21 +90,23 @@ impl Index<'_> {
     }
 
     fn has(&self, held: &Held, key: &Key<'_>) -> bool
-        ensures { result ≡ has_key self.now.order self.now.packets.now (key.now.name.now, key.now.digest.now) held.now }
+        ensures { result
+            ≡ has_key self.now.order self.now.packets.now (as_full_name key.now) held.now }
     {
         self.key(held).cmp(key).is_eq()
     }
 
     fn cmp(&self, held: &Held, key: &Key<'_>, part: Part) -> Ordering
-        ensures { result ≡ key_cmp (key_in self.now.order self.now.packets.now held.now) ((key.now.name.now, key.now.digest.now), part) }
+        ensures { result ≡ key_cmp (key_in self.now.order self.now.packets.now held.now)
+            (as_full_name key.now, part) }
     {
         self.key(held).cmp(key).then(held.part.cmp(&part))
     }
 
     // How much of what is held comes before this key and part.
     fn place(&self, key: &Key<'_>, part: Part) -> usize
-        requires { Rises key_cmp (keys_in self.now.order self.now.packets.now self.now.held.now) }
-        ensures { IsPlace (keys_in self.now.order self.now.packets.now self.now.held.now) ((key.now.name.now, key.now.digest.now), part) result }
+        requires { IsInOrder self.now }
+        ensures { IsPlace (keys_of self.now) (as_full_name key.now, part) result }
     {
         self.held
             .partition_point(|held| self.cmp(held, key, part).is_lt())
@@ -110,16 +114,18 @@ impl Index<'_> {
 
     // How much of what is held comes before this.
     fn place_of(&self, held: &Held) -> usize
-        requires { Rises key_cmp (keys_in self.now.order self.now.packets.now self.now.held.now) }
-        ensures { IsPlace (keys_in self.now.order self.now.packets.now self.now.held.now) (key_in self.now.order self.now.packets.now held.now) result }
+        requires { IsInOrder self.now }
+        ensures { IsPlace (keys_of self.now)
+            (key_in self.now.order self.now.packets.now held.now) result }
     {
         self.place(&self.key(held), held.part)
     }
 
     // What is held from this key on.
     fn from(&self, key: &Key<'_>) -> &[Held]
-        requires { Rises key_cmp (keys_in self.now.order self.now.packets.now self.now.held.now) }
-        ensures { IsFrom self.now.order self.now.packets.now self.now.held.now (key.now.name.now, key.now.digest.now) result.now }
+        requires { IsInOrder self.now }
+        ensures { IsFrom self.now.order self.now.packets.now self.now.held.now
+            (as_full_name key.now) result.now }
     {
         let (_, rest) = self.held.split_at(self.place(key, FIRST));
         rest
@@ -127,8 +133,9 @@ impl Index<'_> {
 
     // What is held of this key, of the least part.
     fn first(&self, key: &Key<'_>) -> Option<Held>
-        requires { Rises key_cmp (keys_in self.now.order self.now.packets.now self.now.held.now) }
-        ensures { IsFirstOf self.now.held.now (has_key self.now.order self.now.packets.now (key.now.name.now, key.now.digest.now)) result }
+        requires { IsInOrder self.now }
+        ensures { IsFirstOf self.now.held.now
+            (has_key self.now.order self.now.packets.now (as_full_name key.now)) result }
     {
         let first = self.from(key).first()?;
         if self.has(first, key) {
@@ -140,8 +147,9 @@ impl Index<'_> {
 
     // What has this name, of the least part.
     pub(crate) fn first_named(&self, asked: &[u8]) -> Option<Held>
-        requires { Rises key_cmp (keys_in self.now.order self.now.packets.now self.now.held.now) }
-        ensures { IsFirstOf self.now.held.now (has_key self.now.order self.now.packets.now (asked.now, [])) result }
+        requires { IsInOrder self.now }
+        ensures { IsFirstOf self.now.held.now
+            (has_key self.now.order self.now.packets.now (asked.now, [])) result }
     {
         self.first(&Key {
             name: asked,
@@ -152,9 +160,10 @@ impl Index<'_> {
     // What has this full name, of the least part. The octets of a full name end with a component of
     // 34 octets.
     pub(crate) fn first_with_full_name(&self, asked: &[u8]) -> Option<Held>
-        requires in_order { Rises key_cmp (keys_in self.now.order self.now.packets.now self.now.held.now) }
+        requires in_order { IsInOrder self.now }
         requires order { self.now.order ≡ FullNames }
-        ensures { IsFirstOf self.now.held.now (has_full_name self.now.packets.now asked.now) result }
+        ensures { IsFirstOf self.now.held.now
+            (has_full_name self.now.packets.now asked.now) result }
     {
         let (name, last) = asked.split_last_chunk::<34>()?;
         let digest = last.as_slice().strip_prefix(&[0x01, 0x20])?;
@@ -164,9 +173,10 @@ impl Index<'_> {
     // What has a name that begins with these octets, of the least part. Of each name the first is
     // looked at.
     pub(crate) fn first_below(&self, front: &[u8]) -> Option<Held>
-        requires in_order { Rises key_cmp (keys_in self.now.order self.now.packets.now self.now.held.now) }
+        requires in_order { IsInOrder self.now }
         requires order { self.now.order ≡ Names }
-        ensures { IsFirstOf self.now.held.now (begins_with self.now.packets.now front.now) result }
+        ensures { IsFirstOf self.now.held.now
+            (begins_with self.now.packets.now front.now) result }
     {
         let key = Key {
             name: front,
@@ -189,7 +199,8 @@ impl Index<'_> {
     fn behind<'h>(&self, held: &'h [Held], name: &[u8]) -> &'h [Held]
         requires in_order { Rises key_cmp (keys_in self.now.order self.now.packets.now held.now) }
         requires order { self.now.order ≡ Names }
-        requires first { IfSome (slice_get held.now 0) (λ h. (key_of Names (get self.now.packets.now h.slot)).0 ≡ name.now) }
+        requires first { IfSome (slice_get held.now 0)
+            (λ h. (key_of Names (get self.now.packets.now h.slot)).0 ≡ name.now) }
         ensures { IsBehind self.now.packets.now held.now name.now result.now }
     {
         let place = held.partition_point(|held| self.key(held).name == name);
@@ -199,7 +210,7 @@ impl Index<'_> {
 
     // The slot of the packet that has these octets. Only packets of one digest are looked at.
     pub(crate) fn slot_of(&self, packet: &Packet) -> Option<usize>
-        requires { Rises key_cmp (keys_in self.now.order self.now.packets.now self.now.held.now) }
+        requires { IsInOrder self.now }
         ensures { IsSlotOf self.now.held.now self.now.packets.now packet.now result }
     {
         let key = self.order.key(packet);
@@ -215,7 +226,8 @@ impl Index<'_> {
     }
 
     fn is_of(&self, held: &Held, packet: &Packet) -> bool
-        ensures { IsTrue result ↔ (get self.now.packets.now held.now.slot ≡ Some packet.now) }
+        ensures { IsTrue result
+            ↔ (get self.now.packets.now held.now.slot ≡ Some packet.now) }
     {
         match self.packets.get(held.slot) {
             Some(kept) => kept.octets() == packet.octets(),
