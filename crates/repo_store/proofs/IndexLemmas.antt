@@ -221,8 +221,8 @@ module _ (order : Order) (packets : Slab (List ℕ)) (name : FullName) where
       let key = key_in order packets in
       let less = each_before exact_keys.total (key h) (keys_in order packets rest) rises.0 (key o) (in_map key rest o i) in
       false_where _ (λ has.
-          let q : key_of order (get packets o.slot) ≡ name = exact_names.same _ name (equal_from_is_eq _ has) in
-          not_both (names_cmp (key_of order (get packets h.slot)) name) (part_cmp h.part first_part) (part_cmp h.part o.part) behind lacks (sym (ap (λ (n : FullName). ordering_then (names_cmp (key_of order (get packets h.slot)) n) (part_cmp h.part o.part)) q) ∙ less))
+      let q : key_of order (get packets o.slot) ≡ name = exact_names.same _ name (equal_from_is_eq _ has) in
+      not_both (names_cmp (key_of order (get packets h.slot)) name) (part_cmp h.part first_part) (part_cmp h.part o.part) behind lacks (sym (ap (λ (n : FullName). ordering_then (names_cmp (key_of order (get packets h.slot)) n) (part_cmp h.part o.part)) q) ∙ less))
 
   pub first_none : (held rest : List Held) → IsFrom order packets held name rest → rest ≡ [] → IsFirstOf held (has_key order packets name) None
   first_none held rest from none h i = elim (from.others h i) [ inl a ↦ absurd (subst (In h) none a) | inr b ↦ lacks_before h b ]

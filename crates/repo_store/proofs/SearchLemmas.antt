@@ -148,9 +148,9 @@ short_lacks held packets asked l h i = no_full_name asked (λ octets e. absurd (
 pub other_lacks : (held : List Held) (packets : Slab (List ℕ)) (asked name last : List ℕ) → asked ≡ name ++ last → length last ≡ 34 → ((rest : List ℕ) → last ≢ (1 ∷ 32 ∷ []) ++ rest) → IsFirstOf held (has_full_name packets asked) None
 other_lacks held packets asked name last is l other h i =
     no_full_name asked (λ octets e.
-        let full = e ∙ ap (λ (x : List ℕ). name_of octets ++ x) (digest_element (sha256 octets) (length-sha256 octets)) in
-        let both = append_both name last (name_of octets) ((1 ∷ 32 ∷ []) ++ sha256 octets) (omega (arith, length-append (1 ∷ 32 ∷ []) (sha256 octets), length-sha256 octets)) (sym is ∙ full) in
-        other (sha256 octets) both.1) (get packets h.slot)
+    let full = e ∙ ap (λ (x : List ℕ). name_of octets ++ x) (digest_element (sha256 octets) (length-sha256 octets)) in
+    let both = append_both name last (name_of octets) ((1 ∷ 32 ∷ []) ++ sha256 octets) (omega (arith, length-append (1 ∷ 32 ∷ []) (sha256 octets), length-sha256 octets)) (sym is ∙ full) in
+    other (sha256 octets) both.1) (get packets h.slot)
 
 full_key : (asked name digest : List ℕ) → asked ≡ name ++ ((1 ∷ 32 ∷ []) ++ digest) → length digest ≡ 32 → (o : Option (List ℕ)) → is_eq (names_cmp (key_of FullNames o) (name, digest)) ≡ is_full_name asked o
 full_key asked name digest is l None = false_where _ (λ t. absurd (omega (arith, l, ap (λ (k : FullName). length k.1) (exact_names.same ([], []) (name, digest) (equal_from_is_eq _ t)))))

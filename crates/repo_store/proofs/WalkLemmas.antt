@@ -133,9 +133,9 @@ module _ (packets : Slab (List ℕ)) (held : List Held) (front : List ℕ) where
         let less = each_before exact_keys.total (key_in Names packets first) (keys_in Names packets more) ordered.0 (key_in Names packets o) (in_map (key_in Names packets) more o j) in
         let high = first_not_greater packets (slice_cmp nat_cmp (name_at packets first) (name_at packets o)) (part_cmp first.part o.part) (sym (by_name packets first o) ∙ less) in
         false_where _ (λ begins.
-            let spelled = (begins_is front (name_at packets o)).0 begins in
-            let inner = between front (name_at packets first) (drop (length front) (name_at packets o)) (low first (subst (In first) (sym is) (inl refl))) (λ greater. high (ap (slice_cmp nat_cmp (name_at packets first)) spelled ∙ greater)) in
-            true≢false (sym ((begins_is front (name_at packets first)).1 inner.0 inner.1) ∙ lacks))
+        let spelled = (begins_is front (name_at packets o)).0 begins in
+        let inner = between front (name_at packets first) (drop (length front) (name_at packets o)) (low first (subst (In first) (sym is) (inl refl))) (λ greater. high (ap (slice_cmp nat_cmp (name_at packets first)) spelled ∙ greater)) in
+        true≢false (sym ((begins_is front (name_at packets first)).1 inner.0 inner.1) ∙ lacks))
   ]
 
   pub walk_stop : (rest : List Held) (least : Option Held) → Walk packets held front rest least → ((o : Held) → In o rest → begins_with packets front o ≡ false) → IsFirstOf held (begins_with packets front) least

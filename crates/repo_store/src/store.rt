@@ -148,7 +148,12 @@ impl Store {
     }
 
     /// As `put_reserved`, for a caller that has the packet's digest already.
-    pub fn put_reserved_with_digest(&mut self, part: Part, octets: Vec<u8>, digest: &[u8; 32]) -> bool
+    pub fn put_reserved_with_digest(
+        &mut self,
+        part: Part,
+        octets: Vec<u8>,
+        digest: &[u8; 32],
+    ) -> bool
         requires spare { 0 < self.old.spare }
         requires is_data { IsOk (data_of octets.items) }
         requires digest { digest.now ≡ sha256 octets.items }
@@ -298,7 +303,9 @@ fn drop_unused(packets: &mut Packets, parts: &[Held], full_names: &[Held], pair:
     ensures room { (n : ℕ) → HasRoomFor packets.old n → HasRoomFor packets.new n }
 {
     for held in parts {
-        if (held.part.publisher, held.part.seq) == pair && !is_used(packets, full_names, held.slot) {
+        if (held.part.publisher, held.part.seq) == pair
+            && !is_used(packets, full_names, held.slot)
+        {
             let _ = packets.try_remove(held.slot);
         }
     }
