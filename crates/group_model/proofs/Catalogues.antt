@@ -6,21 +6,22 @@ use Rattle.std.specs.Prelude.{filter, find, is_some}
 use Rattle.std.specs.Ordering.{nat_cmp}
 use Rattle.std.specs.declared.cmp.Ordering.{Ordering}
 use Rattle.repo_plan.specs.SortedList.{Rises, IsBefore}
-use Rattle.repo_plan.specs.Parts.{Pair, pair_cmp, part_of}
-use Rattle.repo_plan.proofs.Orders.{exact_pairs, nat_less, nat_itself, first_less, then_second}
-use Rattle.repo_plan.proofs.Sets.{In, in_append, append_left, append_right, in_filter, in_map, from_map, before_each, rises_append, rises_filter, eq_same, eq_itself}
+use Rattle.repo_plan.specs.declared.part.Part.{Part}
+use Rattle.repo_plan.specs.Parts.{Pair, pair_cmp, part_of, pair_of}
+use Rattle.repo_plan.proofs.Orders.{exact_parts, exact_pairs, nat_less, nat_itself, first_less, then_second}
+use Rattle.repo_plan.proofs.Sets.{In, in_flat_map, contains_in, in_contains, in_append, append_left, append_right, in_filter, in_map, from_map, before_each, rises_append, rises_filter, eq_same, eq_itself}
 use Rattle.repo_catalog.specs.declared.entry.Entry.{Entry}
 use Rattle.repo_catalog.specs.Entries.{publication_of, is_of, lists}
 use Rattle.repo_object.specs.Objects.{NamedContents}
-use Rattle.group_model.specs.Publications.{Logs, Publication, pair_in, numbered, published_from, published, parts_in, entry_of, count, object_at, no_object}
-use Rattle.group_model.specs.Member.{Member, holds, holds_all, catalogued, catalogue}
-use Rattle.group_model.specs.World.{World, member, logs, catalogue_at, opening}
-use Rattle.group_model.specs.Steps.{after_all}
-use Rattle.group_model.specs.Sound.{SoundMember, IsPublished, IsHiddenRightly}
+use Rattle.group_model.specs.Publications.{Logs, Publication, pair_in, numbered, published_from, published, parts_in, all_parts, published_entry, count, object_at, no_object}
+use Rattle.group_model.specs.Member.{Member, member_holds, holds_all, catalogued, catalogue}
+use Rattle.group_model.specs.World.{member, logs, catalogue_at}
+use Rattle.group_model.specs.Sound.{IsSoundMember, IsPublished, IsPublishedPart, IsHiddenSoundly}
 use Rattle.group_model.specs.Catalogues.{IsWhollyHeld, ListsThose, ListsInOrder}
 use Rattle.group_model.proofs.Lists.{from_filter, each_all, all_in}
-use Rattle.group_model.proofs.Parts.{from_numbered, IsIn, in_published, IsPartOf, from_parts_in, in_parts_in}
-use Rattle.group_model.proofs.Runs.{reached}
+use Rattle.group_model.proofs.Parts.{from_numbered, IsIn, in_published, IsPartOf, from_parts_in, in_parts_in, from_all_parts}
+use Rattle.group_model.specs.Reached.{InSoundGroups}
+use Rattle.group_model.specs.Laws.{PartsAreThose}
 
 -- ---- catalogues in order
 
@@ -52,11 +53,11 @@ rises_published p (l ∷ ls) = rises_append (on_total pair_in exact_pairs.total)
     let more : p + 1 ≤ b.publisher = of_published (p + 1) ls b k in
     first_less (nat_cmp a.publisher b.publisher) _ (nat_less a.publisher b.publisher (omega (arith, same, more))))
 
-before_entries : (p : Publication) (ps : List Publication) → IsBefore publication_cmp p ps → IsBefore pair_cmp (pair_in p) (map publication_of (map entry_of ps))
+before_entries : (p : Publication) (ps : List Publication) → IsBefore publication_cmp p ps → IsBefore pair_cmp (pair_in p) (map publication_of (map published_entry ps))
 before_entries p [] b = tt
 before_entries p (q ∷ ps) b = (b.0, before_entries p ps b.1)
 
-rises_entries : (ps : List Publication) → Rises publication_cmp ps → Rises pair_cmp (map publication_of (map entry_of ps))
+rises_entries : (ps : List Publication) → Rises publication_cmp ps → Rises pair_cmp (map publication_of (map published_entry ps))
 rises_entries [] r = tt
 rises_entries (p ∷ ps) r = (before_entries p ps r.0, rises_entries ps r.1)
 
@@ -113,31 +114,43 @@ finds {A} p (y ∷ ys) h = go (p y) refl h (finds p ys) where
 wholly : (ls : Logs) (m : Member) (pair : Pair) → lists pair (catalogue ls m) ≡ true → IsWhollyHeld ls m pair
 wholly ls m pair h =
     let e : (x : Entry) × IsFoundIn (is_of pair) (catalogue ls m) x = finds (is_of pair) (catalogue ls m) h in
-    let q : (q : Publication) × (In q (catalogued ls m)) × (e.0 ≡ entry_of q) = from_map entry_of (catalogued ls m) e.0 e.1.among in
+    let q : (q : Publication) × (In q (catalogued ls m)) × (e.0 ≡ published_entry q) = from_map published_entry (catalogued ls m) e.0 e.1.among in
     let f : In q.0 (published ls) × (holds_all m q.0 ≡ true) = from_filter (holds_all m) (published ls) q.0 q.1 in
     let there : IsIn ls q.0 = in_published ls q.0 f.0 in
     let same : pair ≡ pair_in q.0 = eq_same exact_pairs pair (pair_in q.0) (ap (is_of pair) (sym q.2) ∙ e.1.passes) in
     record {
       published = subst (IsPublished ls) (sym same) there.there;
-      held = subst (λ (r : Pair). (x : ℕ) → x ≤ count ls r → holds m (part_of r x) ≡ true) (sym same) (λ x l. each_all (holds m) (parts_in q.0) f.1 (part_of (pair_in q.0) x) (in_parts_in q.0 (part_of (pair_in q.0) x) (record { pair = refl; counted = subst (λ (o : NamedContents). x ≤ length o.contents) (sym there.object) l })));
+      held = subst (λ (r : Pair). (x : ℕ) → x ≤ count ls r → member_holds m (part_of r x) ≡ true) (sym same) (λ x l. each_all (member_holds m) (parts_in q.0) f.1 (part_of (pair_in q.0) x) (in_parts_in q.0 (part_of (pair_in q.0) x) (record { pair = refl; counted = subst (λ (o : NamedContents). x ≤ length o.contents) (sym there.object) l })));
     }
 
 listed : (ls : Logs) (m : Member) (pair : Pair) → IsWhollyHeld ls m pair → lists pair (catalogue ls m) ≡ true
 listed ls m pair h =
     let q : Publication = at_pair ls pair in
-    let whole : holds_all m q ≡ true = all_in (holds m) (parts_in q) (λ t i.
+    let whole : holds_all m q ≡ true = all_in (member_holds m) (parts_in q) (λ t i.
     let p : IsPartOf t q = from_parts_in q t i in
-    subst (λ (r : Pair). holds m (part_of r t.part) ≡ true) (sym p.pair) (h.held t.part p.counted)) in
-    found (is_of pair) (catalogue ls m) (entry_of q) (in_map entry_of (catalogued ls m) q (in_filter (holds_all m) (published ls) q (is_published ls pair h.published) whole)) (eq_itself exact_pairs pair)
+    subst (λ (r : Pair). member_holds m (part_of r t.part) ≡ true) (sym p.pair) (h.held t.part p.counted)) in
+    found (is_of pair) (catalogue ls m) (published_entry q) (in_map published_entry (catalogued ls m) q (in_filter (holds_all m) (published ls) q (is_published ls pair h.published) whole)) (eq_itself exact_pairs pair)
 
-pub lists_those : ListsThose
-lists_those out n es h j pair l =
-    let w : World = after_all out (opening out n) es in
-    let s : SoundMember (logs w) j (member w j) = (reached out n es h).members j l in
+pub lists_those : InSoundGroups ListsThose
+lists_those out w sound j pair l =
+    let s : IsSoundMember (logs w) j (member w j) = sound.members j l in
     record {
       exactly = (wholly (logs w) (member w j) pair, listed (logs w) (member w j) pair);
       not_hidden = λ hidden. false_from_ne_true (lists pair (catalogue_at w j)) (λ yes.
-          let r : IsHiddenRightly (member w j) pair = s.hidden pair hidden in
-          let held : holds (member w j) (part_of pair 0) ≡ true = (wholly (logs w) (member w j) pair yes).held 0 (omega arith) in
+          let r : IsHiddenSoundly (member w j) pair = s.hidden pair hidden in
+          let held : member_holds (member w j) (part_of pair 0) ≡ true = (wholly (logs w) (member w j) pair yes).held 0 (omega arith) in
           true≢false (sym held ∙ r.none_held 0));
     }
+
+-- ---- the parts that there are
+
+pub in_all_parts : (ls : Logs) (t : Part) → IsPublishedPart ls t → In t (all_parts ls)
+in_all_parts ls t h =
+    in_flat_map parts_in (published ls) (at_pair ls (pair_of t)) t (is_published ls (pair_of t) h.there)
+    (in_parts_in (at_pair ls (pair_of t)) t (record { pair = refl; counted = h.counted }))
+
+pub parts_are_those : PartsAreThose
+parts_are_those ls t = (
+  λ c. from_all_parts ls t (in_contains exact_parts (all_parts ls) t c),
+  λ h. contains_in exact_parts (all_parts ls) t (in_all_parts ls t h),
+)

@@ -12,4 +12,6 @@ pub mod Catalogues
 pub mod Lasting
 pub mod Machines
 pub mod Tries
+pub mod SortedSets
+pub mod Gathering
 pub mod Limits

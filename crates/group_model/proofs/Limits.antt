@@ -24,18 +24,16 @@ use Rattle.group_model.specs.Processes.{Process, BlockState, indexes, has_index,
 use Rattle.group_model.specs.Processes.BlockState.{Unknown, Already, Waiting, Whole}
 use Rattle.group_model.specs.Commands.{Command}
 use Rattle.group_model.specs.Commands.Command.{Insert, Check, Delete}
-use Rattle.group_model.specs.Member.{Member, plan_of, attempts_of, named, hides_too, hides_all}
-use Rattle.group_model.specs.Changes.{publishes, learns, resets, restarts, takes, with_claim, with_process, starts}
+use Rattle.group_model.specs.Member.{Member, plan_of, tries_of, named, member_hides_too, member_hides_all}
+use Rattle.group_model.specs.Changes.{publishes, learns, resets, restarts, takes, member_with_claim, with_process, starts}
 use Rattle.group_model.specs.Events.{SyncInterest, Came, Event}
 use Rattle.group_model.specs.Events.Came.{Nothing, Its, Another}
-use Rattle.group_model.specs.World.{Tally, Issued, World, Outside, no_member, member, with_member, logs, logs_of, sent_at, opening}
-use Rattle.group_model.specs.Steps.{drawn, claim_at, to_claim, open_at, timer_at, tells_too_much, came_from, came_as, comes_to, new_parts, syncs_of, settle_each, settles, planned, fetched, attempts_for, attempts_made, fetches, can_start, block_at, with_process_at, after, after_all, after_publish, after_deliver, after_hear, after_fire, after_reset, after_claim, after_part, after_came, after_settle, after_fetch, after_command, after_order, after_block}
-use Rattle.group_model.specs.Refusals.{AreTaken}
-use Rattle.group_model.specs.Sound.{Sound}
-use Rattle.group_model.specs.Limits.{IsShort, IsInRange, AreInRange, IsMemberWithin, IsTallyWithin, IsWithin, RunsStayWithin}
+use Rattle.group_model.specs.World.{Tally, Issued, World, Outside, no_member, member, with_member, logs, logs_of, sent_at, opening_world}
+use Rattle.group_model.specs.Steps.{drawn, claim_at, to_claim, open_at, timer_at, tells_too_much, came_from, came_as, comes_to, new_parts, settled_member, after_gathering, syncs_of, planned_parts, fetched_parts, attempts_for, attempts_made, fetches, can_start, block_at, with_process_at, after_event, after_events, after_publish, after_deliver, after_hear, after_fire, after_reset, after_claim, after_part, after_came, after_settle, after_fetch, after_command, after_order, after_block}
+use Rattle.group_model.specs.Limits.{IsShortInsertion, IsInRange, IsMemberWithin, IsTallyWithin, IsWithin, HasSmallPackets, BeginsWithin, StaysWithin, GatheringStaysWithin, MoreIsWithin, RunsStayWithin, ReachedRunsStayWithin, PartsStayFew}
 use Rattle.group_model.proofs.Lists.{in_at}
 use Rattle.group_model.proofs.Parts.{in_published}
-use Rattle.group_model.proofs.Settles.{logs_settled}
+use Rattle.group_model.proofs.Settles.{settles, settle_each, logs_settled, logs_gathered}
 use Rattle.group_model.proofs.Worlds.{same_logs, sound_after}
 use Rattle.group_model.proofs.Runs.{sound_opening, length_numbers}
 use Rattle.group_model.proofs.Lasting.{lasts}
@@ -86,10 +84,10 @@ few_published (x ∷ xs) (suc j) m o e h each (suc p) k = few_published xs j m o
 -- ---- a member
 
 -- a change that uses at most one draw, tries no part more than 16 times, and keeps insertions short
-mem_change : (old new : ℕ) (m n : Member) → n.machine.draws ≤ m.machine.draws + (new - old) → ((t : Part) → attempts_of n.attempts t ≤ attempts_of m.attempts t + (new - old) * 16) → ((i : ℕ) (p : Process) → value_of nat_cmp n.processes i ≡ Some p → length (indexes p) ≤ 200) → old ≤ new → IsMemberWithin old m → IsMemberWithin new n
+mem_change : (old new : ℕ) (m n : Member) → n.machine.draws ≤ m.machine.draws + (new - old) → ((t : Part) → tries_of n.attempts t ≤ tries_of m.attempts t + (new - old) * 16) → ((i : ℕ) (p : Process) → value_of nat_cmp n.processes i ≡ Some p → length (indexes p) ≤ 200) → old ≤ new → IsMemberWithin old m → IsMemberWithin new n
 mem_change old new m n d a b l h = record {
   draws = let x : m.machine.draws ≤ old + 1 = h.draws in omega (arith, d, x, l);
-  tried = λ t. let x : attempts_of m.attempts t ≤ old * 16 = h.tried t in let y : attempts_of n.attempts t ≤ attempts_of m.attempts t + (new - old) * 16 = a t in omega (arith, x, y, l);
+  tried = λ t. let x : tries_of m.attempts t ≤ old * 16 = h.tried t in let y : tries_of n.attempts t ≤ tries_of m.attempts t + (new - old) * 16 = a t in omega (arith, x, y, l);
   blocks = b;
 }
 
@@ -97,14 +95,14 @@ mem_change old new m n d a b l h = record {
 mem_beside : (old new : ℕ) (m n : Member) → n.machine ≡ m.machine → n.attempts ≡ m.attempts → n.processes ≡ m.processes → old ≤ new → IsMemberWithin old m → IsMemberWithin new n
 mem_beside old new m n k a p l h = mem_change old new m n
     (let e : n.machine.draws ≡ m.machine.draws = ap (λ (x : Keeper). x.draws) k in omega (arith, e))
-    (λ t. let e : attempts_of n.attempts t ≡ attempts_of m.attempts t = ap (λ (x : List (Part × ℕ)). attempts_of x t) a in omega (arith, e))
+    (λ t. let e : tries_of n.attempts t ≡ tries_of m.attempts t = ap (λ (x : List (Part × ℕ)). tries_of x t) a in omega (arith, e))
     (λ i q e. h.blocks i q (sym (ap (λ (x : List (ℕ × Process)). value_of nat_cmp x i) p) ∙ e)) l h
 
 -- a change of the machine, by at most one draw
 mem_machine : (s : ℕ) (m n : Member) → n.machine.draws ≤ m.machine.draws + 1 → n.attempts ≡ m.attempts → ((i : ℕ) (q : Process) → value_of nat_cmp n.processes i ≡ Some q → length (indexes q) ≤ 200) → IsMemberWithin s m → IsMemberWithin (s + 1) n
 mem_machine s m n d a b h = mem_change s (s + 1) m n
     (omega (arith, d))
-    (λ t. let e : attempts_of n.attempts t ≡ attempts_of m.attempts t = ap (λ (x : List (Part × ℕ)). attempts_of x t) a in omega (arith, e))
+    (λ t. let e : tries_of n.attempts t ≡ tries_of m.attempts t = ap (λ (x : List (Part × ℕ)). tries_of x t) a in omega (arith, e))
     b (omega arith) h
 
 abbrev AreShort : List (ℕ × Process) → Type 0
@@ -120,7 +118,7 @@ short_process ps number p short each i q e = go (eq_by_cmp nat_cmp i number) (sy
 mem_process : (old new : ℕ) (m n : Member) → n.machine ≡ m.machine → n.attempts ≡ m.attempts → AreShort n.processes → old ≤ new → IsMemberWithin old m → IsMemberWithin new n
 mem_process old new m n k a short l h = mem_change old new m n
     (let e : n.machine.draws ≡ m.machine.draws = ap (λ (x : Keeper). x.draws) k in omega (arith, e))
-    (λ t. let e : attempts_of n.attempts t ≡ attempts_of m.attempts t = ap (λ (x : List (Part × ℕ)). attempts_of x t) a in omega (arith, e))
+    (λ t. let e : tries_of n.attempts t ≡ tries_of m.attempts t = ap (λ (x : List (Part × ℕ)). tries_of x t) a in omega (arith, e))
     short l h
 
 -- ---- a world
@@ -195,15 +193,15 @@ within_publish out s w j o few h =
 
 within_claim : (s : ℕ) (w : World) (j f : ℕ) (c : Option Part) → IsWithin s w → IsWithin (s + 1) (after_claim w j f c)
 within_claim s w j f None h = within_stays s w h
-within_claim s w j f (Some t) h = within_set s (s + 1) w j (with_claim f (Some t) (member w j)) w.sent w.issued w.tally (omega arith) refl (mem_beside s (s + 1) (member w j) _ refl refl refl (omega arith) (h.members j)) (same_sent s w h) (more_tally s w h) h
+within_claim s w j f (Some t) h = within_set s (s + 1) w j (member_with_claim f (Some t) (member w j)) w.sent w.issued w.tally (omega arith) refl (mem_beside s (s + 1) (member w j) _ refl refl refl (omega arith) (h.members j)) (same_sent s w h) (more_tally s w h) h
 
 -- one part came, and perhaps one attempt was made
-within_part : (out : Outside) (s : ℕ) (w : World) (j f : ℕ) (t : Part) (made : ℕ) → made ≤ 1 → ((ls : Logs) (t : Part) → out.size ls t ≤ 8800) → IsWithin s w → IsWithin (s + 1) (after_part out (record w { tally = record w.tally { attempts = w.tally.attempts + made } }) j f t)
+within_part : (out : Outside) (s : ℕ) (w : World) (j f : ℕ) (t : Part) (made : ℕ) → made ≤ 1 → HasSmallPackets out w → IsWithin s w → IsWithin (s + 1) (after_part out (record w { tally = record w.tally { attempts = w.tally.attempts + made } }) j f t)
 within_part out s w j f t made one size h = within_set s (s + 1) w j (takes f t (member w j)) w.sent w.issued _ (omega arith) refl (mem_beside s (s + 1) (member w j) _ refl refl refl (omega arith) (h.members j)) (same_sent s w h) (record {
   delivered = let x : w.tally.delivered ≤ s * 240 = h.tally.delivered in omega (arith, x);
   attempts = let x : w.tally.attempts ≤ s * 65536 = h.tally.attempts in omega (arith, x, one);
   parts = let x : w.tally.parts ≤ s * 321600000 = h.tally.parts in omega (arith, x);
-  octets = let x : w.tally.octets ≤ s * 2830080000000 = h.tally.octets in let y : out.size (logs w) t ≤ 8800 = size (logs w) t in omega (arith, x, y);
+  octets = let x : w.tally.octets ≤ s * 2830080000000 = h.tally.octets in let y : out.size (logs w) t ≤ 8800 = size t in omega (arith, x, y);
 }) h
 
 within_tried : (s : ℕ) (w : World) (made : ℕ) → made ≤ 1 → IsWithin s w → IsWithin (s + 1) (record w { tally = record w.tally { attempts = w.tally.attempts + made } })
@@ -214,7 +212,7 @@ within_tried s w made one h = within_same s (s + 1) w w.moment w.issued _ (omega
   octets = let x : w.tally.octets ≤ s * 2830080000000 = h.tally.octets in omega (arith, x);
 }) h
 
-within_came : (out : Outside) (s : ℕ) (w : World) (j f : ℕ) (c : Option Part) (came : Came) (made : ℕ) → made ≤ 1 → ((ls : Logs) (t : Part) → out.size ls t ≤ 8800) → IsWithin s w → IsWithin (s + 1) (after_came out (record w { tally = record w.tally { attempts = w.tally.attempts + made } }) j f c came)
+within_came : (out : Outside) (s : ℕ) (w : World) (j f : ℕ) (c : Option Part) (came : Came) (made : ℕ) → made ≤ 1 → HasSmallPackets out w → IsWithin s w → IsWithin (s + 1) (after_came out (record w { tally = record w.tally { attempts = w.tally.attempts + made } }) j f c came)
 within_came out s w j f None came made one size h = within_tried s w made one h
 within_came out s w j f (Some t) Nothing made one size h = within_tried s w made one h
 within_came out s w j f (Some t) Its made one size h = within_part out s w j f t made one size h
@@ -254,11 +252,11 @@ within_hear out s w j (Some sync) h = go (tells_too_much w j sync) where
 
 -- ---- insertions
 
-hides_beside : (ps : List Publication) (m : Member) → ((hides_all ps m).machine ≡ m.machine) × ((hides_all ps m).attempts ≡ m.attempts) × ((hides_all ps m).processes ≡ m.processes) × ((hides_all ps m).log ≡ m.log)
+hides_beside : (ps : List Publication) (m : Member) → ((member_hides_all ps m).machine ≡ m.machine) × ((member_hides_all ps m).attempts ≡ m.attempts) × ((member_hides_all ps m).processes ≡ m.processes) × ((member_hides_all ps m).log ≡ m.log)
 hides_beside [] m = (refl, refl, refl, refl)
-hides_beside (p ∷ ps) m = hides_beside ps (hides_too (pair_in p) m)
+hides_beside (p ∷ ps) m = hides_beside ps (member_hides_too (pair_in p) m)
 
-within_command : (s : ℕ) (w : World) (issued : List Issued) (j : ℕ) (command : Command) → IsShort command → IsWithin s w → IsWithin (s + 1) (after_command (record w { issued = issued }) j command)
+within_command : (s : ℕ) (w : World) (issued : List Issued) (j : ℕ) (command : Command) → IsShortInsertion command → IsWithin s w → IsWithin (s + 1) (after_command (record w { issued = issued }) j command)
 within_command s w issued j (Insert name first last) short h = go (can_start (member w j)) where
   stays : IsWithin (s + 1) (record w { issued = issued })
   stays = within_same s (s + 1) w w.moment issued w.tally (omega arith) (let x : w.moment ≤ s * 1000000000 = h.moment in omega (arith, x)) (more_tally s w h) h
@@ -274,7 +272,7 @@ within_command s w issued j (Check process) short h = within_same s (s + 1) w w.
 within_command s w issued j (Delete name) short h =
     let m : Member = member w j in
     let b = hides_beside (named (logs w) m name) m in
-    within_set s (s + 1) w j (hides_all (named (logs w) m name) m) w.sent issued w.tally (omega arith) b.3 (mem_beside s (s + 1) m _ b.0 b.1 b.2 (omega arith) (h.members j)) (same_sent s w h) (more_tally s w h) h
+    within_set s (s + 1) w j (member_hides_all (named (logs w) m name) m) w.sent issued w.tally (omega arith) b.3 (mem_beside s (s + 1) m _ b.0 b.1 b.2 (omega arith) (h.members j)) (same_sent s w h) (more_tally s w h) h
 
 within_order : (s : ℕ) (w : World) (j : ℕ) (read : Result (ℕ × Command) ℕ) → IsInRange (Event.Order j read) → IsWithin s w → IsWithin (s + 1) (after_order w j read)
 within_order s w j (Ok order) r h = within_command s w w.issued j order.1 r h
@@ -332,14 +330,14 @@ few_parts_in w s h q i =
     let size : length (parts_in q) ≡ length q.object.contents + 1 = length-map (numbers_from 0 (length q.object.contents + 1)) _ ∙ length_numbers 0 (length q.object.contents + 1) in
     omega (arith, few, size)
 
-few_parts : (w : World) (s : ℕ) → s ≤ 100000 → IsWithin s w → length (all_parts (logs w)) ≤ 20100000
-few_parts w s l h =
+pub few_parts : PartsStayFew
+few_parts s w l h =
     let sum : length (all_parts (logs w)) ≤ length (published (logs w)) * 201 = subst (λ (n : ℕ). n ≤ length (published (logs w)) * 201) (sym (length-flat_map parts_in (published (logs w)))) (sum_by-le (λ q. length (parts_in q)) 201 (published (logs w)) (λ k d i. few_parts_in w s h (get_or (published (logs w)) k d) (in_at (published (logs w)) k d i))) in
     let few : length (published (logs w)) ≤ s = h.published in
     omega (arith, sum, few, l)
 
 few_new : (w : World) (s : ℕ) → s ≤ 100000 → IsWithin s w → (m : Member) → length (new_parts w m) ≤ 20100000
-few_new w s l h m = let a : length (new_parts w m) ≤ length (all_parts (logs w)) = filter_short (comes_to w m) (all_parts (logs w)) in let b : length (all_parts (logs w)) ≤ 20100000 = few_parts w s l h in omega (arith, a, b)
+few_new w s l h m = let a : length (new_parts w m) ≤ length (all_parts (logs w)) = filter_short (comes_to w m) (all_parts (logs w)) in let b : length (all_parts (logs w)) ≤ 20100000 = few_parts s w l h in omega (arith, a, b)
 
 length_syncs : (k : ℕ) (ms : List Member) → length (syncs_of k ms) ≡ length ms
 length_syncs k [] = refl
@@ -353,19 +351,20 @@ each_settled out w s k (m ∷ ms) each (suc j) = each_settled out w s (k + 1) ms
 pairs_of : (n : ℕ) → n ≤ 16 → n * (n - 1) ≤ 240
 pairs_of n l = let a : n * (n - 1) ≤ 16 * 15 = mul-le n (n - 1) 16 15 l (omega (arith, l)) in omega (arith, a)
 
-within_settle : (out : Outside) (s : ℕ) (w : World) → s ≤ 100000 → length w.members ≤ 16 → ((ls : Logs) (t : Part) → out.size ls t ≤ 8800) → IsWithin s w → IsWithin (s + 1) (after_settle out w)
-within_settle out s w l few size h =
-    let same : logs_of (settle_each out w 0 w.members) ≡ logs w = logs_settled out w 0 w.members in
+-- after a settle, with machines that were reset or not
+within_settled : (out : Outside) (s : ℕ) (w : World) (ms : List Member) → s ≤ 100000 → length w.members ≤ 16 → HasSmallPackets out w → IsWithin s w → logs_of ms ≡ logs w → ((j : ℕ) → IsMemberWithin (s + 1) (get_or ms j no_member))
+    → IsWithin (s + 1) (record (after_gathering out w) { members = ms })
+within_settled out s w ms l few size h same each =
     let gained : sum_by (λ m. length (new_parts w m)) w.members ≤ length w.members * 20100000 = sized (λ (m : Member). length (new_parts w m)) 20100000 w.members (few_new w s l h) in
     let octets_of : (m : Member) → sum_by (out.size (logs w)) (new_parts w m) ≤ 176880000000 = λ m.
-    (let a : sum_by (out.size (logs w)) (new_parts w m) ≤ length (new_parts w m) * 8800 = sized (out.size (logs w)) 8800 (new_parts w m) (size (logs w)) in let b : length (new_parts w m) ≤ 20100000 = few_new w s l h m in omega (arith, a, b)) in
+    (let a : sum_by (out.size (logs w)) (new_parts w m) ≤ length (new_parts w m) * 8800 = sized (out.size (logs w)) 8800 (new_parts w m) size in let b : length (new_parts w m) ≤ 20100000 = few_new w s l h m in omega (arith, a, b)) in
     let octets : sum_by (λ m. sum_by (out.size (logs w)) (new_parts w m)) w.members ≤ length w.members * 176880000000 = sized (λ (m : Member). sum_by (out.size (logs w)) (new_parts w m)) 176880000000 w.members octets_of in
     record {
       moment = let x : w.moment ≤ s * 1000000000 = h.moment in omega (arith, x);
       sent = let a : length w.sent ≤ s * 16 = h.sent in let b : length (w.sent ++ syncs_of 0 w.members) ≡ length w.sent + length (syncs_of 0 w.members) = length-append w.sent (syncs_of 0 w.members) in let c : length (syncs_of 0 w.members) ≡ length w.members = length_syncs 0 w.members in omega (arith, a, b, c, few);
       published = let x : length (published (logs w)) ≤ s = h.published in subst (λ (ls : Logs). length (published ls) ≤ s + 1) (sym same) (omega (arith, x));
       segments = subst (λ (ls : Logs). (p k : ℕ) → HasFew (get_or (get_or ls p []) k no_object)) (sym same) h.segments;
-      members = each_settled out w s 0 w.members h.members;
+      members = each;
       tally = record {
         delivered = let x : w.tally.delivered ≤ s * 240 = h.tally.delivered in let y : length w.members * (length w.members - 1) ≤ 240 = pairs_of (length w.members) few in omega (arith, x, y);
         attempts = let x : w.tally.attempts ≤ s * 65536 = h.tally.attempts in omega (arith, x);
@@ -374,19 +373,30 @@ within_settle out s w l few size h =
       };
     }
 
-within_fetch : (out : Outside) (s : ℕ) (w : World) (j tries loss : ℕ) → tries ≤ 16 → ((ls : Logs) (t : Part) → out.size ls t ≤ 8800) → IsWithin s w → IsWithin (s + 1) (after_fetch out w j tries loss)
+within_settle : (out : Outside) (s : ℕ) (w : World) → s ≤ 100000 → length w.members ≤ 16 → HasSmallPackets out w → IsWithin s w → IsWithin (s + 1) (after_settle out w)
+within_settle out s w l few size h = within_settled out s w (settle_each out w 0 w.members) l few size h (logs_settled out w 0 w.members) (each_settled out w s 0 w.members h.members)
+
+each_gathered : (w : World) (s : ℕ) (ms : List Member) → ((j : ℕ) → IsMemberWithin s (get_or ms j no_member)) → (j : ℕ) → IsMemberWithin (s + 1) (get_or (map (settled_member w) ms) j no_member)
+each_gathered w s [] each j = mem_more s (s + 1) no_member (omega arith) (each j)
+each_gathered w s (m ∷ ms) each zero = mem_beside s (s + 1) m (settled_member w m) refl refl refl (omega arith) (each zero)
+each_gathered w s (m ∷ ms) each (suc j) = each_gathered w s ms (λ i. each (suc i)) j
+
+pub gathering_within : GatheringStaysWithin
+gathering_within out s w l few size h = within_settled out s w (map (settled_member w) w.members) l few size h (logs_gathered w w.members) (each_gathered w s w.members h.members)
+
+within_fetch : (out : Outside) (s : ℕ) (w : World) (j tries loss : ℕ) → tries ≤ 16 → HasSmallPackets out w → IsWithin s w → IsWithin (s + 1) (after_fetch out w j tries loss)
 within_fetch out s w j tries loss l size h =
     let m : Member = member w j in
-    let ts : List Part = planned w j in
+    let ts : List Part = planned_parts w j in
     let n : Member = fetches out w j tries loss m in
     let some : length ts ≤ 4096 = take_short 4096 (open_at w j) in
-    let came : length (fetched out w j tries loss) ≤ length ts = filter_short _ ts in
+    let came : length (fetched_parts out w j tries loss) ≤ length ts = filter_short _ ts in
     let each : (t : Part) → attempts_for out w j tries loss t ≤ 16 = λ t. few_attempts out w j tries loss t l in
     let made : attempts_made out w j tries loss ≤ length ts * 16 = sized (attempts_for out w j tries loss) 16 ts each in
-    let octets : sum_by (out.size (logs w)) (fetched out w j tries loss) ≤ length (fetched out w j tries loss) * 8800 = sized (out.size (logs w)) 8800 (fetched out w j tries loss) (size (logs w)) in
+    let octets : sum_by (out.size (logs w)) (fetched_parts out w j tries loss) ≤ length (fetched_parts out w j tries loss) * 8800 = sized (out.size (logs w)) 8800 (fetched_parts out w j tries loss) size in
     let rises : Rises part_cmp ts = rises_take 4096 (open_at w j) (unclaimed_rises (plan_of (logs w) m)) in
     within_set s (s + 1) w j n w.sent w.issued _ (omega arith) refl
-    (mem_change s (s + 1) m n (omega arith) (λ t. let a : attempts_of n.attempts t ≤ attempts_of m.attempts t + 16 = each_tried_at (attempts_for out w j tries loss) ts m.attempts t rises each in omega (arith, a)) (h.members j).blocks (omega arith) (h.members j))
+    (mem_change s (s + 1) m n (omega arith) (λ t. let a : tries_of n.attempts t ≤ tries_of m.attempts t + 16 = each_tried_at (attempts_for out w j tries loss) ts m.attempts t rises each in omega (arith, a)) (h.members j).blocks (omega arith) (h.members j))
     (same_sent s w h) (record {
       delivered = let x : w.tally.delivered ≤ s * 240 = h.tally.delivered in omega (arith, x);
       attempts = let x : w.tally.attempts ≤ s * 65536 = h.tally.attempts in omega (arith, x, made, some);
@@ -396,7 +406,7 @@ within_fetch out s w j tries loss l size h =
 
 -- ---- any event
 
-within_after : (out : Outside) (s : ℕ) (w : World) (e : Event) → s ≤ 100000 → length w.members ≤ 16 → ((ls : Logs) (t : Part) → out.size ls t ≤ 8800) → IsInRange e → IsWithin s w → IsWithin (s + 1) (after out w e)
+pub within_after : StaysWithin
 within_after out s w (Event.Publish j o) l few size r h = within_publish out s w j o r h
 within_after out s w (Event.Deliver k j) l few size r h = within_deliver out s w j (sent_at w k).vector h
 within_after out s w (Event.Sync k) l few size r h = within_stays s w h
@@ -406,7 +416,7 @@ within_after out s w (Event.Restart j) l few size r h = within_set s (s + 1) w j
 within_after out s w (Event.Vector j) l few size r h = within_stays s w h
 within_after out s w (Event.Catalogue j) l few size r h = within_stays s w h
 within_after out s w (Event.Claim j f) l few size r h = within_claim s w j f (to_claim w j) h
-within_after out s w (Event.Lose j f) l few size r h = within_set s (s + 1) w j (with_claim f None (member w j)) w.sent w.issued w.tally (omega arith) refl (mem_beside s (s + 1) (member w j) _ refl refl refl (omega arith) (h.members j)) (same_sent s w h) (more_tally s w h) h
+within_after out s w (Event.Lose j f) l few size r h = within_set s (s + 1) w j (member_with_claim f None (member w j)) w.sent w.issued w.tally (omega arith) refl (mem_beside s (s + 1) (member w j) _ refl refl refl (omega arith) (h.members j)) (same_sent s w h) (more_tally s w h) h
 within_after out s w (Event.Answer j f q) l few size r h = within_came out s w j f (claim_at w j f) (came_from out w q (claim_at w j f)) 1 (omega arith) size h
 within_after out s w (Event.Fetch j tries loss) l few size r h = within_fetch out s w j tries loss r size h
 within_after out s w Event.Settle l few size r h = within_settle out s w l few size h
@@ -422,14 +432,24 @@ within_after out s w (Event.Block j process index content) l few size r h = with
 within_after out s w Event.Summary l few size r h = within_stays s w h
 within_after out s w Event.Traffic l few size r h = within_stays s w h
 
-within_all : (out : Outside) (s : ℕ) (w : World) (es : List Event) → s + length es ≤ 100000 → length w.members ≤ 16 → ((ls : Logs) (t : Part) → out.size ls t ≤ 8800) → Sound w → AreTaken out w es → AreInRange es → IsWithin s w → IsWithin (s + length es) (after_all out w es)
-within_all out s w [] l few size sound taken r h = let e : s ≡ s + 0 = omega arith in subst (λ (n : ℕ). IsWithin n w) e h
-within_all out s w (e ∷ es) l few size sound taken r h =
-    let width : length (after out w e).members ≡ length w.members = (lasts out w e taken.0 sound).width in
+pub more_within : MoreIsWithin
+more_within s more w l h = record {
+  moment = let x : w.moment ≤ s * 1000000000 = h.moment in omega (arith, x, l);
+  sent = let x : length w.sent ≤ s * 16 = h.sent in omega (arith, x, l);
+  published = let x : length (published (logs w)) ≤ s = h.published in omega (arith, x, l);
+  segments = h.segments;
+  members = λ j. mem_more s more (member w j) l (h.members j);
+  tally = tally_more s more w.tally l h.tally;
+}
+
+pub within_all : RunsStayWithin
+within_all out s w [] sound l few taken r size h = let e : s ≡ s + 0 = omega arith in subst (λ (n : ℕ). IsWithin n w) e h
+within_all out s w (e ∷ es) sound l few taken r size h =
+    let width : length (after_event out w e).members ≡ length w.members = (lasts out w e taken.0 sound).width in
     let later : s + 1 + length es ≡ s + suc (length es) = omega arith in
-    subst (λ (n : ℕ). IsWithin n (after_all out (after out w e) es)) later
-    (within_all out (s + 1) (after out w e) es (omega (arith, l)) (subst (λ (n : ℕ). n ≤ 16) (sym width) few) size (sound_after out w e taken.0 sound) taken.1 r.1
-    (within_after out s w e (omega (arith, l)) few size r.0 h))
+    subst (λ (n : ℕ). IsWithin n (after_events out (after_event out w e) es)) later
+    (within_all out (s + 1) (after_event out w e) es (sound_after out w e taken.0 sound) (omega (arith, l)) (subst (λ (n : ℕ). n ≤ 16) (sym width) few) taken.1 r.1 size.1
+    (within_after out s w e (omega (arith, l)) few size.0 r.0 h))
 
 -- ---- the opening
 
@@ -447,22 +467,22 @@ each_opening f [] j e n = n
 each_opening f (x ∷ xs) zero e n = e x
 each_opening f (x ∷ xs) (suc j) e n = each_opening f xs j e n
 
-within_opening : (out : Outside) (n : ℕ) → IsWithin 0 (opening out n)
+pub within_opening : BeginsWithin
 within_opening out n =
     let f : ℕ → Member = λ j. record no_member { known = replicate n 0; machine = record { members = n; heard = None; deadline = periodic (out.draw j 0); draws = 1 } } in
     record {
       moment = omega arith;
       sent = omega arith;
-      published = let e : published (logs (opening out n)) ≡ [] = nothing_published 0 f (numbers_from 0 n) (λ x. refl) in let z : length (published (logs (opening out n))) ≡ 0 = ap length e in omega (arith, z);
+      published = let e : published (logs (opening_world out n)) ≡ [] = nothing_published 0 f (numbers_from 0 n) (λ x. refl) in let z : length (published (logs (opening_world out n))) ≡ 0 = ap length e in omega (arith, z);
       segments = λ p k. no_objects f (numbers_from 0 n) p k (λ x. refl);
       members = λ j. each_opening f (numbers_from 0 n) j (λ x. record { draws = omega arith; tried = λ t. omega arith; blocks = λ i q e. absurd cc }) (record { draws = omega arith; tried = λ t. omega arith; blocks = λ i q e. absurd cc });
       tally = record { delivered = omega arith; attempts = omega arith; parts = omega arith; octets = omega arith };
     }
 
-pub runs_stay_within : RunsStayWithin
-runs_stay_within out n es few l size taken r =
+pub reached_within : ReachedRunsStayWithin
+reached_within out n es few l taken r size =
     let f : ℕ → Member = λ j. record no_member { known = replicate n 0; machine = record { members = n; heard = None; deadline = periodic (out.draw j 0); draws = 1 } } in
-    let wide : length (opening out n).members ≡ n = length-map (numbers_from 0 n) f ∙ length_numbers 0 n in
+    let wide : length (opening_world out n).members ≡ n = length-map (numbers_from 0 n) f ∙ length_numbers 0 n in
     let none : 0 + length es ≡ length es = omega arith in
-    subst (λ (k : ℕ). IsWithin k (after_all out (opening out n) es)) none
-    (within_all out 0 (opening out n) es (omega (arith, l)) (omega (arith, wide, few)) size (sound_opening out n) taken r (within_opening out n))
+    subst (λ (k : ℕ). IsWithin k (after_events out (opening_world out n) es)) none
+    (within_all out 0 (opening_world out n) es (sound_opening out n) (omega (arith, l)) (omega (arith, wide, few)) taken r size (within_opening out n))

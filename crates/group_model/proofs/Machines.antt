@@ -19,16 +19,17 @@ use Rattle.group_model.specs.Processes.{BlockState, closed, object_of}
 use Rattle.group_model.specs.Processes.BlockState.{Unknown, Already, Waiting, Whole}
 use Rattle.group_model.specs.Commands.{Command}
 use Rattle.group_model.specs.Commands.Command.{Insert, Check, Delete}
-use Rattle.group_model.specs.Member.{Member, named, hides_too, hides_all}
+use Rattle.group_model.specs.Member.{Member, named, member_hides_too, member_hides_all}
 use Rattle.group_model.specs.Changes.{publishes, learns, starts}
 use Rattle.group_model.specs.Publications.{pair_in}
 use Rattle.group_model.specs.Events.{SyncInterest, Came, Event}
 use Rattle.group_model.specs.Events.Came.{Nothing, Its, Another}
-use Rattle.group_model.specs.World.{Outside, World, no_member, member, with_member, logs, sent_at, opening}
-use Rattle.group_model.specs.Steps.{drawn, claim_at, to_claim, timer_at, tells_too_much, came_from, came_as, can_start, block_at, with_process_at, after, after_all, after_hear, after_fire, after_claim, after_came, after_settle, after_command, after_order, after_block, after_deliver, after_publish}
+use Rattle.group_model.specs.World.{Outside, World, no_member, member, with_member, logs, sent_at, opening_world}
+use Rattle.group_model.specs.Steps.{drawn, claim_at, to_claim, timer_at, tells_too_much, came_from, came_as, can_start, block_at, with_process_at, after_event, after_events, after_hear, after_fire, after_claim, after_came, after_settle, after_command, after_order, after_block, after_deliver, after_publish}
 use Rattle.group_model.specs.Refusals.{IsTaken, AreTaken}
-use Rattle.group_model.specs.Sound.{Sound}
-use Rattle.group_model.specs.Machines.{only_at, hears_of, befalls_read, befalls_block, befalls, befall, table_of, MachinesFollowTable}
+use Rattle.group_model.specs.Sound.{IsSoundGroup}
+use Rattle.group_model.specs.Reached.{InSoundGroups}
+use Rattle.group_model.specs.Machines.{only_at, hears_of, befalls_read, befalls_block, befalls, befall, first_machine, MachinesFollowTable, MachinesBegin, ReachedMachinesFollowTable}
 use Rattle.group_model.proofs.Settles.{member_settled}
 use Rattle.group_model.proofs.Worlds.{sound_after}
 use Rattle.group_model.proofs.Lasting.{lasts}
@@ -74,9 +75,9 @@ makes_beside (x ∷ xs) (suc i) m (suc j) h = makes_beside xs i m j h
 makes_none : (m : Member) → Makes [] m m
 makes_none m = sym (none m.machine)
 
-machine_hides : (ps : List Publication) (m : Member) → (hides_all ps m).machine ≡ m.machine
+machine_hides : (ps : List Publication) (m : Member) → (member_hides_all ps m).machine ≡ m.machine
 machine_hides [] m = refl
-machine_hides (p ∷ ps) m = machine_hides ps (hides_too (pair_in p) m)
+machine_hides (p ∷ ps) m = machine_hides ps (member_hides_too (pair_in p) m)
 
 -- ---- each event
 
@@ -178,7 +179,7 @@ makes_settle : (out : Outside) (w : World) (j : ℕ) → j < length w.members �
 unfolding after_all_kept after_kept
 makes_settle out w j l = ap (λ (m : Member). m.machine) (member_settled out w j l)
 
-makes : (out : Outside) (w : World) (e : Event) (j : ℕ) → IsTaken out w e → j < length w.members → Makes (befalls out w j e) (member w j) (member (after out w e) j)
+makes : (out : Outside) (w : World) (e : Event) (j : ℕ) → IsTaken out w e → j < length w.members → Makes (befalls out w j e) (member w j) (member (after_event out w e) j)
 makes out w (Event.Publish i o) j h l = makes_publish out w i o j l
 makes out w (Event.Deliver k i) j h l = makes_deliver out w i (sent_at w k).vector j l
 makes out w (Event.Sync k) j h l = makes_none (member w j)
@@ -209,27 +210,33 @@ number_at a zero j l = absurd (omega arith)
 number_at a (suc n) zero l = omega arith
 number_at a (suc n) (suc j) l = number_at (a + 1) n j (omega arith) ∙ omega arith
 
-makes_all : (out : Outside) (es : List Event) (w : World) (j : ℕ) → AreTaken out w es → Sound w → j < length w.members → Makes (befall out w j es) (member w j) (member (after_all out w es) j)
+makes_all : (out : Outside) (es : List Event) (w : World) (j : ℕ) → AreTaken out w es → IsSoundGroup w → j < length w.members → Makes (befall out w j es) (member w j) (member (after_events out w es) j)
 makes_all out [] w j h s l = makes_none (member w j)
 makes_all out (e ∷ es) w j h s l =
-    let width : length (after out w e).members ≡ length w.members = (lasts out w e h.0 s).width in
-    makes_all out es (after out w e) j h.1 (sound_after out w e h.0 s) (subst (λ (n : ℕ). j < n) (sym width) l)
-    ∙ ap (after_all_kept (befall out (after out w e) j es)) (makes out w e j h.0 l)
-    ∙ sym (in_turn (befalls out w j e) (befall out (after out w e) j es) (member w j).machine)
+    let width : length (after_event out w e).members ≡ length w.members = (lasts out w e h.0 s).width in
+    makes_all out es (after_event out w e) j h.1 (sound_after out w e h.0 s) (subst (λ (n : ℕ). j < n) (sym width) l)
+    ∙ ap (after_all_kept (befall out (after_event out w e) j es)) (makes out w e j h.0 l)
+    ∙ sym (in_turn (befalls out w j e) (befall out (after_event out w e) j es) (member w j).machine)
 
-pub machines_follow_table : MachinesFollowTable
-machines_follow_table out n es h j l =
-    let f : ℕ → Member = λ i. record no_member { known = replicate n 0; machine = record { members = n; heard = None; deadline = periodic (out.draw i 0); draws = 1 } } in
-    let first : Suppression.Member = record { heard = None; deadline = periodic (out.draw j 0); draws = 1 } in
-    let from_zero : 0 + j ≡ j = omega arith in
-    let wide : length (opening out n).members ≡ n = length-map (numbers_from 0 n) f ∙ length_numbers 0 n in
-    let at_first : (member (opening out n) j).machine ≡ kept n first = ap (λ (m : Member). m.machine) (get_or-map f (numbers_from 0 n) j 0 no_member (subst (λ (k : ℕ). j < k) (sym (length_numbers 0 n)) l)) ∙ ap (λ (i : ℕ). (f i).machine) (number_at 0 n j l ∙ from_zero) in
-    let same : (member (after_all out (opening out n) es) j).machine ≡ kept n (table_of out n j es) =
-    makes_all out es (opening out n) j h (sound_opening out n) (subst (λ (k : ℕ). j < k) (sym wide) l)
-    ∙ ap (after_all_kept (befall out (opening out n) j es)) at_first ∙ after_all_same n (befall out (opening out n) j es) first in
+pub machines_follow_table : InSoundGroups MachinesFollowTable
+machines_follow_table out w s es n j first h l e =
+    let same : (member (after_events out w es) j).machine ≡ kept n (Suppression.after_all (befall out w j es) first) =
+    makes_all out es w j h s l ∙ ap (after_all_kept (befall out w j es)) e ∙ after_all_same n (befall out w j es) first in
     record {
       machine = same;
       timer =
-          let w : World = after_all out (opening out n) es in
-          ap (fires_kept w.moment (member w j).known) same ∙ fires_same n w.moment (member w j).known (table_of out n j es);
+          let last : World = after_events out w es in
+          ap (fires_kept last.moment (member last j).known) same ∙ fires_same n last.moment (member last j).known (Suppression.after_all (befall out w j es) first);
     }
+
+pub machines_begin : MachinesBegin
+machines_begin out n j l =
+    let f : ℕ → Member = λ i. record no_member { known = replicate n 0; machine = record { members = n; heard = None; deadline = periodic (out.draw i 0); draws = 1 } } in
+    let from_zero : 0 + j ≡ j = omega arith in
+    ap (λ (m : Member). m.machine) (get_or-map f (numbers_from 0 n) j 0 no_member (subst (λ (k : ℕ). j < k) (sym (length_numbers 0 n)) l)) ∙ ap (λ (i : ℕ). (f i).machine) (number_at 0 n j l ∙ from_zero)
+
+pub reached_machines : ReachedMachinesFollowTable
+reached_machines out n es j h l =
+    let f : ℕ → Member = λ i. record no_member { known = replicate n 0; machine = record { members = n; heard = None; deadline = periodic (out.draw i 0); draws = 1 } } in
+    let wide : length (opening_world out n).members ≡ n = length-map (numbers_from 0 n) f ∙ length_numbers 0 n in
+    machines_follow_table out (opening_world out n) (sound_opening out n) es n j (first_machine out j) h (subst (λ (k : ℕ). j < k) (sym wide) l) (machines_begin out n j l)

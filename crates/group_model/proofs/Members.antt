@@ -11,9 +11,9 @@ use Rattle.svs_vector.proofs.JoinLemmas.{join-at, length-join}
 use Rattle.svs_sync.specs.KeptVector.{Keeper, steady_kept, hears_kept}
 use Rattle.group_model.specs.Publications.{Logs, last_of, count}
 use Rattle.group_model.specs.Processes.{Process}
-use Rattle.group_model.specs.Member.{Member, holds, plan_of}
-use Rattle.group_model.specs.Changes.{learns, with_claim}
-use Rattle.group_model.specs.Sound.{SoundMember, IsPublished, IsKnown, TellsNoMore, IsTrueVector, HeardTruly, IsHeldRightly, IsHiddenRightly}
+use Rattle.group_model.specs.Member.{Member, member_holds, plan_of}
+use Rattle.group_model.specs.Changes.{learns, member_with_claim}
+use Rattle.group_model.specs.Sound.{IsSoundMember, IsPublished, IsKnown, TellsNoMore, IsTrueVector, HeardTruly, IsHeldSoundly, IsHiddenSoundly}
 use Rattle.group_model.proofs.Plans.{IsWanted, wanted_parts, wanted_from}
 
 pub known_published : (ls : Logs) (v : List ℕ) (pair : Pair) → TellsNoMore ls v → IsKnown v pair → IsPublished ls pair
@@ -44,10 +44,10 @@ heard_grown old new (Some v) g h = true_grown old new v g h
 -- what a change keeps: no number goes down, no part goes, no publication is hidden
 pub record Keeps (old new : Member) : Type 0 where
   pub knows : (p : ℕ) → get_or old.known p 0 ≤ get_or new.known p 0
-  pub held : (t : Part) → holds old t ≡ true → holds new t ≡ true
+  pub held : (t : Part) → member_holds old t ≡ true → member_holds new t ≡ true
   pub hidden : new.hidden ≡ old.hidden
 
-pub wanted_kept : (ls more : Logs) (old new : Member) (t : Part) → Keeps old new → count more (pair_of t) ≡ count ls (pair_of t) → is_wanted (plan_of ls old) t ≡ true → holds new t ≡ false → is_wanted (plan_of more new) t ≡ true
+pub wanted_kept : (ls more : Logs) (old new : Member) (t : Part) → Keeps old new → count more (pair_of t) ≡ count ls (pair_of t) → is_wanted (plan_of ls old) t ≡ true → member_holds new t ≡ false → is_wanted (plan_of more new) t ≡ true
 wanted_kept ls more old new t k same h out =
     let w : IsWanted ls old t = wanted_parts ls old t h in
     wanted_from more new t (record {
@@ -60,7 +60,7 @@ wanted_kept ls more old new t k same h out =
 
 -- ---- a change of other members
 
-pub grown : (old new : Logs) (j : ℕ) (m : Member) → Grows old new → last_of new j ≡ last_of old j → SoundMember old j m → SoundMember new j m
+pub grown : (old new : Logs) (j : ℕ) (m : Member) → Grows old new → last_of new j ≡ last_of old j → IsSoundMember old j m → IsSoundMember new j m
 grown old new j m g own s = record {
   width = s.width ∙ sym g.width;
   fetchers = s.fetchers;
@@ -68,7 +68,7 @@ grown old new j m g own s = record {
   known = no_more_grown old new m.known g s.known;
   own = s.own ∙ sym own;
   heard = heard_grown old new m.machine.heard g s.heard;
-  held = λ t h. let r : IsHeldRightly old m.known m.held t = s.held t h in record {
+  held = λ t h. let r : IsHeldSoundly old m.known m.held t = s.held t h in record {
     known = r.known;
     counted = subst (λ (n : ℕ). t.part ≤ n) (sym (g.counts (pair_of t) (known_published old m.known (pair_of t) s.known r.known))) r.counted;
     with_record = r.with_record;
@@ -86,7 +86,7 @@ grown old new j m g own s = record {
 -- ---- what soundness doesn't speak of
 
 -- a change of the machine and of insertion processes alone
-pub with_machine : (ls : Logs) (j : ℕ) (m : Member) (machine : Keeper) (processes : List (ℕ × Process)) (next : ℕ) → SoundMember ls j m → HeardTruly ls machine.heard → SoundMember ls j (record m { machine = machine; processes = processes; next_process = next })
+pub with_machine : (ls : Logs) (j : ℕ) (m : Member) (machine : Keeper) (processes : List (ℕ × Process)) (next : ℕ) → IsSoundMember ls j m → HeardTruly ls machine.heard → IsSoundMember ls j (record m { machine = machine; processes = processes; next_process = next })
 with_machine ls j m machine processes next s h = record {
   width = s.width;
   fetchers = s.fetchers;
@@ -95,7 +95,7 @@ with_machine ls j m machine processes next s h = record {
   own = s.own;
   heard = h;
   held = s.held;
-  hidden = λ pair h. let r : IsHiddenRightly m pair = s.hidden pair h in record { known = r.known; none_held = r.none_held };
+  hidden = λ pair h. let r : IsHiddenSoundly m pair = s.hidden pair h in record { known = r.known; none_held = r.none_held };
   own_held = s.own_held;
   claimed = s.claimed;
   apart = s.apart;
@@ -119,7 +119,7 @@ heard_hears ls moment draw told known k None t h = go (covers told known) _ _ wh
   go false deadline draws = t
 heard_hears ls moment draw told known k (Some v) t h = true_join ls v told h t
 
-pub sound_learns : (draw moment : ℕ) (ls : Logs) (j : ℕ) (told : List ℕ) (m : Member) → IsTrueVector ls told → SoundMember ls j m → SoundMember ls j (learns draw moment told m)
+pub sound_learns : (draw moment : ℕ) (ls : Logs) (j : ℕ) (told : List ℕ) (m : Member) → IsTrueVector ls told → IsSoundMember ls j m → IsSoundMember ls j (learns draw moment told m)
 sound_learns draw moment ls j told m t s =
     let new : Member = learns draw moment told m in
     let more : (p : ℕ) → get_or m.known p 0 ≤ get_or (join m.known told) p 0 = join_more m.known told in
@@ -135,8 +135,8 @@ sound_learns draw moment ls j told m t s =
           let c : get_or (join m.known told) j 0 ≡ max (get_or m.known j 0) (get_or told j 0) = join-at m.known told j in
           omega (arith, a, b, c);
       heard = heard_hears ls moment draw told m.known m.machine m.machine.heard t s.heard;
-      held = λ u h. let r : IsHeldRightly ls m.known m.held u = s.held u h in record { known = known_more m.known _ (pair_of u) more r.known; counted = r.counted; with_record = r.with_record };
-      hidden = λ pair h. let r : IsHiddenRightly m pair = s.hidden pair h in record { known = known_more m.known _ pair more r.known; none_held = r.none_held };
+      held = λ u h. let r : IsHeldSoundly ls m.known m.held u = s.held u h in record { known = known_more m.known _ (pair_of u) more r.known; counted = r.counted; with_record = r.with_record };
+      hidden = λ pair h. let r : IsHiddenSoundly m pair = s.hidden pair h in record { known = known_more m.known _ pair more r.known; none_held = r.none_held };
       own_held = s.own_held;
       claimed = λ f u e. wanted_kept ls ls m new u keeps refl (s.claimed f u e) (wanted_parts ls m u (s.claimed f u e)).not_held;
       apart = s.apart;
@@ -151,7 +151,7 @@ at_set (y ∷ ys) zero (suc g) x t e = inr (λ p. cc, e)
 at_set (y ∷ ys) (suc f) zero x t e = inr (λ p. cc, e)
 at_set (y ∷ ys) (suc f) (suc g) x t e = elim (at_set ys f g x t e) [ inl r ↦ inl (ap suc r.0, r.1) | inr r ↦ inr (λ p. r.0 (omega (arith, p)), r.1) ]
 
-pub sound_claims : (ls : Logs) (j f : ℕ) (t : Part) (m : Member) → is_wanted (plan_of ls m) t ≡ true → is_claimed (plan_of ls m) t ≡ false → SoundMember ls j m → SoundMember ls j (with_claim f (Some t) m)
+pub sound_claims : (ls : Logs) (j f : ℕ) (t : Part) (m : Member) → is_wanted (plan_of ls m) t ≡ true → is_claimed (plan_of ls m) t ≡ false → IsSoundMember ls j m → IsSoundMember ls j (member_with_claim f (Some t) m)
 sound_claims ls j f t m wanted free s = record {
   width = s.width;
   fetchers = length-set m.claims (f - 1) (Some t) ∙ s.fetchers;
@@ -160,7 +160,7 @@ sound_claims ls j f t m wanted free s = record {
   own = s.own;
   heard = s.heard;
   held = s.held;
-  hidden = λ pair h. let r : IsHiddenRightly m pair = s.hidden pair h in record { known = r.known; none_held = r.none_held };
+  hidden = λ pair h. let r : IsHiddenSoundly m pair = s.hidden pair h in record { known = r.known; none_held = r.none_held };
   own_held = s.own_held;
   claimed = λ g u e. elim (at_set m.claims (f - 1) g (Some t) u e) [
     | inl r ↦ let same : t ≡ u = cc in subst (λ (v : Part). is_wanted (plan_of ls m) v ≡ true) same wanted
@@ -178,7 +178,7 @@ sound_claims ls j f t m wanted free s = record {
   ];
 }
 
-pub sound_loses : (ls : Logs) (j f : ℕ) (m : Member) → SoundMember ls j m → SoundMember ls j (with_claim f None m)
+pub sound_loses : (ls : Logs) (j f : ℕ) (m : Member) → IsSoundMember ls j m → IsSoundMember ls j (member_with_claim f None m)
 sound_loses ls j f m s = record {
   width = s.width;
   fetchers = length-set m.claims (f - 1) None ∙ s.fetchers;
@@ -187,7 +187,7 @@ sound_loses ls j f m s = record {
   own = s.own;
   heard = s.heard;
   held = s.held;
-  hidden = λ pair h. let r : IsHiddenRightly m pair = s.hidden pair h in record { known = r.known; none_held = r.none_held };
+  hidden = λ pair h. let r : IsHiddenSoundly m pair = s.hidden pair h in record { known = r.known; none_held = r.none_held };
   own_held = s.own_held;
   claimed = λ g u e. elim (at_set m.claims (f - 1) g None u e) [ inl r ↦ absurd cc | inr r ↦ s.claimed g u r.1 ];
   apart = λ g h u a b. elim (at_set m.claims (f - 1) g None u a) [

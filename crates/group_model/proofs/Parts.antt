@@ -14,7 +14,7 @@ use Rattle.repo_object.specs.Objects.{NamedContents}
 use Rattle.group_model.specs.Publications.{Logs, Publication, pair_in, numbered, published, published_from, parts_in, all_parts, object_at, count, no_object}
 use Rattle.group_model.specs.Member.{Member}
 use Rattle.group_model.specs.World.{World, logs}
-use Rattle.group_model.specs.Sound.{IsPublished}
+use Rattle.group_model.specs.Sound.{IsPublished, IsPublishedPart}
 
 -- ---- publications
 
@@ -77,11 +77,7 @@ from_parts_in q t i =
 pub in_parts_in : (q : Publication) (t : Part) → IsPartOf t q → In t (parts_in q)
 in_parts_in q t h = subst (λ (pair : Pair). In t (parts_of pair (length q.object.contents))) h.pair (in_parts_of (length q.object.contents) t h.counted)
 
-pub record IsPart (ls : Logs) (t : Part) : Type 0 where
-  pub there : IsPublished ls (pair_of t)
-  pub counted : t.part ≤ count ls (pair_of t)
-
-pub from_all_parts : (ls : Logs) (t : Part) → In t (all_parts ls) → IsPart ls t
+pub from_all_parts : (ls : Logs) (t : Part) → In t (all_parts ls) → IsPublishedPart ls t
 from_all_parts ls t i =
     let r : (q : Publication) × (In q (published ls)) × In t (parts_in q) = from_flat_map parts_in (published ls) t i in
     let q : IsIn ls r.0 = in_published ls r.0 r.1 in

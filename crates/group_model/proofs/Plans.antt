@@ -12,7 +12,7 @@ use Rattle.repo_plan.proofs.Orders.{exact_parts, exact_pairs}
 use Rattle.repo_plan.proofs.Sets.{eq_same, eq_itself}
 use Rattle.repo_plan.proofs.Changes
 use Rattle.group_model.specs.Publications.{Logs, count}
-use Rattle.group_model.specs.Member.{Member, holds, hides, told_by, plan_of}
+use Rattle.group_model.specs.Member.{Member, member_holds, member_hides, told_by, plan_of}
 use Rattle.group_model.specs.Sound.{IsKnown}
 
 -- ---- what held records tell
@@ -59,9 +59,9 @@ told-at ls (t ∷ ts) pair = go (told-at ls ts pair) (t.part == 0) refl where
 pub record IsWanted (ls : Logs) (m : Member) (t : Part) : Type 0 where
   pub known : IsKnown m.known (pair_of t)
   pub counted : t.part ≤ count ls (pair_of t)
-  pub with_record : (t.part ≡ 0) ⊎ (holds m (record_of t) ≡ true)
-  pub not_held : holds m t ≡ false
-  pub not_hidden : hides m (pair_of t) ≡ false
+  pub with_record : (t.part ≡ 0) ⊎ (member_holds m (record_of t) ≡ true)
+  pub not_held : member_holds m t ≡ false
+  pub not_hidden : member_hides m (pair_of t) ≡ false
 
 known_from : (known : List ℕ) (pair : Pair) → (nat_le 1 pair.1 && nat_le pair.1 (get_or known pair.0 0)) ≡ true → IsKnown known pair
 known_from known pair h =
@@ -75,8 +75,8 @@ pub wanted_parts : (ls : Logs) (m : Member) (t : Part) → is_wanted (plan_of ls
 wanted_parts ls m t h =
     let w : Changes.IsWanted (plan_of ls m) t = Changes.wanted_parts (plan_of ls m) t h in
     let asked : (Plan.knows (plan_of ls m) (pair_of t) ≡ true) × (can_be_asked m.held (shape_of (plan_of ls m) (pair_of t)) t ≡ true) = and_parts (Plan.knows (plan_of ls m) (pair_of t)) _ w.asked in
-    let can : can_be_asked m.held (cond (holds m (record_of t)) (Some (count ls (pair_of t))) None) t ≡ true = subst (λ (s : Option Shape). can_be_asked m.held s t ≡ true) (told-at ls m.held (pair_of t)) asked.1 in
-    let both : (t.part ≤ count ls (pair_of t)) × ((t.part ≡ 0) ⊎ (holds m (record_of t) ≡ true)) = told (holds m (record_of t)) refl can in
+    let can : can_be_asked m.held (cond (member_holds m (record_of t)) (Some (count ls (pair_of t))) None) t ≡ true = subst (λ (s : Option Shape). can_be_asked m.held s t ≡ true) (told-at ls m.held (pair_of t)) asked.1 in
+    let both : (t.part ≤ count ls (pair_of t)) × ((t.part ≡ 0) ⊎ (member_holds m (record_of t) ≡ true)) = told (member_holds m (record_of t)) refl can in
     record {
       known = known_from m.known (pair_of t) asked.0;
       counted = both.0;
@@ -84,7 +84,7 @@ wanted_parts ls m t h =
       not_held = w.not_held;
       not_hidden = w.not_hidden;
     } where
-      told : (b : Bool) → holds m (record_of t) ≡ b → can_be_asked m.held (cond b (Some (count ls (pair_of t))) None) t ≡ true → (t.part ≤ count ls (pair_of t)) × ((t.part ≡ 0) ⊎ (holds m (record_of t) ≡ true))
+      told : (b : Bool) → member_holds m (record_of t) ≡ b → can_be_asked m.held (cond b (Some (count ls (pair_of t))) None) t ≡ true → (t.part ≤ count ls (pair_of t)) × ((t.part ≡ 0) ⊎ (member_holds m (record_of t) ≡ true))
       told true e c = elim (or_cases (t.part == 0) _ c) [
         | inl z ↦ let n : t.part ≡ 0 = eqb-true t.part 0 z in (omega (arith, n), inl n)
         | inr r ↦ (leb-true t.part (count ls (pair_of t)) (and_parts (nat_le t.part (count ls (pair_of t))) _ r).0, inr e)
@@ -93,13 +93,13 @@ wanted_parts ls m t h =
 
 pub wanted_from : (ls : Logs) (m : Member) (t : Part) → IsWanted ls m t → is_wanted (plan_of ls m) t ≡ true
 wanted_from ls m t w =
-    let can : can_be_asked m.held (cond (holds m (record_of t)) (Some (count ls (pair_of t))) None) t ≡ true = asks (holds m (record_of t)) refl w.with_record in
+    let can : can_be_asked m.held (cond (member_holds m (record_of t)) (Some (count ls (pair_of t))) None) t ≡ true = asks (member_holds m (record_of t)) refl w.with_record in
     Changes.wanted_from (plan_of ls m) t (record {
       asked = and_from (Plan.knows (plan_of ls m) (pair_of t)) _ (knows_from m.known (pair_of t) w.known) (subst (λ (s : Option Shape). can_be_asked m.held s t ≡ true) (sym (told-at ls m.held (pair_of t))) can);
       not_held = w.not_held;
       not_hidden = w.not_hidden;
     }) where
-      asks : (b : Bool) → holds m (record_of t) ≡ b → (t.part ≡ 0) ⊎ (holds m (record_of t) ≡ true) → can_be_asked m.held (cond b (Some (count ls (pair_of t))) None) t ≡ true
+      asks : (b : Bool) → member_holds m (record_of t) ≡ b → (t.part ≡ 0) ⊎ (member_holds m (record_of t) ≡ true) → can_be_asked m.held (cond b (Some (count ls (pair_of t))) None) t ≡ true
       asks true e h = elim h [
         | inl z ↦ or_left (t.part == 0) _ (eq-eqb t.part 0 z)
         | inr r ↦ or_right (t.part == 0) _ (and_from (nat_le t.part (count ls (pair_of t))) _ (le-leb t.part (count ls (pair_of t)) w.counted) r)

@@ -13,25 +13,26 @@ use Rattle.svs_sync.specs.declared.fired.Fired.{Fired}
 use Rattle.svs_sync.specs.declared.fired.Fired.TheVariants.{Early, Quiet, Send}
 use Rattle.svs_sync.specs.Suppression.{periodic}
 use Rattle.repo_object.specs.Objects.{NamedContents}
-use Rattle.group_model.specs.Publications.{Logs, Publication, pair_in, parts_in, published, entry_of, last_of, count, object_at}
+use Rattle.group_model.specs.Publications.{Logs, Publication, pair_in, parts_in, published, published_entry, last_of, count, object_at}
 use Rattle.group_model.specs.Processes.{BlockState}
 use Rattle.group_model.specs.Processes.BlockState.{Unknown, Already, Waiting, Whole}
 use Rattle.group_model.specs.Commands.{Command}
 use Rattle.group_model.specs.Commands.Command.{Insert, Check, Delete}
-use Rattle.group_model.specs.Member.{Member, plan_of, holds, hides, holds_all, named}
+use Rattle.group_model.specs.Member.{Member, plan_of, member_holds, member_hides, holds_all, named}
 use Rattle.group_model.specs.Changes.{learns, starts}
 use Rattle.group_model.specs.Events.{SyncInterest, Came, Event}
 use Rattle.group_model.specs.Events.Came.{Nothing, Its, Another}
-use Rattle.group_model.specs.World.{Tally, Issued, World, Outside, no_member, member, with_member, logs, logs_of, sent_at, opening}
-use Rattle.group_model.specs.Steps.{drawn, claim_at, to_claim, timer_at, tells_too_much, came_from, came_as, can_start, block_at, after, after_all, after_deliver, after_hear, after_fire, after_claim, after_came, after_settle, after_command, after_order, after_block}
-use Rattle.group_model.specs.Sound.{Sound, SoundMember, IsKnown}
-use Rattle.group_model.specs.Laws.{NothingHidden, NothingWanted, AllJoined, ReachedSound, SettleJoins, IsQuiet, AreQuiet, IsNotWhole, TellsNow, Tells, ListLaw}
+use Rattle.group_model.specs.World.{Tally, Issued, World, Outside, no_member, member, with_member, logs, logs_of, sent_at, opening_world}
+use Rattle.group_model.specs.Steps.{drawn, claim_at, to_claim, timer_at, tells_too_much, came_from, came_as, can_start, block_at, after_event, after_events, after_deliver, after_hear, after_fire, after_claim, after_came, after_command, after_order, after_block}
+use Rattle.group_model.specs.Sound.{IsSoundGroup, IsSoundMember, IsKnown}
+use Rattle.group_model.specs.Reached.{InSoundGroups, InReachedGroups, BeginsSound}
+use Rattle.group_model.specs.Laws.{NothingHidden, NothingWanted, AllJoined, IsQuiet, AreQuiet, IsNotWhole, TellsInEvent, TellsInRun, JoinsWhereAllAreTold}
 use Rattle.group_model.proofs.Lists.{filter_whole, all_in, in_at}
 use Rattle.group_model.proofs.Parts.{IsIn, in_published, publisher_within, IsPartOf, from_parts_in}
 use Rattle.group_model.proofs.Plans.{IsWanted, wanted_from}
 use Rattle.group_model.proofs.Members.{join_more}
 use Rattle.group_model.proofs.Deletions.{same_log_hides, known_hides}
-use Rattle.group_model.proofs.Settles.{no_claim, join_all_each, logs_settled, length_settled, member_settled, settle_joins}
+use Rattle.group_model.proofs.Settles.{no_claim, join_all_each, logs_settled, length_settled, member_settled}
 use Rattle.group_model.proofs.Worlds.{same_logs, sound_after_all}
 use Rattle.svs_vector.proofs.JoinLemmas.{join-at}
 
@@ -54,15 +55,15 @@ all_zeros zero p = refl
 all_zeros (suc n) zero = refl
 all_zeros (suc n) (suc p) = all_zeros n p
 
-pub sound_opening : (out : Outside) (n : ℕ) → Sound (opening out n)
+pub sound_opening : BeginsSound
 sound_opening out n =
     let f : ℕ → Member = λ j. record no_member { known = replicate n 0; machine = record { members = n; heard = None; deadline = periodic (out.draw j 0); draws = 1 } } in
-    let none : (p : ℕ) → last_of (logs (opening out n)) p ≡ 0 = λ p. nothing_published f (numbers_from 0 n) p (λ x. refl) in
-    let wide : length (logs (opening out n)) ≡ n = length-map (map f (numbers_from 0 n)) (λ (m : Member). m.log) ∙ length-map (numbers_from 0 n) f ∙ length_numbers 0 n in
+    let none : (p : ℕ) → last_of (logs (opening_world out n)) p ≡ 0 = λ p. nothing_published f (numbers_from 0 n) p (λ x. refl) in
+    let wide : length (logs (opening_world out n)) ≡ n = length-map (map f (numbers_from 0 n)) (λ (m : Member). m.log) ∙ length-map (numbers_from 0 n) f ∙ length_numbers 0 n in
     record {
       members = λ j l.
           let short : j < length (numbers_from 0 n) = subst (λ (k : ℕ). j < k) (length-map (numbers_from 0 n) f) l in
-          subst (λ (m : Member). SoundMember (logs (opening out n)) j m) (sym (get_or-map f (numbers_from 0 n) j 0 no_member short)) (record {
+          subst (λ (m : Member). IsSoundMember (logs (opening_world out n)) j m) (sym (get_or-map f (numbers_from 0 n) j 0 no_member short)) (record {
             width = length-replicate n 0 ∙ sym wide;
             fetchers = refl;
             in_order = record { held = tt; hidden = tt; attempts = tt; tried = λ t k e. absurd cc };
@@ -71,15 +72,19 @@ sound_opening out n =
             heard = tt;
             held = λ t h. absurd (true≢false (sym h));
             hidden = λ q h. absurd (true≢false (sym h));
-            own_held = λ s p. absurd (let z : last_of (logs (opening out n)) j ≡ 0 = none j in let a : 1 ≤ s = p.from_one in let b : s ≤ last_of (logs (opening out n)) j = p.to_last in omega (arith, z, a, b));
+            own_held = λ s p. absurd (let z : last_of (logs (opening_world out n)) j ≡ 0 = none j in let a : 1 ≤ s = p.from_one in let b : s ≤ last_of (logs (opening_world out n)) j = p.to_last in omega (arith, z, a, b));
             claimed = λ g t e. absurd (let c : get_or no_claims g None ≡ None = no_claim 16 g in cc);
             apart = λ g k t a b. absurd (let c : get_or no_claims g None ≡ None = no_claim 16 g in cc);
           });
       sent = λ k l. absurd (omega arith);
     }
 
-pub reached : ReachedSound
-reached out n es h = sound_after_all out es (opening out n) h (sound_opening out n)
+pub reached : InReachedGroups (λ out w. IsSoundGroup w)
+reached out n es h = sound_after_all out es (opening_world out n) h (sound_opening out n)
+
+-- what holds of every sound group holds of those that events can reach
+pub when_reached : (P : Outside → World → Type 0) → InSoundGroups P → InReachedGroups P
+when_reached P law out n es h = law out (after_events out (opening_world out n) es) (reached out n es h)
 
 -- ---- what an event that publishes nothing leaves
 
@@ -154,7 +159,7 @@ goes_block out w j process Already q = stays w
 goes_block out w j process (Waiting p) q = goes_set w j _ w.sent w.moment w.issued w.tally refl (λ p. omega arith)
 goes_block out w j process (Whole p) q = absurd q
 
-goes : (out : Outside) (w : World) (e : Event) → IsQuiet w e → Goes w (after out w e)
+goes : (out : Outside) (w : World) (e : Event) → IsQuiet w e → Goes w (after_event out w e)
 goes out w (Event.Publish j o) q = absurd q
 goes out w (Event.Deliver k j) q = goes_deliver out w j (sent_at w k).vector
 goes out w (Event.Sync k) q = stays w
@@ -182,15 +187,15 @@ goes out w (Event.Block j process index content) q = goes_block out w j process 
 goes out w Event.Summary q = stays w
 goes out w Event.Traffic q = stays w
 
-goes_all : (out : Outside) (es : List Event) (w : World) → AreQuiet out w es → Goes w (after_all out w es)
+goes_all : (out : Outside) (es : List Event) (w : World) → AreQuiet out w es → Goes w (after_events out w es)
 goes_all out [] w q = stays w
 goes_all out (e ∷ es) w q =
-    let a : Goes w (after out w e) = goes out w e q.0 in
-    let b : Goes (after out w e) (after_all out (after out w e) es) = goes_all out es (after out w e) q.1 in
+    let a : Goes w (after_event out w e) = goes out w e q.0 in
+    let b : Goes (after_event out w e) (after_events out (after_event out w e) es) = goes_all out es (after_event out w e) q.1 in
     record {
       width = b.width ∙ a.width;
       logs = b.logs ∙ a.logs;
-      known = λ j p l. let x : known_of w.members j p ≤ known_of (after out w e).members j p = a.known j p l in let y : known_of (after out w e).members j p ≤ known_of (after_all out (after out w e) es).members j p = b.known j p (subst (λ (n : ℕ). j < n) (sym a.width) l) in omega (arith, x, y);
+      known = λ j p l. let x : known_of w.members j p ≤ known_of (after_event out w e).members j p = a.known j p l in let y : known_of (after_event out w e).members j p ≤ known_of (after_events out (after_event out w e) es).members j p = b.known j p (subst (λ (n : ℕ). j < n) (sym a.width) l) in omega (arith, x, y);
     }
 
 -- ---- who is told of what
@@ -203,21 +208,21 @@ told_deliver out w i told j p l same e =
     let joined : get_or (join (member w i).known told) p 0 ≡ max (get_or (member w i).known p 0) (get_or told p 0) = join-at (member w i).known told p in
     subst (λ (x : Member). last_of (logs w) p ≤ get_or x.known p 0) (sym at) (omega (arith, joined, e))
 
-told_now : (out : Outside) (w : World) (e : Event) (j p : ℕ) → j < length w.members → TellsNow w e j p → last_of (logs w) p ≤ known_of (after out w e).members j p
+told_now : (out : Outside) (w : World) (e : Event) (j p : ℕ) → j < length w.members → TellsInEvent w e j p → last_of (logs w) p ≤ known_of (after_event out w e).members j p
 told_now out w (Event.Deliver k i) j p l t = told_deliver out w i (sent_at w k).vector j p l t.0 t.1
 told_now out w (Event.Hear i (Some sync)) j p l t =
     subst (λ (b : Bool). last_of (logs w) p ≤ known_of (cond b w (after_deliver out w i sync.vector)).members j p) (sym t.1) (told_deliver out w i sync.vector j p l t.0 t.2)
 told_now out w _ j p l t = absurd t
 
-told_in_the_end : (out : Outside) (es : List Event) (w : World) (j p : ℕ) → j < length w.members → AreQuiet out w es → Tells out w es j p → last_of (logs w) p ≤ known_of (after_all out w es).members j p
+told_in_the_end : (out : Outside) (es : List Event) (w : World) (j p : ℕ) → j < length w.members → AreQuiet out w es → TellsInRun out w es j p → last_of (logs w) p ≤ known_of (after_events out w es).members j p
 told_in_the_end out [] w j p l q t = absurd t
 told_in_the_end out (e ∷ es) w j p l q (inl t) =
-    let a : last_of (logs w) p ≤ known_of (after out w e).members j p = told_now out w e j p l t in
-    let b : known_of (after out w e).members j p ≤ known_of (after_all out (after out w e) es).members j p = (goes_all out es (after out w e) q.1).known j p (subst (λ (n : ℕ). j < n) (sym (goes out w e q.0).width) l) in
+    let a : last_of (logs w) p ≤ known_of (after_event out w e).members j p = told_now out w e j p l t in
+    let b : known_of (after_event out w e).members j p ≤ known_of (after_events out (after_event out w e) es).members j p = (goes_all out es (after_event out w e) q.1).known j p (subst (λ (n : ℕ). j < n) (sym (goes out w e q.0).width) l) in
     omega (arith, a, b)
 told_in_the_end out (e ∷ es) w j p l q (inr t) =
-    subst (λ (ls : Logs). last_of ls p ≤ known_of (after_all out (after out w e) es).members j p) (goes out w e q.0).logs
-    (told_in_the_end out es (after out w e) j p (subst (λ (n : ℕ). j < n) (sym (goes out w e q.0).width) l) q.1 t)
+    subst (λ (ls : Logs). last_of ls p ≤ known_of (after_events out (after_event out w e) es).members j p) (goes out w e q.0).logs
+    (told_in_the_end out es (after_event out w e) j p (subst (λ (n : ℕ). j < n) (sym (goes out w e q.0).width) l) q.1 t)
 
 -- ---- nothing wanted
 
@@ -225,7 +230,7 @@ nothing_in : (xs : List Part) (x : Part) → xs ≡ [] → contains part_cmp xs 
 nothing_in xs x e c = true≢false (sym c ∙ ap (λ (ys : List Part). contains part_cmp ys x) e)
 
 -- in a sound group whose members know of all, want nothing and hide nothing
-all_joined : (w : World) → Sound w → ((j p : ℕ) → j < length w.members → p < length w.members → last_of (logs w) p ≤ known_of w.members j p) → NothingHidden w → NothingWanted w → AllJoined w
+all_joined : (w : World) → IsSoundGroup w → ((j p : ℕ) → j < length w.members → p < length w.members → last_of (logs w) p ≤ known_of w.members j p) → NothingHidden w → NothingWanted w → AllJoined w
 all_joined w s told clear nothing j l =
     let m : Member = member w j in
     let ls : Logs = logs w in
@@ -236,32 +241,25 @@ all_joined w s told clear nothing j l =
     subst (IsKnown m.known) (sym e) (record { from_one = there.there.from_one; to_known = let a : last_of ls q.publisher ≤ known_of w.members j q.publisher = told j q.publisher l range in let b : q.seq ≤ last_of ls q.publisher = there.there.to_last in omega (arith, a, b) }) in
     let counted : (t : Part) → IsPartOf t q → t.part ≤ length (object_at ls (pair_of t)).contents = λ t p.
     subst (λ (pair : Pair). t.part ≤ count ls pair) (sym p.pair) (subst (λ (o : NamedContents). t.part ≤ length o.contents) there.object p.counted) in
-    let not_hidden : (pair : Pair) → hides m pair ≡ false = λ pair. ap (λ (xs : List Pair). contains pair_cmp xs pair) (clear j l) in
+    let not_hidden : (pair : Pair) → member_hides m pair ≡ false = λ pair. ap (λ (xs : List Pair). contains pair_cmp xs pair) (clear j l) in
     let unwanted : (t : Part) → IsWanted ls m t → ⊥ = λ t want. nothing_in (wanted (plan_of ls m)) t (nothing j l) (contains-wanted (plan_of ls m) t ∙ wanted_from ls m t want) in
-    let the_record : (t : Part) → IsPartOf t q → holds m (record_of t) ≡ true = λ t p. true_from_ne_false (holds m (record_of t)) (λ no.
+    let the_record : (t : Part) → IsPartOf t q → member_holds m (record_of t) ≡ true = λ t p. true_from_ne_false (member_holds m (record_of t)) (λ no.
     unwanted (record_of t) (record { known = known (record_of t) p.pair; counted = omega arith; with_record = inl refl; not_held = no; not_hidden = not_hidden (pair_of t) })) in
-    all_in (holds m) (parts_in q) (λ t it.
+    all_in (member_holds m) (parts_in q) (λ t it.
     let p : IsPartOf t q = from_parts_in q t it in
-    true_from_ne_false (holds m t) (λ no. unwanted t (record { known = known t p.pair; counted = counted t p; with_record = inr (the_record t p); not_held = no; not_hidden = not_hidden (pair_of t) }))) in
-    ap (map entry_of) (filter_whole (holds_all m) (published ls) whole)
+    true_from_ne_false (member_holds m t) (λ no. unwanted t (record { known = known t p.pair; counted = counted t p; with_record = inr (the_record t p); not_held = no; not_hidden = not_hidden (pair_of t) }))) in
+    ap (map published_entry) (filter_whole (holds_all m) (published ls) whole)
 
-pub list_law : ListLaw
-list_law out n first later h k tells clear nothing =
-    let mid : World = after_all out (opening out n) first in
-    let last : World = after_all out mid later in
-    let s : Sound last = sound_after_all out later mid k (reached out n first h) in
-    let g : Goes mid last = goes_all out later mid tells.quiet in
+pub told_of_all : InSoundGroups JoinsWhereAllAreTold
+told_of_all out w sound es k tells clear nothing =
+    let last : World = after_events out w es in
+    let s : IsSoundGroup last = sound_after_all out es w k sound in
+    let g : Goes w last = goes_all out es w tells.quiet in
     let all_told : (j p : ℕ) → j < length last.members → p < length last.members → last_of (logs last) p ≤ known_of last.members j p = λ j p lj lp.
     elim (cases_eq p j) [
       | inl e ↦ let own : known_of last.members j j ≡ last_of (logs last) j = (s.members j lj).own in
           subst (λ (q : ℕ). last_of (logs last) q ≤ known_of last.members j q) (sym e) (omega (arith, own))
       | inr d ↦ subst (λ (ls : Logs). last_of ls p ≤ known_of last.members j p) (sym g.logs)
-          (told_in_the_end out later mid j p (subst (λ (i : ℕ). j < i) g.width lj) tells.quiet (tells.told j p (subst (λ (i : ℕ). j < i) g.width lj) (subst (λ (i : ℕ). p < i) g.width lp) d))
+          (told_in_the_end out es w j p (subst (λ (i : ℕ). j < i) g.width lj) tells.quiet (tells.told j p (subst (λ (i : ℕ). j < i) g.width lj) (subst (λ (i : ℕ). p < i) g.width lp) d))
     ] in
     all_joined last s all_told clear nothing
-
-pub settle_law : SettleJoins
-settle_law out n es h clear j l =
-    let w : World = after_all out (opening out n) es in
-    let same : length (after_settle out w).members ≡ length w.members = length_settled out w 0 w.members in
-    settle_joins out w j (reached out n es h) (subst (λ (k : ℕ). j < k) same l) (λ i li. ap (λ (m : Member). m.hidden) (sym (member_settled out w i li)) ∙ clear i (subst (λ (k : ℕ). i < k) (sym same) li))

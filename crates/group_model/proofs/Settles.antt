@@ -1,7 +1,8 @@
 -- What a settle keeps and gives.
 use Rattle.std.proofs.Common.{◌≡◌, inl, inr, ℕ, suc, zero, ◌+◌, ◌≤◌, ◌<◌, max, true, false, not, ◌&&◌, List, [], ◌∷◌, map, length, get_or, replicate, refl, sym, ap, ◌∙◌, subst, arith, Option, None}
 use Rattle.std.proofs.lemmas.Bool.{true≢false, and_parts, and_from, or_right, or_left, cases_Bool, not-true, not_from_false, leb-true, le-leb}
-use Rattle.std.specs.Prelude.{nat_le, filter}
+use Rattle.std.proofs.lemmas.List.{length-map, get_or-map}
+use Rattle.std.specs.Prelude.{nat_le}
 use Rattle.repo_plan.specs.declared.part.Part.{Part}
 use Rattle.repo_plan.specs.SortedList.{contains}
 use Rattle.repo_plan.specs.Parts.{Pair, pair_cmp, pair_of, part_of, record_of}
@@ -10,24 +11,36 @@ use Rattle.repo_plan.proofs.Sets.{In, in_filter, in_flat_map, in_map, from_map}
 use Rattle.svs_vector.specs.Vectors.{join, join_all}
 use Rattle.svs_vector.proofs.JoinLemmas.{join-at, length-join, join-[]}
 use Rattle.repo_object.specs.Objects.{NamedContents}
-use Rattle.group_model.specs.Publications.{Logs, Publication, pair_in, parts_in, published, all_parts, entry_of, join_of, last_of, count}
-use Rattle.group_model.specs.Member.{Member, holds, hides, holds_all, catalogue}
-use Rattle.group_model.specs.World.{Outside, World, no_member, member, logs, logs_of, catalogue_at, someone_holds}
-use Rattle.group_model.specs.Steps.{settles, settle_each, settled_vector, comes_to, new_parts, after_settle}
-use Rattle.group_model.specs.Sound.{Sound, SoundMember, TellsNoMore}
+use Rattle.group_model.specs.Publications.{Logs, Publication, pair_in, parts_in, published, all_parts, published_entry, join_of, last_of, count}
+use Rattle.group_model.specs.Member.{Member, member_holds, member_hides, holds_all, catalogue}
+use Rattle.group_model.specs.World.{Outside, World, no_member, member, logs, logs_of, someone_holds}
+use Rattle.group_model.specs.Steps.{settled_vector, settled_member, comes_to, new_parts, after_gathering, reset_each, after_settle}
+use Rattle.group_model.specs.Sound.{IsSoundGroup, IsSoundMember, TellsNoMore}
 use Rattle.group_model.proofs.Lists.{from_filter, filter_whole, all_in, in_at, at_in, rises_insert_keys}
 use Rattle.group_model.proofs.Parts.{IsIn, in_published, publisher_within, IsPartOf, from_parts_in, from_all_parts, record_among}
+use Rattle.group_model.specs.Changes.{resets}
+use Rattle.group_model.specs.Reached.{InSoundGroups}
+use Rattle.group_model.specs.Settles.{JoinsInSettle, JoinsInGathering}
+use Rattle.group_model.proofs.Members.{with_machine}
 use Rattle.group_model.proofs.Gains.{Gain, held_after, hidden_after, own_held_after, held_too, held_new, held_fresh}
 
-pub someone : (ms : List Member) (m : Member) (t : Part) → In m ms → holds m t ≡ true → someone_holds ms t ≡ true
+pub someone : (ms : List Member) (m : Member) (t : Part) → In m ms → member_holds m t ≡ true → someone_holds ms t ≡ true
 someone [] m t i h = absurd i
-someone (x ∷ xs) m t (inl e) h = or_left (holds x t) (someone_holds xs t) (subst (λ (y : Member). holds y t ≡ true) e h)
-someone (x ∷ xs) m t (inr i) h = or_right (holds x t) (someone_holds xs t) (someone xs m t i h)
+someone (x ∷ xs) m t (inl e) h = or_left (member_holds x t) (someone_holds xs t) (subst (λ (y : Member). member_holds y t ≡ true) e h)
+someone (x ∷ xs) m t (inr i) h = or_right (member_holds x t) (someone_holds xs t) (someone xs m t i h)
 
 pub no_claim : (n f : ℕ) → get_or (replicate n (let o : Option Part = None in o)) f None ≡ None
 no_claim zero f = refl
 no_claim (suc n) zero = refl
 no_claim (suc n) (suc f) = no_claim n f
+
+-- ---- a member in a settle
+
+abbrev pub settles : Outside → World → ℕ → Member → Member
+settles out w j m = resets (out.draw j m.machine.draws) w.moment (settled_member w m)
+
+abbrev pub settle_each : Outside → World → ℕ → List Member → List Member
+settle_each out w k ms = reset_each out w.moment k (map (settled_member w) ms)
 
 -- ---- the joined vector
 
@@ -64,31 +77,31 @@ length_join_all (w ∷ v ∷ ws) n u i each =
 -- a part that comes to a member, in parts
 pub record ComesTo (w : World) (m : Member) (t : Part) : Type 0 where
   pub told : t.seq ≤ get_or (settled_vector w) t.publisher 0
-  pub not_hidden : hides m (pair_of t) ≡ false
+  pub not_hidden : member_hides m (pair_of t) ≡ false
   pub someones : someone_holds w.members t ≡ true
   pub record_too : someone_holds w.members (record_of t) ≡ true
-  pub fresh : holds m t ≡ false
+  pub fresh : member_holds m t ≡ false
 
 pub comes : (w : World) (m : Member) (t : Part) → comes_to w m t ≡ true → ComesTo w m t
 comes w m t h =
-    let a : (nat_le t.seq (get_or (settled_vector w) t.publisher 0) ≡ true) × ((not (hides m (pair_of t)) && (someone_holds w.members t && (someone_holds w.members (record_of t) && not (holds m t)))) ≡ true) = and_parts (nat_le t.seq (get_or (settled_vector w) t.publisher 0)) _ h in
-    let b : (not (hides m (pair_of t)) ≡ true) × ((someone_holds w.members t && (someone_holds w.members (record_of t) && not (holds m t))) ≡ true) = and_parts (not (hides m (pair_of t))) _ a.1 in
-    let c : (someone_holds w.members t ≡ true) × ((someone_holds w.members (record_of t) && not (holds m t)) ≡ true) = and_parts (someone_holds w.members t) _ b.1 in
-    let d : (someone_holds w.members (record_of t) ≡ true) × (not (holds m t) ≡ true) = and_parts (someone_holds w.members (record_of t)) _ c.1 in
-    record { told = leb-true t.seq _ a.0; not_hidden = not-true (hides m (pair_of t)) b.0; someones = c.0; record_too = d.0; fresh = not-true (holds m t) d.1 }
+    let a : (nat_le t.seq (get_or (settled_vector w) t.publisher 0) ≡ true) × ((not (member_hides m (pair_of t)) && (someone_holds w.members t && (someone_holds w.members (record_of t) && not (member_holds m t)))) ≡ true) = and_parts (nat_le t.seq (get_or (settled_vector w) t.publisher 0)) _ h in
+    let b : (not (member_hides m (pair_of t)) ≡ true) × ((someone_holds w.members t && (someone_holds w.members (record_of t) && not (member_holds m t))) ≡ true) = and_parts (not (member_hides m (pair_of t))) _ a.1 in
+    let c : (someone_holds w.members t ≡ true) × ((someone_holds w.members (record_of t) && not (member_holds m t)) ≡ true) = and_parts (someone_holds w.members t) _ b.1 in
+    let d : (someone_holds w.members (record_of t) ≡ true) × (not (member_holds m t) ≡ true) = and_parts (someone_holds w.members (record_of t)) _ c.1 in
+    record { told = leb-true t.seq _ a.0; not_hidden = not-true (member_hides m (pair_of t)) b.0; someones = c.0; record_too = d.0; fresh = not-true (member_holds m t) d.1 }
 
 pub comes_from : (w : World) (m : Member) (t : Part) → ComesTo w m t → comes_to w m t ≡ true
 comes_from w m t h =
     and_from (nat_le t.seq (get_or (settled_vector w) t.publisher 0)) _ (le-leb t.seq _ h.told)
-    (and_from (not (hides m (pair_of t))) _ (not_from_false (hides m (pair_of t)) h.not_hidden)
-    (and_from (someone_holds w.members t) _ h.someones (and_from (someone_holds w.members (record_of t)) (not (holds m t)) h.record_too (not_from_false (holds m t) h.fresh))))
+    (and_from (not (member_hides m (pair_of t))) _ (not_from_false (member_hides m (pair_of t)) h.not_hidden)
+    (and_from (someone_holds w.members t) _ h.someones (and_from (someone_holds w.members (record_of t)) (not (member_holds m t)) h.record_too (not_from_false (member_holds m t) h.fresh))))
 
-module _ (out : Outside) (w : World) (s : Sound w) (j : ℕ) (within : j < length w.members) where
+module _ (w : World) (s : IsSoundGroup w) (j : ℕ) (within : j < length w.members) where
   abbrev old : Member
   old = member w j
 
   abbrev new : Member
-  new = settles out w j old
+  new = settled_member w old
 
   pub told_by : (i : ℕ) (p : ℕ) → i < length w.members → get_or (member w i).known p 0 ≤ get_or (settled_vector w) p 0
   told_by i p l = join_all_each (map (λ m. m.known) w.members) p (member w i).known (in_map (λ (m : Member). m.known) w.members (member w i) (in_at w.members i no_member l))
@@ -106,13 +119,13 @@ module _ (out : Outside) (w : World) (s : Sound w) (j : ℕ) (within : j < lengt
       let k : (k : ℕ) × (k < length w.members) × (r.0 ≡ get_or w.members k no_member) = at_in w.members r.0 no_member r.1 in
       ap length (r.2 ∙ ap (λ (m : Member). m.known) k.2) ∙ (s.members k.0 k.1).width)
 
-  pub keeps_held : (t : Part) → holds old t ≡ true → holds new t ≡ true
+  pub keeps_held : (t : Part) → member_holds old t ≡ true → member_holds new t ≡ true
   keeps_held t h = held_too (new_parts w old) old t h
 
-  pub gets : (t : Part) → In t (all_parts (logs w)) → ComesTo w old t → holds new t ≡ true
+  pub gets : (t : Part) → In t (all_parts (logs w)) → ComesTo w old t → member_holds new t ≡ true
   gets t i c = held_new (new_parts w old) old t (in_filter (comes_to w old) (all_parts (logs w)) t i (comes_from w old t c))
 
-  came : (t : Part) → holds new t ≡ true → holds old t ≡ false → In t (all_parts (logs w)) × ComesTo w old t
+  came : (t : Part) → member_holds new t ≡ true → member_holds old t ≡ false → In t (all_parts (logs w)) × ComesTo w old t
   came t h o =
       let r : In t (all_parts (logs w)) × (comes_to w old t ≡ true) = from_filter (comes_to w old) (all_parts (logs w)) t (held_fresh (new_parts w old) old t h o) in
       (r.0, comes w old t r.1)
@@ -126,23 +139,23 @@ module _ (out : Outside) (w : World) (s : Sound w) (j : ℕ) (within : j < lengt
     counted = λ t h o. (from_all_parts (logs w) t (came t h o).0).counted;
     with_record = λ t h o.
         let r : In t (all_parts (logs w)) × ComesTo w old t = came t h o in
-        elim (cases_Bool (holds old (record_of t))) [
+        elim (cases_Bool (member_holds old (record_of t))) [
           | inl was ↦ keeps_held (record_of t) was
           | inr free ↦ gets (record_of t) (record_among (logs w) t r.0) (record { told = r.1.told; not_hidden = r.1.not_hidden; someones = r.1.record_too; record_too = r.1.record_too; fresh = free })
         ];
     not_hidden = λ t h o. (came t h o).1.not_hidden;
   }
 
-  pub sound_settles : SoundMember (logs w) j new
-  sound_settles =
-      let m : SoundMember (logs w) j old = s.members j within in
+  pub sound_gathered : IsSoundMember (logs w) j new
+  sound_gathered =
+      let m : IsSoundMember (logs w) j old = s.members j within in
       record {
         width = settled_width;
         fetchers = refl;
         in_order = record { held = rises_insert_keys (new_parts w old) old.held m.in_order.held; hidden = m.in_order.hidden; attempts = m.in_order.attempts; tried = m.in_order.tried };
         known = settled_no_more;
         own = let a : get_or old.known j 0 ≡ last_of (logs w) j = m.own in let b : get_or old.known j 0 ≤ get_or (settled_vector w) j 0 = told_by j j within in let c : get_or (settled_vector w) j 0 ≤ last_of (logs w) j = settled_no_more j in omega (arith, a, b, c);
-        heard = tt;
+        heard = m.heard;
         held = held_after (logs w) j old new gain m;
         hidden = hidden_after (logs w) j old new gain m;
         own_held = own_held_after (logs w) j old new gain m;
@@ -150,23 +163,26 @@ module _ (out : Outside) (w : World) (s : Sound w) (j : ℕ) (within : j < lengt
         apart = λ f g t a b. absurd (let n : get_or no_claims f None ≡ None = no_claim 16 f in cc);
       }
 
+  pub sound_settles : (out : Outside) → IsSoundMember (logs w) j (settles out w j old)
+  sound_settles out = with_machine (logs w) j new (settles out w j old).machine old.processes old.next_process sound_gathered tt
+
   -- where nothing is hidden, every part of every publication is held
   pub complete : ((i : ℕ) → i < length w.members → (member w i).hidden ≡ []) → (q : Publication) → In q (published (logs w)) → holds_all new q ≡ true
   complete clear q i =
       let there : IsIn (logs w) q = in_published (logs w) q i in
       let publisher : q.publisher < length w.members = publisher_within w (pair_in q) there.there in
-      let theirs : SoundMember (logs w) q.publisher (member w q.publisher) = s.members q.publisher publisher in
-      let held : (x : ℕ) → x ≤ count (logs w) (pair_in q) → holds (member w q.publisher) (part_of (pair_in q) x) ≡ true =
+      let theirs : IsSoundMember (logs w) q.publisher (member w q.publisher) = s.members q.publisher publisher in
+      let held : (x : ℕ) → x ≤ count (logs w) (pair_in q) → member_holds (member w q.publisher) (part_of (pair_in q) x) ≡ true =
       elim (theirs.own_held q.seq there.there) [
         | inl h ↦ absurd (true≢false (sym h ∙ ap (λ (xs : List Pair). contains pair_cmp xs (pair_in q)) (clear q.publisher publisher)))
         | inr f ↦ f
       ] in
-      all_in (holds new) (parts_in q) (λ t it.
+      all_in (member_holds new) (parts_in q) (λ t it.
       let p : IsPartOf t q = from_parts_in q t it in
       let theirs_too : (x : ℕ) → x ≤ length q.object.contents → someone_holds w.members (part_of (pair_of t) x) ≡ true = λ x le.
       someone w.members (member w q.publisher) (part_of (pair_of t) x) (in_at w.members q.publisher no_member publisher)
-      (subst (λ (pair : Pair). holds (member w q.publisher) (part_of pair x) ≡ true) (sym p.pair) (held x (subst (λ (o : NamedContents). x ≤ length o.contents) there.object le))) in
-      elim (cases_Bool (holds old t)) [
+      (subst (λ (pair : Pair). member_holds (member w q.publisher) (part_of pair x) ≡ true) (sym p.pair) (held x (subst (λ (o : NamedContents). x ≤ length o.contents) there.object le))) in
+      elim (cases_Bool (member_holds old t)) [
         | inl was ↦ keeps_held t was
         | inr free ↦ gets t (in_flat_map parts_in (published (logs w)) q t i it) (record {
           told =
@@ -198,12 +214,30 @@ length_settled out w k (m ∷ ms) = ap suc (length_settled out w (k + 1) ms)
 pub member_settled : (out : Outside) (w : World) (j : ℕ) → j < length w.members → member (after_settle out w) j ≡ settles out w j (member w j)
 member_settled out w j l = settled-at out w 0 j w.members l ∙ ap (λ (k : ℕ). settles out w k (member w j)) (omega arith)
 
--- after a settle where nothing is hidden each catalogue is the join of all publications
-pub settle_joins : (out : Outside) (w : World) (j : ℕ) → Sound w → j < length w.members → ((i : ℕ) → i < length w.members → (member w i).hidden ≡ []) → catalogue_at (after_settle out w) j ≡ join_of (logs (after_settle out w))
-settle_joins out w j s within clear =
-    let same : logs (after_settle out w) ≡ logs w = logs_settled out w 0 w.members in
-    let whole : filter (holds_all (settles out w j (member w j))) (published (logs w)) ≡ published (logs w) =
-    filter_whole (holds_all (settles out w j (member w j))) (published (logs w)) (complete out w s j within clear) in
-    let at : catalogue (logs w) (member (after_settle out w) j) ≡ map entry_of (published (logs w)) =
-    ap (λ (m : Member). catalogue (logs w) m) (member_settled out w j within) ∙ ap (map entry_of) whole in
-    subst (λ (ls : Logs). catalogue ls (member (after_settle out w) j) ≡ join_of ls) (sym same) at
+pub logs_gathered : (w : World) (ms : List Member) → logs_of (map (settled_member w) ms) ≡ logs_of ms
+logs_gathered w [] = refl
+logs_gathered w (m ∷ ms) = ap (λ (ls : Logs). m.log ∷ ls) (logs_gathered w ms)
+
+pub member_gathered : (out : Outside) (w : World) (j : ℕ) → j < length w.members → member (after_gathering out w) j ≡ settled_member w (member w j)
+member_gathered out w j l = get_or-map (settled_member w) w.members j no_member no_member l
+
+-- where nothing is hidden each catalogue is then the join of all publications, whatever the machine
+catalogue_joined : (w : World) (j : ℕ) → IsSoundGroup w → j < length w.members → ((i : ℕ) → i < length w.members → (member w i).hidden ≡ []) → catalogue (logs w) (settled_member w (member w j)) ≡ join_of (logs w)
+catalogue_joined w j s within clear =
+    ap (map published_entry) (filter_whole (holds_all (settled_member w (member w j))) (published (logs w)) (complete w s j within clear))
+
+pub settle_joins : InSoundGroups JoinsInSettle
+settle_joins out w s clear j l =
+    let same : length (after_settle out w).members ≡ length w.members = length_settled out w 0 w.members in
+    let within : j < length w.members = subst (λ (k : ℕ). j < k) same l in
+    subst (λ (ls : Logs). catalogue ls (member (after_settle out w) j) ≡ join_of ls) (sym (logs_settled out w 0 w.members))
+    (ap (λ (m : Member). catalogue (logs w) m) (member_settled out w j within)
+    ∙ catalogue_joined w j s within (λ i li. ap (λ (m : Member). m.hidden) (sym (member_settled out w i li)) ∙ clear i (subst (λ (k : ℕ). i < k) (sym same) li)))
+
+pub gathering_joins : InSoundGroups JoinsInGathering
+gathering_joins out w s clear j l =
+    let same : length (map (settled_member w) w.members) ≡ length w.members = length-map w.members (settled_member w) in
+    let within : j < length w.members = subst (λ (k : ℕ). j < k) same l in
+    subst (λ (ls : Logs). catalogue ls (member (after_gathering out w) j) ≡ join_of ls) (sym (logs_gathered w w.members))
+    (ap (λ (m : Member). catalogue (logs w) m) (member_gathered out w j within)
+    ∙ catalogue_joined w j s within (λ i li. ap (λ (m : Member). m.hidden) (sym (member_gathered out w i li)) ∙ clear i (subst (λ (k : ℕ). i < k) (sym same) li)))

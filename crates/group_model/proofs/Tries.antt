@@ -12,7 +12,7 @@ use Rattle.repo_plan.specs.Parts.{part_cmp, numbers_from}
 use Rattle.repo_plan.proofs.Orders.{exact_parts}
 use Rattle.repo_plan.proofs.Sets.{In, eq_same, value_of-with_value}
 use Rattle.repo_plan.proofs.Known.{from_numbers}
-use Rattle.group_model.specs.Member.{attempts_of, with_attempts, with_each_tried}
+use Rattle.group_model.specs.Member.{tries_of, with_tries, with_each_tried}
 use Rattle.group_model.specs.World.{World, Outside, member, someone_holds}
 use Rattle.group_model.specs.Steps.{others_of, attempts_for}
 
@@ -43,43 +43,43 @@ found_in {A} p (y ∷ ys) x e = go (p y) (found_in p ys x) e where
 
 -- ---- attempts
 
-tried-at : (t : Part) (n : ℕ) (es : List (Part × ℕ)) (u : Part) → attempts_of (with_attempts t n es) u ≡ cond (eq_by_cmp part_cmp u t) (attempts_of es t + n) (attempts_of es u)
+tried-at : (t : Part) (n : ℕ) (es : List (Part × ℕ)) (u : Part) → tries_of (with_tries t n es) u ≡ cond (eq_by_cmp part_cmp u t) (tries_of es t + n) (tries_of es u)
 tried-at t n es u = go (n == 0) refl where
-  some : (b : Bool) → unwrap_or (cond b (Some (attempts_of es t + n)) (value_of part_cmp es u)) 0 ≡ cond b (attempts_of es t + n) (attempts_of es u)
+  some : (b : Bool) → unwrap_or (cond b (Some (tries_of es t + n)) (value_of part_cmp es u)) 0 ≡ cond b (tries_of es t + n) (tries_of es u)
   some true = refl
   some false = refl
 
-  same : (b : Bool) → eq_by_cmp part_cmp u t ≡ b → n ≡ 0 → attempts_of es u ≡ cond b (attempts_of es t + n) (attempts_of es u)
-  same true e z = ap (attempts_of es) (eq_same exact_parts u t e) ∙ omega (arith, z)
+  same : (b : Bool) → eq_by_cmp part_cmp u t ≡ b → n ≡ 0 → tries_of es u ≡ cond b (tries_of es t + n) (tries_of es u)
+  same true e z = ap (tries_of es) (eq_same exact_parts u t e) ∙ omega (arith, z)
   same false e z = refl
 
-  go : (b : Bool) → (n == 0) ≡ b → attempts_of (cond b es (with_value part_cmp t (attempts_of es t + n) es)) u ≡ cond (eq_by_cmp part_cmp u t) (attempts_of es t + n) (attempts_of es u)
+  go : (b : Bool) → (n == 0) ≡ b → tries_of (cond b es (with_value part_cmp t (tries_of es t + n) es)) u ≡ cond (eq_by_cmp part_cmp u t) (tries_of es t + n) (tries_of es u)
   go true z = same (eq_by_cmp part_cmp u t) refl (eqb-true n 0 z)
-  go false z = ap (λ (o : Option ℕ). unwrap_or o 0) (value_of-with_value exact_parts t (attempts_of es t + n) es u) ∙ some (eq_by_cmp part_cmp u t)
+  go false z = ap (λ (o : Option ℕ). unwrap_or o 0) (value_of-with_value exact_parts t (tries_of es t + n) es u) ∙ some (eq_by_cmp part_cmp u t)
 
-not_tried : (more : Part → ℕ) (ts : List Part) (es : List (Part × ℕ)) (u : Part) → contains part_cmp ts u ≡ false → attempts_of (with_each_tried more ts es) u ≡ attempts_of es u
+not_tried : (more : Part → ℕ) (ts : List Part) (es : List (Part × ℕ)) (u : Part) → contains part_cmp ts u ≡ false → tries_of (with_each_tried more ts es) u ≡ tries_of es u
 not_tried more [] es u h = refl
 not_tried more (t ∷ ts) es u h =
     let p = or_parts (eq_by_cmp part_cmp u t) (contains part_cmp ts u) h in
-    not_tried more ts (with_attempts t (more t) es) u p.1 ∙ tried-at t (more t) es u ∙ ap (λ (b : Bool). cond b (attempts_of es t + more t) (attempts_of es u)) p.0
+    not_tried more ts (with_tries t (more t) es) u p.1 ∙ tried-at t (more t) es u ∙ ap (λ (b : Bool). cond b (tries_of es t + more t) (tries_of es u)) p.0
 
 not_behind : (t : Part) (ts : List Part) → IsBefore part_cmp t ts → contains part_cmp ts t ≡ false
 not_behind t [] b = refl
 not_behind t (u ∷ us) b = ap (λ (o : Ordering). is_eq o || contains part_cmp us t) b.0 ∙ not_behind t us b.1
 
-pub each_tried_at : (more : Part → ℕ) (ts : List Part) (es : List (Part × ℕ)) (u : Part) → Rises part_cmp ts → ((t : Part) → more t ≤ 16) → attempts_of (with_each_tried more ts es) u ≤ attempts_of es u + 16
+pub each_tried_at : (more : Part → ℕ) (ts : List Part) (es : List (Part × ℕ)) (u : Part) → Rises part_cmp ts → ((t : Part) → more t ≤ 16) → tries_of (with_each_tried more ts es) u ≤ tries_of es u + 16
 each_tried_at more [] es u r h = omega arith
 each_tried_at more (t ∷ ts) es u r h = elim (cases_Bool (eq_by_cmp part_cmp u t)) [
   | inl y ↦
       let same : u ≡ t = eq_same exact_parts u t y in
-      let rest : attempts_of (with_each_tried more (t ∷ ts) es) u ≡ attempts_of (with_attempts t (more t) es) u = not_tried more ts (with_attempts t (more t) es) u (ap (contains part_cmp ts) same ∙ not_behind t ts r.0) in
-      let here : attempts_of (with_attempts t (more t) es) u ≡ attempts_of es t + more t = tried-at t (more t) es u ∙ ap (λ (b : Bool). cond b (attempts_of es t + more t) (attempts_of es u)) y in
-      let old : attempts_of es u ≡ attempts_of es t = ap (attempts_of es) same in
+      let rest : tries_of (with_each_tried more (t ∷ ts) es) u ≡ tries_of (with_tries t (more t) es) u = not_tried more ts (with_tries t (more t) es) u (ap (contains part_cmp ts) same ∙ not_behind t ts r.0) in
+      let here : tries_of (with_tries t (more t) es) u ≡ tries_of es t + more t = tried-at t (more t) es u ∙ ap (λ (b : Bool). cond b (tries_of es t + more t) (tries_of es u)) y in
+      let old : tries_of es u ≡ tries_of es t = ap (tries_of es) same in
       let few : more t ≤ 16 = h t in
       omega (arith, rest, here, old, few)
   | inr n ↦
-      let rest : attempts_of (with_each_tried more (t ∷ ts) es) u ≤ attempts_of (with_attempts t (more t) es) u + 16 = each_tried_at more ts (with_attempts t (more t) es) u r.1 h in
-      let here : attempts_of (with_attempts t (more t) es) u ≡ attempts_of es u = tried-at t (more t) es u ∙ ap (λ (b : Bool). cond b (attempts_of es t + more t) (attempts_of es u)) n in
+      let rest : tries_of (with_each_tried more (t ∷ ts) es) u ≤ tries_of (with_tries t (more t) es) u + 16 = each_tried_at more ts (with_tries t (more t) es) u r.1 h in
+      let here : tries_of (with_tries t (more t) es) u ≡ tries_of es u = tried-at t (more t) es u ∙ ap (λ (b : Bool). cond b (tries_of es t + more t) (tries_of es u)) n in
       omega (arith, rest, here)
 ]
 
@@ -89,6 +89,6 @@ within_found p tries (Some a) e l = let b : (1 ≤ a) × (a < 1 + tries) = from_
 
 pub few_attempts : (out : Outside) (w : World) (j tries loss : ℕ) (t : Part) → tries ≤ 16 → attempts_for out w j tries loss t ≤ 16
 few_attempts out w j tries loss t l = go (someone_holds (others_of w j) t) where
-  go : (b : Bool) → unwrap_or (cond b (find (λ a. out.passes j t (attempts_of (member w j).attempts t + a) loss) (numbers_from 1 tries)) None) tries ≤ 16
-  go true = within_found (λ a. out.passes j t (attempts_of (member w j).attempts t + a) loss) tries _ refl l
+  go : (b : Bool) → unwrap_or (cond b (find (λ a. out.passes j t (tries_of (member w j).attempts t + a) loss) (numbers_from 1 tries)) None) tries ≤ 16
+  go true = within_found (λ a. out.passes j t (tries_of (member w j).attempts t + a) loss) tries _ refl l
   go false = l

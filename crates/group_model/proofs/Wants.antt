@@ -13,7 +13,7 @@ use Rattle.group_model.specs.Publications.{Logs}
 use Rattle.group_model.specs.Member.{Member, plan_of}
 use Rattle.group_model.specs.World.{member, logs}
 use Rattle.group_model.specs.Steps.{open_at}
-use Rattle.group_model.specs.Wanted.{IsWantedPart, WantsThose, ClaimsFirst, ClaimsNoneWhere}
+use Rattle.group_model.specs.Wanted.{IsWantedPart, WantsThose, TestsThose, ClaimsFirst, ClaimsNoneWhere}
 use Rattle.group_model.proofs.Plans.{IsWanted, wanted_parts, wanted_from}
 
 -- ---- wanted parts
@@ -39,6 +39,9 @@ from_words ls m t w = wanted_from ls m t (record {
   not_held = w.not_held;
   not_hidden = w.not_hidden;
 })
+
+pub tests_those : TestsThose
+tests_those ls m t = (in_words ls m t, from_words ls m t)
 
 pub wants_those : WantsThose
 wants_those ls m t = (λ h. in_words ls m t (sym (contains-wanted (plan_of ls m) t) ∙ h), λ w. contains-wanted (plan_of ls m) t ∙ from_words ls m t w)

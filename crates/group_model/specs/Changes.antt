@@ -10,7 +10,7 @@ use Rattle.svs_vector.specs.Vectors.{join}
 use Rattle.svs_sync.specs.KeptVector.{steady_kept, hears_kept}
 use Rattle.repo_object.specs.Objects.{NamedContents}
 use Rattle.group_model.specs.Processes.{Process, starting}
-use Rattle.group_model.specs.Member.{Member, gains, insert_keys, without_claims}
+use Rattle.group_model.specs.Member.{Member, gains, insert_keys, member_without_claims}
 
 -- The machine is Steady again.
 abbrev pub resets : (draw moment : ℕ) → Member → Member
@@ -36,15 +36,15 @@ learns draw moment told m = record m {
 
 -- Claims and insertion processes end. Numbers of processes go on.
 abbrev pub restarts : (draw moment : ℕ) → Member → Member
-restarts draw moment m = resets draw moment (record (without_claims m) { processes = [] })
+restarts draw moment m = resets draw moment (record (member_without_claims m) { processes = [] })
 
 -- A fetcher claims a part, or nothing.
-abbrev pub with_claim : ℕ → Option Part → Member → Member
-with_claim f claim m = record m { claims = slice_set m.claims (f - 1) claim }
+abbrev pub member_with_claim : ℕ → Option Part → Member → Member
+member_with_claim f claim m = record m { claims = slice_set m.claims (f - 1) claim }
 
 -- The part that a fetcher claims is held, and the claim is over.
 abbrev pub takes : ℕ → Part → Member → Member
-takes f t m = with_claim f None (gains (t ∷ []) m)
+takes f t m = member_with_claim f None (gains (t ∷ []) m)
 
 abbrev pub with_process : ℕ → Process → Member → Member
 with_process number p m = record m { processes = with_value nat_cmp number p m.processes }

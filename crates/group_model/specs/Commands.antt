@@ -20,11 +20,11 @@ pub record Answer : Type 0 where
 abbrev pub only : ℕ → Answer
 only code = record { code = code; process = None; inserted = None; deleted = None }
 
-abbrev pub is_name : List Component → List Component → Bool
-is_name a b = eq_by_cmp canonical_cmp a b
+abbrev pub is_equal_name : List Component → List Component → Bool
+is_equal_name a b = eq_by_cmp canonical_cmp a b
 
 abbrev pub is_command : Command → Command → Bool
-is_command (Insert a b c) (Insert d e f) = is_name a d && (b == e && c == f)
+is_command (Insert a b c) (Insert d e f) = is_equal_name a d && (b == e && c == f)
 is_command (Check a) (Check b) = a == b
-is_command (Delete a) (Delete b) = is_name a b
+is_command (Delete a) (Delete b) = is_equal_name a b
 is_command _ _ = false

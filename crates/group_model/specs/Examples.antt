@@ -8,17 +8,19 @@ use Rattle.repo_plan.specs.Parts.{part_cmp, part_of}
 use Rattle.repo_catalog.specs.declared.entry.Entry.{Entry}
 use Rattle.svs_sync.specs.declared.mode.Mode.TheVariants.{Steady, Suppressed}
 use Rattle.repo_object.specs.Objects.{NamedContents}
-use Rattle.group_model.specs.Publications.{Logs, join_of}
+use Rattle.group_model.specs.Publications.{Logs, no_object, join_of}
 use Rattle.group_model.specs.Commands.{only}
 use Rattle.group_model.specs.Commands.Command.{Insert, Check, Delete}
 use Rattle.group_model.specs.Events.{Came, Found, Event}
-use Rattle.group_model.specs.Events.Came.{Nothing, Its}
+use Rattle.group_model.specs.Events.Came.{Nothing, Its, Another}
 use Rattle.group_model.specs.Events.Found.{NoPacket, Packet}
 use Rattle.group_model.specs.Events.Event.{Publish, Deliver, Sync, Advance, Fire, Restart, Vector, Catalogue, Claim, Lose, Answer, Fetch, Settle, Dump, Hear, Ask, Feed, Order, Issue, Block, Summary, Traffic}
 use Rattle.group_model.specs.Replies.{Reply}
 use Rattle.group_model.specs.Replies.Reply.{Published, Delivered, Synced, Advanced, Early, Quiet, Sent, Restarted, Numbers, Entries, Claimed, Lost, Answered, Fetched, Settled, Dumped, Heard, HearRefused, OwnNumberAhead, Asked, Fed, Commanded, NoBlock, BlockKept, BlockLate, BlockPublished, Summed, Counted}
-use Rattle.group_model.specs.World.{Outside, opening, logs}
-use Rattle.group_model.specs.Steps.{replies, after_all}
+use Rattle.group_model.specs.World.{Outside, World, no_member, opening_world, logs}
+use Rattle.group_model.specs.Steps.{replies, after_event, after_events}
+use Rattle.group_model.specs.Refusals.{Refusal, refusal}
+use Rattle.group_model.specs.Refusals.Refusal.{NoSuchPacket, FetcherBusy, FetcherIdle, Foreign, NumbersSpent}
 
 -- ---- what is given
 
@@ -27,8 +29,8 @@ abbrev pub gives_held : Logs → List Part → Part → Came
 gives_held logs held t = if contains part_cmp held t then Its else Nothing
 
 -- Every draw is 100, the network passes all, and a record has 118 octets and a segment 79.
-abbrev pub plain : Outside
-plain = record {
+abbrev pub plain_outside : Outside
+plain_outside = record {
   draw = λ _ _. 100;
   passes = λ _ _ _ _. true;
   serves = gives_held;
@@ -37,11 +39,31 @@ plain = record {
 
 -- The network passes third attempts alone.
 abbrev pub third : Outside
-third = record plain { passes = λ _ _ attempt _. attempt == 3 }
+third = record plain_outside { passes = λ _ _ attempt _. attempt == 3 }
 
--- Events with their replies, from the opening on.
+-- What refuses each event of a list, if something does.
+abbrev pub refusals : Outside → World → List Event → List (Option Refusal)
+refusals out w [] = []
+refusals out w (e ∷ es) = refusal out w e ∷ refusals out (after_event out w e) es
+
+abbrev pub no_refusal : Event × Reply → Option Refusal
+no_refusal line = None
+
+-- Events that are taken from the opening on, with their replies.
 abbrev pub Plays : Outside → ℕ → List (Event × Reply) → Type 0
-Plays out members lines = replies out (opening out members) (map (λ l. l.0) lines) ≡ map (λ l. l.1) lines
+Plays out members lines =
+    let opening = opening_world out members in
+    let events = map (λ l. l.0) lines in
+    (replies out opening events ≡ map (λ l. l.1) lines) × (refusals out opening events ≡ map no_refusal lines)
+
+-- Events that are refused after others that are taken, with what refuses them.
+abbrev pub refused_after : Outside → ℕ → List (Event × Reply) → List (Event × Refusal) → List (Option Refusal)
+refused_after out members lines refused =
+    map (λ l. refusal out (after_events out (opening_world out members) (map (λ l. l.0) lines)) l.0) refused
+
+abbrev pub Refuses : Outside → ℕ → List (Event × Reply) → List (Event × Refusal) → Type 0
+Refuses out members lines refused =
+    Plays out members lines × (refused_after out members lines refused ≡ map (λ l. Some l.1) refused)
 
 -- ---- words for the lines
 
@@ -59,8 +81,8 @@ abbrev pub whole : List Component → List ℕ → NamedContents
 whole name content = record { name = name; contents = content ∷ [] }
 
 -- The three octets of `abc`, each a segment.
-abbrev pub pieces : NamedContents
-pieces = record { name = doc; contents = codes "a" ∷ codes "b" ∷ codes "c" ∷ [] }
+abbrev pub three_pieces : NamedContents
+three_pieces = record { name = doc; contents = codes "a" ∷ codes "b" ∷ codes "c" ∷ [] }
 
 abbrev pub entry : ℕ → ℕ → List Component → ℕ → ℕ → List ℕ → Entry
 entry publisher seq name segments octets content = record {
@@ -87,10 +109,10 @@ comes x later = (Claim 1 1, Claimed (part 0 1 x)) ∷ (Answer 1 1 0, Answered tr
 -- ---- publications, vectors and settles
 
 abbrev pub NothingHappens : Type 0
-NothingHappens = Plays plain 1 []
+NothingHappens = Plays plain_outside 1 []
 
 abbrev pub Settles : Type 0
-Settles = Plays plain 2 (
+Settles = Plays plain_outside 2 (
     (Publish 0 (whole doc abc), Published 1 1 1)
     ∷ (Settle, Settled 2 2)
     ∷ (Catalogue 0, Entries (entry 0 1 doc 1 3 abc ∷ []))
@@ -100,7 +122,7 @@ Settles = Plays plain 2 (
     )
 
 abbrev pub Delivers : Type 0
-Delivers = Plays plain 2 (
+Delivers = Plays plain_outside 2 (
     (Publish 0 (whole doc abc), Published 1 1 1)
     ∷ (Deliver 1 1, Delivered Steady)
     ∷ (Vector 1, Numbers (1 ∷ 0 ∷ []))
@@ -109,7 +131,7 @@ Delivers = Plays plain 2 (
     )
 
 abbrev pub OldRepeats : Type 0
-OldRepeats = Plays plain 2 (
+OldRepeats = Plays plain_outside 2 (
     (Publish 0 (whole (named_by (codes "a")) abc), Published 1 1 1)
     ∷ (Publish 0 (whole (named_by (codes "b")) abc), Published 2 1 2)
     ∷ (Deliver 2 1, Delivered Steady)
@@ -121,8 +143,8 @@ OldRepeats = Plays plain 2 (
     )
 
 abbrev pub PartByPart : Type 0
-PartByPart = Plays plain 2 (
-    (Publish 0 pieces, Published 1 3 1)
+PartByPart = Plays plain_outside 2 (
+    (Publish 0 three_pieces, Published 1 3 1)
     ∷ (Deliver 1 1, Delivered Steady)
     ∷ comes 0 (comes 1 (comes 2 (
     (Catalogue 1, Entries [])
@@ -131,7 +153,7 @@ PartByPart = Plays plain 2 (
     )
 
 abbrev pub SameObjectTwice : Type 0
-SameObjectTwice = Plays plain 2 (
+SameObjectTwice = Plays plain_outside 2 (
     (Publish 0 (whole doc abc), Published 1 1 1)
     ∷ (Publish 0 (whole doc abc), Published 2 1 2)
     ∷ (Settle, Settled 2 4)
@@ -144,7 +166,7 @@ SameObjectTwice = Plays plain 2 (
     )
 
 abbrev pub ThreeMembers : Type 0
-ThreeMembers = Plays plain 3 (
+ThreeMembers = Plays plain_outside 3 (
     (Publish 0 (whole doc abc), Published 1 1 1)
     ∷ (Publish 1 (whole doc (codes "hello")), Published 1 1 2)
     ∷ (Settle, Settled 3 8)
@@ -154,7 +176,7 @@ ThreeMembers = Plays plain 3 (
     )
 
 abbrev pub SegmentCounts : Type 0
-SegmentCounts = Plays plain 1 (
+SegmentCounts = Plays plain_outside 1 (
     (Publish 0 (record { name = doc; contents = [] }), Published 1 0 1)
     ∷ (Catalogue 0, Entries (entry 0 1 doc 0 0 [] ∷ []))
     ∷ (Publish 0 (whole doc (codes "abcd")), Published 2 1 2)
@@ -165,8 +187,8 @@ SegmentCounts = Plays plain 1 (
     )
 
 abbrev pub SettleEndsClaims : Type 0
-SettleEndsClaims = Plays plain 2 (
-    (Publish 0 pieces, Published 1 3 1)
+SettleEndsClaims = Plays plain_outside 2 (
+    (Publish 0 three_pieces, Published 1 3 1)
     ∷ (Deliver 1 1, Delivered Steady)
     ∷ comes 0 (comes 1 (
     (Claim 1 1, Claimed (part 0 1 2))
@@ -178,7 +200,7 @@ SettleEndsClaims = Plays plain 2 (
     )
 
 abbrev pub Timers : Type 0
-Timers = Plays plain 2 (
+Timers = Plays plain_outside 2 (
     (Fire 1, Early)
     ∷ (Publish 0 (whole doc abc), Published 1 1 1)
     ∷ (Publish 0 (whole doc abc), Published 2 1 2)
@@ -197,8 +219,8 @@ Timers = Plays plain 2 (
 -- ---- fetches
 
 abbrev pub Fetches : Type 0
-Fetches = Plays plain 2 (
-    (Publish 0 pieces, Published 1 3 1)
+Fetches = Plays plain_outside 2 (
+    (Publish 0 three_pieces, Published 1 3 1)
     ∷ (Deliver 1 1, Delivered Steady)
     ∷ (Fetch 1 16 0, Fetched 1 1 1)
     ∷ (Fetch 1 16 0, Fetched 3 3 3)
@@ -209,7 +231,7 @@ Fetches = Plays plain 2 (
 -- Attempts are counted from fetch to fetch.
 abbrev pub ThirdAttempts : Type 0
 ThirdAttempts = Plays third 2 (
-    (Publish 0 pieces, Published 1 3 1)
+    (Publish 0 three_pieces, Published 1 3 1)
     ∷ (Deliver 1 1, Delivered Steady)
     ∷ (Fetch 1 2 500, Fetched 1 0 2)
     ∷ (Fetch 1 16 500, Fetched 1 1 1)
@@ -221,7 +243,7 @@ ThirdAttempts = Plays third 2 (
 -- ---- what comes from outside
 
 abbrev pub FromOutside : Type 0
-FromOutside = Plays plain 2 (
+FromOutside = Plays plain_outside 2 (
     (Publish 0 (whole doc abc), Published 1 1 1)
     ∷ (Hear 1 None, HearRefused)
     ∷ (Hear 1 (Some (record { sender = 0; vector = 1 ∷ 5 ∷ [] })), OwnNumberAhead 0 5)
@@ -237,6 +259,79 @@ FromOutside = Plays plain 2 (
     ∷ []
     )
 
+-- ---- refusals
+
+-- No sync Interest has the number 0, or one that comes later.
+abbrev pub UnsentIsRefused : Type 0
+UnsentIsRefused = Refuses plain_outside 2
+    ((Publish 0 (whole doc abc), Published 1 1 1) ∷ (Deliver 1 1, Delivered Steady) ∷ [])
+    (
+    (Deliver 0 1, NoSuchPacket)
+    ∷ (Deliver 2 1, NoSuchPacket)
+    ∷ (Sync 2, NoSuchPacket)
+    ∷ []
+    )
+
+-- The second member's first fetcher claims the record.
+abbrev pub claimed : List (Event × Reply)
+claimed =
+    (Publish 0 (whole doc abc), Published 1 1 1)
+    ∷ (Deliver 1 1, Delivered Steady)
+    ∷ (Claim 1 1, Claimed (part 0 1 0))
+    ∷ []
+
+abbrev pub BusyIsRefused : Type 0
+BusyIsRefused = Refuses plain_outside 2 claimed ((Claim 1 1, FetcherBusy) ∷ [])
+
+abbrev pub IdleIsRefused : Type 0
+IdleIsRefused = Refuses plain_outside 2 claimed (
+    (Lose 1 2, FetcherIdle)
+    ∷ (Answer 1 2 0, FetcherIdle)
+    ∷ (Feed 1 2 (λ _ _. Its), FetcherIdle)
+    ∷ (Feed 1 2 (λ _ _. Another), FetcherIdle)
+    ∷ []
+    )
+
+-- Octets that pass and that nobody of the group made: a vector that nobody sent, though another sent it or the sender sent
+-- another; a packet that isn't the publisher's; and a command that this client didn't make for this member.
+abbrev pub HearIsForeign : Type 0
+HearIsForeign = Refuses plain_outside 2 claimed (
+    (Hear 1 (Some (record { sender = 1; vector = 1 ∷ 0 ∷ [] })), Foreign)
+    ∷ (Hear 1 (Some (record { sender = 0; vector = 2 ∷ 0 ∷ [] })), Foreign)
+    ∷ []
+    )
+
+abbrev pub FeedIsForeign : Type 0
+FeedIsForeign = Refuses plain_outside 2 claimed ((Feed 1 1 (λ _ _. Another), Foreign) ∷ [])
+
+-- Who is asked gives other packets.
+abbrev pub gives_others : Outside
+gives_others = record plain_outside { serves = λ _ _ _. Another }
+
+abbrev pub AnswerIsForeign : Type 0
+AnswerIsForeign = Refuses gives_others 2 claimed ((Answer 1 1 0, Foreign) ∷ [])
+
+abbrev pub OrderIsForeign : Type 0
+OrderIsForeign = Refuses plain_outside 2 ((Issue 0 0 (Check 1), Commanded (only 404)) ∷ []) (
+    (Order 0 (Ok (0, Check 2)), Foreign)
+    ∷ (Order 0 (Ok (1, Check 1)), Foreign)
+    ∷ (Order 1 (Ok (0, Check 1)), Foreign)
+    ∷ (Order 0 (Ok (0, Delete doc)), Foreign)
+    ∷ []
+    )
+
+-- A member that has published so many objects.
+abbrev pub after_so_many : ℕ → World
+after_so_many n = record (opening_world plain_outside 1) {
+  members = record no_member { log = replicate n no_object } ∷ [];
+}
+
+-- A member publishes under the number 65,535, and under none after it.
+abbrev pub SpentIsRefused : Type 0
+SpentIsRefused =
+    (refusal plain_outside (after_so_many 65534) (Publish 0 (whole doc abc)) ≡ None)
+    × (refusal plain_outside (after_so_many 65535) (Publish 0 (whole doc abc)) ≡ Some NumbersSpent)
+
 -- ---- restarts, deletions and insertions
 
 abbrev pub dropped : ℕ → Reply
@@ -249,8 +344,8 @@ abbrev pub started : ℕ → Reply
 started process = Commanded (record (only 100) { process = Some process })
 
 abbrev pub RestartKeepsNumbers : Type 0
-RestartKeepsNumbers = Plays plain 2 (
-    (Publish 0 pieces, Published 1 3 1)
+RestartKeepsNumbers = Plays plain_outside 2 (
+    (Publish 0 three_pieces, Published 1 3 1)
     ∷ (Deliver 1 1, Delivered Steady)
     ∷ comes 0 (
     (Restart 1, Restarted)
@@ -264,7 +359,7 @@ RestartKeepsNumbers = Plays plain 2 (
     )
 
 abbrev pub Insertion : Type 0
-Insertion = Plays plain 2 (
+Insertion = Plays plain_outside 2 (
     (Issue 0 0 (Insert doc 5 6), started 1)
     ∷ (Issue 0 0 (Check 1), inserted 300 0)
     ∷ (Block 0 1 5 (codes "ab"), BlockKept)
@@ -282,24 +377,25 @@ Insertion = Plays plain 2 (
     )
 
 abbrev pub Blocks : Type 0
-Blocks = Plays plain 1 (
+Blocks = Plays plain_outside 1 (
     (Order 0 (Err 401), Commanded (only 401))
-    ∷ (Order 0 (Ok (0, Insert doc 5 6)), started 1)
+    ∷ (Issue 0 0 (Insert doc 5 6), started 1)
+    ∷ (Order 0 (Ok (0, Insert doc 5 6)), started 2)
     ∷ (Block 0 1 6 (codes "c"), BlockKept)
     ∷ (Block 0 1 6 (codes "x"), BlockKept)
     ∷ (Block 0 1 7 (codes "x"), NoBlock)
-    ∷ (Block 0 2 5 (codes "x"), NoBlock)
+    ∷ (Block 0 3 5 (codes "x"), NoBlock)
     ∷ (Block 0 1 5 (codes "ab"), BlockPublished 1 1)
     ∷ (Block 0 1 5 (codes "x"), BlockLate)
     ∷ (Catalogue 0, Entries (entry 0 1 doc 2 3 abc ∷ []))
     ∷ (Restart 0, Restarted)
     ∷ (Block 0 1 5 (codes "x"), NoBlock)
-    ∷ (Issue 0 0 (Insert doc 0 0), started 2)
+    ∷ (Issue 0 0 (Insert doc 0 0), started 3)
     ∷ []
     )
 
 abbrev pub DeletedBefore : Type 0
-DeletedBefore = Plays plain 2 (
+DeletedBefore = Plays plain_outside 2 (
     (Publish 0 (whole doc abc), Published 1 1 1)
     ∷ (Issue 0 0 (Delete doc), dropped 2)
     ∷ (Settle, Settled 2 0)
@@ -312,7 +408,7 @@ DeletedBefore = Plays plain 2 (
 
 abbrev pub told_of_all : List (Event × Reply) → List (Event × Reply)
 told_of_all later =
-    (Publish 0 pieces, Published 1 3 1)
+    (Publish 0 three_pieces, Published 1 3 1)
     ∷ (Deliver 1 0, Delivered Steady)
     ∷ (Deliver 1 1, Delivered Steady)
     ∷ (Claim 1 1, Claimed (part 0 1 0))
@@ -321,7 +417,7 @@ told_of_all later =
     ∷ comes 0 (comes 1 (comes 2 (comes 3 later)))
 
 abbrev pub ToldOfAll : Type 0
-ToldOfAll = Plays plain 2 (told_of_all (
+ToldOfAll = Plays plain_outside 2 (told_of_all (
     (Catalogue 0, Entries (entry 0 1 doc 3 3 abc ∷ []))
     ∷ (Catalogue 1, Entries (entry 0 1 doc 3 3 abc ∷ []))
     ∷ (Claim 1 1, Claimed None)
@@ -330,4 +426,4 @@ ToldOfAll = Plays plain 2 (told_of_all (
 
 abbrev pub JoinOfThem : Type 0
 JoinOfThem =
-    join_of (logs (after_all plain (opening plain 2) (map (λ l. l.0) (told_of_all [])))) ≡ entry 0 1 doc 3 3 abc ∷ []
+    join_of (logs (after_events plain_outside (opening_world plain_outside 2) (map (λ l. l.0) (told_of_all [])))) ≡ entry 0 1 doc 3 3 abc ∷ []

@@ -20,7 +20,9 @@ pub mod Steps
 pub mod Examples
 pub mod Refusals
 pub mod Sound
+pub mod Reached
 pub mod Laws
+pub mod Settles
 pub mod Wanted
 pub mod Catalogues
 pub mod Lasting

@@ -3,22 +3,23 @@ use Rattle.std.specs.Prelude.{ℕ, ◌+◌, ◌*◌, ◌≤◌, ◌<◌, ◌≡�
 use Rattle.std.specs.Ordering.{nat_cmp}
 use Rattle.repo_plan.specs.declared.part.Part.{Part}
 use Rattle.repo_plan.specs.SortedList.{value_of}
-use Rattle.group_model.specs.Publications.{Logs, no_object, published}
+use Rattle.group_model.specs.Publications.{no_object, published, all_parts}
 use Rattle.group_model.specs.Processes.{Process, indexes}
 use Rattle.group_model.specs.Commands.{Command}
 use Rattle.group_model.specs.Commands.Command.{Insert}
-use Rattle.group_model.specs.Member.{Member, attempts_of}
+use Rattle.group_model.specs.Member.{Member, tries_of}
 use Rattle.group_model.specs.Events.{Event}
-use Rattle.group_model.specs.World.{Tally, World, Outside, member, logs, opening}
-use Rattle.group_model.specs.Steps.{after_all}
+use Rattle.group_model.specs.World.{Tally, World, Outside, member, logs, opening_world}
+use Rattle.group_model.specs.Steps.{after_gathering, after_event, after_events}
 use Rattle.group_model.specs.Refusals.{AreTaken}
+use Rattle.group_model.specs.Sound.{IsSoundGroup}
 
 -- ---- events within their ranges
 
 -- An insertion has at most 200 blocks.
-abbrev pub IsShort : Command → Type 0
-IsShort (Insert name first last) = last < first + 200
-IsShort _ = Unit {0}
+abbrev pub IsShortInsertion : Command → Type 0
+IsShortInsertion (Insert name first last) = last < first + 200
+IsShortInsertion _ = Unit {0}
 
 -- An object has at most 200 segments, the moment moves by at most 1,000,000,000 milliseconds, and a fetch tries each part
 -- 16 times at most.
@@ -26,8 +27,8 @@ abbrev pub IsInRange : Event → Type 0
 IsInRange (Event.Publish m o) = length o.contents ≤ 200
 IsInRange (Event.Advance ms) = ms ≤ 1000000000
 IsInRange (Event.Fetch m tries loss) = tries ≤ 16
-IsInRange (Event.Order m (Ok order)) = IsShort order.1
-IsInRange (Event.Issue m client command) = IsShort command
+IsInRange (Event.Order m (Ok order)) = IsShortInsertion order.1
+IsInRange (Event.Issue m client command) = IsShortInsertion command
 IsInRange _ = Unit {0}
 
 abbrev pub AreInRange : List Event → Type 0
@@ -39,7 +40,7 @@ AreInRange (e ∷ es) = IsInRange e × AreInRange es
 -- The draws that were used, the attempts of each part, and the blocks of an insertion.
 pub record IsMemberWithin (steps : ℕ) (m : Member) : Type 0 where
   pub draws : m.machine.draws ≤ steps + 1
-  pub tried : (t : Part) → attempts_of m.attempts t ≤ steps * 16
+  pub tried : (t : Part) → tries_of m.attempts t ≤ steps * 16
   pub blocks : (n : ℕ) (p : Process) → value_of nat_cmp m.processes n ≡ Some p → length (indexes p) ≤ 200
 
 pub record IsTallyWithin (steps : ℕ) (t : Tally) : Type 0 where
@@ -58,8 +59,45 @@ pub record IsWithin (steps : ℕ) (w : World) : Type 0 where
   pub members : (j : ℕ) → IsMemberWithin steps (member w j)
   pub tally : IsTallyWithin steps w.tally
 
--- So it is in every group of at most 16 members whose packets have at most 8,800 octets.
+-- ---- the laws
+
+-- The packets of its parts have at most 8,800 octets.
+abbrev pub HasSmallPackets : Outside → World → Type 0
+HasSmallPackets out w = (t : Part) → out.size (logs w) t ≤ 8800
+
+-- So it is before each event of a list.
+abbrev pub AreSmall : Outside → World → List Event → Type 0
+AreSmall out w [] = Unit {0}
+AreSmall out w (e ∷ es) = HasSmallPackets out w × AreSmall out (after_event out w e) es
+
+abbrev pub BeginsWithin : Type 0
+BeginsWithin = (out : Outside) (n : ℕ) → IsWithin 0 (opening_world out n)
+
+-- A group of at most 16 members that is within the counts of at most 100,000 events is within those of one more after
+-- an event.
+abbrev pub StaysWithin : Type 0
+StaysWithin = (out : Outside) (steps : ℕ) (w : World) (e : Event) → steps ≤ 100000 → length w.members ≤ 16
+    → HasSmallPackets out w → IsInRange e → IsWithin steps w → IsWithin (steps + 1) (after_event out w e)
+
+-- So it is after a settle but for the machines.
+abbrev pub GatheringStaysWithin : Type 0
+GatheringStaysWithin = (out : Outside) (steps : ℕ) (w : World) → steps ≤ 100000 → length w.members ≤ 16
+    → HasSmallPackets out w → IsWithin steps w → IsWithin (steps + 1) (after_gathering out w)
+
+-- The counts of more events are wider.
+abbrev pub MoreIsWithin : Type 0
+MoreIsWithin = (steps more : ℕ) (w : World) → steps ≤ more → IsWithin steps w → IsWithin more w
+
 abbrev pub RunsStayWithin : Type 0
-RunsStayWithin = (out : Outside) (n : ℕ) (es : List Event) → n ≤ 16 → length es ≤ 100000
-    → ((logs : Logs) (t : Part) → out.size logs t ≤ 8800)
-    → AreTaken out (opening out n) es → AreInRange es → IsWithin (length es) (after_all out (opening out n) es)
+RunsStayWithin = (out : Outside) (steps : ℕ) (w : World) (es : List Event) → IsSoundGroup w
+    → steps + length es ≤ 100000 → length w.members ≤ 16 → AreTaken out w es → AreInRange es → AreSmall out w es
+    → IsWithin steps w → IsWithin (steps + length es) (after_events out w es)
+
+abbrev pub ReachedRunsStayWithin : Type 0
+ReachedRunsStayWithin = (out : Outside) (n : ℕ) (es : List Event) → n ≤ 16 → length es ≤ 100000
+    → AreTaken out (opening_world out n) es → AreInRange es → AreSmall out (opening_world out n) es
+    → IsWithin (length es) (after_events out (opening_world out n) es)
+
+-- Within these counts there are at most 20,100,000 parts.
+abbrev pub PartsStayFew : Type 0
+PartsStayFew = (steps : ℕ) (w : World) → steps ≤ 100000 → IsWithin steps w → length (all_parts (logs w)) ≤ 20100000

@@ -1,5 +1,5 @@
 -- The suppression machines of a group's members, over the lists of vectors that they heard.
-use Rattle.std.specs.Prelude.{ℕ, ◌≡◌, ◌<◌, List, [], ◌∷◌, ◌++◌, Option, Some, None, ◌==◌, if◌then◌else◌}
+use Rattle.std.specs.Prelude.{ℕ, ◌≡◌, ◌<◌, List, [], ◌∷◌, ◌++◌, length, Option, Some, None, ◌==◌, if◌then◌else◌}
 use Rattle.svs_sync.specs.Suppression
 use Rattle.svs_sync.specs.Suppression.{periodic, fires}
 use Rattle.svs_sync.specs.Suppression.Event.{published, heard, fired, reset}
@@ -7,8 +7,8 @@ use Rattle.svs_sync.specs.KeptVector.{kept}
 use Rattle.group_model.specs.Processes.{BlockState}
 use Rattle.group_model.specs.Processes.BlockState.{Whole}
 use Rattle.group_model.specs.Events.{SyncInterest, Event}
-use Rattle.group_model.specs.World.{Outside, World, member, sent_at, opening}
-use Rattle.group_model.specs.Steps.{drawn, timer_at, tells_too_much, block_at, after, after_all}
+use Rattle.group_model.specs.World.{Outside, World, member, sent_at, opening_world}
+use Rattle.group_model.specs.Steps.{drawn, timer_at, tells_too_much, block_at, after_event, after_events}
 use Rattle.group_model.specs.Refusals.{AreTaken}
 
 -- What befalls the machine of member j where something befalls that of member i.
@@ -39,21 +39,29 @@ befalls out w j _ = []
 
 abbrev pub befall : Outside → World → ℕ → List Event → List Suppression.Event
 befall out w j [] = []
-befall out w j (e ∷ es) = befalls out w j e ++ befall out (after out w e) j es
+befall out w j (e ∷ es) = befalls out w j e ++ befall out (after_event out w e) j es
 
--- What the table of suppression makes of all that befell the machine of a member, from the opening on.
-abbrev pub table_of : Outside → ℕ → ℕ → List Event → Suppression.Member
-table_of out n j es =
-    Suppression.after_all (befall out (opening out n) j es)
-    (record { heard = None; deadline = periodic (out.draw j 0); draws = 1 })
+-- The machine of each member is what the table makes of all that befell it, with the join of the vectors heard for
+-- their list, and so is what its timer says.
+pub record FollowsTable (out : Outside) (w : World) (es : List Event) (n j : ℕ) (first : Suppression.Member) : Type 0 where
+  pub machine : (member (after_events out w es) j).machine ≡ kept n (Suppression.after_all (befall out w j es) first)
+  pub timer : let last = after_events out w es in
+      timer_at last j ≡ fires last.moment (member last j).known (Suppression.after_all (befall out w j es) first)
 
--- The machine of each member is what the table says, with the join of the vectors heard for their list, and so is
--- what its timer says.
-pub record FollowsTable (out : Outside) (n : ℕ) (es : List Event) (j : ℕ) : Type 0 where
-  pub machine : (member (after_all out (opening out n) es) j).machine ≡ kept n (table_of out n j es)
-  pub timer : let w = after_all out (opening out n) es in
-      timer_at w j ≡ fires w.moment (member w j).known (table_of out n j es)
+-- It goes on so from a machine that is as the table has it.
+abbrev pub MachinesFollowTable : Outside → World → Type 0
+MachinesFollowTable out w = (es : List Event) (n j : ℕ) (first : Suppression.Member) → AreTaken out w es
+    → j < length w.members → (member w j).machine ≡ kept n first → FollowsTable out w es n j first
 
-abbrev pub MachinesFollowTable : Type 0
-MachinesFollowTable = (out : Outside) (n : ℕ) (es : List Event) → AreTaken out (opening out n) es
-    → (j : ℕ) → j < n → FollowsTable out n es j
+-- A machine begins Steady, with the periodic deadline of its first draw.
+abbrev pub first_machine : Outside → ℕ → Suppression.Member
+first_machine out j = record { heard = None; deadline = periodic (out.draw j 0); draws = 1 }
+
+-- So it is as the table has it in every run from the beginning of a group.
+abbrev pub MachinesBegin : Type 0
+MachinesBegin = (out : Outside) (n j : ℕ) → j < n
+    → (member (opening_world out n) j).machine ≡ kept n (first_machine out j)
+
+abbrev pub ReachedMachinesFollowTable : Type 0
+ReachedMachinesFollowTable = (out : Outside) (n : ℕ) (es : List Event) (j : ℕ) → AreTaken out (opening_world out n) es
+    → j < n → FollowsTable out (opening_world out n) es n j (first_machine out j)

@@ -9,9 +9,9 @@ use Rattle.repo_plan.specs.Plan.{Holdings, no_claims, is_in}
 use Rattle.svs_sync.specs.KeptVector.{Keeper}
 use Rattle.repo_object.specs.Objects.{NamedContents}
 use Rattle.repo_catalog.specs.declared.entry.Entry.{Entry}
-use Rattle.group_model.specs.Publications.{Logs, Publication, count, pair_in, parts_in, published, entry_of}
+use Rattle.group_model.specs.Publications.{Logs, Publication, count, pair_in, parts_in, published, published_entry}
 use Rattle.group_model.specs.Processes.{Process}
-use Rattle.group_model.specs.Commands.{is_name}
+use Rattle.group_model.specs.Commands.{is_equal_name}
 
 pub record Member : Type 0 where
   pub log : List NamedContents  -- what it published, in order
@@ -24,11 +24,11 @@ pub record Member : Type 0 where
   pub processes : List (ℕ × Process)  -- insertion processes, by number
   pub next_process : ℕ
 
-abbrev pub holds : Member → Part → Bool
-holds m t = contains part_cmp m.held t
+abbrev pub member_holds : Member → Part → Bool
+member_holds m t = contains part_cmp m.held t
 
-abbrev pub hides : Member → Pair → Bool
-hides m pair = contains pair_cmp m.hidden pair
+abbrev pub member_hides : Member → Pair → Bool
+member_hides m pair = contains pair_cmp m.hidden pair
 
 -- ---- wanted parts
 
@@ -52,18 +52,18 @@ plan_of logs m = record {
 
 -- Every part of the publication is held.
 abbrev pub holds_all : Member → Publication → Bool
-holds_all m p = list_all (holds m) (parts_in p)
+holds_all m p = list_all (member_holds m) (parts_in p)
 
 -- The publications that are wholly held, in order.
 abbrev pub catalogued : Logs → Member → List Publication
 catalogued logs m = filter (holds_all m) (published logs)
 
 abbrev pub catalogue : Logs → Member → List Entry
-catalogue logs m = map entry_of (catalogued logs m)
+catalogue logs m = map published_entry (catalogued logs m)
 
 -- Those of one object name.
 abbrev pub named : Logs → Member → List Component → List Publication
-named logs m name = filter (λ p. is_name p.object.name name) (catalogued logs m)
+named logs m name = filter (λ p. is_equal_name p.object.name name) (catalogued logs m)
 
 -- ---- changes
 
@@ -76,27 +76,27 @@ abbrev pub gains : List Part → Member → Member
 gains ts m = record m { held = insert_keys ts m.held }
 
 -- A publication is hidden for good, and none of its parts is held.
-abbrev pub hides_too : Pair → Member → Member
-hides_too pair m = record m {
+abbrev pub member_hides_too : Pair → Member → Member
+member_hides_too pair m = record m {
   held = filter (λ t. not (is_in pair t)) m.held;
   hidden = insert_key pair_cmp pair m.hidden;
 }
 
-abbrev pub hides_all : List Publication → Member → Member
-hides_all [] m = m
-hides_all (p ∷ ps) m = hides_all ps (hides_too (pair_in p) m)
+abbrev pub member_hides_all : List Publication → Member → Member
+member_hides_all [] m = m
+member_hides_all (p ∷ ps) m = member_hides_all ps (member_hides_too (pair_in p) m)
 
 -- How often a part was tried, and so many attempts more.
-abbrev pub attempts_of : List (Part × ℕ) → Part → ℕ
-attempts_of tried t = unwrap_or (value_of part_cmp tried t) 0
+abbrev pub tries_of : List (Part × ℕ) → Part → ℕ
+tries_of tried t = unwrap_or (value_of part_cmp tried t) 0
 
-abbrev pub with_attempts : Part → ℕ → List (Part × ℕ) → List (Part × ℕ)
-with_attempts t n tried = if n == 0 then tried else with_value part_cmp t (attempts_of tried t + n) tried
+abbrev pub with_tries : Part → ℕ → List (Part × ℕ) → List (Part × ℕ)
+with_tries t n tried = if n == 0 then tried else with_value part_cmp t (tries_of tried t + n) tried
 
 abbrev pub with_each_tried : (Part → ℕ) → List Part → List (Part × ℕ) → List (Part × ℕ)
 with_each_tried more [] tried = tried
-with_each_tried more (t ∷ ts) tried = with_each_tried more ts (with_attempts t (more t) tried)
+with_each_tried more (t ∷ ts) tried = with_each_tried more ts (with_tries t (more t) tried)
 
 -- No fetcher claims a part.
-abbrev pub without_claims : Member → Member
-without_claims m = record m { claims = no_claims }
+abbrev pub member_without_claims : Member → Member
+member_without_claims m = record m { claims = no_claims }

@@ -64,8 +64,8 @@ all_parts logs = flat_map parts_in (published logs)
 -- ---- the catalogue
 
 -- What a catalogue tells of a publication. The digest is that of its contents joined.
-abbrev pub entry_of : Publication → Entry
-entry_of p = record {
+abbrev pub published_entry : Publication → Entry
+published_entry p = record {
   publisher = p.publisher;
   seq = p.seq;
   name = p.object.name;
@@ -76,4 +76,4 @@ entry_of p = record {
 
 -- The join of all: every publication, in order.
 abbrev pub join_of : Logs → List Entry
-join_of logs = map entry_of (published logs)
+join_of logs = map published_entry (published logs)

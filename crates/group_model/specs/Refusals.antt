@@ -9,7 +9,7 @@ use Rattle.group_model.specs.Commands.{Command, is_command}
 use Rattle.group_model.specs.Events.{SyncInterest, Came, Event}
 use Rattle.group_model.specs.Events.Came.{Another}
 use Rattle.group_model.specs.World.{World, Outside, member}
-use Rattle.group_model.specs.Steps.{claim_at, came_from, came_as, tells_too_much, block_at, after}
+use Rattle.group_model.specs.Steps.{claim_at, came_from, came_as, tells_too_much, block_at, after_event}
 
 pub data Refusal : Type 0 where
   NoSuchPacket : Refusal
@@ -18,13 +18,21 @@ pub data Refusal : Type 0 where
   Foreign : Refusal
   NumbersSpent : Refusal
 
+-- The number that a report has for a refusal; what is foreign ends a report without one.
+abbrev pub refusal_number : Refusal → Option ℕ
+refusal_number NoSuchPacket = Some 5
+refusal_number FetcherBusy = Some 6
+refusal_number FetcherIdle = Some 7
+refusal_number NumbersSpent = Some 8
+refusal_number Foreign = None
+
 -- ---- foreign octets
 
-abbrev pub was_sent : World → SyncInterest → Bool
-was_sent w sync = list_any (λ s. s.sender == sync.sender && bytes_eq s.vector sync.vector) w.sent
+abbrev pub has_sent : World → SyncInterest → Bool
+has_sent w sync = list_any (λ s. s.sender == sync.sender && bytes_eq s.vector sync.vector) w.sent
 
-abbrev pub was_issued : World → ℕ → ℕ × Command → Bool
-was_issued w j order = list_any (λ i. i.member == j && (i.client == order.0 && is_command i.command order.1)) w.issued
+abbrev pub has_issued : World → ℕ → ℕ × Command → Bool
+has_issued w j order = list_any (λ i. i.member == j && (i.client == order.0 && is_command i.command order.1)) w.issued
 
 -- ---- what refuses an event
 
@@ -52,10 +60,10 @@ if_idle_or_foreign (Some t) _ = None
 -- A vector that tells too much of the member itself is told of before.
 abbrev pub if_unsent : World → ℕ → Option SyncInterest → Option Refusal
 if_unsent w j None = None
-if_unsent w j (Some sync) = if tells_too_much w j sync then None else unless (was_sent w sync) Refusal.Foreign
+if_unsent w j (Some sync) = if tells_too_much w j sync then None else unless (has_sent w sync) Refusal.Foreign
 
 abbrev pub if_unissued : World → ℕ → Result (ℕ × Command) ℕ → Option Refusal
-if_unissued w j (Ok order) = unless (was_issued w j order) Refusal.Foreign
+if_unissued w j (Ok order) = unless (has_issued w j order) Refusal.Foreign
 if_unissued w j (Err code) = None
 
 -- A member has at most 65,535 publications.
@@ -117,4 +125,4 @@ pub record IsTaken (out : Outside) (w : World) (e : Event) : Type 0 where
 -- Each event of a list is taken when its turn comes.
 abbrev pub AreTaken : Outside → World → List Event → Type 0
 AreTaken out w [] = Unit {0}
-AreTaken out w (e ∷ es) = IsTaken out w e × AreTaken out (after out w e) es
+AreTaken out w (e ∷ es) = IsTaken out w e × AreTaken out (after_event out w e) es

@@ -5,13 +5,18 @@ use Rattle.repo_plan.specs.SortedList.{contains, keys, value_of, Rises}
 use Rattle.repo_plan.specs.Parts.{Pair, pair_cmp, part_cmp, pair_of, part_of, record_of}
 use Rattle.repo_plan.specs.Plan.{is_wanted}
 use Rattle.group_model.specs.Publications.{Logs, last_of, count}
-use Rattle.group_model.specs.Member.{Member, holds, hides, plan_of}
+use Rattle.group_model.specs.Member.{Member, member_holds, member_hides, plan_of}
 use Rattle.group_model.specs.World.{World, no_sync, member, logs}
 
 -- There is such a publication.
 pub record IsPublished (logs : Logs) (pair : Pair) : Type 0 where
   pub from_one : 1 ≤ pair.1
   pub to_last : pair.1 ≤ last_of logs pair.0
+
+-- There is such a part: it is the record or a segment of a publication that there is.
+pub record IsPublishedPart (logs : Logs) (t : Part) : Type 0 where
+  pub there : IsPublished logs (pair_of t)
+  pub counted : t.part ≤ count logs (pair_of t)
 
 -- A vector tells of the publication.
 pub record IsKnown (known : List ℕ) (pair : Pair) : Type 0 where
@@ -33,40 +38,40 @@ HeardTruly logs None = Unit {0}
 HeardTruly logs (Some heard) = IsTrueVector logs heard
 
 -- The lists are in order, each thing once, and no attempts are counted as 0.
-pub record IsInOrder (m : Member) : Type 0 where
+pub record IsMemberInOrder (m : Member) : Type 0 where
   pub held : Rises part_cmp m.held
   pub hidden : Rises pair_cmp m.hidden
   pub attempts : Rises part_cmp (keys m.attempts)
   pub tried : (t : Part) (n : ℕ) → value_of part_cmp m.attempts t ≡ Some n → 0 < n
 
 -- A held part is one of a known publication, whose record is held too.
-pub record IsHeldRightly (logs : Logs) (vector : List ℕ) (held : List Part) (t : Part) : Type 0 where
+pub record IsHeldSoundly (logs : Logs) (vector : List ℕ) (held : List Part) (t : Part) : Type 0 where
   pub known : IsKnown vector (pair_of t)
   pub counted : t.part ≤ count logs (pair_of t)
   pub with_record : contains part_cmp held (record_of t) ≡ true
 
 -- A hidden publication is known, and no part of it is held.
-pub record IsHiddenRightly (m : Member) (pair : Pair) : Type 0 where
+pub record IsHiddenSoundly (m : Member) (pair : Pair) : Type 0 where
   pub known : IsKnown m.known pair
-  pub none_held : (x : ℕ) → holds m (part_of pair x) ≡ false
+  pub none_held : (x : ℕ) → member_holds m (part_of pair x) ≡ false
 
 -- A member, of this number. Its own publications are hidden or wholly held; a claimed part is wanted; and two fetchers
 -- claim different parts.
-pub record SoundMember (logs : Logs) (j : ℕ) (m : Member) : Type 0 where
+pub record IsSoundMember (logs : Logs) (j : ℕ) (m : Member) : Type 0 where
   pub width : length m.known ≡ length logs
   pub fetchers : length m.claims ≡ 16
-  pub in_order : IsInOrder m
+  pub in_order : IsMemberInOrder m
   pub known : TellsNoMore logs m.known
   pub own : slice_index m.known j ≡ last_of logs j
   pub heard : HeardTruly logs m.machine.heard
-  pub held : (t : Part) → holds m t ≡ true → IsHeldRightly logs m.known m.held t
-  pub hidden : (pair : Pair) → hides m pair ≡ true → IsHiddenRightly m pair
+  pub held : (t : Part) → member_holds m t ≡ true → IsHeldSoundly logs m.known m.held t
+  pub hidden : (pair : Pair) → member_hides m pair ≡ true → IsHiddenSoundly m pair
   pub own_held : (s : ℕ) → IsPublished logs (j, s)
-      → (hides m (j, s) ≡ true) ⊎ ((x : ℕ) → x ≤ count logs (j, s) → holds m (part_of (j, s) x) ≡ true)
+      → (member_hides m (j, s) ≡ true) ⊎ ((x : ℕ) → x ≤ count logs (j, s) → member_holds m (part_of (j, s) x) ≡ true)
   pub claimed : (f : ℕ) (t : Part) → slice_index_or m.claims f None ≡ Some t → is_wanted (plan_of logs m) t ≡ true
   pub apart : (f g : ℕ) (t : Part) → slice_index_or m.claims f None ≡ Some t → slice_index_or m.claims g None ≡ Some t
       → f ≡ g
 
-pub record Sound (w : World) : Type 0 where
-  pub members : (j : ℕ) → j < length w.members → SoundMember (logs w) j (member w j)
+pub record IsSoundGroup (w : World) : Type 0 where
+  pub members : (j : ℕ) → j < length w.members → IsSoundMember (logs w) j (member w j)
   pub sent : (k : ℕ) → k < length w.sent → IsTrueVector (logs w) (slice_index_or w.sent k no_sync).vector

@@ -18,8 +18,8 @@ use Rattle.group_model.specs.Processes.{Process, BlockState, present, object_of,
 use Rattle.group_model.specs.Processes.BlockState.{Unknown, Already, Waiting, Whole}
 use Rattle.group_model.specs.Commands.{Command, Answer, only}
 use Rattle.group_model.specs.Commands.Command.{Insert, Check, Delete}
-use Rattle.group_model.specs.Member.{Member, holds, hides, plan_of, named, gains, hides_all, attempts_of, with_each_tried, without_claims}
-use Rattle.group_model.specs.Changes.{resets, publishes, learns, restarts, with_claim, takes, with_process, starts}
+use Rattle.group_model.specs.Member.{Member, member_holds, member_hides, plan_of, named, gains, member_hides_all, tries_of, with_each_tried, member_without_claims}
+use Rattle.group_model.specs.Changes.{resets, publishes, learns, restarts, member_with_claim, takes, with_process, starts}
 use Rattle.group_model.specs.Events.{SyncInterest, Came, Event}
 use Rattle.group_model.specs.Events.Came.{Nothing, Its, Another}
 use Rattle.group_model.specs.Replies.{Totals, Reply}
@@ -40,7 +40,7 @@ to_claim w j = first (open_at w j)
 
 abbrev pub after_claim : World → ℕ → ℕ → Option Part → World
 after_claim w j f None = w
-after_claim w j f (Some t) = with_member w j (with_claim f (Some t) (member w j))
+after_claim w j f (Some t) = with_member w j (member_with_claim f (Some t) (member w j))
 
 -- ---- sync
 
@@ -98,14 +98,18 @@ settled_vector w = join_all (map (λ m. m.known) w.members)
 abbrev pub comes_to : World → Member → Part → Bool
 comes_to w m t =
     nat_le t.seq (slice_index (settled_vector w) t.publisher)
-    && (not (hides m (pair_of t))
-    && (someone_holds w.members t && (someone_holds w.members (record_of t) && not (holds m t))))
+    && (not (member_hides m (pair_of t))
+    && (someone_holds w.members t && (someone_holds w.members (record_of t) && not (member_holds m t))))
 
 abbrev pub new_parts : World → Member → List Part
 new_parts w m = filter (comes_to w m) (all_parts (logs w))
 
 abbrev pub settle_gains : World → ℕ
 settle_gains w = sum_by (λ m. length (new_parts w m)) w.members
+
+-- What it makes of a member, but for its machine: the member knows what all know, its claims end, and the new parts come.
+abbrev pub settled_member : World → Member → Member
+settled_member w m = record (gains (new_parts w m) (member_without_claims m)) { known = settled_vector w }
 
 -- The sync Interests of the members from a member on.
 abbrev pub syncs_of : ℕ → List Member → List SyncInterest
@@ -114,8 +118,8 @@ syncs_of j (m ∷ ms) = record { sender = j; vector = m.known } ∷ syncs_of (j 
 
 -- ---- a fetch
 
-abbrev pub planned : World → ℕ → List Part
-planned w j = take 4096 (open_at w j)
+abbrev pub planned_parts : World → ℕ → List Part
+planned_parts w j = take 4096 (open_at w j)
 
 abbrev pub others_of : World → ℕ → List Member
 others_of w j = slice_set w.members j no_member
@@ -124,22 +128,22 @@ others_of w j = slice_set w.members j no_member
 abbrev pub attempt : Outside → World → (j tries loss : ℕ) → Part → Option ℕ
 attempt out w j tries loss t =
     if someone_holds (others_of w j) t
-    then find (λ a. out.passes j t (attempts_of (member w j).attempts t + a) loss) (numbers_from 1 tries)
+    then find (λ a. out.passes j t (tries_of (member w j).attempts t + a) loss) (numbers_from 1 tries)
     else None
 
-abbrev pub fetched : Outside → World → (j tries loss : ℕ) → List Part
-fetched out w j tries loss = filter (λ t. is_some (attempt out w j tries loss t)) (planned w j)
+abbrev pub fetched_parts : Outside → World → (j tries loss : ℕ) → List Part
+fetched_parts out w j tries loss = filter (λ t. is_some (attempt out w j tries loss t)) (planned_parts w j)
 
 -- How many attempts a part takes.
 abbrev pub attempts_for : Outside → World → (j tries loss : ℕ) → Part → ℕ
 attempts_for out w j tries loss t = unwrap_or (attempt out w j tries loss t) tries
 
 abbrev pub attempts_made : Outside → World → (j tries loss : ℕ) → ℕ
-attempts_made out w j tries loss = sum_by (attempts_for out w j tries loss) (planned w j)
+attempts_made out w j tries loss = sum_by (attempts_for out w j tries loss) (planned_parts w j)
 
 abbrev pub fetches : Outside → World → (j tries loss : ℕ) → Member → Member
-fetches out w j tries loss m = record (gains (fetched out w j tries loss) m) {
-  attempts = with_each_tried (attempts_for out w j tries loss) (planned w j) m.attempts;
+fetches out w j tries loss m = record (gains (fetched_parts out w j tries loss) m) {
+  attempts = with_each_tried (attempts_for out w j tries loss) (planned_parts w j) m.attempts;
 }
 
 -- ---- commands
@@ -153,7 +157,7 @@ after_command w j (Insert name first last) =
     if can_start (member w j) then with_member w j (starts name first last (member w j)) else w
 after_command w j (Check process) = w
 after_command w j (Delete name) =
-    with_member w j (hides_all (named (logs w) (member w j) name) (member w j))
+    with_member w j (member_hides_all (named (logs w) (member w j) name) (member w j))
 
 -- How many packets a deletion drops.
 abbrev pub dropped : World → ℕ → Command → ℕ
@@ -229,17 +233,10 @@ module _ (out : Outside) where
   abbrev pub after_restart : World → ℕ → World
   after_restart w j = with_member w j (restarts (drawn w j) w.moment (member w j))
 
-  abbrev pub settles : World → ℕ → Member → Member
-  settles w j m = resets (out.draw j m.machine.draws) w.moment
-      (record (gains (new_parts w m) (without_claims m)) { known = settled_vector w })
-
-  abbrev pub settle_each : World → ℕ → List Member → List Member
-  settle_each w j [] = []
-  settle_each w j (m ∷ ms) = settles w j m ∷ settle_each w (j + 1) ms
-
-  abbrev pub after_settle : World → World
-  after_settle w = record w {
-    members = settle_each w 0 w.members;
+  -- A settle, but for the machines.
+  abbrev pub after_gathering : World → World
+  after_gathering w = record w {
+    members = map (settled_member w) w.members;
     sent = w.sent ++ syncs_of 0 w.members;
     tally = record w.tally {
       delivered = w.tally.delivered + length w.members * (length w.members - 1);
@@ -248,44 +245,55 @@ module _ (out : Outside) where
     };
   }
 
+  -- The machines of the members from a member on are reset, each with its next draw.
+  abbrev pub reset_each : (moment j : ℕ) → List Member → List Member
+  reset_each moment j [] = []
+  reset_each moment j (m ∷ ms) = resets (out.draw j m.machine.draws) moment m ∷ reset_each moment (j + 1) ms
+
+  abbrev pub after_resets : World → World
+  after_resets w = record w { members = reset_each w.moment 0 w.members }
+
+  abbrev pub after_settle : World → World
+  after_settle w = after_resets (after_gathering w)
+
   abbrev pub after_fetch : World → (j tries loss : ℕ) → World
   after_fetch w j tries loss = record (with_member w j (fetches out w j tries loss (member w j))) {
     tally = record w.tally {
       attempts = w.tally.attempts + attempts_made out w j tries loss;
-      parts = w.tally.parts + length (fetched out w j tries loss);
-      octets = w.tally.octets + sum_by (out.size (logs w)) (fetched out w j tries loss);
+      parts = w.tally.parts + length (fetched_parts out w j tries loss);
+      octets = w.tally.octets + sum_by (out.size (logs w)) (fetched_parts out w j tries loss);
     };
   }
 
   -- ---- any event
 
-  abbrev pub after : World → Event → World
-  after w (Event.Publish j o) = after_publish w j o
-  after w (Event.Deliver k j) = after_deliver w j (sent_at w k).vector
-  after w (Event.Sync k) = w
-  after w (Event.Advance ms) = record w { moment = w.moment + ms }
-  after w (Event.Fire j) = after_fire w j (timer_at w j)
-  after w (Event.Restart j) = after_restart w j
-  after w (Event.Vector j) = w
-  after w (Event.Catalogue j) = w
-  after w (Event.Claim j f) = after_claim w j f (to_claim w j)
-  after w (Event.Lose j f) = with_member w j (with_claim f None (member w j))
-  after w (Event.Answer j f q) = after_came out (tried_once w) j f (claim_at w j f) (came_from out w q (claim_at w j f))
-  after w (Event.Fetch j tries loss) = after_fetch w j tries loss
-  after w Event.Settle = after_settle w
-  after w (Event.Dump j t) = w
-  after w (Event.Hear j read) = after_hear w j read
-  after w (Event.Ask j find) = w
-  after w (Event.Feed j f read) = after_came out w j f (claim_at w j f) (came_as w read (claim_at w j f))
-  after w (Event.Order j read) = after_order w j read
-  after w (Event.Issue j client command) = after_issue w j client command
-  after w (Event.Block j process index content) = after_block w j process (block_at w j process index content)
-  after w Event.Summary = w
-  after w Event.Traffic = w
+  abbrev pub after_event : World → Event → World
+  after_event w (Event.Publish j o) = after_publish w j o
+  after_event w (Event.Deliver k j) = after_deliver w j (sent_at w k).vector
+  after_event w (Event.Sync k) = w
+  after_event w (Event.Advance ms) = record w { moment = w.moment + ms }
+  after_event w (Event.Fire j) = after_fire w j (timer_at w j)
+  after_event w (Event.Restart j) = after_restart w j
+  after_event w (Event.Vector j) = w
+  after_event w (Event.Catalogue j) = w
+  after_event w (Event.Claim j f) = after_claim w j f (to_claim w j)
+  after_event w (Event.Lose j f) = with_member w j (member_with_claim f None (member w j))
+  after_event w (Event.Answer j f q) = after_came out (tried_once w) j f (claim_at w j f) (came_from out w q (claim_at w j f))
+  after_event w (Event.Fetch j tries loss) = after_fetch w j tries loss
+  after_event w Event.Settle = after_settle w
+  after_event w (Event.Dump j t) = w
+  after_event w (Event.Hear j read) = after_hear w j read
+  after_event w (Event.Ask j find) = w
+  after_event w (Event.Feed j f read) = after_came out w j f (claim_at w j f) (came_as w read (claim_at w j f))
+  after_event w (Event.Order j read) = after_order w j read
+  after_event w (Event.Issue j client command) = after_issue w j client command
+  after_event w (Event.Block j process index content) = after_block w j process (block_at w j process index content)
+  after_event w Event.Summary = w
+  after_event w Event.Traffic = w
 
-  abbrev pub after_all : World → List Event → World
-  after_all w [] = w
-  after_all w (e ∷ es) = after_all (after w e) es
+  abbrev pub after_events : World → List Event → World
+  after_events w [] = w
+  after_events w (e ∷ es) = after_events (after_event w e) es
 
 -- ---- replies
 
@@ -299,8 +307,8 @@ totals_of entries = record {
   octets = sum_by (λ e. e.octets) entries;
 }
 
-abbrev pub next_seq : World → ℕ → ℕ
-next_seq w j = length (member w j).log + 1
+abbrev pub next_seq_at : World → ℕ → ℕ
+next_seq_at w j = length (member w j).log + 1
 
 -- The number of the next sync Interest.
 abbrev pub next_sync : World → ℕ
@@ -321,10 +329,10 @@ abbrev pub block_reply : World → ℕ → BlockState → Reply
 block_reply w j Unknown = Reply.NoBlock
 block_reply w j Already = Reply.BlockLate
 block_reply w j (Waiting p) = Reply.BlockKept
-block_reply w j (Whole p) = Reply.BlockPublished (next_seq w j) (next_sync w)
+block_reply w j (Whole p) = Reply.BlockPublished (next_seq_at w j) (next_sync w)
 
 abbrev pub reply_to : Outside → World → Event → Reply
-reply_to out w (Event.Publish j o) = Reply.Published (next_seq w j) (length o.contents) (next_sync w)
+reply_to out w (Event.Publish j o) = Reply.Published (next_seq_at w j) (length o.contents) (next_sync w)
 reply_to out w (Event.Deliver k j) = Reply.Delivered (mode_at (after_deliver out w j (sent_at w k).vector) j)
 reply_to out w (Event.Sync k) = Reply.Synced (sent_at w k)
 reply_to out w (Event.Advance ms) = Reply.Advanced (w.moment + ms)
@@ -336,9 +344,9 @@ reply_to out w (Event.Claim j f) = Reply.Claimed (to_claim w j)
 reply_to out w (Event.Lose j f) = Reply.Lost (claim_at w j f)
 reply_to out w (Event.Answer j f q) = Reply.Answered (passes_checks (came_from out w q (claim_at w j f)))
 reply_to out w (Event.Fetch j tries loss) =
-    Reply.Fetched (length (planned w j)) (length (fetched out w j tries loss)) (attempts_made out w j tries loss)
+    Reply.Fetched (length (planned_parts w j)) (length (fetched_parts out w j tries loss)) (attempts_made out w j tries loss)
 reply_to out w Event.Settle = Reply.Settled (length w.members) (settle_gains w)
-reply_to out w (Event.Dump j t) = Reply.Dumped (if holds (member w j) t then Some t else None)
+reply_to out w (Event.Dump j t) = Reply.Dumped (if member_holds (member w j) t then Some t else None)
 reply_to out w (Event.Hear j read) = hear_reply out w j read
 reply_to out w (Event.Ask j find) = Reply.Asked (find (logs w) (member w j).held)
 reply_to out w (Event.Feed j f read) = Reply.Fed (passes_checks (came_as w read (claim_at w j f)))
@@ -352,4 +360,4 @@ reply_to out w Event.Traffic =
 
 abbrev pub replies : Outside → World → List Event → List Reply
 replies out w [] = []
-replies out w (e ∷ es) = reply_to out w e ∷ replies out (after out w e) es
+replies out w (e ∷ es) = reply_to out w e ∷ replies out (after_event out w e) es

@@ -4,9 +4,9 @@ use Rattle.std.specs.declared.cmp.Ordering.TheVariants.{Less}
 use Rattle.repo_plan.specs.declared.part.Part.{Part}
 use Rattle.repo_plan.specs.SortedList.{contains}
 use Rattle.repo_plan.specs.Parts.{part_cmp, pair_of, record_of}
-use Rattle.repo_plan.specs.Plan.{is_claimed, wanted}
+use Rattle.repo_plan.specs.Plan.{is_wanted, is_claimed, wanted}
 use Rattle.group_model.specs.Publications.{Logs, count}
-use Rattle.group_model.specs.Member.{Member, holds, hides, plan_of}
+use Rattle.group_model.specs.Member.{Member, member_holds, member_hides, plan_of}
 use Rattle.group_model.specs.World.{World, member, logs}
 use Rattle.group_model.specs.Steps.{to_claim}
 use Rattle.group_model.specs.Sound.{IsKnown}
@@ -15,19 +15,23 @@ use Rattle.group_model.specs.Sound.{IsKnown}
 pub record IsSegmentOfHeld (logs : Logs) (m : Member) (t : Part) : Type 0 where
   pub from_one : 1 ≤ t.part
   pub counted : t.part ≤ count logs (pair_of t)
-  pub with_record : holds m (record_of t) ≡ true
+  pub with_record : member_holds m (record_of t) ≡ true
 
 -- A record, or such a segment, of a known publication that isn't hidden, and that isn't held.
 pub record IsWantedPart (logs : Logs) (m : Member) (t : Part) : Type 0 where
   pub known : IsKnown m.known (pair_of t)
   pub part : (t.part ≡ 0) ⊎ IsSegmentOfHeld logs m t
-  pub not_held : holds m t ≡ false
-  pub not_hidden : hides m (pair_of t) ≡ false
+  pub not_held : member_holds m t ≡ false
+  pub not_hidden : member_hides m (pair_of t) ≡ false
 
 -- The wanted parts are those.
 abbrev pub WantsThose : Type 0
 WantsThose = (logs : Logs) (m : Member) (t : Part)
     → (contains part_cmp (wanted (plan_of logs m)) t ≡ true) ↔ IsWantedPart logs m t
+
+-- So does the plan's test say, part by part.
+abbrev pub TestsThose : Type 0
+TestsThose = (logs : Logs) (m : Member) (t : Part) → (is_wanted (plan_of logs m) t ≡ true) ↔ IsWantedPart logs m t
 
 -- What a fetcher claims is wanted, no fetcher claims it yet, and every other such part comes later.
 pub record IsFirstOpen (logs : Logs) (m : Member) (t : Part) : Type 0 where

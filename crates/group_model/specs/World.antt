@@ -8,7 +8,7 @@ use Rattle.svs_sync.specs.Suppression.{periodic}
 use Rattle.repo_catalog.specs.declared.entry.Entry.{Entry}
 use Rattle.group_model.specs.Publications.{Logs}
 use Rattle.group_model.specs.Commands.{Command}
-use Rattle.group_model.specs.Member.{Member, holds, catalogue}
+use Rattle.group_model.specs.Member.{Member, member_holds, catalogue}
 use Rattle.group_model.specs.Events.{SyncInterest, Came}
 
 -- What is counted: syncs that came, attempts that fetchers made, parts that came to be held but for one's own, and the
@@ -78,11 +78,11 @@ abbrev pub catalogue_at : World → ℕ → List Entry
 catalogue_at w j = catalogue (logs w) (member w j)
 
 abbrev pub someone_holds : List Member → Part → Bool
-someone_holds members t = list_any (λ m. holds m t) members
+someone_holds members t = list_any (λ m. member_holds m t) members
 
 -- A group of so many members, before anything has happened.
-abbrev pub opening : Outside → ℕ → World
-opening out n = record {
+abbrev pub opening_world : Outside → ℕ → World
+opening_world out n = record {
   members = map
       (λ j. record no_member {
         known = replicate n 0;

@@ -1,6 +1,7 @@
 ghost use Rattle.group_model.specs.Examples.{Settles, NothingHappens, Delivers, OldRepeats, PartByPart, SameObjectTwice, ThreeMembers, SegmentCounts, SettleEndsClaims, Timers, Fetches, ThirdAttempts, FromOutside, RestartKeepsNumbers, Insertion, Blocks, DeletedBefore, ToldOfAll, JoinOfThem};
+ghost use Rattle.group_model.specs.Examples.{UnsentIsRefused, BusyIsRefused, IdleIsRefused, HearIsForeign, FeedIsForeign, AnswerIsForeign, OrderIsForeign, SpentIsRefused};
 
-/// What small groups reply, event by event, computed from the definitions.
+/// What small groups reply to events that they take, event by event, computed from the definitions.
 pub fn groups_reply_so()
     ensures settles { Settles }
     ensures nothing { NothingHappens }
@@ -21,4 +22,16 @@ pub fn groups_reply_so()
     ensures deleted_before { DeletedBefore }
     ensures told_of_all { ToldOfAll }
     ensures join_of_them { JoinOfThem }
+{}
+
+/// Which events small groups refuse, computed from the definitions.
+pub fn groups_refuse_so()
+    ensures unsent { UnsentIsRefused }
+    ensures busy { BusyIsRefused }
+    ensures idle { IdleIsRefused }
+    ensures hear { HearIsForeign }
+    ensures feed { FeedIsForeign }
+    ensures answer { AnswerIsForeign }
+    ensures order { OrderIsForeign }
+    ensures spent { SpentIsRefused }
 {}

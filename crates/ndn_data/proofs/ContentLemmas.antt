@@ -7,6 +7,7 @@ use Rattle.ndn_tlv.specs.declared.order_table.FieldFault.{FieldFault}
 use Rattle.ndn_tlv.specs.Listing.{gather, ◌>>=◌}
 use Rattle.ndn_tlv.specs.Elements.{Item, elements, AreWithin}
 use Rattle.ndn_tlv.specs.OrderTable.{fields}
+use Rattle.ndn_tlv.proofs.Steps.{bind_ok, ok_is}
 use Rattle.ndn_tlv.proofs.Fields.{AreWithin-ends, fields_within}
 use Rattle.ndn_tlv.proofs.Listings.{elements_within_octets}
 use Rattle.ndn_name.specs.declared.fault.PacketFault.{PacketFault}
@@ -25,26 +26,19 @@ use Rattle.ndn_data.specs.Data.{data_table, Data, DataSoFar, no_field, with_data
 err_is_ok : {A E : Type 0} (e : E) (y : A) → let r : Result A E = Err e in r ≡ Ok y → ⊥
 err_is_ok e y h = cc
 
-ok_same : {A E : Type 0} (x y : A) → (let r : Result A E = Ok x in r) ≡ Ok y → x ≡ y
-ok_same x y h = cc
-
-bind_ok : {A B E : Type 0} (r : Result A E) (f : A → Result B E) (y : B) → (r >>= f) ≡ Ok y → (x : A) × (r ≡ Ok x) × (f x ≡ Ok y)
-bind_ok (Ok x) f y h = (x, refl, h)
-bind_ok (Err e) f y h = absurd (err_is_ok e y h)
-
 -- each field leaves the content, or is it
 content_step : (octets : List ℕ) (s t : DataSoFar) (x : DataField × Item) → with_data_field octets s x ≡ Ok t → (t.content ≡ s.content) ⊎ (t.content ≡ x.1.value)
 content_step octets s t (data_field.Name, e) h =
     let at = bind_ok (name_in (BadField field.Name e.start) e) (λ name. Ok (record s { name = Some (e.start, name) })) t h in
-    inl (ap (λ (u : DataSoFar). u.content) (sym (ok_same (record s { name = Some (e.start, at.0) }) t at.2)))
+    inl (ap (λ (u : DataSoFar). u.content) (sym (ok_is (record s { name = Some (e.start, at.0) }) t at.2)))
 content_step octets s t (data_field.MetaInfo, e) h =
     let at = bind_ok (meta_in e) (λ m. Ok (record s { meta = m })) t h in
-    inl (ap (λ (u : DataSoFar). u.content) (sym (ok_same (record s { meta = at.0 }) t at.2)))
-content_step octets s t (data_field.Content, e) h = inr (ap (λ (u : DataSoFar). u.content) (sym (ok_same (record s { content = e.value }) t h)))
+    inl (ap (λ (u : DataSoFar). u.content) (sym (ok_is (record s { meta = at.0 }) t at.2)))
+content_step octets s t (data_field.Content, e) h = inr (ap (λ (u : DataSoFar). u.content) (sym (ok_is (record s { content = e.value }) t h)))
 content_step octets s t (data_field.SignatureInfo, e) h =
     let at = bind_ok (info_in e) (λ i. Ok (record s { info = Some i })) t h in
-    inl (ap (λ (u : DataSoFar). u.content) (sym (ok_same (record s { info = Some at.0 }) t at.2)))
-content_step octets s t (data_field.SignatureValue, e) h = inl (ap (λ (u : DataSoFar). u.content) (sym (ok_same _ t h)))
+    inl (ap (λ (u : DataSoFar). u.content) (sym (ok_is (record s { info = Some at.0 }) t at.2)))
+content_step octets s t (data_field.SignatureValue, e) h = inl (ap (λ (u : DataSoFar). u.content) (sym (ok_is _ t h)))
 
 value_fits : (n low high : ℕ) (e : Item) (es : List Item) → high ≤ low + n → AreWithin low high (e ∷ es) → length e.value ≤ n
 value_fits n low high e es h w = omega (arith, w.0, w.1, w.2, AreWithin-ends e.end high es w.3)
@@ -53,7 +47,7 @@ content_fits : (octets : List ℕ) (n low high : ℕ) (items : List (DataField �
     → AreWithin low high (map (λ x. x.1) items) → high ≤ low + n → length s.content ≤ n
     → gather (with_data_field octets) packet_fault s items fault ≡ Ok t → length t.content ≤ n
 unfolding gather
-content_fits octets n low high [] None s t w h fits read = subst (λ (u : DataSoFar). length u.content ≤ n) (ok_same s t read) fits
+content_fits octets n low high [] None s t w h fits read = subst (λ (u : DataSoFar). length u.content ≤ n) (ok_is s t read) fits
 content_fits octets n low high [] (Some f) s t w h fits read = absurd (err_is_ok (packet_fault f) t read)
 content_fits octets n low high (x ∷ items) fault s t w h fits read =
     let at = bind_ok (with_data_field octets s x) (λ u. gather (with_data_field octets) packet_fault u items fault) t read in
@@ -69,13 +63,13 @@ first_fits : (es : List Item) (fault : Option TlvFault) (absent : PacketFault) (
 first_fits [] None absent e low high w h = absurd (err_is_ok absent e h)
 first_fits [] (Some f) absent e low high w h = absurd (err_is_ok (Tlv f) e h)
 first_fits (x ∷ es) fault absent e low high w h =
-    subst (λ (y : Item). low + length y.value ≤ high) (ok_same x e h) (omega (arith, w.0, w.1, w.2, AreWithin-ends x.end high es w.3))
+    subst (λ (y : Item). low + length y.value ≤ high) (ok_is x e h) (omega (arith, w.0, w.1, w.2, AreWithin-ends x.end high es w.3))
 
 only_same : (typ len : ℕ) (x e : Item) → only_of typ len x ≡ Ok e → x ≡ e
 only_same typ len x e h = go (x.typ == typ) (nat_lt x.end len) h where
   go : (b c : Bool) → cond b (cond c (Err (TrailingOctets x.end)) (Ok x)) (Err (WrongType x.typ)) ≡ Ok e → x ≡ e
   go true true p = absurd (err_is_ok (TrailingOctets x.end) e p)
-  go true false p = ok_same x e p
+  go true false p = ok_is x e p
   go false c p = absurd (err_is_ok (WrongType x.typ) e p)
 
 outer_fits : (typ : ℕ) (octets : List ℕ) (e : Item) → outer_of typ octets ≡ Ok e → length e.value ≤ 8800
@@ -93,7 +87,7 @@ from_content value s d h =
     let at = bind_ok (ok_or s.name (Missing field.Name)) _ d h in
     let info = bind_ok (ok_or s.info (Missing field.SignatureInfo)) _ d at.2 in
     let signature = bind_ok (ok_or s.signature (Missing field.SignatureValue)) _ d info.2 in
-    ap (λ (y : Data). y.content) (sym (ok_same _ d signature.2))
+    ap (λ (y : Data). y.content) (sym (ok_is _ d signature.2))
 
 pub data_content_short : (octets : List ℕ) (d : Data) → data_of octets ≡ Ok d → length d.content ≤ 8800
 data_content_short octets d h =

@@ -1,11 +1,8 @@
 -- Names with one component more.
-use Rattle.std.proofs.Common.{◌≡◌, ℕ, ◌-◌, List, [], ◌∷◌, ◌++◌, length, take, Option, Some, slice_get, refl, ap, ◌∙◌, arith}
+use Rattle.std.proofs.Common.{◌≡◌, ℕ, ◌-◌, List, [], ◌∷◌, ◌++◌, length, take, Option, Some, slice_get, ap, ◌∙◌, arith}
+use Rattle.std.proofs.lemmas.List.{nil_from_length}
 use Rattle.ndn_name.specs.Names.{Component}
 use Rattle.ndn_name.specs.CanonicalOrder.{IsPrefix}
-
-none_left : (xs : List Component) → length xs ≡ 0 → xs ≡ []
-none_left [] h = refl
-none_left (x ∷ xs) h = absurd (omega arith)
 
 -- a name that goes on from another by one component
 pub one_more : (name of : List Component) (last : Component) → IsPrefix of name → length name - length of ≡ 1
@@ -14,15 +11,11 @@ one_more [] [] last p one at = absurd (omega arith)
 one_more [] (d ∷ of) last p one at = absurd cc
 one_more (c ∷ name) [] last p one at =
     let same : c ≡ last = cc in
-    ap (λ (n : List Component). c ∷ n) (none_left name (omega arith)) ∙ ap (λ (x : Component). x ∷ []) same
+    ap (λ (n : List Component). c ∷ n) (nil_from_length name (omega arith)) ∙ ap (λ (x : Component). x ∷ []) same
 one_more (c ∷ name) (d ∷ of) last p one at =
     let first : c ≡ d = cc in
     let front : take (length of) name ≡ of = cc in
     ap (λ (n : List Component). c ∷ n) (one_more name of last front (omega arith) at) ∙ ap (λ (x : Component). x ∷ (of ++ last ∷ [])) first
-
-pub slice_get-push : (of : List Component) (last : Component) → slice_get (of ++ last ∷ []) (length of) ≡ Some last
-slice_get-push [] last = refl
-slice_get-push (d ∷ of) last = slice_get-push of last
 
 abbrev found : Component → Option Component
 found c = Some c

@@ -1,7 +1,7 @@
 -- What a Data packet's signature signs stands in the packet, from the Name on.
-use Rattle.std.proofs.Common.{◌≡◌, ℕ, zero, suc, ◌+◌, ◌-◌, ◌^◌, ◌<◌, ◌≤◌, Bool, false, cond, List, [], ◌∷◌, ◌++◌, length, length-append, length-drop, take, drop, Option, Some, None, slice_get, slice_range, drop_at, Result, Ok, Err, IfSome, refl, sym, ap, subst, ◌∙◌, arith}
+use Rattle.std.proofs.Common.{◌≡◌, ℕ, zero, suc, ◌+◌, ◌-◌, ◌^◌, ◌<◌, ◌≤◌, Bool, false, cond, List, ◌++◌, length, length-append, length-drop, take, drop, Option, Some, None, slice_get, slice_range, drop_at, Result, Ok, Err, IfSome, refl, sym, ap, subst, ◌∙◌, arith}
 use Rattle.std.proofs.Math.Seq.{take-append-add}
-use Rattle.std.proofs.lemmas.List.{append-nil}
+use Rattle.std.proofs.lemmas.List.{append-nil, nil_from_length}
 use Rattle.std.proofs.lemmas.List.Folds.{drop_split}
 use Rattle.ndn_tlv.specs.Spelling.{head, element}
 use Rattle.ndn_tlv.specs.Listing.{◌>>=◌}
@@ -16,10 +16,11 @@ use Rattle.ndn_name.specs.declared.fault.Field.TheVariants as field
 use Rattle.ndn_name.specs.declared.fault.PacketFault.TheVariants.{BadField, Missing}
 use Rattle.ndn_name.specs.declared.name_fault.NameFault.{NameFault}
 use Rattle.ndn_name.specs.Names.{Component, encoding, name_of}
-use Rattle.ndn_name.proofs.Encodings.{bind_ok, IsOctets-before, IsOctets-behind, name_of-encoded}
+use Rattle.ndn_tlv.proofs.Steps.{bind_ok, ok_is}
+use Rattle.ndn_name.proofs.Encodings.{IsOctets-before, IsOctets-behind, name_of-encoded}
 use Rattle.ndn_packet.specs.Contents.{ok_or, name_or, name_in}
 use Rattle.ndn_packet.specs.SignatureInfo.{Info, info_in}
-use Rattle.ndn_packet.proofs.Gathering.{Stands, elements_stand, keeps}
+use Rattle.ndn_packet.proofs.Gathering.{none_before, Stands, elements_stand, keeps}
 use Rattle.ndn_data.specs.declared.data_fields.DataField.{DataField}
 use Rattle.ndn_data.specs.declared.data_fields.DataField.TheVariants.{Name, MetaInfo, Content, SignatureInfo, SignatureValue}
 use Rattle.ndn_data.specs.Signed.{Signs}
@@ -104,12 +105,6 @@ name_later whole start low more None h s = tt
 name_later whole start low more (Some n) h s =
     record { behind_start = s.behind_start; behind = s.behind; parts = s.parts; ends = omega (arith, s.ends) }
 
--- no signature has come where a field before it comes
-no_signature : (o : Option Signature) (P Q : Signature → Type 0) (from k : ℕ) → IfSome o (λ _. 5 ≤ from)
-    → from ≤ k → k < 5 → IfSome o Q
-no_signature None P Q from k h le lt = tt
-no_signature (Some g) P Q from k h le lt = absurd (omega (arith, h))
-
 later : (whole : List ℕ) (start from low more : ℕ) (s : DataSoFar) → low ≤ more
     → Keeps whole start from low s → Keeps whole start from more s
 later whole start from low more s h j =
@@ -117,9 +112,6 @@ later whole start from low more s h j =
 
 abbrev done : DataSoFar → Result DataSoFar PacketFault
 done s = Ok s
-
-ok_is : (s t : DataSoFar) → done s ≡ done t → s ≡ t
-ok_is s t e = cc
 
 -- a name that was read is spelled in its element
 name_or_ok : (bad : PacketFault) (r : Result (List Component) NameFault) (name : List Component)
@@ -185,8 +177,8 @@ module _ (whole : List ℕ) (start : ℕ) (fits : IsOctets whole) (short : lengt
       subst (Keeps whole start 1 e.end) (ok_is (record s { name = Some (e.start, name) }) t b.2) (record {
         above = omega (arith, j.above);
         name = stands_here;
-        signature = no_signature s.signature (λ _. Unit {0}) (SignatureStands (drop start whole) (Some (e.start, name))) from 0 j.last le (omega arith);
-        last = no_signature s.signature (λ _. Unit {0}) (λ _. 5 ≤ 1) from 0 j.last le (omega arith);
+        signature = none_before s.signature 5 (SignatureStands (drop start whole) (Some (e.start, name))) from 0 j.last le (omega arith);
+        last = none_before s.signature 5 (λ _. 5 ≤ 1) from 0 j.last le (omega arith);
       })
 
   -- a field that changes neither the name nor the signature
@@ -194,7 +186,7 @@ module _ (whole : List ℕ) (start : ℕ) (fits : IsOctets whole) (short : lengt
       → low ≤ e.end → s.name ≡ u.name → s.signature ≡ u.signature → done u ≡ Ok t → Keeps whole start (suc k) e.end t
   passes from low k s u t e le below j above same_name same_signature h =
       let P : Option Named → Option Signature → Type 0 = λ name signature. IfSome name (NameStands whole start e.end) × IfSome signature (SignatureStands (drop start whole) name) × IfSome signature (λ _. 5 ≤ suc k) in
-      let here : P s.name s.signature = (name_later whole start low e.end s.name above j.name, j.signature, no_signature s.signature (λ _. Unit {0}) (λ _. 5 ≤ suc k) from k j.last le (omega arith)) in
+      let here : P s.name s.signature = (name_later whole start low e.end s.name above j.name, j.signature, none_before s.signature 5 (λ _. 5 ≤ suc k) from k j.last le (omega arith)) in
       let Q : Option Named → Type 0 = λ name. P name s.signature in
       let named = subst Q same_name here in
       let R : Option Signature → Type 0 = λ signature. P u.name signature in
@@ -304,10 +296,6 @@ data_spelled octets d fits h =
 
 -- ---- what the view keeps
 
-none_left : (xs : List ℕ) → length xs ≡ 0 → xs ≡ []
-none_left [] h = refl
-none_left (x ∷ xs) h = absurd (omega arith)
-
 pub signs_of : (value : List ℕ) (name : Option Named) (g : Signature) → length value ≤ 8800 → SignatureStands value name g → Signs value g.1 g.0
 signs_of value name g small stands =
     let last = element 0x17 g.0 in
@@ -317,7 +305,7 @@ signs_of value name g small stands =
     record {
       short = omega (arith, long, inner, inmost, length-append (head 0x17 (length g.0)) g.0);
       whole = λ same.
-          let before = none_left stands.before (omega (arith, long, inner, inmost)) in
-          let behind = none_left stands.behind (omega (arith, long, inner, inmost)) in
+          let before = nil_from_length stands.before (omega (arith, long, inner, inmost)) in
+          let behind = nil_from_length stands.behind (omega (arith, long, inner, inmost)) in
           stands.parts ∙ ap (λ (b : List ℕ). b ++ (g.1 ++ (last ++ stands.behind))) before ∙ ap (λ (b : List ℕ). g.1 ++ (last ++ b)) behind ∙ ap (λ (b : List ℕ). g.1 ++ b) (append-nil last);
     }

@@ -1,6 +1,7 @@
 -- The last component of a name, where it is a digest.
 use Rattle.std.proofs.Common.{◌≡◌, ℕ, zero, suc, ◌-◌, ◌<◌, true, false, eqb, List, [], ◌∷◌, ◌++◌, length, take, Option, Some, None, slice_get, refl, ap, subst, ◌∙◌, arith}
 use Rattle.std.specs.Option.{option_map_or}
+use Rattle.std.proofs.lemmas.List.{nil_from_length}
 use Rattle.std.proofs.lemmas.Bool.{eqb-true}
 use Rattle.ndn_tlv.specs.Spelling.{element}
 use Rattle.ndn_name.specs.Names.{Component, IsComponent, IsName, encoding}
@@ -8,16 +9,12 @@ use Rattle.ndn_name.proofs.Encodings.{encoding-push}
 use Rattle.ndn_packet.proofs.Lengths.{length-digest_element}
 use Rattle.ndn_interest.specs.Interest.{last_component, without_last, ends_in_digest}
 
-none_left : (xs : List Component) → length xs ≡ 0 → xs ≡ []
-none_left [] h = refl
-none_left (x ∷ xs) h = absurd (omega arith)
-
 -- a name and its last component
 pub split_at : (name : List Component) (k : ℕ) (c : Component) → length name ≡ suc k → slice_get name k ≡ Some c → name ≡ take k name ++ c ∷ []
 split_at [] k c long at = absurd (omega arith)
 split_at (d ∷ ds) zero c long at =
     let same : d ≡ c = cc in
-    ap (λ (n : List Component). d ∷ n) (none_left ds (omega arith)) ∙ ap (λ (x : Component). x ∷ []) same
+    ap (λ (n : List Component). d ∷ n) (nil_from_length ds (omega arith)) ∙ ap (λ (x : Component). x ∷ []) same
 split_at (d ∷ ds) (suc k) c long at = ap (λ (n : List Component). d ∷ n) (split_at ds k c (omega arith) at)
 
 component_at : (name : List Component) (k : ℕ) (c : Component) → IsName name → slice_get name k ≡ Some c → IsComponent c × (k < length name)

@@ -18,6 +18,7 @@ use Rattle.ndn_name.proofs.Encodings.{IsName-append}
 use Rattle.ndn_sign.specs.Hmac.{hmac}
 use Rattle.ndn_packet.specs.SignatureInfo.{Info}
 use Rattle.ndn_packet.specs.Written.{written_info}
+use Rattle.ndn_packet.proofs.Ends.{slice_get-push}
 use Rattle.ndn_packet.proofs.Lengths.{length-element}
 use Rattle.ndn_packet.proofs.ReadBack.{alone, followed, outer_again, name_again, info_again, gathers, gathered-nothing}
 use Rattle.ndn_interest.specs.declared.interest_fields.InterestField.TheVariants.{Name, CanBePrefix, ApplicationParameters, InterestSignatureInfo, InterestSignatureValue}
@@ -36,10 +37,6 @@ interest_name_again : (o : ℕ) (name : List Component) → IsName name → 0 < 
 interest_name_again o name valid some =
     let bad = BadField field.Name o in
     ap (λ (r : Result (List Component) PacketFault). r >>= some_name bad) (name_again bad o 0x07 name valid) ∙ some_again bad name some
-
-slice_get-push : (name : List Component) (c : Component) → slice_get (name ++ c ∷ []) (length name) ≡ Some c
-slice_get-push [] c = refl
-slice_get-push (d ∷ name) c = slice_get-push name c
 
 last_place : (name : List Component) (c : Component) → length (name ++ c ∷ []) - 1 ≡ length name
 last_place name c = omega (arith, length-append name (c ∷ []))

@@ -16,12 +16,13 @@ use Rattle.ndn_name.specs.declared.fault.PacketFault.{PacketFault}
 use Rattle.ndn_name.specs.declared.fault.Field.TheVariants as field
 use Rattle.ndn_name.specs.declared.fault.PacketFault.TheVariants.{Missing}
 use Rattle.ndn_name.specs.Names.{Component, encoding}
-use Rattle.ndn_name.proofs.Encodings.{bind_ok, IsOctets-behind}
+use Rattle.ndn_tlv.proofs.Steps.{bind_ok, ok_is}
+use Rattle.ndn_name.proofs.Encodings.{IsOctets-behind}
 use Rattle.ndn_packet.specs.Contents.{ok_or, number_in}
 use Rattle.ndn_packet.specs.Outer.{outer_of}
 use Rattle.ndn_packet.specs.SignatureInfo.{Info, info_in}
 use Rattle.ndn_packet.proofs.Outers.{outer_ok}
-use Rattle.ndn_packet.proofs.Gathering.{Stands, elements_stand, keeps}
+use Rattle.ndn_packet.proofs.Gathering.{none_before, Stands, elements_stand, keeps}
 use Rattle.ndn_interest.specs.declared.interest_fields.InterestField.{InterestField}
 use Rattle.ndn_interest.specs.declared.interest_fields.InterestField.TheVariants.{Name, CanBePrefix, MustBeFresh, ForwardingHint, Nonce, InterestLifetime, HopLimit, ApplicationParameters, InterestSignatureInfo, InterestSignatureValue}
 use Rattle.ndn_interest.specs.Interest.{interest_table, Interest, InterestSoFar, no_field, interest_name_in, flag_in, nonce_in, hop_limit_in, with_interest_field, interest_fields, last_component, without_last, ends_in_digest, signed_of, interest_named, interest_from, interest_of, IsDigestedFrom, IsSignedUpTo, IsSpelled}
@@ -118,12 +119,6 @@ stands_later whole start low more None h s = tt
 stands_later whole start low more (Some p) h s =
     record { behind_start = s.behind_start; behind = s.behind; parts = s.parts; ends = omega (arith, s.ends) }
 
--- no signature has come where a field before it comes
-no_signature : (o : Option Signature) (Q : Signature → Type 0) (from k : ℕ) → IfSome o (λ _. 10 ≤ from)
-    → from ≤ k → k < 10 → IfSome o Q
-no_signature None Q from k h le lt = tt
-no_signature (Some g) Q from k h le lt = absurd (omega (arith, h))
-
 later : (whole : List ℕ) (start from low more : ℕ) (s : InterestSoFar) → low ≤ more
     → Keeps whole start from low s → Keeps whole start from more s
 later whole start from low more s h j =
@@ -131,9 +126,6 @@ later whole start from low more s h j =
 
 abbrev done : InterestSoFar → Result InterestSoFar PacketFault
 done s = Ok s
-
-ok_is : (s t : InterestSoFar) → done s ≡ done t → s ≡ t
-ok_is s t e = cc
 
 -- what a signature covers
 covers : (whole : List ℕ) (start low : ℕ) (p : Option Parameters) (e : Item) → low ≤ e.start → e.typ ≡ 0x2e → Stands whole e
@@ -171,8 +163,8 @@ module _ (whole : List ℕ) (start : ℕ) where
       subst (Keeps whole start 8 e.end) (ok_is (record s { parameters = Some (e.start, e.value) }) t h) (record {
         above = omega (arith, j.above);
         parameters = here;
-        signature = no_signature s.signature (SignatureStands whole (Some (e.start, e.value))) from 7 j.last le (omega arith);
-        last = no_signature s.signature (λ _. 10 ≤ 8) from 7 j.last le (omega arith);
+        signature = none_before s.signature 10 (SignatureStands whole (Some (e.start, e.value))) from 7 j.last le (omega arith);
+        last = none_before s.signature 10 (λ _. 10 ≤ 8) from 7 j.last le (omega arith);
       })
 
   -- a field that changes neither the parameters nor the signature
@@ -180,7 +172,7 @@ module _ (whole : List ℕ) (start : ℕ) where
       → low ≤ e.end → s.parameters ≡ u.parameters → s.signature ≡ u.signature → done u ≡ Ok t → Keeps whole start (suc k) e.end t
   passes from low k s u t e le below j above same_parameters same_signature h =
       let P : Option Parameters → Option Signature → Type 0 = λ p signature. IfSome p (ParametersStand whole start e.end) × IfSome signature (SignatureStands whole p) × IfSome signature (λ _. 10 ≤ suc k) in
-      let here : P s.parameters s.signature = (stands_later whole start low e.end s.parameters above j.parameters, j.signature, no_signature s.signature (λ _. 10 ≤ suc k) from k j.last le (omega arith)) in
+      let here : P s.parameters s.signature = (stands_later whole start low e.end s.parameters above j.parameters, j.signature, none_before s.signature 10 (λ _. 10 ≤ suc k) from k j.last le (omega arith)) in
       let Q : Option Parameters → Type 0 = λ p. P p s.signature in
       let moved = subst Q same_parameters here in
       let R : Option Signature → Type 0 = λ signature. P u.parameters signature in

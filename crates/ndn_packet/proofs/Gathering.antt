@@ -1,5 +1,6 @@
 -- What a gathering over the fields of a table keeps true, as it comes from field to field.
 use Rattle.std.proofs.Common.{◌≡◌, ℕ, suc, ◌+◌, ◌<◌, ◌≤◌, cond, List, [], ◌∷◌, ◌++◌, length, drop, drop_at, drop-drop, Option, Some, None, slice_get, Result, Ok, refl, sym, ap, subst, ◌∙◌, arith}
+use Rattle.std.specs.Prelude.{IfSome}
 use Rattle.ndn_tlv.specs.Spelling.{element}
 use Rattle.ndn_tlv.specs.Listing.{Listing, gather, gathered}
 use Rattle.ndn_tlv.specs.Elements.{Item, AreElements, AreWithin}
@@ -10,7 +11,7 @@ use Rattle.ndn_tlv.specs.declared.order_table.Place.{Place}
 use Rattle.ndn_tlv.specs.declared.order_table.FieldFault.{FieldFault}
 use Rattle.ndn_name.specs.declared.fault.PacketFault.{PacketFault}
 use Rattle.ndn_name.specs.Faults.{packet_fault}
-use Rattle.ndn_name.proofs.Encodings.{bind_ok}
+use Rattle.ndn_tlv.proofs.Steps.{bind_ok, ok_is}
 
 abbrev pub Each : (Item → Type 0) → List Item → Type 0
 Each P [] = Unit {0}
@@ -34,6 +35,12 @@ elements_stand whole offset octets (e ∷ es) fault at are =
     let behind : drop e.end whole ≡ are.0 = ap (λ (n : ℕ). drop n whole) ends ∙ sym (drop-drop long offset whole) ∙ ap (drop long) (at ∙ are.1) ∙ drop_at (element e.typ e.value) are.0 long refl in
     (record { behind = are.0; parts = here; ends = omega arith }, elements_stand whole e.end are.0 es fault behind are.5)
 
+-- nothing has come that only comes at place `last`, where a field before that comes
+pub none_before : {A : Type 0} (o : Option A) (last : ℕ) (Q : A → Type 0) (from k : ℕ) → IfSome o (λ _. last ≤ from)
+    → from ≤ k → k < last → IfSome o Q
+none_before None last Q from k h le lt = tt
+none_before (Some x) last Q from k h le lt = absurd (omega (arith, h))
+
 module _ {F S : Type 0} (table : List (Place F)) (take : S → F × Item → Result S PacketFault) (high : ℕ) (P : Item → Type 0) (J : ℕ → ℕ → S → Type 0)
     (step : (from low k : ℕ) (place : Place F) (s t : S) (e : Item) → from ≤ k → slice_get table k ≡ Some place → place.typ ≡ e.typ → J from low s
     → low ≤ e.start → e.start < e.value_start → e.value_start + length e.value ≡ e.end → P e → take s (place.field, e) ≡ Ok t → J (cond place.repeats k (suc k)) e.end t)
@@ -43,12 +50,6 @@ module _ {F S : Type 0} (table : List (Place F)) (take : S → F × Item → Res
     pub low : ℕ
     pub within : low ≤ high
     pub holds : J from low t
-
-  abbrev done : S → Result S PacketFault
-  done s = Ok s
-
-  ok_is : (s t : S) → done s ≡ done t → s ≡ t
-  ok_is s t e = cc
 
   pub keeps : (from : ℕ) (es : List Item) (fault : Option TlvFault) (read : Listing (F × Item) FieldFault) → AreFields table from es fault read
       → (low : ℕ) (s t : S) → J from low s → AreWithin low high es → Each P es → gathered take packet_fault s read ≡ Ok t → Kept t

@@ -1,6 +1,6 @@
 -- The element that comes first is all of the octets where nothing follows it.
-use Rattle.std.proofs.Common.{◌≡◌, ℕ, ◌+◌, ◌≤◌, Bool, true, false, cond, ltb, eqb, inl, inr, List, [], ◌∷◌, ◌++◌, length, length-append, Option, Some, None, Result, Ok, Err, refl, ap, subst, ◌∙◌, arith}
-use Rattle.std.proofs.lemmas.List.{append-nil}
+use Rattle.std.proofs.Common.{◌≡◌, ℕ, ◌+◌, ◌≤◌, cond, ltb, eqb, inl, inr, List, [], ◌∷◌, ◌++◌, length, length-append, Option, Some, None, Result, Ok, Err, ap, subst, ◌∙◌, arith}
+use Rattle.std.proofs.lemmas.List.{append-nil, nil_from_length}
 use Rattle.ndn_tlv.specs.declared.tlv_fault.TlvFault.{TlvFault}
 use Rattle.ndn_tlv.specs.Spelling.{head, element}
 use Rattle.ndn_tlv.specs.Elements.{Item, IsOctets, AreElements, placed, elements}
@@ -9,17 +9,13 @@ use Rattle.ndn_name.specs.declared.fault.PacketFault.{PacketFault}
 use Rattle.ndn_name.specs.declared.fault.PacketFault.TheVariants.{Tlv, PacketTooLong, WrongType, TrailingOctets}
 use Rattle.ndn_tlv.specs.declared.tlv_fault.TlvFault.TheVariants.{Truncated}
 use Rattle.ndn_tlv.specs.Listing.{◌>>=◌}
-use Rattle.ndn_tlv.proofs.Numbers.{chosen}
-use Rattle.ndn_name.proofs.Encodings.{bind_ok}
+use Rattle.ndn_tlv.proofs.Steps.{chosen, guard_ok, bind_ok, ok_is}
 use Rattle.std.proofs.lemmas.Bool.{ltb-false, eqb-true}
 use Rattle.ndn_packet.specs.Contents.{first_among, first_of}
 use Rattle.ndn_packet.specs.Outer.{only_of, outer_of}
 
 abbrev done : Item → Result Item PacketFault
 done e = Ok e
-
-ok_is : (d e : Item) → done d ≡ done e → d ≡ e
-ok_is d e h = cc
 
 pub record IsFirst (offset : ℕ) (octets : List ℕ) (e : Item) : Type 0 where
   pub rest : List ℕ
@@ -40,10 +36,6 @@ pub first_stands : (absent : PacketFault) (offset : ℕ) (octets : List ℕ) (e 
 first_stands absent offset octets e fits h =
     first_in absent offset octets (elements offset octets).items (elements offset octets).fault e (elements_are offset octets fits) h
 
-none_left : (xs : List ℕ) → length xs ≡ 0 → xs ≡ []
-none_left [] h = refl
-none_left (x ∷ xs) h = absurd (omega arith)
-
 pub record IsAlone (typ : ℕ) (octets : List ℕ) (e : Item) : Type 0 where
   pub whole : octets ≡ element typ e.value
   pub is_placed : e ≡ placed 0 typ e.value
@@ -54,17 +46,13 @@ first_alone absent typ octets e fits h same long =
     let first = first_stands absent 0 octets e fits h in
     let ends : e.end ≡ 0 + length (element e.typ e.value) = ap (λ (x : Item). x.end) first.is_placed in
     let size = ap length first.parts ∙ length-append (element e.typ e.value) first.rest in
-    let empty = none_left first.rest (omega arith) in
+    let empty = nil_from_length first.rest (omega arith) in
     let P : ℕ → Type 0 = λ t. (octets ≡ element t e.value) × (e ≡ placed 0 t e.value) in
     let whole : octets ≡ element e.typ e.value = first.parts ∙ ap (λ (r : List ℕ). element e.typ e.value ++ r) empty ∙ append-nil (element e.typ e.value) in
     let all = subst P same (whole, first.is_placed) in
     record { whole = all.0; is_placed = all.1 }
 
 -- ---- the packet's element
-
-guard_ok : (b : Bool) (f : PacketFault) (r : Result Item PacketFault) (e : Item) → cond b (Err f) r ≡ Ok e → (b ≡ false) × (r ≡ Ok e)
-guard_ok true f r e h = absurd cc
-guard_ok false f r e h = (refl, h)
 
 only_ok : (typ len : ℕ) (first e : Item) → only_of typ len first ≡ Ok e → (first ≡ e) × (first.typ ≡ typ) × (len ≤ first.end)
 only_ok typ len first e h =

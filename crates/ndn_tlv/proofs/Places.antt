@@ -10,7 +10,7 @@ use Rattle.ndn_tlv.specs.Listing.{Listing, only_fault, ◌then◌}
 use Rattle.ndn_tlv.specs.Elements.{Item}
 use Rattle.ndn_tlv.specs.OrderTable.{is_critical_type, place_of, field_then, fields_among, IsFreeOf, HasNoPlace, AreFields}
 use Rattle.ndn_tlv.specs.OrderTable.AreFields.{ended, broken, field, stranger, critical}
-use Rattle.ndn_tlv.proofs.Numbers.{chosen}
+use Rattle.ndn_tlv.proofs.Steps.{chosen}
 
 -- the place that comes next in a table
 drop_step : {F : Type 0} (table : List (Place F)) (from : ℕ) (place : Place F) (places : List (Place F))

@@ -4,13 +4,14 @@
 ghost use Rattle.std.specs.Prelude.{◌≡◌};
 ghost use Rattle.ndn_tlv.specs.Types as standard;
 
+// Packets.
 pub const INTEREST: u32 = 0x05;
 
 pub const DATA: u32 = 0x06;
 
+// Names, and their components, whose types are at most 65,535.
 pub const NAME: u32 = 0x07;
 
-/// A component's type is at most 65,535.
 pub const IMPLICIT_SHA256_DIGEST_COMPONENT: u16 = 0x01;
 
 pub const PARAMETERS_SHA256_DIGEST_COMPONENT: u16 = 0x02;
@@ -23,6 +24,7 @@ pub const VERSION_NAME_COMPONENT: u16 = 0x36;
 
 pub const SEQUENCE_NUM_NAME_COMPONENT: u16 = 0x3a;
 
+// What an Interest has besides its name.
 pub const CAN_BE_PREFIX: u32 = 0x21;
 
 pub const MUST_BE_FRESH: u32 = 0x12;
@@ -41,6 +43,7 @@ pub const INTEREST_SIGNATURE_INFO: u32 = 0x2c;
 
 pub const INTEREST_SIGNATURE_VALUE: u32 = 0x2e;
 
+// What a Data packet and its MetaInfo have.
 pub const META_INFO: u32 = 0x14;
 
 pub const CONTENT: u32 = 0x15;
@@ -55,6 +58,7 @@ pub const FRESHNESS_PERIOD: u32 = 0x19;
 
 pub const FINAL_BLOCK_ID: u32 = 0x1a;
 
+// What a SignatureInfo and its KeyLocator have.
 pub const SIGNATURE_TYPE: u32 = 0x1b;
 
 pub const KEY_LOCATOR: u32 = 0x1c;

@@ -10,7 +10,7 @@ use Rattle.repo_plan.specs.Plan.{Holdings, can_be_asked, is_asked, knows, shape_
 use Rattle.repo_object.specs.Publication.{Listed}
 use Rattle.repo_member.specs.Records.{Packet}
 use Rattle.repo_member.specs.Listed.{listing_at, shape}
-use Rattle.repo_member.specs.Holding.{AreTied}
+use Rattle.repo_member.specs.Gaining.{AreTied}
 use Rattle.repo_member.proofs.CatalogueLemmas.{shapes_value}
 
 -- a segment that is asked for is listed by the stored record of its publication

@@ -9,16 +9,17 @@ use Rattle.repo_plan.specs.Plan.{claim_of}
 use Rattle.repo_object.specs.Objects.{NamedContents}
 use Rattle.repo_member.specs.declared.refusals.HearRefusal.{HearRefusal}
 use Rattle.repo_member.specs.declared.refusals.AcceptRefusal.{AcceptRefusal}
-use Rattle.repo_member.specs.Groups.{GroupKeys, publisher_of}
+use Rattle.repo_member.specs.Groups.{GroupKeys, publisher_at}
 use Rattle.repo_member.specs.Records.{Packet}
-use Rattle.repo_member.specs.Alone.{Alone, Fetched, plan_of, publishes, packet_in, logged, takes, with_fetched, with_tries}
+use Rattle.group_model.specs.Member.{with_tries}
+use Rattle.repo_member.specs.Alone.{Alone, Fetched, alone_plan, alone_publishes, packet_in, logged, alone_takes, with_fetched}
 use Rattle.repo_member.specs.Verdicts.{hear_verdict, accept_verdict}
-use Rattle.repo_member.specs.Outcomes.{fetched}
-use Rattle.repo_member.specs.Calls.{Call, Publish, Hear, JoinFrom, Fire, Claim, Lose, Accept, TakeOutcome, EndClaims, Reset, Restart, after_hear, after_join, after_claim, after_lose, after_accept, after_call, after_calls, LogsGoOn, PublicationsStay, LoggedPacketsStay}
+use Rattle.repo_member.specs.Outcomes.{outcome_of}
+use Rattle.repo_member.specs.Calls.{MemberCall, Publish, Hear, JoinFrom, Fire, Claim, Lose, Accept, TakeOutcome, EndClaims, Reset, Restart, if_heard, if_joined, if_claimed, if_lost, if_accepted, after_call, after_calls, LogsGoOn, PublicationsStay, LoggedPacketsStay}
 
 -- an outcome changes what is stored and tried alone
 pub takes_same : {A : Type 0} (f : Alone → A) → ((a : Alone) (store : List Packet) (attempts : List (Part × ℕ)) → f (record a { store = store; attempts = attempts }) ≡ f a)
-    → (xs : List Fetched) (a : Alone) → f (takes xs a) ≡ f a
+    → (xs : List Fetched) (a : Alone) → f (alone_takes xs a) ≡ f a
 takes_same f h [] a = refl
 takes_same f h (x ∷ xs) a =
     let store = with_fetched x.part x.packet a.store in
@@ -36,40 +37,40 @@ pub record HasMore (old new : Alone) : Type 0 where
 nothing_more : (old new : Alone) → new.number ≡ old.number → new.log ≡ old.log → HasMore old new
 nothing_more old new number log = record { number = number; more = []; log = log ∙ sym (append-nil old.log) }
 
-more_after : (g : GroupKeys) (call : Call) (a : Alone) → HasMore a (after_call g call a)
+more_after : (g : GroupKeys) (call : MemberCall) (a : Alone) → HasMore a (after_call g call a)
 more_after g (Publish object moment draw) a = go (nat_lt (length a.log) 65535) where
-  go : (b : Bool) → HasMore a (cond b (publishes g object moment draw a) a)
+  go : (b : Bool) → HasMore a (cond b (alone_publishes g object moment draw a) a)
   go true = record { number = refl; more = object ∷ []; log = refl }
   go false = nothing_more a a refl refl
 more_after g (Hear octets moment draw) a = go (hear_verdict g a octets) where
-  go : (r : Result (List ℕ) HearRefusal) → HasMore a (after_hear moment draw a r)
-  go (Ok told) = nothing_more a (after_hear moment draw a (Ok told)) refl refl
+  go : (r : Result (List ℕ) HearRefusal) → HasMore a (if_heard moment draw a r)
+  go (Ok told) = nothing_more a (if_heard moment draw a (Ok told)) refl refl
   go (Err refusal) = nothing_more a a refl refl
 more_after g (JoinFrom octets) a = go (hear_verdict g a octets) where
-  go : (r : Result (List ℕ) HearRefusal) → HasMore a (after_join a r)
-  go (Ok told) = nothing_more a (after_join a (Ok told)) refl refl
+  go : (r : Result (List ℕ) HearRefusal) → HasMore a (if_joined a r)
+  go (Ok told) = nothing_more a (if_joined a (Ok told)) refl refl
   go (Err refusal) = nothing_more a a refl refl
 more_after g (Fire moment draw) a = nothing_more a (after_call g (Fire moment draw) a) refl refl
-more_after g (Claim f) a = go (claim_of (plan_of a) f) where
-  go : (claim : Option Part) → HasMore a (after_claim f a claim)
-  go None = nothing_more a (after_claim f a None) refl refl
+more_after g (Claim f) a = go (claim_of (alone_plan a) f) where
+  go : (claim : Option Part) → HasMore a (if_claimed f a claim)
+  go None = nothing_more a (if_claimed f a None) refl refl
   go (Some t) = nothing_more a a refl refl
-more_after g (Lose f) a = go (claim_of (plan_of a) f) where
-  go : (claim : Option Part) → HasMore a (after_lose f a claim)
+more_after g (Lose f) a = go (claim_of (alone_plan a) f) where
+  go : (claim : Option Part) → HasMore a (if_lost f a claim)
   go None = nothing_more a a refl refl
-  go (Some t) = nothing_more a (after_lose f a (Some t)) refl refl
+  go (Some t) = nothing_more a (if_lost f a (Some t)) refl refl
 more_after g (Accept f octets) a = go (accept_verdict g a f octets) where
-  go : (r : Result Part AcceptRefusal) → HasMore a (after_accept f octets a r)
-  go (Ok t) = nothing_more a (after_accept f octets a (Ok t)) refl refl
+  go : (r : Result Part AcceptRefusal) → HasMore a (if_accepted f octets a r)
+  go (Ok t) = nothing_more a (if_accepted f octets a (Ok t)) refl refl
   go (Err refusal) = nothing_more a a refl refl
 more_after g (TakeOutcome jobs parts attempts) a =
-    let xs = fetched jobs parts attempts in
-    nothing_more a (takes xs a) (takes_same (λ b. b.number) (λ b s t. refl) xs a) (takes_same (λ b. b.log) (λ b s t. refl) xs a)
+    let xs = outcome_of jobs parts attempts in
+    nothing_more a (alone_takes xs a) (takes_same (λ b. b.number) (λ b s t. refl) xs a) (takes_same (λ b. b.log) (λ b s t. refl) xs a)
 more_after g EndClaims a = nothing_more a (after_call g EndClaims a) refl refl
 more_after g (Reset moment draw) a = nothing_more a (after_call g (Reset moment draw) a) refl refl
 more_after g (Restart moment draw) a = nothing_more a (after_call g (Restart moment draw) a) refl refl
 
-pub more_after_all : (g : GroupKeys) (calls : List Call) (a : Alone) → HasMore a (after_calls g calls a)
+pub more_after_all : (g : GroupKeys) (calls : List MemberCall) (a : Alone) → HasMore a (after_calls g calls a)
 more_after_all g [] a = nothing_more a a refl refl
 more_after_all g (call ∷ calls) a =
     let one = more_after g call a in
@@ -103,7 +104,7 @@ at_end (y ∷ xs) x = at_end xs x
 
 pub publications_stay : PublicationsStay
 publications_stay g object moment draw calls a room =
-    let next : Alone = publishes g object moment draw a in
+    let next : Alone = alone_publishes g object moment draw a in
     let grown = more_after_all g calls next in
     ap (λ (b : Bool). slice_get (after_calls g calls (cond b next a)).log (length a.log)) (lt-ltb (length a.log) 65535 room)
     ∙ ap (λ (log : List NamedContents). slice_get log (length a.log)) grown.log
@@ -112,19 +113,19 @@ publications_stay g object moment draw calls a room =
 -- the packet of a part of the publications of a log
 abbrev packet_logged : GroupKeys → ℕ → List NamedContents → Part → Option (List ℕ)
 packet_logged g number log t =
-    cond (t.publisher == number) (cond (t.seq == 0) None (option_and_then (packet_in (publisher_of g number) t) (slice_get log (t.seq - 1)))) None
+    cond (t.publisher == number) (cond (t.seq == 0) None (option_and_then (packet_in (publisher_at g number) t) (slice_get log (t.seq - 1)))) None
 
 logged_on : (g : GroupKeys) (number : ℕ) (log more : List NamedContents) (t : Part) (octets : List ℕ) → packet_logged g number log t ≡ Some octets → packet_logged g number (log ++ more) t ≡ Some octets
 logged_on g number log more t octets = own (t.publisher == number) (t.seq == 0) where
-  own : (b c : Bool) → cond b (cond c None (option_and_then (packet_in (publisher_of g number) t) (slice_get log (t.seq - 1)))) None ≡ Some octets
-      → cond b (cond c None (option_and_then (packet_in (publisher_of g number) t) (slice_get (log ++ more) (t.seq - 1)))) None ≡ Some octets
+  own : (b c : Bool) → cond b (cond c None (option_and_then (packet_in (publisher_at g number) t) (slice_get log (t.seq - 1)))) None ≡ Some octets
+      → cond b (cond c None (option_and_then (packet_in (publisher_at g number) t) (slice_get (log ++ more) (t.seq - 1)))) None ≡ Some octets
   own false c h = absurd cc
   own true true h = absurd cc
   own true false h = at (slice_get log (t.seq - 1)) refl h where
-    at : (o : Option NamedContents) → slice_get log (t.seq - 1) ≡ o → option_and_then (packet_in (publisher_of g number) t) o ≡ Some octets
-        → option_and_then (packet_in (publisher_of g number) t) (slice_get (log ++ more) (t.seq - 1)) ≡ Some octets
+    at : (o : Option NamedContents) → slice_get log (t.seq - 1) ≡ o → option_and_then (packet_in (publisher_at g number) t) o ≡ Some octets
+        → option_and_then (packet_in (publisher_at g number) t) (slice_get (log ++ more) (t.seq - 1)) ≡ Some octets
     at None p q = absurd cc
-    at (Some object) p q = ap (option_and_then (packet_in (publisher_of g number) t)) (at_front log more (t.seq - 1) object p) ∙ q
+    at (Some object) p q = ap (option_and_then (packet_in (publisher_at g number) t)) (at_front log more (t.seq - 1) object p) ∙ q
 
 pub logged_with_more : (g : GroupKeys) (a b : Alone) (t : Part) (octets : List ℕ) → HasMore a b → logged g a t ≡ Some octets → logged g b t ≡ Some octets
 logged_with_more g a b t octets grown h =

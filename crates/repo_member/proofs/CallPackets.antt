@@ -13,11 +13,12 @@ use Rattle.repo_member.specs.declared.refusals.HearRefusal.{HearRefusal}
 use Rattle.repo_member.specs.declared.refusals.AcceptRefusal.{AcceptRefusal}
 use Rattle.repo_member.specs.Records.{Packet}
 use Rattle.repo_member.specs.Groups.{GroupKeys}
-use Rattle.repo_member.specs.Alone.{Alone, Fetched, plan_of, with_packets, new_packets, publishes, takes, with_fetched, with_tries}
+use Rattle.group_model.specs.Member.{with_tries}
+use Rattle.repo_member.specs.Alone.{Alone, Fetched, alone_plan, with_packets, new_packets, alone_publishes, alone_takes, with_fetched}
 use Rattle.repo_member.specs.Verdicts.{hear_verdict, accept_verdict}
-use Rattle.repo_member.specs.Outcomes.{fetched}
-use Rattle.repo_member.specs.Calls.{Call, Publish, Hear, JoinFrom, Fire, Claim, Lose, Accept, TakeOutcome, EndClaims, Reset, Restart, after_hear, after_join, after_claim, after_lose, after_accept, after_call, HeldPacketsStay}
-use Rattle.repo_member.proofs.HoldingLemmas.{put_elsewhere}
+use Rattle.repo_member.specs.Outcomes.{outcome_of}
+use Rattle.repo_member.specs.Calls.{MemberCall, Publish, Hear, JoinFrom, Fire, Claim, Lose, Accept, TakeOutcome, EndClaims, Reset, Restart, if_heard, if_joined, if_claimed, if_lost, if_accepted, after_call, HeldPacketsStay}
+use Rattle.repo_member.proofs.GainingLemmas.{put_elsewhere}
 use Rattle.repo_member.proofs.HeldParts.{StaysStored, missing_value}
 
 stays_as_it_is : (stored : List Packet) → StaysStored stored stored
@@ -51,39 +52,39 @@ stays_fetched : (t : Part) (packet : Option (List ℕ)) (stored : List Packet) �
 stays_fetched t None stored = stays_as_it_is stored
 stays_fetched t (Some octets) stored = stays_with t octets stored
 
-stays_taken : (xs : List Fetched) (a : Alone) → StaysStored a.store (takes xs a).store
+stays_taken : (xs : List Fetched) (a : Alone) → StaysStored a.store (alone_takes xs a).store
 stays_taken [] a = stays_as_it_is a.store
 stays_taken (x ∷ xs) a =
     let next : Alone = record a { store = with_fetched x.part x.packet a.store; attempts = with_tries x.part x.attempts a.attempts } in
-    stays_longer a.store next.store (takes xs next).store (stays_fetched x.part x.packet a.store) (stays_taken xs next)
+    stays_longer a.store next.store (alone_takes xs next).store (stays_fetched x.part x.packet a.store) (stays_taken xs next)
 
-stays_after : (g : GroupKeys) (call : Call) (a : Alone) → StaysStored a.store (after_call g call a).store
+stays_after : (g : GroupKeys) (call : MemberCall) (a : Alone) → StaysStored a.store (after_call g call a).store
 stays_after g (Publish object moment draw) a = go (nat_lt (length a.log) 65535) where
-  go : (b : Bool) → StaysStored a.store (cond b (publishes g object moment draw a) a).store
+  go : (b : Bool) → StaysStored a.store (cond b (alone_publishes g object moment draw a) a).store
   go true = stays_with_all (new_packets g object a) a.store
   go false = stays_as_it_is a.store
 stays_after g (Hear octets moment draw) a = go (hear_verdict g a octets) where
-  go : (v : Result (List ℕ) HearRefusal) → StaysStored a.store (after_hear moment draw a v).store
+  go : (v : Result (List ℕ) HearRefusal) → StaysStored a.store (if_heard moment draw a v).store
   go (Ok told) = stays_as_it_is a.store
   go (Err refusal) = stays_as_it_is a.store
 stays_after g (JoinFrom octets) a = go (hear_verdict g a octets) where
-  go : (v : Result (List ℕ) HearRefusal) → StaysStored a.store (after_join a v).store
+  go : (v : Result (List ℕ) HearRefusal) → StaysStored a.store (if_joined a v).store
   go (Ok told) = stays_as_it_is a.store
   go (Err refusal) = stays_as_it_is a.store
 stays_after g (Fire moment draw) a = stays_as_it_is a.store
-stays_after g (Claim f) a = go (claim_of (plan_of a) f) where
-  go : (claim : Option Part) → StaysStored a.store (after_claim f a claim).store
+stays_after g (Claim f) a = go (claim_of (alone_plan a) f) where
+  go : (claim : Option Part) → StaysStored a.store (if_claimed f a claim).store
   go None = stays_as_it_is a.store
   go (Some t) = stays_as_it_is a.store
-stays_after g (Lose f) a = go (claim_of (plan_of a) f) where
-  go : (claim : Option Part) → StaysStored a.store (after_lose f a claim).store
+stays_after g (Lose f) a = go (claim_of (alone_plan a) f) where
+  go : (claim : Option Part) → StaysStored a.store (if_lost f a claim).store
   go None = stays_as_it_is a.store
   go (Some t) = stays_as_it_is a.store
 stays_after g (Accept f octets) a = go (accept_verdict g a f octets) where
-  go : (v : Result Part AcceptRefusal) → StaysStored a.store (after_accept f octets a v).store
+  go : (v : Result Part AcceptRefusal) → StaysStored a.store (if_accepted f octets a v).store
   go (Ok t) = stays_with t octets a.store
   go (Err refusal) = stays_as_it_is a.store
-stays_after g (TakeOutcome jobs parts attempts) a = stays_taken (fetched jobs parts attempts) a
+stays_after g (TakeOutcome jobs parts attempts) a = stays_taken (outcome_of jobs parts attempts) a
 stays_after g EndClaims a = stays_as_it_is a.store
 stays_after g (Reset moment draw) a = stays_as_it_is a.store
 stays_after g (Restart moment draw) a = stays_as_it_is a.store

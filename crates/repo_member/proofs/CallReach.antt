@@ -14,9 +14,9 @@ use Rattle.repo_object.specs.Verdict.{ring_verdict}
 use Rattle.repo_member.specs.declared.refusals.HearRefusal.{HearRefusal}
 use Rattle.repo_member.specs.declared.refusals.AcceptRefusal.{AcceptRefusal}
 use Rattle.repo_member.specs.Groups.{GroupKeys}
-use Rattle.repo_member.specs.Alone.{Alone, plan_of, publishes, learns, claims_part, accepts, ends_claims, want_of}
+use Rattle.repo_member.specs.Alone.{Alone, alone_plan, alone_publishes, alone_learns, alone_claims, alone_accepts, alone_ends_claims, want_of}
 use Rattle.repo_member.specs.Verdicts.{hear_verdict, passed, claim_verdict, accept_verdict}
-use Rattle.repo_member.specs.Calls.{Call, Publish, Hear, JoinFrom, Fire, Claim, Lose, Accept, TakeOutcome, EndClaims, Reset, Restart, after_hear, after_join, after_claim, after_lose, after_accept, after_call, after_calls, IsTaken, AreTaken, InEveryMember}
+use Rattle.repo_member.specs.Calls.{MemberCall, Publish, Hear, JoinFrom, Fire, Claim, Lose, Accept, TakeOutcome, EndClaims, Reset, Restart, if_heard, if_joined, if_claimed, if_lost, if_accepted, after_call, after_calls, IsAllowedCall, AreAllowedCalls, InEveryMember}
 use Rattle.repo_member.proofs.MemberLemmas.{still_wide}
 use Rattle.repo_member.proofs.CallVectors.{told_is}
 use Rattle.repo_member.proofs.ToldWidth.{told_wide}
@@ -27,7 +27,7 @@ use Rattle.repo_member.proofs.FetchedParts.{reached_takes}
 -- ---- a call
 
 -- what octets tell is learnt
-learnt : (g : GroupKeys) (a : Alone) (octets told : List ℕ) → hear_verdict g a octets ≡ Ok told → IsReached g a → IsReached g (learns told a)
+learnt : (g : GroupKeys) (a : Alone) (octets told : List ℕ) → hear_verdict g a octets ≡ Ok told → IsReached g a → IsReached g (alone_learns told a)
 learnt g a octets told verdict r =
     let is = told_is g a octets told verdict in
     reached_learns g a told (told_wide g.members.names g.name g.members.ring octets (is.signer, told) is.verdict) is.not_ahead r
@@ -36,79 +36,79 @@ learnt g a octets told verdict r =
 machine_too : (g : GroupKeys) (a : Alone) (machine : Keeper) → machine.members ≡ a.machine.members → IsReached g a → IsReached g (record a { machine = machine })
 machine_too g a machine wide r = reached_with g a a.claims a.attempts machine wide r.sound r
 
-fired_wide : (moment draw : ℕ) (k : Keeper) → (fired_kept moment draw k).members ≡ k.members
+pub fired_wide : (moment draw : ℕ) (k : Keeper) → (fired_kept moment draw k).members ≡ k.members
 fired_wide moment draw k = go (nat_lt moment k.deadline) where
   go : (b : Bool) → (cond b k (steady_kept moment draw k)).members ≡ k.members
   go true = refl
   go false = refl
 
 -- only claims change
-claims_too : (g : GroupKeys) (a : Alone) (claims : List (Option Part)) → IsSound (plan_of (record a { claims = claims })) → IsReached g a → IsReached g (record a { claims = claims })
+claims_too : (g : GroupKeys) (a : Alone) (claims : List (Option Part)) → IsSound (alone_plan (record a { claims = claims })) → IsReached g a → IsReached g (record a { claims = claims })
 claims_too g a claims sound r = reached_with g a claims a.attempts a.machine refl sound r
 
 -- what is accepted passes for the part that is claimed
-record IsAccepted (g : GroupKeys) (a : Alone) (f : ℕ) (t : Part) (octets : List ℕ) : Type 0 where
-  claimed : claim_of (plan_of a) f ≡ Some t
-  passes : PassesNow g a.store t octets
+pub record IsAccepted (g : GroupKeys) (a : Alone) (f : ℕ) (t : Part) (octets : List ℕ) : Type 0 where
+  pub claimed : claim_of (alone_plan a) f ≡ Some t
+  pub passes : PassesNow g a.store t octets
 
-accepted : (g : GroupKeys) (a : Alone) (f : ℕ) (t : Part) (octets : List ℕ) → accept_verdict g a f octets ≡ Ok t → IsAccepted g a f t octets
-accepted g a f t octets h = go (claim_of (plan_of a) f) refl h where
-  of_part : (u : Part) → claim_of (plan_of a) f ≡ Some u → (v : Result Data PartRefusal) → ring_verdict (want_of g a.store u) g.members.ring octets ≡ v → passed u v ≡ Ok t → IsAccepted g a f t octets
+pub accepted : (g : GroupKeys) (a : Alone) (f : ℕ) (t : Part) (octets : List ℕ) → accept_verdict g a f octets ≡ Ok t → IsAccepted g a f t octets
+accepted g a f t octets h = go (claim_of (alone_plan a) f) refl h where
+  of_part : (u : Part) → claim_of (alone_plan a) f ≡ Some u → (v : Result Data PartRefusal) → ring_verdict (want_of g a.store u) g.members.ring octets ≡ v → passed u v ≡ Ok t → IsAccepted g a f t octets
   of_part u p (Err refusal) q k = absurd cc
   of_part u p (Ok d) q k =
       let same : u ≡ t = cc in
       let passes : PassesNow g a.store u octets = ap (λ v. is_ok v) q in
       record { claimed = p ∙ ap (λ (x : Part). Some x) same; passes = subst (λ (x : Part). PassesNow g a.store x octets) same passes }
 
-  go : (claim : Option Part) → claim_of (plan_of a) f ≡ claim → claim_verdict g a octets claim ≡ Ok t → IsAccepted g a f t octets
+  go : (claim : Option Part) → claim_of (alone_plan a) f ≡ claim → claim_verdict g a octets claim ≡ Ok t → IsAccepted g a f t octets
   go None p k = absurd cc
   go (Some u) p k = of_part u p (ring_verdict (want_of g a.store u) g.members.ring octets) refl k
 
-reached_accepts : (g : GroupKeys) (a : Alone) (f : ℕ) (t : Part) (octets : List ℕ) → IsAccepted g a f t octets → IsReached g a → IsReached g (accepts f t octets a)
+reached_accepts : (g : GroupKeys) (a : Alone) (f : ℕ) (t : Part) (octets : List ℕ) → IsAccepted g a f t octets → IsReached g a → IsReached g (alone_accepts f t octets a)
 reached_accepts g a f t octets is r =
-    let released = claims_part f None a in
-    let wanted = wanted_parts (plan_of a) t (r.sound.claimed (f - 1) t is.claimed) in
-    reached_gains g released t octets (claims_too g a released.claims (sound_release f (plan_of a) r.sound) r) (released_can_be_held f t (plan_of a) r.sound is.claimed) wanted.not_held is.passes
+    let released = alone_claims f None a in
+    let wanted = wanted_parts (alone_plan a) t (r.sound.claimed (f - 1) t is.claimed) in
+    reached_gains g released t octets (claims_too g a released.claims (sound_release f (alone_plan a) r.sound) r) (released_can_be_held f t (alone_plan a) r.sound is.claimed) wanted.not_held is.passes
 
-reached_call : (g : GroupKeys) (call : Call) (a : Alone) → IsTaken g a call → IsReached g a → IsReached g (after_call g call a)
+reached_call : (g : GroupKeys) (call : MemberCall) (a : Alone) → IsAllowedCall g a call → IsReached g a → IsReached g (after_call g call a)
 reached_call g (Publish object moment draw) a can r = go (nat_lt (length a.log) 65535) refl where
-  go : (b : Bool) → nat_lt (length a.log) 65535 ≡ b → IsReached g (cond b (publishes g object moment draw a) a)
+  go : (b : Bool) → nat_lt (length a.log) 65535 ≡ b → IsReached g (cond b (alone_publishes g object moment draw a) a)
   go true p = reached_publishes g object moment draw a can (ltb-true (length a.log) 65535 p) r
   go false p = r
 reached_call g (Hear octets moment draw) a can r = go (hear_verdict g a octets) refl where
-  go : (v : Result (List ℕ) HearRefusal) → hear_verdict g a octets ≡ v → IsReached g (after_hear moment draw a v)
+  go : (v : Result (List ℕ) HearRefusal) → hear_verdict g a octets ≡ v → IsReached g (if_heard moment draw a v)
   go (Ok told) p =
       let machine = hears_kept moment told a.known draw a.machine a.machine.heard in
-      machine_too g (learns told a) machine (still_wide moment told a.known draw a.machine machine refl) (learnt g a octets told p r)
+      machine_too g (alone_learns told a) machine (still_wide moment told a.known draw a.machine machine refl) (learnt g a octets told p r)
   go (Err refusal) p = r
 reached_call g (JoinFrom octets) a can r = go (hear_verdict g a octets) refl where
-  go : (v : Result (List ℕ) HearRefusal) → hear_verdict g a octets ≡ v → IsReached g (after_join a v)
+  go : (v : Result (List ℕ) HearRefusal) → hear_verdict g a octets ≡ v → IsReached g (if_joined a v)
   go (Ok told) p = learnt g a octets told p r
   go (Err refusal) p = r
 reached_call g (Fire moment draw) a can r = machine_too g a (fired_kept moment draw a.machine) (fired_wide moment draw a.machine) r
-reached_call g (Claim f) a can r = go (claim_of (plan_of a) f) where
-  go : (claim : Option Part) → IsReached g (after_claim f a claim)
+reached_call g (Claim f) a can r = go (claim_of (alone_plan a) f) where
+  go : (claim : Option Part) → IsReached g (if_claimed f a claim)
   go None =
-      let claims = (claims_part f (first (unclaimed (plan_of a))) a).claims in
-      claims_too g a claims (sound_first f (plan_of a) (first (unclaimed (plan_of a))) refl r.sound) r
+      let claims = (alone_claims f (first (unclaimed (alone_plan a))) a).claims in
+      claims_too g a claims (sound_first f (alone_plan a) (first (unclaimed (alone_plan a))) refl r.sound) r
   go (Some t) = r
-reached_call g (Lose f) a can r = go (claim_of (plan_of a) f) where
-  go : (claim : Option Part) → IsReached g (after_lose f a claim)
+reached_call g (Lose f) a can r = go (claim_of (alone_plan a) f) where
+  go : (claim : Option Part) → IsReached g (if_lost f a claim)
   go None = r
-  go (Some t) = claims_too g a (claims_part f None a).claims (sound_release f (plan_of a) r.sound) r
+  go (Some t) = claims_too g a (alone_claims f None a).claims (sound_release f (alone_plan a) r.sound) r
 reached_call g (Accept f octets) a can r = go (accept_verdict g a f octets) refl where
-  go : (v : Result Part AcceptRefusal) → accept_verdict g a f octets ≡ v → IsReached g (after_accept f octets a v)
+  go : (v : Result Part AcceptRefusal) → accept_verdict g a f octets ≡ v → IsReached g (if_accepted f octets a v)
   go (Ok t) p = reached_accepts g a f t octets (accepted g a f t octets p) r
   go (Err refusal) p = r
 reached_call g (TakeOutcome jobs parts attempts) a can r = reached_takes g a jobs parts attempts can.0 can.1 r
-reached_call g EndClaims a can r = claims_too g a (ends_claims a).claims (sound_end (plan_of a) r.sound) r
+reached_call g EndClaims a can r = claims_too g a (alone_ends_claims a).claims (sound_end (alone_plan a) r.sound) r
 reached_call g (Reset moment draw) a can r = machine_too g a (steady_kept moment draw a.machine) refl r
 reached_call g (Restart moment draw) a can r =
-    machine_too g (ends_claims a) (steady_kept moment draw a.machine) refl (claims_too g a (ends_claims a).claims (sound_end (plan_of a) r.sound) r)
+    machine_too g (alone_ends_claims a) (steady_kept moment draw a.machine) refl (claims_too g a (alone_ends_claims a).claims (sound_end (alone_plan a) r.sound) r)
 
 -- ---- all calls
 
-reached_calls : (g : GroupKeys) (calls : List Call) (a : Alone) → AreTaken g a calls → IsReached g a → IsReached g (after_calls g calls a)
+reached_calls : (g : GroupKeys) (calls : List MemberCall) (a : Alone) → AreAllowedCalls g a calls → IsReached g a → IsReached g (after_calls g calls a)
 reached_calls g [] a can r = r
 reached_calls g (call ∷ calls) a can r = reached_calls g calls (after_call g call a) can.1 (reached_call g call a can.0 r)
 
@@ -118,7 +118,7 @@ in_every_member P h g number moment draw calls group inside can =
 
 -- ---- the laws
 
-pub claims_once : (g : GroupKeys) (a : Alone) → IsReached g a → ClaimsOnce (plan_of a)
+pub claims_once : (g : GroupKeys) (a : Alone) → IsReached g a → ClaimsOnce (alone_plan a)
 claims_once g a r = record {
   once = λ f h t is_f is_h differ e k. differ (omega (arith, is_f.from_one, is_h.from_one, r.sound.apart (f - 1) (h - 1) t e k));
   wanted = λ f t e. r.sound.claimed (f - 1) t e;

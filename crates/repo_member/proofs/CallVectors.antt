@@ -14,10 +14,10 @@ use Rattle.repo_member.specs.declared.refusals.HearRefusal.{HearRefusal}
 use Rattle.repo_member.specs.declared.refusals.HearRefusal.TheVariants.{OwnNumberAhead}
 use Rattle.repo_member.specs.declared.refusals.AcceptRefusal.{AcceptRefusal}
 use Rattle.repo_member.specs.Groups.{GroupKeys}
-use Rattle.repo_member.specs.Alone.{Alone, plan_of, publishes, takes}
+use Rattle.repo_member.specs.Alone.{Alone, alone_plan, alone_publishes, alone_takes}
 use Rattle.repo_member.specs.Verdicts.{told_verdict, hear_verdict, accept_verdict}
-use Rattle.repo_member.specs.Outcomes.{fetched}
-use Rattle.repo_member.specs.Calls.{Call, Publish, Hear, JoinFrom, Fire, Claim, Lose, Accept, TakeOutcome, EndClaims, Reset, Restart, after_hear, after_join, after_claim, after_lose, after_accept, after_call, after_calls, vector_told, vector_of_call, vectors_told, NumbersNeverFall, KnownIsTheJoin}
+use Rattle.repo_member.specs.Outcomes.{outcome_of}
+use Rattle.repo_member.specs.Calls.{MemberCall, Publish, Hear, JoinFrom, Fire, Claim, Lose, Accept, TakeOutcome, EndClaims, Reset, Restart, if_heard, if_joined, if_claimed, if_lost, if_accepted, after_call, after_calls, vector_taken, vector_of_call, vectors_told, NumbersNeverFall, KnownIsTheJoin}
 use Rattle.repo_member.proofs.CallLogs.{takes_same}
 
 -- ---- what octets tell
@@ -130,42 +130,42 @@ learns_own object old new number known log is =
           ∙ set_joined old.known others old.number (length old.log + 1) n is.member;
     }
 
-learns_by : (g : GroupKeys) (call : Call) (a : Alone) → KnowsOwn a → Learns (vector_of_call g a call) a (after_call g call a)
+learns_by : (g : GroupKeys) (call : MemberCall) (a : Alone) → KnowsOwn a → Learns (vector_of_call g a call) a (after_call g call a)
 learns_by g (Publish object moment draw) a is = go (nat_lt (length a.log) 65535) where
-  go : (b : Bool) → Learns [] a (cond b (publishes g object moment draw a) a)
-  go true = learns_own object a (publishes g object moment draw a) refl refl refl is
+  go : (b : Bool) → Learns [] a (cond b (alone_publishes g object moment draw a) a)
+  go true = learns_own object a (alone_publishes g object moment draw a) refl refl refl is
   go false = learns_nothing a a refl refl refl is
 learns_by g (Hear octets moment draw) a is = go (hear_verdict g a octets) refl where
-  go : (r : Result (List ℕ) HearRefusal) → hear_verdict g a octets ≡ r → Learns (vector_told r) a (after_hear moment draw a r)
-  go (Ok told) p = learns_vector g octets told a (after_hear moment draw a (Ok told)) p refl refl refl is
+  go : (r : Result (List ℕ) HearRefusal) → hear_verdict g a octets ≡ r → Learns (vector_taken r) a (if_heard moment draw a r)
+  go (Ok told) p = learns_vector g octets told a (if_heard moment draw a (Ok told)) p refl refl refl is
   go (Err refusal) p = learns_nothing a a refl refl refl is
 learns_by g (JoinFrom octets) a is = go (hear_verdict g a octets) refl where
-  go : (r : Result (List ℕ) HearRefusal) → hear_verdict g a octets ≡ r → Learns (vector_told r) a (after_join a r)
-  go (Ok told) p = learns_vector g octets told a (after_join a (Ok told)) p refl refl refl is
+  go : (r : Result (List ℕ) HearRefusal) → hear_verdict g a octets ≡ r → Learns (vector_taken r) a (if_joined a r)
+  go (Ok told) p = learns_vector g octets told a (if_joined a (Ok told)) p refl refl refl is
   go (Err refusal) p = learns_nothing a a refl refl refl is
 learns_by g (Fire moment draw) a is = learns_nothing a (after_call g (Fire moment draw) a) refl refl refl is
-learns_by g (Claim f) a is = go (claim_of (plan_of a) f) where
-  go : (claim : Option Part) → Learns [] a (after_claim f a claim)
-  go None = learns_nothing a (after_claim f a None) refl refl refl is
+learns_by g (Claim f) a is = go (claim_of (alone_plan a) f) where
+  go : (claim : Option Part) → Learns [] a (if_claimed f a claim)
+  go None = learns_nothing a (if_claimed f a None) refl refl refl is
   go (Some t) = learns_nothing a a refl refl refl is
-learns_by g (Lose f) a is = go (claim_of (plan_of a) f) where
-  go : (claim : Option Part) → Learns [] a (after_lose f a claim)
+learns_by g (Lose f) a is = go (claim_of (alone_plan a) f) where
+  go : (claim : Option Part) → Learns [] a (if_lost f a claim)
   go None = learns_nothing a a refl refl refl is
-  go (Some t) = learns_nothing a (after_lose f a (Some t)) refl refl refl is
+  go (Some t) = learns_nothing a (if_lost f a (Some t)) refl refl refl is
 learns_by g (Accept f octets) a is = go (accept_verdict g a f octets) where
-  go : (r : Result Part AcceptRefusal) → Learns [] a (after_accept f octets a r)
-  go (Ok t) = learns_nothing a (after_accept f octets a (Ok t)) refl refl refl is
+  go : (r : Result Part AcceptRefusal) → Learns [] a (if_accepted f octets a r)
+  go (Ok t) = learns_nothing a (if_accepted f octets a (Ok t)) refl refl refl is
   go (Err refusal) = learns_nothing a a refl refl refl is
 learns_by g (TakeOutcome jobs parts attempts) a is =
-    let xs = fetched jobs parts attempts in
-    learns_nothing a (takes xs a) (takes_same (λ b. b.number) (λ b s t. refl) xs a) (takes_same (λ b. b.known) (λ b s t. refl) xs a) (takes_same (λ b. b.log) (λ b s t. refl) xs a) is
+    let xs = outcome_of jobs parts attempts in
+    learns_nothing a (alone_takes xs a) (takes_same (λ b. b.number) (λ b s t. refl) xs a) (takes_same (λ b. b.known) (λ b s t. refl) xs a) (takes_same (λ b. b.log) (λ b s t. refl) xs a) is
 learns_by g EndClaims a is = learns_nothing a (after_call g EndClaims a) refl refl refl is
 learns_by g (Reset moment draw) a is = learns_nothing a (after_call g (Reset moment draw) a) refl refl refl is
 learns_by g (Restart moment draw) a is = learns_nothing a (after_call g (Restart moment draw) a) refl refl refl is
 
 -- ---- the laws
 
-rises_by_all : (g : GroupKeys) (calls : List Call) (a : Alone) (p : ℕ) → KnowsOwn a → slice_index a.known p ≤ slice_index (after_calls g calls a).known p
+rises_by_all : (g : GroupKeys) (calls : List MemberCall) (a : Alone) (p : ℕ) → KnowsOwn a → slice_index a.known p ≤ slice_index (after_calls g calls a).known p
 rises_by_all g [] a p is = omega arith
 rises_by_all g (call ∷ calls) a p is =
     let one = learns_by g call a is in
@@ -179,7 +179,7 @@ unfolding join_all join
 join_all-append [] ws = refl
 join_all-append (v ∷ vs) ws = ap (join v) (join_all-append vs ws) ∙ sym (join_assoc v (join_all vs) (join_all ws))
 
-known_by_all : (g : GroupKeys) (calls : List Call) (a : Alone) → KnowsOwn a
+known_by_all : (g : GroupKeys) (calls : List MemberCall) (a : Alone) → KnowsOwn a
     → (after_calls g calls a).known ≡ slice_set (join a.known (join_all (vectors_told g calls a))) a.number (length (after_calls g calls a).log)
 unfolding join_all
 known_by_all g [] a is =

@@ -16,8 +16,8 @@ use Rattle.repo_catalog.specs.declared.entry.Entry.{Entry}
 use Rattle.repo_catalog.specs.Entries.{publication_of, with_entry}
 use Rattle.repo_member.specs.KeptValues.{with_kept, kept_values}
 use Rattle.repo_member.specs.Records.{Packet, records_in}
-use Rattle.repo_member.specs.Listed.{listing_at, stored_at, shape, shapes_in, content_of, entry_listed, entry_of_listing, entry_at, entries_in, catalogue_alone}
-use Rattle.repo_member.specs.Holding.{with_listed}
+use Rattle.repo_member.specs.Listed.{listing_at, stored_at, shape, shapes_in, packet_content, entry_listed, entry_of_listing, entry_at, entries_in, alone_catalogue}
+use Rattle.repo_member.specs.Gaining.{with_listed}
 use Rattle.repo_member.proofs.SortedMaps.{same_map, rises_kept, value_of-kept}
 use Rattle.repo_member.proofs.RecordLemmas.{rises_records, value_of-records}
 
@@ -110,7 +110,7 @@ with_entry-map e (x ∷ es) k none = go (λ p. with_entry-map e es k.1 p) (pair_
 abbrev stored_entry : (ℕ → Option (List ℕ)) → Pair → Listed → Option Entry
 stored_entry at pair l =
     cond (list_all (λ x. is_some (at x)) (numbers_from 1 (shape l)))
-    (Some (let joined = flat_map (λ x. content_of (unwrap_or (at x) [])) (numbers_from 1 (shape l)) in record {
+    (Some (let joined = flat_map (λ x. packet_content (unwrap_or (at x) [])) (numbers_from 1 (shape l)) in record {
       publisher = pair.0;
       seq = pair.1;
       name = l.name;
@@ -155,9 +155,9 @@ module _ (old new : List Packet) (pair : Pair) (old_order : Rises part_cmp (keys
     go None p = absurd (none_is_some e p)
     go (Some l) p = entry_keyed new pair l e p
 
-  pub relisted : catalogue_alone new ≡ with_listed (entry_at new pair) (catalogue_alone old)
+  pub relisted : alone_catalogue new ≡ with_listed (entry_at new pair) (alone_catalogue old)
   relisted = go (entry_at new pair) refl where
-    go : (o : Option Entry) → entry_at new pair ≡ o → catalogue_alone new ≡ with_listed o (catalogue_alone old)
+    go : (o : Option Entry) → entry_at new pair ≡ o → alone_catalogue new ≡ with_listed o (alone_catalogue old)
     go None p = ap (map (λ x. x.1)) (none_more p)
     go (Some e) p =
         let is = entry_pair e p in

@@ -13,12 +13,13 @@ use Rattle.repo_plan.proofs.Sets.{each_before, in_contains, keys-with_value, ris
 use Rattle.repo_object.specs.Publication.{packets}
 use Rattle.repo_object.proofs.Publications.{packets-length}
 use Rattle.repo_store.specs.StoreList.{with_packet}
-use Rattle.group_model.specs.Member.{Member, insert_keys, with_each_tried, with_attempts}
+use Rattle.group_model.specs.Member.{Member, gains, insert_keys, with_each_tried, with_tries}
 use Rattle.group_model.specs.Changes as group
 use Rattle.group_model.specs.World.{no_member}
 use Rattle.repo_member.specs.Records.{Packet}
-use Rattle.repo_member.specs.Groups.{publisher_of}
-use Rattle.repo_member.specs.Alone.{Alone, Fetched, opening_alone, as_parts, with_packets, new_packets, next_seq, with_fetched, with_tries}
+use Rattle.repo_member.specs.Groups.{publisher_at}
+use Rattle.repo_member.specs.Alone.{Alone, Fetched, alone_opening, as_parts, with_packets, new_packets, next_seq, with_fetched, alone_takes}
+use Rattle.repo_member.specs.Outcomes.{with_all_tries}
 use Rattle.repo_member.specs.InGroup.{in_group, BeginsAlike, PublishesAlike, AcceptsAlike, TakesAlike, asked_for, that_came}
 
 -- ---- a key that a set has already
@@ -69,21 +70,21 @@ holding m held = record m { held = held }
 pub publishes_alike : PublishesAlike
 publishes_alike g object moment draw a r =
     let pair : Pair = (a.number, next_seq a) in
-    let made : List (List ℕ) = packets (publisher_of g a.number) (next_seq a) object in
+    let made : List (List ℕ) = packets (publisher_at g a.number) (next_seq a) object in
     let parts : keys (new_packets g object a) ≡ parts_of pair (length object.contents) =
-    keys_as_parts pair 0 made ∙ ap (λ (n : ℕ). map (part_of pair) (numbers_from 0 n)) (packets-length (publisher_of g a.number) (next_seq a) object) in
+    keys_as_parts pair 0 made ∙ ap (λ (n : ℕ). map (part_of pair) (numbers_from 0 n)) (packets-length (publisher_at g a.number) (next_seq a) object) in
     ap (holding (group.publishes draw moment a.number object (in_group a)))
     (keys_puts (new_packets g object a) a.store r ∙ ap (λ (ts : List Part). insert_keys ts (keys a.store)) parts)
 
 pub accepts_alike : AcceptsAlike
 accepts_alike f t octets a r = ap (holding (group.takes f t (in_group a))) (keys_put a.store t octets r)
 
-rises_fetched : (t : Part) (o : Option (List ℕ)) (stored : List Packet) → Rises part_cmp (keys stored) → Rises part_cmp (keys (with_fetched t o stored))
+pub rises_fetched : (t : Part) (o : Option (List ℕ)) (stored : List Packet) → Rises part_cmp (keys stored) → Rises part_cmp (keys (with_fetched t o stored))
 rises_fetched t None stored r = r
 rises_fetched t (Some octets) stored r = rises_put stored t octets r
 
 -- the parts that came are held too, whether this one is among them or not
-came_first : (x : Fetched) (ys : List Fetched) (o : Option (List ℕ)) (stored : List Packet) → Rises part_cmp (keys stored)
+pub came_first : (x : Fetched) (ys : List Fetched) (o : Option (List ℕ)) (stored : List Packet) → Rises part_cmp (keys stored)
     → insert_keys (asked_for ys) (keys (with_fetched x.part o stored)) ≡ insert_keys (asked_for (cond (is_some o) (x ∷ ys) ys)) (keys stored)
 came_first x ys None stored r = refl
 came_first x ys (Some octets) stored r = ap (insert_keys (asked_for ys)) (keys_put stored x.part octets r)
@@ -93,11 +94,21 @@ takes_alike tries [] a r h = refl
 takes_alike tries (x ∷ xs) a r h =
     let next : Alone = record a { store = with_fetched x.part x.packet a.store; attempts = with_tries x.part x.attempts a.attempts } in
     let outcome : List Part → List (Part × ℕ) → Member = λ held attempts. record (in_group a) { held = held; attempts = attempts } in
-    let tried : with_tries x.part x.attempts a.attempts ≡ with_attempts x.part (tries x.part) a.attempts =
-    ap (λ (n : ℕ). with_attempts x.part n a.attempts) (All-head (λ (y : Fetched). y.attempts ≡ tries y.part) x xs h) in
+    let tried : with_tries x.part x.attempts a.attempts ≡ with_tries x.part (tries x.part) a.attempts =
+    ap (λ (n : ℕ). with_tries x.part n a.attempts) (All-head (λ (y : Fetched). y.attempts ≡ tries y.part) x xs h) in
     takes_alike tries xs next (rises_fetched x.part x.packet a.store r) (All-tail (λ (y : Fetched). y.attempts ≡ tries y.part) x xs h)
     ∙ ap (λ (held : List Part). outcome held (with_each_tried tries (asked_for xs) (with_tries x.part x.attempts a.attempts))) (came_first x (filter (λ (y : Fetched). is_some y.packet) xs) x.packet a.store r)
     ∙ ap (λ (attempts : List (Part × ℕ)). outcome (insert_keys (that_came (x ∷ xs)) (keys a.store)) (with_each_tried tries (asked_for xs) attempts)) tried
+
+-- however often each part was tried
+pub takes_in_group : (xs : List Fetched) (a : Alone) → Rises part_cmp (keys a.store)
+    → in_group (alone_takes xs a) ≡ record (gains (that_came xs) (in_group a)) { attempts = with_all_tries xs a.attempts }
+takes_in_group [] a r = refl
+takes_in_group (x ∷ xs) a r =
+    let next : Alone = record a { store = with_fetched x.part x.packet a.store; attempts = with_tries x.part x.attempts a.attempts } in
+    let outcome : List Part → Member = λ held. record (in_group a) { held = held; attempts = with_all_tries xs (with_tries x.part x.attempts a.attempts) } in
+    takes_in_group xs next (rises_fetched x.part x.packet a.store r)
+    ∙ ap outcome (came_first x (filter (λ (y : Fetched). is_some y.packet) xs) x.packet a.store r)
 
 -- ---- the opening
 
@@ -108,7 +119,7 @@ at_number f first (suc n) (suc j) h = let e : (first + 1) + j ≡ first + suc j 
 
 pub begins_alike : BeginsAlike
 begins_alike out n j h =
-    let begun : ℕ → ℕ → Member = λ i deadline. record (in_group (opening_alone n i 0 (out.draw i 0))) { machine = record { members = n; heard = None; deadline = deadline; draws = 1 } } in
+    let begun : ℕ → ℕ → Member = λ i deadline. record (in_group (alone_opening n i 0 (out.draw i 0))) { machine = record { members = n; heard = None; deadline = deadline; draws = 1 } } in
     let now : 0 + periodic (out.draw j 0) ≡ periodic (out.draw j 0) = omega arith in
     let e : 0 + j ≡ j = omega arith in
     let at : ℕ → Member = λ i. begun i (periodic (out.draw i 0)) in

@@ -1,25 +1,34 @@
 -- What an event of a group makes of a member by itself.
-use Rattle.std.proofs.Common.{◌≡◌, ℕ, ◌-◌, Bool, true, false, cond, List, [], ◌∷◌, length, get_or, set, Option, Some, None, refl, sym, ap, ◌∙◌}
+use Rattle.std.proofs.Common.{◌≡◌, ℕ, ◌-◌, Bool, true, false, cond, ◌||◌, List, [], ◌∷◌, map, length, get_or, set, Option, Some, None, refl, sym, ap, ◌∙◌}
 use Rattle.std.specs.Prelude.{nat_lt, slice_index}
 use Rattle.std.proofs.lemmas.List.{get_or-set_same, set-get_or}
+use Rattle.std.proofs.lemmas.List.Elements.{All-head, All-tail}
 use Rattle.svs_sync.specs.declared.fired.Fired.{Fired}
 use Rattle.svs_sync.specs.declared.fired.Fired.TheVariants.{Early, Quiet, Send}
-use Rattle.svs_vector.specs.Vectors.{covers}
+use Rattle.svs_vector.specs.Vectors.{covers, join_all}
+use Rattle.svs_vector.proofs.JoinLemmas.{join-[], join_assoc, join_all_same}
 use Rattle.svs_sync.specs.KeptVector.{steady_kept, due_kept, fires_kept}
 use Rattle.repo_plan.specs.declared.part.Part.{Part}
+use Rattle.repo_plan.specs.SortedList.{keys, contains, Rises}
+use Rattle.repo_plan.specs.Parts.{part_cmp}
+use Rattle.repo_plan.proofs.Orders.{exact_parts}
 use Rattle.repo_plan.specs.Plan.{claim_of, unclaimed, first, no_claims}
-use Rattle.group_model.specs.Member.{Member, catalogue, gains, with_each_tried}
+use Rattle.group_model.specs.Member.{Member, catalogue, gains, insert_keys, with_each_tried, with_tries}
 use Rattle.group_model.specs.Member as group_member
 use Rattle.group_model.specs.Changes as group
 use Rattle.group_model.specs.Events.{Came}
 use Rattle.group_model.specs.Events.Came.{Nothing, Its, Another}
 use Rattle.group_model.specs.World.{Outside, World, no_member, member, logs, sent_at}
-use Rattle.group_model.specs.Steps.{drawn, timer_at, claim_at, passes_checks, came_from, came_as, tried_once, planned, attempts_for, fetches, settled_vector, new_parts, after_deliver, after_fire, after_claim, after_came}
-use Rattle.group_model.proofs.Settles.{member_settled}
-use Rattle.repo_member.specs.Alone.{Alone, plan_of, learns, hears, fires, claims_part, accepts, takes, ends_claims, resets}
-use Rattle.repo_member.specs.InGroup.{in_group, StoresInOrder, asked_for, that_came, after_timer}
-use Rattle.repo_member.specs.InEvents.{IsMemberOf, PublishIsEvent, DeliverIsEvent, HearIsEvent, FireIsEvent, RestartIsEvent, ClaimIsEvent, LoseIsEvent, AnswerIsEvent, FeedIsEvent, FetchIsEvent, SettleIsEvent, learns_all, OpenPartsAlike, CataloguesAlike}
-use Rattle.repo_member.proofs.ChangeLemmas.{publishes_alike, accepts_alike, takes_alike}
+use Rattle.group_model.specs.Steps.{drawn, timer_at, claim_at, passes_checks, came_from, came_as, tried_once, planned_parts, attempts_for, fetches, settled_vector, settled_member, new_parts, after_deliver, after_fire, after_claim, after_came}
+use Rattle.group_model.proofs.Lists.{contains-insert_keys, rises_insert_keys}
+use Rattle.group_model.proofs.Settles.{member_settled, member_gathered}
+use Rattle.group_model.proofs.SortedSets.{same_members}
+use Rattle.repo_member.specs.Alone.{Alone, alone_plan, alone_learns, alone_hears, alone_fires, alone_claims, alone_accepts, alone_takes, alone_ends_claims, alone_resets}
+use Rattle.repo_member.specs.InGroup.{in_group, StoresInOrder, AreTries, that_came, after_timer}
+use Rattle.repo_member.specs.Outcomes.{with_all_tries}
+use Rattle.repo_member.specs.Alone.{Fetched}
+use Rattle.repo_member.specs.InEvents.{IsMemberOf, PublishIsEvent, DeliverIsEvent, HearIsEvent, FireIsEvent, RestartIsEvent, ClaimIsEvent, LoseIsEvent, AnswerIsEvent, FeedIsEvent, FetchIsEvent, LearnsAtOnce, LearnsWhatAllKnow, IsSettling, GatheringIsEvent, SettleIsEvent, learns_all, OpenPartsAlike, CataloguesAlike}
+use Rattle.repo_member.proofs.ChangeLemmas.{publishes_alike, accepts_alike, takes_alike, takes_in_group}
 use Rattle.repo_member.proofs.GroupPlans.{plans_alike}
 use Rattle.repo_member.proofs.GroupCatalogues.{lists_alike}
 
@@ -41,11 +50,11 @@ hear_is_event out w j sync a is = ap (λ (b : Bool). member (cond b w (after_del
   test : nat_lt (length (member w j).log) (slice_index sync.vector j) ≡ nat_lt (length a.log) (slice_index sync.vector a.number)
   test = ap (λ (m : Member). nat_lt (length m.log) (slice_index sync.vector j)) is.same ∙ ap (λ (n : ℕ). nat_lt (length a.log) (slice_index sync.vector n)) (sym is.number)
 
-  go : (b : Bool) → member (cond b w (after_deliver out w j sync.vector)) j ≡ in_group (cond b a (hears sync.vector w.moment (drawn out w j) a))
+  go : (b : Bool) → member (cond b w (after_deliver out w j sync.vector)) j ≡ in_group (cond b a (alone_hears sync.vector w.moment (drawn out w j) a))
   go true = is.same
   go false = changed w j a is (group.learns (drawn out w j) w.moment sync.vector)
 
-fires_alike : (moment draw : ℕ) (a : Alone) → in_group (fires moment draw a) ≡ after_timer (fires_kept moment a.known a.machine) draw moment (in_group a)
+fires_alike : (moment draw : ℕ) (a : Alone) → in_group (alone_fires moment draw a) ≡ after_timer (fires_kept moment a.known a.machine) draw moment (in_group a)
 fires_alike moment draw a = go (nat_lt moment a.machine.deadline) where
   due : (heard : Option (List ℕ)) → group.resets draw moment (in_group a) ≡ after_timer (due_kept a.known heard) draw moment (in_group a)
   due None = refl
@@ -76,22 +85,22 @@ pub catalogues_alike : CataloguesAlike
 catalogues_alike w j g a is truly = ap (catalogue (logs w)) is.same ∙ sym (lists_alike g (logs w) a truly.published truly.stores)
 
 pub claim_is_event : ClaimIsEvent
-claim_is_event out w j f g a is truly idle = ap (λ (ts : List Part). member (after_claim w j f (first ts)) j) (open_parts_alike w j g a is truly) ∙ go (first (unclaimed (plan_of a))) where
+claim_is_event out w j f g a is truly idle = ap (λ (ts : List Part). member (after_claim w j f (first ts)) j) (open_parts_alike w j g a is truly) ∙ go (first (unclaimed (alone_plan a))) where
   with_claims : List (Option Part) → Member
   with_claims claims = record (in_group a) { claims = claims }
 
-  go : (x : Option Part) → member (after_claim w j f x) j ≡ in_group (claims_part f x a)
+  go : (x : Option Part) → member (after_claim w j f x) j ≡ in_group (alone_claims f x a)
   go None = is.same ∙ ap with_claims (sym (ap (set a.claims (f - 1)) (sym idle) ∙ set-get_or a.claims (f - 1) None))
-  go (Some t) = changed w j a is (group.with_claim f (Some t))
+  go (Some t) = changed w j a is (group.member_with_claim f (Some t))
 
 pub lose_is_event : LoseIsEvent
-lose_is_event out w j f a is = changed w j a is (group.with_claim f None)
+lose_is_event out w j f a is = changed w j a is (group.member_with_claim f None)
 
-claimed_alike : (w : World) (j f : ℕ) (t : Part) (a : Alone) → IsMemberOf w j a → claim_of (plan_of a) f ≡ Some t → claim_at w j f ≡ Some t
+claimed_alike : (w : World) (j f : ℕ) (t : Part) (a : Alone) → IsMemberOf w j a → claim_of (alone_plan a) f ≡ Some t → claim_at w j f ≡ Some t
 claimed_alike w j f t a is claim = ap (λ (m : Member). get_or m.claims (f - 1) None) is.same ∙ claim
 
 came_is_event : (out : Outside) (w : World) (j f : ℕ) (t : Part) (octets : List ℕ) (a : Alone) (came : Came) → IsMemberOf w j a → StoresInOrder a
-    → member (after_came out w j f (Some t) came) j ≡ in_group (cond (passes_checks came) (accepts f t octets a) a)
+    → member (after_came out w j f (Some t) came) j ≡ in_group (cond (passes_checks came) (alone_accepts f t octets a) a)
 came_is_event out w j f t octets a Nothing is r = is.same
 came_is_event out w j f t octets a Its is r = changed w j a is (group.takes f t) ∙ sym (accepts_alike f t octets a r)
 came_is_event out w j f t octets a Another is r = changed w j a is (group.takes f t) ∙ sym (accepts_alike f t octets a r)
@@ -110,30 +119,54 @@ pub fetch_is_event : FetchIsEvent
 fetch_is_event out w j tries loss xs a is r outcome =
     let after_it : List Part → List Part → Member = λ came asked. record (gains came (in_group a)) { attempts = with_each_tried (attempts_for out w j tries loss) asked a.attempts } in
     changed w j a is (fetches out w j tries loss)
-    ∙ ap (λ (came : List Part). after_it came (planned w j)) (sym outcome.came) ∙ ap (after_it (that_came xs)) (sym outcome.asked)
+    ∙ ap (λ (came : List Part). after_it came (planned_parts w j)) (sym outcome.came) ∙ ap (after_it (that_came xs)) (sym outcome.asked)
     ∙ sym (takes_alike (attempts_for out w j tries loss) xs a r outcome.tried)
 
 -- ---- a settle
 
-learnt : (vectors : List (List ℕ)) (a : Alone) (claims : List (Option Part)) → learns_all vectors (record a { claims = claims }) ≡ record a { claims = claims; known = (learns_all vectors a).known }
-learnt [] a claims = refl
-learnt (told ∷ vectors) a claims = learnt vectors (learns told a) claims
+pub learns_at_once : LearnsAtOnce
+unfolding join_all
+learns_at_once [] a = ap (λ (v : List ℕ). let b : Alone = record a { known = v } in b) (sym (join-[] a.known))
+learns_at_once (told ∷ vectors) a =
+    learns_at_once vectors (alone_learns told a)
+    ∙ ap (λ (v : List ℕ). let b : Alone = record a { known = v } in b) (join_assoc a.known told (join_all vectors))
 
-none_tried : (ts : List Part) (tried : List (Part × ℕ)) → with_each_tried (λ t. 0) ts tried ≡ tried
-none_tried [] tried = refl
-none_tried (t ∷ ts) tried = none_tried ts tried
+pub learns_what_all_know : LearnsWhatAllKnow
+learns_what_all_know w a vectors told =
+    ap (λ (b : Alone). b.known) (learns_at_once vectors a) ∙ join_all_same (a.known ∷ vectors) (map (λ (m : Member). m.known) w.members) told
+
+none_tried : (xs : List Fetched) (tried : List (Part × ℕ)) → AreTries (λ t. 0) xs → with_all_tries xs tried ≡ tried
+none_tried [] tried all = refl
+none_tried (x ∷ xs) tried all =
+    ap (λ (n : ℕ). with_all_tries xs (with_tries x.part n tried)) (All-head (λ (y : Fetched). y.attempts ≡ 0) x xs all)
+    ∙ none_tried xs tried (All-tail (λ (y : Fetched). y.attempts ≡ 0) x xs all)
+
+-- parts that come in any order make one list in order
+same_gained : (ts us held : List Part) → Rises part_cmp held → ((t : Part) → contains part_cmp ts t ≡ contains part_cmp us t) → insert_keys ts held ≡ insert_keys us held
+same_gained ts us held r same =
+    same_members exact_parts (insert_keys ts held) (insert_keys us held) (rises_insert_keys ts held r) (rises_insert_keys us held r)
+    (λ t. contains-insert_keys ts held t ∙ ap (λ (b : Bool). b || contains part_cmp held t) (same t) ∙ sym (contains-insert_keys us held t))
+
+gathered_alike : (w : World) (j : ℕ) (vectors : List (List ℕ)) (xs : List Fetched) (a : Alone) → IsMemberOf w j a → StoresInOrder a → IsSettling w j a vectors xs
+    → settled_member w (member w j) ≡ in_group (alone_takes xs (learns_all vectors (alone_ends_claims a)))
+gathered_alike w j vectors xs a is r settling =
+    let gathered : Member → List Part → List ℕ → Member = λ m held known. record m { known = known; held = held; claims = no_claims } in
+    let ended : Alone = alone_ends_claims a in
+    let told : Alone = record ended { known = (learns_all vectors ended).known } in
+    let known : (learns_all vectors ended).known ≡ settled_vector w = learns_what_all_know w ended vectors settling.told in
+    let learnt : learns_all vectors ended ≡ told = learns_at_once vectors ended ∙ ap (λ (v : List ℕ). let b : Alone = record ended { known = v } in b) (ap (λ (b : Alone). b.known) (sym (learns_at_once vectors ended))) in
+    let outcome : List (Part × ℕ) → Member = λ attempts. record (gathered (in_group a) (insert_keys (that_came xs) (keys a.store)) (learns_all vectors ended).known) { attempts = attempts } in
+    ap (λ (m : Member). gathered m (insert_keys (new_parts w (member w j)) m.held) (settled_vector w)) is.same
+    ∙ ap (λ (held : List Part). gathered (in_group a) held (settled_vector w)) (sym (same_gained (that_came xs) (new_parts w (member w j)) (keys a.store) r settling.came))
+    ∙ ap (gathered (in_group a) (insert_keys (that_came xs) (keys a.store))) (sym known)
+    ∙ ap outcome (sym (none_tried xs a.attempts settling.tried))
+    ∙ sym (takes_in_group xs told r)
+    ∙ ap (λ (b : Alone). in_group (alone_takes xs b)) (sym learnt)
+
+pub gathering_is_event : GatheringIsEvent
+gathering_is_event out w j vectors xs a is r settling = member_gathered out w j is.there ∙ gathered_alike w j vectors xs a is r settling
 
 pub settle_is_event : SettleIsEvent
 settle_is_event out w j vectors xs a is r settling =
-    let draw : ℕ = drawn out w j in
-    let settled : Member → List Part → List ℕ → Member = λ m gained known. group.resets draw w.moment (record (gains gained (group_member.without_claims m)) { known = known }) in
-    let known : List ℕ = (learns_all vectors a).known in
-    let told : Alone = record (ends_claims a) { known = known } in
-    let tried : List (Part × ℕ) → Member = λ attempts. record (settled (in_group a) (that_came xs) known) { attempts = attempts } in
     member_settled out w j is.there
-    ∙ ap (λ (m : Member). settled m (new_parts w (member w j)) (settled_vector w)) is.same
-    ∙ ap (λ (gained : List Part). settled (in_group a) gained (settled_vector w)) (sym settling.came)
-    ∙ ap (settled (in_group a) (that_came xs)) (sym settling.known)
-    ∙ ap tried (sym (none_tried (asked_for xs) a.attempts))
-    ∙ ap (group.resets draw w.moment) (sym (takes_alike (λ t. 0) xs told r settling.tried))
-    ∙ ap (λ (b : Alone). in_group (resets w.moment draw (takes xs b))) (sym (learnt vectors a no_claims))
+    ∙ ap (group.resets (drawn out w j) w.moment) (gathered_alike w j vectors xs a is r settling)

@@ -20,9 +20,10 @@ use Rattle.repo_object.specs.Verdict.{CheckedPart, IsChecked, part_verdict, ring
 use Rattle.repo_store.specs.StoreList.{with_packet}
 use Rattle.repo_member.specs.Listed.{listing_at, shape}
 use Rattle.repo_member.specs.Groups.{GroupKeys}
-use Rattle.repo_member.specs.Alone.{Alone, plan_of, want_of, takes, with_tries}
-use Rattle.repo_member.specs.Outcomes.{fetched, AreApart, IsCheckedFor, AreFetched, IsOutcome}
-use Rattle.repo_member.proofs.HoldingLemmas.{contains-value, put_elsewhere, shape_told}
+use Rattle.group_model.specs.Member.{with_tries}
+use Rattle.repo_member.specs.Alone.{Alone, alone_plan, want_of, alone_takes}
+use Rattle.repo_member.specs.Outcomes.{outcome_of, AreApart, IsCheckedFor, AreFetched, IsOutcome}
+use Rattle.repo_member.proofs.GainingLemmas.{contains-value, put_elsewhere, shape_told}
 use Rattle.repo_member.proofs.PlanChanges.{gains, tied_alone, sound_tried}
 use Rattle.repo_member.proofs.HeldParts.{IsReached, PassesNow, StaysStored, listing_still, want_stays, stays_stored, missing_value, not_there, reached_with, reached_gains}
 
@@ -34,7 +35,7 @@ Passed g job part = IfSome part (λ c. IsOk (ring_verdict job.want g.members.rin
 
 -- a job of the member: its part is wanted and unclaimed, and its want is the member's
 abbrev IsOpen : GroupKeys → Alone → Job → Type 0
-IsOpen g a job = (is_unclaimed (plan_of a) job.want.part ≡ true) × (job.want ≡ want_of g a.store job.want.part)
+IsOpen g a job = (is_unclaimed (alone_plan a) job.want.part ≡ true) × (job.want ≡ want_of g a.store job.want.part)
 
 -- there are as many of each
 abbrev AreOpen : GroupKeys → Alone → List Job → List (Option CheckedPart) → List ℕ → Type 0
@@ -66,15 +67,15 @@ fetched_open g a (job ∷ jobs) (part ∷ parts) [] h k = absurd h
 -- ---- one part
 
 record IsFree (a : Alone) (t : Part) : Type 0 where
-  wanted : IsWanted (plan_of a) t
-  not_claimed : is_claimed (plan_of a) t ≡ false
+  wanted : IsWanted (alone_plan a) t
+  not_claimed : is_claimed (alone_plan a) t ≡ false
 
-free_from : (a : Alone) (t : Part) → is_unclaimed (plan_of a) t ≡ true → IsFree a t
+free_from : (a : Alone) (t : Part) → is_unclaimed (alone_plan a) t ≡ true → IsFree a t
 free_from a t h =
-    let both = and_parts (is_wanted (plan_of a) t) (not (is_claimed (plan_of a) t)) h in
-    record { wanted = wanted_parts (plan_of a) t both.0; not_claimed = not-true (is_claimed (plan_of a) t) both.1 }
+    let both = and_parts (is_wanted (alone_plan a) t) (not (is_claimed (alone_plan a) t)) h in
+    record { wanted = wanted_parts (alone_plan a) t both.0; not_claimed = not-true (is_claimed (alone_plan a) t) both.1 }
 
-free_can : (a : Alone) (t : Part) → IsFree a t → CanBeHeld (plan_of a) t
+free_can : (a : Alone) (t : Part) → IsFree a t → CanBeHeld (alone_plan a) t
 free_can a t free = record { asked = free.wanted.asked; not_hidden = free.wanted.not_hidden; not_claimed = free.not_claimed }
 
 swapped : (t u : Part) → eq_by_cmp part_cmp t u ≡ false → eq_by_cmp part_cmp u t ≡ false
@@ -91,7 +92,7 @@ no_shape : (n : Shape) → (let o : Option Shape = None in o) ≡ Some n → ⊥
 no_shape n h = cc
 
 module _ (g : GroupKeys) (a : Alone) (t : Part) (octets : List ℕ) (r : IsReached g a) (free : IsFree a t) (passed : PassesNow g a.store t octets) where
-  fresh : holds (plan_of a) t ≡ false
+  fresh : holds (alone_plan a) t ≡ false
   fresh = free.wanted.not_held
 
   next : IsReached g (gains t octets a)
@@ -100,18 +101,18 @@ module _ (g : GroupKeys) (a : Alone) (t : Part) (octets : List ℕ) (r : IsReach
   stays : StaysStored a.store (with_packet t octets a.store)
   stays = stays_stored g a t octets r (free_can a t free) fresh
 
-  keeps : Keeps (plan_of a) (plan_of (gains t octets a))
+  keeps : Keeps (alone_plan a) (alone_plan (gains t octets a))
   keeps = record {
     knows = λ pair h. h;
     held = λ u h.
         let there = there_value (value_of part_cmp a.store u) (sym (contains-value a.store u) ∙ h) in
         contains-value (with_packet t octets a.store) u ∙ ap is_some (stays.still u there.0 there.1);
-    shapes = λ pair n h. go pair n (listing_at a.store pair) refl (sym (shape_told (plan_of a) a.store pair (tied_alone a r.alone.in_order)) ∙ h);
+    shapes = λ pair n h. go pair n (listing_at a.store pair) refl (sym (shape_told (alone_plan a) a.store pair (tied_alone a r.alone.in_order)) ∙ h);
   } where
-    go : (pair : Pair) (n : Shape) (o : Option Listed) → listing_at a.store pair ≡ o → option_map shape o ≡ Some n → shape_of (plan_of (gains t octets a)) pair ≡ Some n
+    go : (pair : Pair) (n : Shape) (o : Option Listed) → listing_at a.store pair ≡ o → option_map shape o ≡ Some n → shape_of (alone_plan (gains t octets a)) pair ≡ Some n
     go pair n None p q = absurd (no_shape n q)
     go pair n (Some l) p q =
-        shape_told (plan_of (gains t octets a)) (with_packet t octets a.store) pair (tied_alone (gains t octets a) next.alone.in_order)
+        shape_told (alone_plan (gains t octets a)) (with_packet t octets a.store) pair (tied_alone (gains t octets a) next.alone.in_order)
         ∙ ap (option_map shape) (listing_still a.store (with_packet t octets a.store) pair l stays p) ∙ q
 
   -- another job can be taken still
@@ -120,12 +121,12 @@ module _ (g : GroupKeys) (a : Alone) (t : Part) (octets : List ℕ) (r : IsReach
       let u = job.want.part in
       let its = free_from a u is.0 in
       let missing = put_elsewhere a.store t octets fresh u (swapped t u other) ∙ missing_value a.store u its.wanted.not_held in
-      let wanted = wanted_from (plan_of (gains t octets a)) u (record {
-        asked = asked_kept (plan_of a) (plan_of (gains t octets a)) u keeps its.wanted.asked;
+      let wanted = wanted_from (alone_plan (gains t octets a)) u (record {
+        asked = asked_kept (alone_plan a) (alone_plan (gains t octets a)) u keeps its.wanted.asked;
         not_held = not_there (with_packet t octets a.store) u missing;
         not_hidden = its.wanted.not_hidden;
       }) in (
-        and_from (is_wanted (plan_of (gains t octets a)) u) (not (is_claimed (plan_of a) u)) wanted (and_parts (is_wanted (plan_of a) u) (not (is_claimed (plan_of a) u)) is.0).1,
+        and_from (is_wanted (alone_plan (gains t octets a)) u) (not (is_claimed (alone_plan a) u)) wanted (and_parts (is_wanted (alone_plan a) u) (not (is_claimed (alone_plan a) u)) is.0).1,
         is.1 ∙ sym (want_stays g a (with_packet t octets a.store) u r.alone.in_order stays its.wanted.asked),
       )
 
@@ -145,7 +146,7 @@ tried : (g : GroupKeys) (a : Alone) (t : Part) (n : ℕ) → IsReached g a → I
 tried g a t n r = reached_with g a a.claims (with_tries t n a.attempts) a.machine refl (sound_tried a t n r.sound) r
 
 takes_open : (g : GroupKeys) (a : Alone) (jobs : List Job) (parts : List (Option CheckedPart)) (ns : List ℕ) → AreApart (map (λ (job : Job). job.want.part) jobs) → AreOpen g a jobs parts ns → IsReached g a
-    → IsReached g (takes (fetched jobs parts ns) a)
+    → IsReached g (alone_takes (outcome_of jobs parts ns) a)
 takes_open g a [] [] [] apart h r = r
 takes_open g a (job ∷ jobs) (None ∷ parts) (n ∷ ns) apart h r =
     takes_open g (record a { attempts = with_tries job.want.part n a.attempts }) jobs parts ns apart.1 h.1 (tried g a job.want.part n r)
@@ -163,5 +164,5 @@ takes_open g a (job ∷ jobs) [] ns apart h r = absurd h
 takes_open g a (job ∷ jobs) (part ∷ parts) [] apart h r = absurd h
 
 pub reached_takes : (g : GroupKeys) (a : Alone) (jobs : List Job) (parts : List (Option CheckedPart)) (ns : List ℕ) → IsOutcome g a jobs parts ns → All IfChecked parts → IsReached g a
-    → IsReached g (takes (fetched jobs parts ns) a)
+    → IsReached g (alone_takes (outcome_of jobs parts ns) a)
 reached_takes g a jobs parts ns is checked r = takes_open g a jobs parts ns is.apart (fetched_open g a jobs parts ns is.each checked) r

@@ -17,22 +17,22 @@ use Rattle.repo_object.specs.Publication.{Listed, published_listing}
 use Rattle.repo_object.specs.Verdict.{listing_in}
 use Rattle.repo_catalog.specs.declared.entry.Entry.{Entry}
 use Rattle.repo_catalog.specs.Entries.{publication_of}
-use Rattle.group_model.specs.Publications.{Logs, Publication, pair_in, published, object_at, count, entry_of}
-use Rattle.group_model.specs.Member.{Member, holds, holds_all, catalogued}
+use Rattle.group_model.specs.Publications.{Logs, Publication, pair_in, published, object_at, count, published_entry}
+use Rattle.group_model.specs.Member.{Member, member_holds, holds_all, catalogued}
 use Rattle.group_model.specs.Sound.{IsPublished}
 use Rattle.group_model.proofs.Lists.{from_filter}
 use Rattle.group_model.proofs.Parts.{IsIn, in_published}
 use Rattle.group_model.proofs.Catalogues.{lists_in_order, at_pair, is_published}
 use Rattle.repo_member.specs.Records.{records_in}
-use Rattle.repo_member.specs.Listed.{listing_at, stored_at, shape, content_of, content_at, contents_joined, are_stored, entry_of_listing, entry_listed, entry_at, entries_in}
-use Rattle.repo_member.specs.Groups.{GroupKeys, publisher_of}
-use Rattle.repo_member.specs.Alone.{Alone, plan_of}
-use Rattle.repo_member.specs.Holding.{AreTied}
+use Rattle.repo_member.specs.Listed.{listing_at, stored_at, shape, packet_content, stored_content, contents_joined, are_stored, entry_of_listing, entry_listed, entry_at, entries_in}
+use Rattle.repo_member.specs.Groups.{GroupKeys, publisher_at}
+use Rattle.repo_member.specs.Alone.{Alone, alone_plan}
+use Rattle.repo_member.specs.Gaining.{AreTied}
 use Rattle.repo_member.specs.InGroup.{in_group, AreLogs, StoresTruly, ListsAlike}
 use Rattle.repo_member.proofs.SortedMaps.{same_map, rises_kept}
 use Rattle.repo_member.proofs.RecordLemmas.{rises_records}
 use Rattle.repo_member.proofs.CatalogueLemmas.{entries_value}
-use Rattle.repo_member.proofs.HoldingLemmas.{contains-value, complete_stored, shape_told}
+use Rattle.repo_member.proofs.GainingLemmas.{contains-value, complete_stored, shape_told}
 use Rattle.repo_member.proofs.TruePackets.{value_in, record_lists, segment_content, listing_counts, published_object, published_by, published_low}
 
 -- ---- maps in order that have the same entries
@@ -58,15 +58,15 @@ same_entries {K} {V} {R} e xs ys a b there back = same_map e xs ys a b (λ k. go
 -- ---- the group's catalogue, each entry under its publication
 
 abbrev keyed : Publication → Pair × Entry
-keyed q = (pair_in q, entry_of q)
+keyed q = (pair_in q, published_entry q)
 
-keys_keyed : (qs : List Publication) → keys (map keyed qs) ≡ map publication_of (map entry_of qs)
+keys_keyed : (qs : List Publication) → keys (map keyed qs) ≡ map publication_of (map published_entry qs)
 keys_keyed [] = refl
 keys_keyed (q ∷ qs) = ap (λ (ps : List Pair). pair_in q ∷ ps) (keys_keyed qs)
 
-values_keyed : (qs : List Publication) → map (λ (x : Pair × Entry). x.1) (map keyed qs) ≡ map entry_of qs
+values_keyed : (qs : List Publication) → map (λ (x : Pair × Entry). x.1) (map keyed qs) ≡ map published_entry qs
 values_keyed [] = refl
-values_keyed (q ∷ qs) = ap (λ (es : List Entry). entry_of q ∷ es) (values_keyed qs)
+values_keyed (q ∷ qs) = ap (λ (es : List Entry). published_entry q ∷ es) (values_keyed qs)
 
 -- ---- contents
 
@@ -89,7 +89,7 @@ module _ (g : GroupKeys) (logs : Logs) (a : Alone) (are : AreLogs g logs) (truly
   abbrev m : Member
   m = in_group a
 
-  tied : AreTied (plan_of a) a.store
+  tied : AreTied (alone_plan a) a.store
   tied = record { in_order = truly.in_order; held = refl; shapes = refl }
 
   module _ (pair : Pair) (there : IsPublished logs pair) where
@@ -97,49 +97,49 @@ module _ (g : GroupKeys) (logs : Logs) (a : Alone) (are : AreLogs g logs) (truly
     object = object_at logs pair
 
     abbrev lists : Listed
-    lists = published_listing (publisher_of g pair.0) object
+    lists = published_listing (publisher_at g pair.0) object
 
     -- what its record lists, where that is stored
     listing_stored : (octets : List ℕ) → stored_at a.store pair 0 ≡ Some octets → listing_at a.store pair ≡ Some lists
     listing_stored octets h =
         ap (option_and_then listing_in) h
-        ∙ record_lists (publisher_of g pair.0) pair.1 object (published_by g logs are pair there) (published_object g logs are pair there) octets (published_low g logs are pair there) (truly.packets (part_of pair 0) octets h)
+        ∙ record_lists (publisher_at g pair.0) pair.1 object (published_by g logs are pair there) (published_object g logs are pair there) octets (published_low g logs are pair there) (truly.packets (part_of pair 0) octets h)
 
     counted : shape lists ≡ count logs pair
-    counted = listing_counts (publisher_of g pair.0) pair.1 object
+    counted = listing_counts (publisher_at g pair.0) pair.1 object
 
     -- whether it is wholly held
     whole_stored : listing_at a.store pair ≡ Some lists → holds_all m (at_pair logs pair) ≡ are_stored a.store pair (shape lists)
     whole_stored listed =
-        ap (λ (n : ℕ). list_all (holds m) (parts_of pair n)) (sym counted)
-        ∙ sym (ap (λ (o : Option Shape). list_all (holds m) (parts_of pair (parts_told o))) (shape_told (plan_of a) a.store pair tied ∙ ap (option_map shape) listed))
-        ∙ complete_stored (plan_of a) a.store pair tied lists listed
+        ap (λ (n : ℕ). list_all (member_holds m) (parts_of pair n)) (sym counted)
+        ∙ sym (ap (λ (o : Option Shape). list_all (member_holds m) (parts_of pair (parts_told o))) (shape_told (alone_plan a) a.store pair tied ∙ ap (option_map shape) listed))
+        ∙ complete_stored (alone_plan a) a.store pair tied lists listed
 
-    content_stored : holds_all m (at_pair logs pair) ≡ true → (k : ℕ) → k < length object.contents → content_at a.store pair (1 + k) ≡ get_or object.contents k []
+    content_stored : holds_all m (at_pair logs pair) ≡ true → (k : ℕ) → k < length object.contents → stored_content a.store pair (1 + k) ≡ get_or object.contents k []
     content_stored whole k inside =
         let next : 1 + k ≡ suc k = omega arith in
-        let held : holds m (part_of pair (suc k)) ≡ true = each_all (holds m) (parts_of pair (count logs pair)) whole (part_of pair (suc k)) (in_parts_of (count logs pair) (part_of pair (suc k)) (omega (arith, inside))) in
+        let held : member_holds m (part_of pair (suc k)) ≡ true = each_all (member_holds m) (parts_of pair (count logs pair)) whole (part_of pair (suc k)) (in_parts_of (count logs pair) (part_of pair (suc k)) (omega (arith, inside))) in
         let found = is_there (stored_at a.store pair (suc k)) (sym (contains-value a.store (part_of pair (suc k))) ∙ held) in
-        ap (content_at a.store pair) next ∙ ap (λ (o : Option (List ℕ)). content_of (unwrap_or o [])) found.1
-        ∙ segment_content (publisher_of g pair.0) pair.1 object k found.0 (published_by g logs are pair there) (published_object g logs are pair there) (truly.packets (part_of pair (suc k)) found.0 found.1)
+        ap (stored_content a.store pair) next ∙ ap (λ (o : Option (List ℕ)). packet_content (unwrap_or o [])) found.1
+        ∙ segment_content (publisher_at g pair.0) pair.1 object k found.0 (published_by g logs are pair there) (published_object g logs are pair there) (truly.packets (part_of pair (suc k)) found.0 found.1)
 
     contents_stored : holds_all m (at_pair logs pair) ≡ true → contents_joined a.store pair (shape lists) ≡ concat object.contents
-    contents_stored whole = ap (contents_joined a.store pair) counted ∙ joined (content_at a.store pair) 1 object.contents (content_stored whole)
+    contents_stored whole = ap (contents_joined a.store pair) counted ∙ joined (stored_content a.store pair) 1 object.contents (content_stored whole)
 
-    same_entry : holds_all m (at_pair logs pair) ≡ true → entry_of_listing a.store pair lists ≡ entry_of (at_pair logs pair)
+    same_entry : holds_all m (at_pair logs pair) ≡ true → entry_of_listing a.store pair lists ≡ published_entry (at_pair logs pair)
     same_entry whole =
         let made : ℕ → List ℕ → Entry = λ n contents. record { publisher = pair.0; seq = pair.1; name = object.name; segments = n; octets = length contents; digest = sha256 contents } in
         ap (λ (contents : List ℕ). made (shape lists) contents) (contents_stored whole) ∙ ap (λ (n : ℕ). made n (concat object.contents)) counted
 
     no_record_whole : stored_at a.store pair 0 ≡ None → holds_all m (at_pair logs pair) ≡ true → ⊥
     no_record_whole none whole =
-        let held : holds m (part_of pair 0) ≡ true = each_all (holds m) (parts_of pair (count logs pair)) whole (part_of pair 0) (in_parts_of (count logs pair) (part_of pair 0) (omega arith)) in
+        let held : member_holds m (part_of pair 0) ≡ true = each_all (member_holds m) (parts_of pair (count logs pair)) whole (part_of pair 0) (in_parts_of (count logs pair) (part_of pair 0) (omega arith)) in
         true≢false (sym held ∙ contains-value a.store (part_of pair 0) ∙ ap is_some none)
 
     -- the entry, where the publication is wholly held
-    whole_entry : holds_all m (at_pair logs pair) ≡ true → entry_at a.store pair ≡ Some (entry_of (at_pair logs pair))
+    whole_entry : holds_all m (at_pair logs pair) ≡ true → entry_at a.store pair ≡ Some (published_entry (at_pair logs pair))
     whole_entry whole = go (stored_at a.store pair 0) refl where
-      go : (o : Option (List ℕ)) → stored_at a.store pair 0 ≡ o → entry_at a.store pair ≡ Some (entry_of (at_pair logs pair))
+      go : (o : Option (List ℕ)) → stored_at a.store pair 0 ≡ o → entry_at a.store pair ≡ Some (published_entry (at_pair logs pair))
       go None h = absurd (no_record_whole h whole)
       go (Some octets) h =
           let listed = listing_stored octets h in
@@ -179,7 +179,7 @@ module _ (g : GroupKeys) (logs : Logs) (a : Alone) (are : AreLogs g logs) (truly
       let entry : entry_at a.store pair ≡ Some e = sym (entries_value a.store pair truly.in_order) ∙ h in
       let there = entry_published pair e entry in
       let whole = entry_whole pair there e entry in
-      let same : entry_of (at_pair logs pair) ≡ e = same_some (entry_of (at_pair logs pair)) e (sym (whole_entry pair there whole) ∙ entry) in
+      let same : published_entry (at_pair logs pair) ≡ e = same_some (published_entry (at_pair logs pair)) e (sym (whole_entry pair there whole) ∙ entry) in
       subst (λ (x : Entry). In (pair, x) (map keyed (catalogued logs m))) same
       (in_map keyed (catalogued logs m) (at_pair logs pair) (in_filter (holds_all m) (published logs) (at_pair logs pair) (is_published logs pair there) whole))
 
@@ -194,8 +194,8 @@ module _ (g : GroupKeys) (logs : Logs) (a : Alone) (are : AreLogs g logs) (truly
       let entry = whole_entry (pair_in q) is.there (subst (λ (x : Publication). holds_all m x ≡ true) same passes.1) in
       let both : (pair, e) ≡ keyed q = from.2 in
       let key : pair ≡ pair_in q = ap (λ (x : Pair × Entry). x.0) both in
-      let value : e ≡ entry_of q = ap (λ (x : Pair × Entry). x.1) both in
-      entries_value a.store pair truly.in_order ∙ ap (entry_at a.store) key ∙ entry ∙ ap (λ (x : Publication). Some (entry_of x)) (sym same) ∙ ap (λ (x : Entry). Some x) (sym value)
+      let value : e ≡ published_entry q = ap (λ (x : Pair × Entry). x.1) both in
+      entries_value a.store pair truly.in_order ∙ ap (entry_at a.store) key ∙ entry ∙ ap (λ (x : Publication). Some (published_entry x)) (sym same) ∙ ap (λ (x : Entry). Some x) (sym value)
 
   entries_alike : entries_in a.store ≡ map keyed (catalogued logs m)
   entries_alike =

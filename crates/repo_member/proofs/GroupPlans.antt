@@ -17,9 +17,9 @@ use Rattle.group_model.proofs.Wants.{wants_those}
 use Rattle.repo_member.specs.KeptValues.{with_kept, kept_values}
 use Rattle.repo_member.specs.Records.{Packet, records_in}
 use Rattle.repo_member.specs.Listed.{shape, shapes_in}
-use Rattle.repo_member.specs.Groups.{GroupKeys, publisher_of}
-use Rattle.repo_member.specs.Alone.{Alone, plan_of}
-use Rattle.repo_member.specs.InGroup.{AreLogs, StoresTruly, packet_of, in_group, SoundStoresTruly, PlansAlike, WantsAlike}
+use Rattle.repo_member.specs.Groups.{GroupKeys, publisher_at}
+use Rattle.repo_member.specs.Alone.{Alone, alone_plan}
+use Rattle.repo_member.specs.InGroup.{AreLogs, StoresTruly, true_packet, in_group, SoundStoresTruly, PlansAlike, WantsAlike}
 use Rattle.repo_member.proofs.TruePackets.{value_in, record_lists, listing_counts, published_object, published_by, published_low}
 
 pub sound_stores_truly : SoundStoresTruly
@@ -53,15 +53,15 @@ module _ (g : GroupKeys) (logs : Logs) (a : Alone) (are : AreLogs g logs) (truly
   shapes_told : shapes_in a.store ≡ told_by logs (keys a.store)
   shapes_told = shapes_alike logs a.store (λ e i first.
       let there = stored_published e i in
-      let publisher = publisher_of g e.0.publisher in
+      let publisher = publisher_at g e.0.publisher in
       let object = object_at logs (pair_of e.0) in
-      let made : packet_of g logs e.0 ≡ Some e.1 = truly.packets e.0 e.1 (value_in exact_parts a.store e truly.in_order i) in
+      let made : true_packet g logs e.0 ≡ Some e.1 = truly.packets e.0 e.1 (value_in exact_parts a.store e truly.in_order i) in
       let made_first = rw first at made in
       ap (option_map shape) (record_lists publisher e.0.seq object (published_by g logs are (pair_of e.0) there) (published_object g logs are (pair_of e.0) there) e.1 (published_low g logs are (pair_of e.0) there) made_first)
       ∙ ap (λ (n : ℕ). Some n) (listing_counts publisher e.0.seq object))
 
 pub plans_alike : PlansAlike
-plans_alike g logs a are truly = ap (λ (shapes : List (Pair × Shape)). let p : Holdings = record (plan_of a) { shapes = shapes } in p) (shapes_told g logs a are truly)
+plans_alike g logs a are truly = ap (λ (shapes : List (Pair × Shape)). let p : Holdings = record (alone_plan a) { shapes = shapes } in p) (shapes_told g logs a are truly)
 
 pub wants_alike : WantsAlike
 wants_alike g logs a t are truly =

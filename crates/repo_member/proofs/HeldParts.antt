@@ -30,10 +30,10 @@ use Rattle.repo_object.proofs.Publications.{packets-length, record_listed}
 use Rattle.repo_store.specs.StoreList.{with_packet}
 use Rattle.repo_member.specs.Records.{Packet}
 use Rattle.repo_member.specs.Listed.{stored_at, listing_at, shape}
-use Rattle.repo_member.specs.Groups.{GroupKeys, IsGroup, node_of, publisher_of}
-use Rattle.repo_member.specs.Alone.{Alone, IsAlone, IsOf, plan_of, opening_alone, logged, packet_in, nothing_listed, want_of, learns}
-use Rattle.repo_member.specs.Holding.{told_shape}
-use Rattle.repo_member.proofs.HoldingLemmas.{contains-value, put_elsewhere, value_of-put}
+use Rattle.repo_member.specs.Groups.{GroupKeys, IsGroup, node_at, publisher_at}
+use Rattle.repo_member.specs.Alone.{Alone, IsAlone, IsOf, alone_plan, alone_opening, logged, packet_in, nothing_listed, want_of, alone_learns}
+use Rattle.repo_member.specs.Gaining.{told_shape}
+use Rattle.repo_member.proofs.GainingLemmas.{contains-value, put_elsewhere, value_of-put}
 use Rattle.repo_member.proofs.AskedLemmas.{asked_segment}
 use Rattle.repo_member.proofs.MemberLemmas.{knows_more, want_part}
 use Rattle.repo_member.proofs.OwnLemmas.{is_publisher}
@@ -49,7 +49,7 @@ pub record IsReached (g : GroupKeys) (a : Alone) : Type 0 where
   pub group : IsGroup g
   pub alone : IsAlone a
   pub of : IsOf g a
-  pub sound : IsSound (plan_of a)
+  pub sound : IsSound (alone_plan a)
   pub few : length a.log ≤ 65535
   pub objects : All IsObject a.log
   pub own : (t : Part) → t.publisher ≡ a.number → value_of part_cmp a.store t ≡ logged g a t
@@ -57,7 +57,7 @@ pub record IsReached (g : GroupKeys) (a : Alone) : Type 0 where
 
 -- ---- the beginning
 
-pub reached_opening : (g : GroupKeys) (number moment draw : ℕ) → IsGroup g → number < length g.members.names → IsReached g (opening_alone (length g.members.names) number moment draw)
+pub reached_opening : (g : GroupKeys) (number moment draw : ℕ) → IsGroup g → number < length g.members.names → IsReached g (alone_opening (length g.members.names) number moment draw)
 reached_opening g number moment draw group inside =
     let n = length g.members.names in
     let zero_number : ℕ = 0 in
@@ -87,7 +87,7 @@ reached_opening g number moment draw group inside =
 
 -- claims, attempts and the machine
 pub reached_with : (g : GroupKeys) (a : Alone) (claims : List (Option Part)) (attempts : List (Part × ℕ)) (machine : Keeper) → machine.members ≡ a.machine.members
-    → IsSound (plan_of (record a { claims = claims; attempts = attempts })) → IsReached g a → IsReached g (record a { claims = claims; attempts = attempts; machine = machine })
+    → IsSound (alone_plan (record a { claims = claims; attempts = attempts })) → IsReached g a → IsReached g (record a { claims = claims; attempts = attempts; machine = machine })
 reached_with g a claims attempts machine wide sound r = record {
   group = r.group;
   alone = record { member = r.alone.member; own = r.alone.own; width = wide ∙ r.alone.width; in_order = r.alone.in_order; hidden = r.alone.hidden };
@@ -100,10 +100,10 @@ reached_with g a claims attempts machine wide sound r = record {
 }
 
 few_members : (g : GroupKeys) (a : Alone) → IsReached g a → length a.known ≤ 2 ^ 32
-few_members g a r = omega (arith, r.group.members.few, r.of)
+few_members g a r = omega (arith, r.group.members.roster.few, r.of)
 
 -- what is told
-pub reached_learns : (g : GroupKeys) (a : Alone) (told : List ℕ) → length told ≡ length g.members.names → slice_index told a.number ≤ length a.log → IsReached g a → IsReached g (learns told a)
+pub reached_learns : (g : GroupKeys) (a : Alone) (told : List ℕ) → length told ≡ length g.members.names → slice_index told a.number ≤ length a.log → IsReached g a → IsReached g (alone_learns told a)
 reached_learns g a told wide not_ahead r =
     let long : length (join a.known told) ≡ length a.known = length-join a.known told (sym r.of ∙ sym wide) in
     let at = join-at a.known told in
@@ -115,10 +115,10 @@ reached_learns g a told wide not_ahead r =
         own = at a.number ∙ omega (arith, r.alone.own, not_ahead);
         width = r.alone.width ∙ sym long;
         in_order = r.alone.in_order;
-        hidden = λ pair h. knows_more (plan_of a) (plan_of (learns told a)) pair more (r.alone.hidden pair h);
+        hidden = λ pair h. knows_more (alone_plan a) (alone_plan (alone_learns told a)) pair more (r.alone.hidden pair h);
       };
       of = r.of ∙ sym long;
-      sound = sound_known (plan_of a) (join a.known told) (omega (arith, long, few_members g a r)) more r.sound;
+      sound = sound_known (alone_plan a) (join a.known told) (omega (arith, long, few_members g a r)) more r.sound;
       few = r.few;
       objects = r.objects;
       own = r.own;
@@ -131,17 +131,17 @@ none_some : {A : Type 0} (x : A) → (let n : Option A = None in n) ≡ Some x �
 none_some x h = cc
 
 pub logged_own : (g : GroupKeys) (a : Alone) (t : Part) (object : NamedContents) → t.publisher ≡ a.number → 0 < t.seq → slice_get a.log (t.seq - 1) ≡ Some object
-    → logged g a t ≡ packet_in (publisher_of g a.number) t object
+    → logged g a t ≡ packet_in (publisher_at g a.number) t object
 logged_own g a t object own above there =
-    ap (λ (b : Bool). cond b (cond (t.seq == 0) None (option_and_then (packet_in (publisher_of g a.number) t) (slice_get a.log (t.seq - 1)))) None) (eq-eqb t.publisher a.number own)
-    ∙ ap (λ (b : Bool). cond b None (option_and_then (packet_in (publisher_of g a.number) t) (slice_get a.log (t.seq - 1)))) (ne_eqb t.seq 0 (λ e. absurd (omega (arith, e, above))))
-    ∙ ap (option_and_then (packet_in (publisher_of g a.number) t)) there
+    ap (λ (b : Bool). cond b (cond (t.seq == 0) None (option_and_then (packet_in (publisher_at g a.number) t) (slice_get a.log (t.seq - 1)))) None) (eq-eqb t.publisher a.number own)
+    ∙ ap (λ (b : Bool). cond b None (option_and_then (packet_in (publisher_at g a.number) t) (slice_get a.log (t.seq - 1)))) (ne_eqb t.seq 0 (λ e. absurd (omega (arith, e, above))))
+    ∙ ap (option_and_then (packet_in (publisher_at g a.number) t)) there
 
 -- an own part that is asked for was published
-module _ (g : GroupKeys) (a : Alone) (t : Part) (r : IsReached g a) (own : t.publisher ≡ a.number) (asked : is_asked (plan_of a) t ≡ true) where
+module _ (g : GroupKeys) (a : Alone) (t : Part) (r : IsReached g a) (own : t.publisher ≡ a.number) (asked : is_asked (alone_plan a) t ≡ true) where
   known : (1 ≤ t.seq) × (t.seq ≤ length a.log)
   known =
-      let both = and_parts (nat_le 1 t.seq) (nat_le t.seq (slice_index a.known t.publisher)) (and_parts (knows (plan_of a) (pair_of t)) (can_be_asked (keys a.store) (shape_of (plan_of a) (pair_of t)) t) asked).0 in
+      let both = and_parts (nat_le 1 t.seq) (nat_le t.seq (slice_index a.known t.publisher)) (and_parts (knows (alone_plan a) (pair_of t)) (can_be_asked (keys a.store) (shape_of (alone_plan a) (pair_of t)) t) asked).0 in
       let high = leb-true t.seq (slice_index a.known t.publisher) both.1 in
       (leb-true 1 t.seq both.0, omega (arith, high, ap (slice_index a.known) own, r.alone.own))
 
@@ -158,7 +158,7 @@ module _ (g : GroupKeys) (a : Alone) (t : Part) (r : IsReached g a) (own : t.pub
   is_object = r.objects (t.seq - 1) nothing (omega (arith, known.0, known.1))
 
   abbrev by : Publisher
-  by = publisher_of g a.number
+  by = publisher_at g a.number
 
   publishes_it : IsPublisher by
   publishes_it = is_publisher g a.number r.group (omega (arith, r.alone.member, r.of))
@@ -177,7 +177,7 @@ module _ (g : GroupKeys) (a : Alone) (t : Part) (r : IsReached g a) (own : t.pub
     go : (b : Bool) → (t.part == 0) ≡ b → t.part < length (packets by t.seq object)
     go true p = omega (arith, eqb-true t.part 0 p, long)
     go false p =
-        let segment = asked_segment (plan_of a) a.store t (tied_alone a r.alone.in_order) asked p in
+        let segment = asked_segment (alone_plan a) a.store t (tied_alone a r.alone.in_order) asked p in
         let same : Some segment.listing ≡ Some (published_listing by object) = sym segment.listed ∙ listed in
         let counts : shape segment.listing ≡ shape (published_listing by object) = ap (λ (o : Option Listed). unwrap_or (option_map shape o) 0) same in
         omega (arith, segment.counted, counts, listing_counts by t.seq object, long)
@@ -209,14 +209,14 @@ listing_still old new pair l stays h = go (stored_at old pair 0) refl h where
   go (Some octets) p q = ap (option_and_then listing_in) (stays.still (part_of pair 0) octets p) ∙ q
 
 -- so the want of a part that could be asked for stays the same
-pub want_stays : (g : GroupKeys) (a : Alone) (new : List Packet) (t : Part) → Rises part_cmp (keys a.store) → StaysStored a.store new → is_asked (plan_of a) t ≡ true → want_of g new t ≡ want_of g a.store t
+pub want_stays : (g : GroupKeys) (a : Alone) (new : List Packet) (t : Part) → Rises part_cmp (keys a.store) → StaysStored a.store new → is_asked (alone_plan a) t ≡ true → want_of g new t ≡ want_of g a.store t
 want_stays g a new t order stays asked = go (t.part == 0) refl where
   go : (b : Bool) → (t.part == 0) ≡ b
-      → cond b (want_record t (node_of g t.publisher) g.name) (want_segment t (unwrap_or (listing_at new (pair_of t)) nothing_listed))
-      ≡ cond b (want_record t (node_of g t.publisher) g.name) (want_segment t (unwrap_or (listing_at a.store (pair_of t)) nothing_listed))
+      → cond b (want_record t (node_at g t.publisher) g.name) (want_segment t (unwrap_or (listing_at new (pair_of t)) nothing_listed))
+      ≡ cond b (want_record t (node_at g t.publisher) g.name) (want_segment t (unwrap_or (listing_at a.store (pair_of t)) nothing_listed))
   go true p = refl
   go false p =
-      let segment = asked_segment (plan_of a) a.store t (tied_alone a order) asked p in
+      let segment = asked_segment (alone_plan a) a.store t (tied_alone a order) asked p in
       ap (λ (o : Option Listed). want_segment t (unwrap_or o nothing_listed)) (listing_still a.store new (pair_of t) segment.listing stays segment.listed ∙ sym segment.listed)
 
 -- a packet that passes for a record's want lists segments
@@ -243,7 +243,7 @@ passed_told g stored t octets passed = go (t.part == 0) refl where
   go true p = mapped (listing_in octets) (listed (eqb-true t.part 0 p))
   go false p = refl
 
-module _ (g : GroupKeys) (a : Alone) (t : Part) (octets : List ℕ) (r : IsReached g a) (can : CanBeHeld (plan_of a) t) (fresh : holds (plan_of a) t ≡ false) where
+module _ (g : GroupKeys) (a : Alone) (t : Part) (octets : List ℕ) (r : IsReached g a) (can : CanBeHeld (alone_plan a) t) (fresh : holds (alone_plan a) t ≡ false) where
   pub stays_stored : StaysStored a.store (with_packet t octets a.store)
   stays_stored = record { still = λ q found h. go q found (eq_by_cmp part_cmp q t) refl h } where
     go : (q : Part) (found : List ℕ) (b : Bool) → eq_by_cmp part_cmp q t ≡ b → value_of part_cmp a.store q ≡ Some found → value_of part_cmp (with_packet t octets a.store) q ≡ Some found
@@ -268,7 +268,7 @@ module _ (g : GroupKeys) (a : Alone) (t : Part) (octets : List ℕ) (r : IsReach
     other q own true p = absurd (not_own (sym (ap (λ (u : Part). u.publisher) (eq_same exact_parts q t p)) ∙ own))
     other q own false p = refl
 
-    now : (q : Part) (found : List ℕ) → is_asked (plan_of a) q ≡ true → PassesNow g a.store q found → PassesNow g (with_packet t octets a.store) q found
+    now : (q : Part) (found : List ℕ) → is_asked (alone_plan a) q ≡ true → PassesNow g a.store q found → PassesNow g (with_packet t octets a.store) q found
     now q found asked before = subst (λ (want : WantedPart). IsOk (ring_verdict want g.members.ring found)) (sym (want_stays g a (with_packet t octets a.store) q r.alone.in_order stays_stored asked)) before
 
     at : (q : Part) (found : List ℕ) → q.publisher ≢ a.number → (b : Bool) → eq_by_cmp part_cmp q t ≡ b → cond b (Some octets) (value_of part_cmp a.store q) ≡ Some found → PassesNow g (with_packet t octets a.store) q found

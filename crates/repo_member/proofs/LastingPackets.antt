@@ -17,10 +17,11 @@ use Rattle.repo_store.specs.StoreList.{with_packet}
 use Rattle.group_model.specs.Publications.{Logs, no_object, object_at, last_of}
 use Rattle.group_model.specs.Sound.{IsPublished}
 use Rattle.repo_member.specs.Records.{Packet}
-use Rattle.repo_member.specs.Groups.{GroupKeys, publisher_of}
-use Rattle.repo_member.specs.Alone.{Alone, Fetched, publishes, accepts, as_parts, with_packets, next_seq, with_fetched, with_tries}
-use Rattle.repo_member.specs.InGroup.{StoresTruly, IsItsPacket, CameTruly, packet_of, GrowInto, BeginsTruly, GrowsTruly, PublishesTruly, AcceptsTruly, TakesTruly, StaysTrue, LogsBegin, LogsGrow}
-use Rattle.repo_member.proofs.HoldingLemmas.{contains-value, value_of-put}
+use Rattle.repo_member.specs.Groups.{GroupKeys, publisher_at}
+use Rattle.group_model.specs.Member.{with_tries}
+use Rattle.repo_member.specs.Alone.{Alone, Fetched, alone_publishes, alone_accepts, as_parts, with_packets, next_seq, with_fetched}
+use Rattle.repo_member.specs.InGroup.{StoresTruly, IsItsPacket, CameTruly, true_packet, GrowInto, BeginsTruly, GrowsTruly, PublishesTruly, AcceptsTruly, TakesTruly, StaysTrue, LogsBegin, LogsGrow}
+use Rattle.repo_member.proofs.GainingLemmas.{contains-value, value_of-put}
 use Rattle.repo_member.proofs.ChangeLemmas.{keys_put, rises_put}
 
 same_some : (a b : List ℕ) → (let o : Option (List ℕ) = Some a in o) ≡ Some b → a ≡ b
@@ -52,18 +53,18 @@ one_more g logs t octets a its s = record {
       ];
   packets = λ q found h. at q found (contains part_cmp (keys a.store) t) refl h;
 } where
-  new : (q : Part) (found : List ℕ) (b : Bool) → eq_by_cmp part_cmp q t ≡ b → cond b (Some octets) (value_of part_cmp a.store q) ≡ Some found → packet_of g logs q ≡ Some found
+  new : (q : Part) (found : List ℕ) (b : Bool) → eq_by_cmp part_cmp q t ≡ b → cond b (Some octets) (value_of part_cmp a.store q) ≡ Some found → true_packet g logs q ≡ Some found
   new q found true p h =
-      ap (packet_of g logs) (eq_same exact_parts q t p) ∙ its.packet ∙ h
+      ap (true_packet g logs) (eq_same exact_parts q t p) ∙ its.packet ∙ h
   new q found false p h = s.packets q found h
 
-  at : (q : Part) (found : List ℕ) (b : Bool) → contains part_cmp (keys a.store) t ≡ b → value_of part_cmp (with_packet t octets a.store) q ≡ Some found → packet_of g logs q ≡ Some found
+  at : (q : Part) (found : List ℕ) (b : Bool) → contains part_cmp (keys a.store) t ≡ b → value_of part_cmp (with_packet t octets a.store) q ≡ Some found → true_packet g logs q ≡ Some found
   at q found true p h = s.packets q found (sym (ap (λ (c : Bool). value_of part_cmp (cond c a.store (with_value part_cmp t octets a.store)) q) p) ∙ h)
   at q found false p h = new q found (eq_by_cmp part_cmp q t) refl (sym (value_of-put a.store t octets p q) ∙ h)
 
 pub accepts_truly : AcceptsTruly
 accepts_truly g logs f t octets a its s =
-    stays_true g logs (with_store a (with_packet t octets a.store)) (accepts f t octets a) refl (one_more g logs t octets a its s)
+    stays_true g logs (with_store a (with_packet t octets a.store)) (alone_accepts f t octets a) refl (one_more g logs t octets a its s)
 
 fetched_truly : (g : GroupKeys) (logs : Logs) (t : Part) (o : Option (List ℕ)) (a : Alone) → CameTruly g logs t o → StoresTruly g logs a → StoresTruly g logs (with_store a (with_fetched t o a.store))
 fetched_truly g logs t None a came s = stays_true g logs a (with_store a a.store) refl s
@@ -79,12 +80,12 @@ takes_truly g logs (x ∷ xs) a came s =
 
 -- ---- what is published
 
-grown_last : (logs later : Logs) (p : ℕ) → GrowInto logs later → last_of logs p ≤ last_of later p
+pub grown_last : (logs later : Logs) (p : ℕ) → GrowInto logs later → last_of logs p ≤ last_of later p
 grown_last logs later p grows =
     let same : length (take (last_of logs p) (get_or later p [])) ≡ last_of logs p = ap (λ (log : List NamedContents). length log) (grows p) in
     omega (arith, same, length-take (last_of logs p) (get_or later p []))
 
-grown_object : (logs later : Logs) (pair : Pair) → GrowInto logs later → IsPublished logs pair → object_at later pair ≡ object_at logs pair
+pub grown_object : (logs later : Logs) (pair : Pair) → GrowInto logs later → IsPublished logs pair → object_at later pair ≡ object_at logs pair
 grown_object logs later pair grows there =
     sym (get_or-take (last_of logs pair.0) (get_or later pair.0 []) (pair.1 - 1) no_object (omega (arith, there.from_one, there.to_last)))
     ∙ ap (λ (log : List NamedContents). get_or log (pair.1 - 1) no_object) (grows pair.0)
@@ -97,7 +98,7 @@ grows_truly g logs later a grows s = record {
       record { from_one = there.from_one; to_last = omega (arith, there.to_last, grown_last logs later t.publisher grows) };
   packets = λ t octets h.
       let held : contains part_cmp (keys a.store) t ≡ true = contains-value a.store t ∙ ap is_some h in
-      ap (λ (object : NamedContents). packet_at (publisher_of g t.publisher) t.seq object t.part) (grown_object logs later (pair_of t) grows (s.published t held)) ∙ s.packets t octets h;
+      ap (λ (object : NamedContents). packet_at (publisher_at g t.publisher) t.seq object t.part) (grown_object logs later (pair_of t) grows (s.published t held)) ∙ s.packets t octets h;
 }
 
 -- the packets of a publication, from part `x` on
@@ -142,16 +143,16 @@ pub publishes_truly : PublishesTruly
 publishes_truly g object moment draw logs a inside own s =
     let later_logs : Logs = slice_set logs a.number (a.log ++ object ∷ []) in
     let pair : Pair = (a.number, next_seq a) in
-    let made : List (List ℕ) = packets (publisher_of g a.number) (next_seq a) object in
+    let made : List (List ℕ) = packets (publisher_at g a.number) (next_seq a) object in
     let its : (k : ℕ) (octets : List ℕ) → slice_get made k ≡ Some octets → IsItsPacket g later_logs (part_of pair (0 + k)) octets = λ k octets h.
     let same : 0 + k ≡ k = omega arith in
     record {
       published = published_next logs a.number a.log object inside own;
       packet =
-          ap (λ (n : ℕ). packet_of g later_logs (part_of pair n)) same
-          ∙ ap (λ (o : NamedContents). packet_at (publisher_of g a.number) (next_seq a) o k) (object_next logs a.number a.log object inside own) ∙ h;
+          ap (λ (n : ℕ). true_packet g later_logs (part_of pair n)) same
+          ∙ ap (λ (o : NamedContents). packet_at (publisher_at g a.number) (next_seq a) o k) (object_next logs a.number a.log object inside own) ∙ h;
     } in
-    stays_true g later_logs (with_store a (with_packets (as_parts pair 0 made) a.store)) (publishes g object moment draw a) refl
+    stays_true g later_logs (with_store a (with_packets (as_parts pair 0 made) a.store)) (alone_publishes g object moment draw a) refl
     (puts_truly g later_logs pair 0 made a its (grows_truly g logs later_logs a (published_grows logs a.number a.log object inside own) s))
 
 -- ---- what can have been published

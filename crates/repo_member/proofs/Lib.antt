@@ -2,7 +2,7 @@ mod GroupLemmas
 mod SortedMaps
 mod RecordLemmas
 mod CatalogueLemmas
-mod HoldingLemmas
+mod GainingLemmas
 mod ContentLemmas
 mod AskedLemmas
 mod PlanLemmas
@@ -27,3 +27,7 @@ mod PublishedParts
 mod FetchedParts
 mod CallReach
 mod CallPackets
+mod TrueMembers
+mod TrueChanges
+mod TrueSyncs
+pub mod Laws

@@ -21,26 +21,26 @@ use Rattle.repo_member.specs.declared.member.Member.TheInside.{Inside}
 use Rattle.repo_member.specs.Listed.{listing_at, shape}
 use Rattle.repo_object.specs.Wants.{want_record, want_segment}
 use Rattle.repo_member.specs.Records.{Packet}
-use Rattle.repo_member.specs.Groups.{GroupKeys, HaveKeys, node_of}
-use Rattle.repo_member.specs.Alone.{Alone, IsOf, plan_of, want_of, nothing_listed}
+use Rattle.repo_member.specs.Groups.{GroupKeys, HaveKeys, node_at}
+use Rattle.repo_member.specs.Alone.{Alone, IsOf, alone_plan, want_of, nothing_listed}
 use Rattle.repo_member.specs.Members.{alone, IsMember}
 use Rattle.repo_member.proofs.AskedLemmas.{IsListedSegment, asked_segment, asked_member}
 use Rattle.repo_member.proofs.GroupLemmas.{ring_length}
 
 -- the plan is that of the member's value, with what is spare
-pub plan_is : (m : Inside) → IsMember m → m.plan ≡ record (plan_of (alone m)) { spare = m.plan.spare }
-plan_is m is = same_holdings m.plan (record (plan_of (alone m)) { spare = m.plan.spare }) is.known is.kept.tied.held is.kept.tied.shapes refl refl refl refl
+pub plan_is : (m : Inside) → IsMember m → m.plan ≡ record (alone_plan (alone m)) { spare = m.plan.spare }
+plan_is m is = same_holdings m.plan (record (alone_plan (alone m)) { spare = m.plan.spare }) is.known is.kept.tied.held is.kept.tied.shapes refl refl refl refl
 
 -- a reading that looks at no room is that of the member's value
-pub reading : {A : Type 0} (f : Holdings → A) (m : Inside) (a : Alone) → IsMember m → alone m ≡ a → f (record (plan_of (alone m)) { spare = m.plan.spare }) ≡ f (plan_of (alone m)) → f m.plan ≡ f (plan_of a)
-reading f m a is view same = ap f (plan_is m is) ∙ same ∙ ap (λ (x : Alone). f (plan_of x)) view
+pub reading : {A : Type 0} (f : Holdings → A) (m : Inside) (a : Alone) → IsMember m → alone m ≡ a → f (record (alone_plan (alone m)) { spare = m.plan.spare }) ≡ f (alone_plan (alone m)) → f m.plan ≡ f (alone_plan a)
+reading f m a is view same = ap f (plan_is m is) ∙ same ∙ ap (λ (x : Alone). f (alone_plan x)) view
 
 -- what the member asks for, as its plan has it
-pub asked_of : (m : Inside) (a : Alone) (t : Part) → IsMember m → alone m ≡ a → is_asked (plan_of a) t ≡ true → is_asked m.plan t ≡ true
+pub asked_of : (m : Inside) (a : Alone) (t : Part) → IsMember m → alone m ≡ a → is_asked (alone_plan a) t ≡ true → is_asked m.plan t ≡ true
 asked_of m a t is view asked = reading (λ p. is_asked p t) m a is view refl ∙ asked
 
 -- the stored record of a segment that the member asks for
-pub segment_of : (m : Inside) (a : Alone) (t : Part) → IsMember m → alone m ≡ a → is_asked (plan_of a) t ≡ true → (t.part == 0) ≡ false → IsListedSegment m.store.packets t
+pub segment_of : (m : Inside) (a : Alone) (t : Part) → IsMember m → alone m ≡ a → is_asked (alone_plan a) t ≡ true → (t.part == 0) ≡ false → IsListedSegment m.store.packets t
 segment_of m a t is view asked segment = asked_segment m.plan m.store.packets t is.kept.tied (asked_of m a t is view asked) segment
 
 pub not_zero : (n : ℕ) → (n ≡ 0 → ⊥) → (n == 0) ≡ false
@@ -99,7 +99,7 @@ learns_is m told vector plan machine is width few joined planned wide =
         own = at m.number ∙ omega (arith, own, few);
         width = wide ∙ is.alone.width ∙ sym long;
         in_order = is.alone.in_order;
-        hidden = λ pair h. knows_more (plan_of (alone m)) (plan_of (alone next)) pair (λ p. omega (arith, at p)) (is.alone.hidden pair h);
+        hidden = λ pair h. knows_more (alone_plan (alone m)) (alone_plan (alone next)) pair (λ p. omega (arith, at p)) (is.alone.hidden pair h);
       };
       known = refl;
       kept = record { tied = record { in_order = is.kept.tied.in_order; held = is.kept.tied.held; shapes = is.kept.tied.shapes }; listed = is.kept.listed };
@@ -109,18 +109,18 @@ learns_is m told vector plan machine is width few joined planned wide =
 -- the part of a want
 pub want_part : (g : GroupKeys) (packets : List Packet) (t : Part) → (want_of g packets t).part ≡ t
 want_part g packets t = go (t.part == 0) where
-  go : (b : Bool) → (cond b (want_record t (node_of g t.publisher) g.name) (want_segment t (unwrap_or (listing_at packets (pair_of t)) nothing_listed))).part ≡ t
+  go : (b : Bool) → (cond b (want_record t (node_at g t.publisher) g.name) (want_segment t (unwrap_or (listing_at packets (pair_of t)) nothing_listed))).part ≡ t
   go true = refl
   go false = refl
 
 -- a claimed part is wanted
-pub claimed_wanted : (m : Inside) (a : Alone) (f : ℕ) (t : Part) → IsMember m → alone m ≡ a → IsSound m.plan → claim_of m.plan f ≡ Some t → is_wanted (plan_of a) t ≡ true
+pub claimed_wanted : (m : Inside) (a : Alone) (f : ℕ) (t : Part) → IsMember m → alone m ≡ a → IsSound m.plan → claim_of m.plan f ≡ Some t → is_wanted (alone_plan a) t ≡ true
 claimed_wanted m a f t is view sound claim = sym (reading (λ p. is_wanted p t) m a is view refl) ∙ sound.claimed (f - 1) t claim
 
 -- the key of a publisher that is asked for is in the ring
-pub publisher_in_ring : (g : GroupKeys) (m : Inside) (a : Alone) (t : Part) → IsMember m → alone m ≡ a → IsOf g a → HaveKeys g.members → is_asked (plan_of a) t ≡ true → t.publisher < length g.members.ring
+pub publisher_in_ring : (g : GroupKeys) (m : Inside) (a : Alone) (t : Part) → IsMember m → alone m ≡ a → IsOf g a → HaveKeys g.members → is_asked (alone_plan a) t ≡ true → t.publisher < length g.members.ring
 publisher_in_ring g m a t is view of keys asked =
-    let known = asked_member (plan_of a) t asked in
+    let known = asked_member (alone_plan a) t asked in
     let ring = ring_length g.members keys in
     omega (arith, known, of, ring)
 

@@ -1,17 +1,25 @@
 -- What came of a fetch, taken part after part.
-use Rattle.std.proofs.Common.{◌≡◌, ◌⊎◌, inl, inr, ℕ, ◌+◌, ◌*◌, ◌^◌, ◌<◌, ◌≤◌, Bool, true, false, cond, not, ◌&&◌, ◌||◌, ◌==◌, List, [], ◌∷◌, ◌++◌, map, length, append_assoc, refl, sym, ap, ◌∙◌, subst, Option, Some, None, option_map, is_some, unwrap_or, count_by, take, zero, suc, arith}
-use Rattle.std.specs.Prelude.{nat_le, slice_index, IfSome}
+use Rattle.std.proofs.Common.{◌≡◌, ◌⊎◌, inl, inr, ℕ, ◌+◌, ◌*◌, ◌^◌, ◌<◌, ◌≤◌, Bool, true, false, cond, not, ◌&&◌, ◌||◌, ◌==◌, List, [], ◌∷◌, ◌++◌, map, length, append_assoc, refl, sym, ap, ◌∙◌, subst, Option, Some, None, option_map, is_some, unwrap_or, count_by, sum_by, Result, Err, ltb, take, zero, suc, arith}
+use Rattle.std.specs.Prelude.{nat_le, slice_index, IsOk, IfSome}
 use Rattle.std.specs.List.{All, AllByRecursion, IsDistinct, list_any, filter}
 use Rattle.std.specs.Option.{option_and_then}
 use Rattle.std.specs.Ordering.{eq_by_cmp, is_eq}
 use Rattle.std.specs.declared.cmp.Ordering.{Ordering}
-use Rattle.std.proofs.lemmas.Bool.{true≢false, and_parts, and_from, or_left, or_right, or_parts, or_cases, not-true, eqb-true, false_from_ne_true, le-leb}
+use Rattle.std.proofs.lemmas.Bool.{true≢false, and_parts, and_from, or_left, or_right, or_parts, or_cases, not-true, eqb-true, false_from_ne_true, le-leb, ltb-false}
 use Rattle.std.proofs.lemmas.List.{map-append, length-map}
 use Rattle.std.proofs.lemmas.Map.Keys.{IsDistinct-cons}
 use Rattle.std.proofs.lemmas.Map.Steps.{length-le_from_distinct_below}
 use Rattle.std.proofs.lemmas.List.Elements.{All-head, All-tail, All-cons, All-nil, All-map, All-weaker, All-take, All-filter, filter_passes}
 use Rattle.std.proofs.lemmas.List.Sums.{sum_by-cons}
+use Rattle.ndn_tlv.specs.Listing.{◌>>=◌}
+use Rattle.ndn_tlv.specs.Elements.{Item}
+use Rattle.ndn_tlv.specs.declared.tlv_fault.TlvFault.TheVariants.{Truncated}
 use Rattle.ndn_name.specs.Names.{Component}
+use Rattle.ndn_name.specs.declared.fault.PacketFault.{PacketFault}
+use Rattle.ndn_name.specs.declared.fault.PacketFault.TheVariants.{Tlv, PacketTooLong}
+use Rattle.ndn_packet.specs.Contents.{first_of}
+use Rattle.ndn_packet.specs.Outer.{only_of}
+use Rattle.ndn_data.specs.Data.{Data, data_of, data_fields, data_from}
 use Rattle.repo_plan.specs.declared.part.Part.{Part}
 use Rattle.repo_plan.specs.SortedList.{IsBefore, Rises, contains, value_of, with_value}
 use Rattle.repo_plan.specs.Parts.{Pair, Shape, pair_cmp, part_cmp, pair_of, part_of}
@@ -23,23 +31,25 @@ use Rattle.repo_plan.proofs.Sets.{eq_same, eq_itself, rises_filter, value_of-wit
 use Rattle.repo_object.specs.declared.job.Job.{Job}
 use Rattle.repo_object.specs.Publication.{Listed}
 use Rattle.repo_object.specs.Verdict.{CheckedPart, listing_in}
-use Rattle.repo_member.specs.Groups.{GroupKeys}
+use Rattle.repo_member.specs.Groups.{GroupKeys, HaveKeys}
 use Rattle.repo_member.specs.Records.{Packet}
 use Rattle.repo_member.specs.Listed.{listing_at, stored_at, shape}
-use Rattle.repo_member.specs.Alone.{Alone, Fetched, plan_of, want_of, with_fetched, with_tries, takes}
-use Rattle.repo_member.specs.Holding.{AreTied, IsArrival}
-use Rattle.repo_member.specs.declared.holding.Arrival.{Arrival}
+use Rattle.group_model.specs.Member.{with_tries}
+use Rattle.repo_member.specs.Alone.{Alone, Fetched, IsOf, alone_plan, want_of, with_fetched, alone_takes}
+use Rattle.repo_member.specs.Gaining.{AreTied, IsArrival}
+use Rattle.repo_member.specs.declared.gaining.Arrival.{Arrival}
 use Rattle.repo_member.specs.Members.{alone, IsMember}
 use Rattle.repo_member.specs.declared.member.Member.TheInside.{Inside}
 use Rattle.repo_member.specs.declared.member.outcome.Tried.{Tried}
-use Rattle.repo_member.specs.Outcomes.{planned, IsOutcome, IsCheckedFor, fetched, IsFetched, AreFetched, AreApart, CanBeTaken, AreTakable, KeepsButTries, came, with_all_fetched, with_all_tries}
-use Rattle.repo_member.proofs.HoldingLemmas.{absent, held_value, shape_told, put_elsewhere}
+use Rattle.repo_member.specs.Outcomes.{job_for, IsPlannedJob, WereTried, JobsArePlanned, PlannedJobsAreOutcomes, IsOutcome, outcome_of, IsFetched, AreFetched, AreApart, CanBeTaken, AreTakable, KeepsButTries, came, octets_in, arrival_octets, with_all_fetched, with_all_tries}
+use Rattle.repo_member.proofs.GainingLemmas.{absent, held_value, shape_told, put_elsewhere}
+use Rattle.repo_member.proofs.GroupLemmas.{ring_length}
 use Rattle.repo_member.proofs.AskedLemmas.{asked_segment, asked_member}
 use Rattle.repo_member.proofs.MemberLemmas.{plan_is, want_part}
 
 -- ---- what is taken in all
 
-pub takes_all : (xs : List Fetched) (a : Alone) → takes xs a ≡ record a { store = with_all_fetched xs a.store; attempts = with_all_tries xs a.attempts }
+pub takes_all : (xs : List Fetched) (a : Alone) → alone_takes xs a ≡ record a { store = with_all_fetched xs a.store; attempts = with_all_tries xs a.attempts }
 takes_all [] a = refl
 takes_all (x ∷ xs) a = takes_all xs (record a { store = with_fetched x.part x.packet a.store; attempts = with_tries x.part x.attempts a.attempts })
 
@@ -152,7 +162,7 @@ keeps_on a b c first then = record { known = then.known ∙ first.known; claims 
 
 -- ---- what came of jobs, one after another
 
-pub nothing_left : (jobs : List Job) (parts : List (Option CheckedPart)) (attempts : List ℕ) → (length jobs ≡ 0) ⊎ (length parts ≡ 0) ⊎ (length attempts ≡ 0) → fetched jobs parts attempts ≡ []
+pub nothing_left : (jobs : List Job) (parts : List (Option CheckedPart)) (attempts : List ℕ) → (length jobs ≡ 0) ⊎ (length parts ≡ 0) ⊎ (length attempts ≡ 0) → outcome_of jobs parts attempts ≡ []
 nothing_left [] parts attempts h = refl
 nothing_left (job ∷ jobs) [] attempts h = refl
 nothing_left (job ∷ jobs) (part ∷ parts) [] h = refl
@@ -168,24 +178,24 @@ module _ (g : GroupKeys) (a : Alone) (job : Job) (part : Option CheckedPart) (n 
   -- the fetched part of a job, with a copy of its packet
   pub one_more : (x : Tried) (jobs later : List Job) (parts behind : List (Option CheckedPart)) (ns rest : List ℕ) (xs : List Tried) → jobs ≡ job ∷ later → parts ≡ part ∷ behind → ns ≡ n ∷ rest
       → x.part ≡ job.want.part → option_map (λ (y : Arrival). y.octets.items) x.arrival ≡ option_map (λ (c : CheckedPart). c.octets) part → x.attempts ≡ n
-      → map came (xs ++ x ∷ []) ++ fetched later behind rest ≡ map came xs ++ fetched jobs parts ns
+      → map came (xs ++ x ∷ []) ++ outcome_of later behind rest ≡ map came xs ++ outcome_of jobs parts ns
   one_more x jobs later parts behind ns rest xs j p t same packet tried =
-      ap (λ (ys : List Fetched). ys ++ fetched later behind rest) (map-append came xs (x ∷ [])) ∙ append_assoc (map came xs) (came x ∷ []) (fetched later behind rest)
-      ∙ rw (j, p, t) (ap (λ (y : Fetched). map came xs ++ y ∷ fetched later behind rest) is)
+      ap (λ (ys : List Fetched). ys ++ outcome_of later behind rest) (map-append came xs (x ∷ [])) ∙ append_assoc (map came xs) (came x ∷ []) (outcome_of later behind rest)
+      ∙ rw (j, p, t) (ap (λ (y : Fetched). map came xs ++ y ∷ outcome_of later behind rest) is)
     where
       is : came x ≡ record { part = job.want.part; packet = option_map (λ (c : CheckedPart). c.octets) part; attempts = n }
       is = λ i. record { part = same i; packet = packet i; attempts = tried i }
 
   pub can_be_taken : (x : Tried) → IsFetched g a job part n → x.part ≡ job.want.part → x.attempts ≡ n
-      → IfSome x.arrival (λ y. IsArrival a.store x.part y.octets.items y.segments y.name) → CanBeTaken (plan_of a) a.store x
+      → IfSome x.arrival (λ y. IsArrival a.store x.part y.octets.items y.segments y.name) → CanBeTaken (alone_plan a) a.store x
   can_be_taken x is same tried arrived =
-      let free = and_parts (is_wanted (plan_of a) job.want.part) (not (is_claimed (plan_of a) job.want.part)) is.unclaimed in
-      let wanted = wanted_parts (plan_of a) job.want.part free.0 in
+      let free = and_parts (is_wanted (alone_plan a) job.want.part) (not (is_claimed (alone_plan a) job.want.part)) is.unclaimed in
+      let wanted = wanted_parts (alone_plan a) job.want.part free.0 in
       record {
-        asked = ap (is_asked (plan_of a)) same ∙ wanted.asked;
-        not_held = ap (holds (plan_of a)) same ∙ wanted.not_held;
-        not_hidden = ap (λ (t : Part). hides (plan_of a) (pair_of t)) same ∙ wanted.not_hidden;
-        not_claimed = ap (is_claimed (plan_of a)) same ∙ not-true (is_claimed (plan_of a) job.want.part) free.1;
+        asked = ap (is_asked (alone_plan a)) same ∙ wanted.asked;
+        not_held = ap (holds (alone_plan a)) same ∙ wanted.not_held;
+        not_hidden = ap (λ (t : Part). hides (alone_plan a) (pair_of t)) same ∙ wanted.not_hidden;
+        not_claimed = ap (is_claimed (alone_plan a)) same ∙ not-true (is_claimed (alone_plan a) job.want.part) free.1;
         arrived = arrived;
         few = rw (same, tried) is.few;
       }
@@ -242,18 +252,26 @@ parts_came : (xs : List Tried) → map (λ (x : Tried). x.part) xs ≡ map (λ (
 parts_came [] = refl
 parts_came (x ∷ xs) = ap (λ (ts : List Part). x.part ∷ ts) (parts_came xs)
 
--- a count of what is made of each
-count_made : {A B : Type 0} (p : A → Bool) (q : B → Bool) (f : A → B) → ((x : A) → p x ≡ q (f x)) → (xs : List A) → count_by p xs ≡ count_by q (map f xs)
-count_made p q f same [] = refl
-count_made p q f same (x ∷ xs) =
-    sum_by-cons (λ y. cond (p y) 1 0) x xs ∙ rw (same x, count_made p q f same xs) refl ∙ sym (sum_by-cons (λ y. cond (q y) 1 0) (f x) (map f xs))
+-- a sum over what is made of each
+sum_made : {A B : Type 0} (p : A → ℕ) (q : B → ℕ) (f : A → B) → ((x : A) → p x ≡ q (f x)) → (xs : List A) → sum_by p xs ≡ sum_by q (map f xs)
+sum_made p q f same [] = refl
+sum_made p q f same (x ∷ xs) = sum_by-cons p x xs ∙ rw (same x, sum_made p q f same xs) refl ∙ sym (sum_by-cons q (f x) (map f xs))
+
+sum_same : {A : Type 0} (p q : A → ℕ) → ((x : A) → p x ≡ q x) → (xs : List A) → sum_by p xs ≡ sum_by q xs
+sum_same p q same xs = sum_made p q (λ x. x) same xs ∙ ap (sum_by q) (map-id xs) where
+  map-id : {A : Type 0} (ys : List A) → map (λ (y : A). y) ys ≡ ys
+  map-id [] = refl
+  map-id (y ∷ ys) = ap (λ rest. y ∷ rest) (map-id ys)
+
+abbrev one_of : Bool → ℕ
+one_of b = cond b 1 0
 
 some_made : {A B : Type 0} (f : A → B) (o : Option A) → is_some o ≡ is_some (option_map f o)
 some_made f None = refl
 some_made f (Some x) = refl
 
 module _ (g : GroupKeys) (a : Alone) where
-  parts_fetched : (jobs : List Job) (parts : List (Option CheckedPart)) (ns : List ℕ) → AreFetched g a jobs parts ns → map (λ (y : Fetched). y.part) (fetched jobs parts ns) ≡ map (λ (job : Job). job.want.part) jobs
+  parts_fetched : (jobs : List Job) (parts : List (Option CheckedPart)) (ns : List ℕ) → AreFetched g a jobs parts ns → map (λ (y : Fetched). y.part) (outcome_of jobs parts ns) ≡ map (λ (job : Job). job.want.part) jobs
   parts_fetched [] [] [] are = refl
   parts_fetched [] [] (n ∷ ns) are = absurd are
   parts_fetched [] (part ∷ parts) ns are = absurd are
@@ -262,7 +280,7 @@ module _ (g : GroupKeys) (a : Alone) where
   parts_fetched (job ∷ jobs) (part ∷ parts) (n ∷ ns) are = ap (λ (ts : List Part). job.want.part ∷ ts) (parts_fetched jobs parts ns are.1)
 
   packets_fetched : (jobs : List Job) (parts : List (Option CheckedPart)) (ns : List ℕ) → AreFetched g a jobs parts ns
-      → map (λ (y : Fetched). y.packet) (fetched jobs parts ns) ≡ map (option_map (λ (c : CheckedPart). c.octets)) parts
+      → map (λ (y : Fetched). y.packet) (outcome_of jobs parts ns) ≡ map (option_map (λ (c : CheckedPart). c.octets)) parts
   packets_fetched [] [] [] are = refl
   packets_fetched [] [] (n ∷ ns) are = absurd are
   packets_fetched [] (part ∷ parts) ns are = absurd are
@@ -270,24 +288,58 @@ module _ (g : GroupKeys) (a : Alone) where
   packets_fetched (job ∷ jobs) (part ∷ parts) [] are = absurd are
   packets_fetched (job ∷ jobs) (part ∷ parts) (n ∷ ns) are = ap (λ (os : List (Option (List ℕ))). option_map (λ (c : CheckedPart). c.octets) part ∷ os) (packets_fetched jobs parts ns are.1)
 
-  module _ (jobs : List Job) (parts : List (Option CheckedPart)) (ns : List ℕ) (is : IsOutcome g a jobs parts ns) (xs : List Tried) (all : map came xs ≡ fetched jobs parts ns) where
+  module _ (jobs : List Job) (parts : List (Option CheckedPart)) (ns : List ℕ) (is : IsOutcome g a jobs parts ns) (xs : List Tried) (all : map came xs ≡ outcome_of jobs parts ns) where
     pub all_apart : AreApart (map (λ (x : Tried). x.part) xs)
     all_apart = subst AreApart (sym (parts_came xs ∙ ap (map (λ (y : Fetched). y.part)) all ∙ parts_fetched jobs parts ns is.each)) is.apart
 
+    -- a sum over what came of each
+    came_sum : (q : Option (List ℕ) → ℕ) → sum_by (λ (x : Tried). q (came x).packet) xs ≡ sum_by (λ (part : Option CheckedPart). q (option_map (λ (c : CheckedPart). c.octets) part)) parts
+    came_sum q =
+        sum_made (λ (x : Tried). q (came x).packet) (λ (y : Fetched). q y.packet) came (λ x. refl) xs ∙ ap (sum_by (λ (y : Fetched). q y.packet)) all
+        ∙ sum_made (λ (y : Fetched). q y.packet) q (λ (y : Fetched). y.packet) (λ y. refl) (outcome_of jobs parts ns) ∙ ap (sum_by q) (packets_fetched jobs parts ns is.each)
+        ∙ sym (sum_made (λ (part : Option CheckedPart). q (option_map (λ (c : CheckedPart). c.octets) part)) q (option_map (λ (c : CheckedPart). c.octets)) (λ part. refl) parts)
+
     pub all_counted : count_by (λ (x : Tried). is_some x.arrival) xs ≡ count_by is_some parts
     all_counted =
-        count_made (λ (x : Tried). is_some x.arrival) (λ (y : Fetched). is_some y.packet) came (λ x. some_made (λ (y : Arrival). y.octets.items) x.arrival) xs
-        ∙ ap (count_by (λ (y : Fetched). is_some y.packet)) all
-        ∙ count_made (λ (y : Fetched). is_some y.packet) is_some (λ (y : Fetched). y.packet) (λ y. refl) (fetched jobs parts ns)
-        ∙ ap (count_by is_some) (packets_fetched jobs parts ns is.each)
-        ∙ sym (count_made is_some is_some (option_map (λ (c : CheckedPart). c.octets)) (some_made (λ (c : CheckedPart). c.octets)) parts)
+        sum_same (λ (x : Tried). one_of (is_some x.arrival)) (λ (x : Tried). one_of (is_some (came x).packet)) (λ x. ap one_of (some_made (λ (y : Arrival). y.octets.items) x.arrival)) xs
+        ∙ came_sum (λ o. one_of (is_some o))
+        ∙ sum_same (λ (part : Option CheckedPart). one_of (is_some (option_map (λ (c : CheckedPart). c.octets) part))) (λ (part : Option CheckedPart). one_of (is_some part))
+        (λ part. ap one_of (sym (some_made (λ (c : CheckedPart). c.octets) part))) parts
 
-    pub few_tried : (packets : List Packet) → All (λ (x : Tried). IsSmallPart x.part) xs → All (CanBeTaken (plan_of a) packets) xs → length xs ≤ length a.known * 16777216
+    pub all_octets : sum_by arrival_octets xs ≡ sum_by octets_in parts
+    all_octets = came_sum (λ o. length (unwrap_or o []))
+
+    pub few_tried : (packets : List Packet) → All (λ (x : Tried). IsSmallPart x.part) xs → All (CanBeTaken (alone_plan a) packets) xs → length xs ≤ length a.known * 16777216
     few_tried packets small can =
         let few = few_parts (length a.known) (map (λ (x : Tried). x.part) xs) all_apart (All-map IsSmallPart (λ (x : Tried). x.part) xs small)
         (All-map (λ (t : Part). t.publisher < length a.known) (λ (x : Tried). x.part) xs
-        (All-weaker (CanBeTaken (plan_of a) packets) (λ (x : Tried). x.part.publisher < length a.known) (λ x h. asked_member (plan_of a) x.part h.asked) xs can)) in
+        (All-weaker (CanBeTaken (alone_plan a) packets) (λ (x : Tried). x.part.publisher < length a.known) (λ x h. asked_member (alone_plan a) x.part h.asked) xs can)) in
         omega (arith, few, length-map xs (λ (x : Tried). x.part))
+
+-- ---- how many octets came
+
+-- octets that are a Data packet aren't many
+data_fits : (octets : List ℕ) → IsOk (data_of octets) → length octets ≤ 8800
+data_fits octets h =
+    go (first_of (Tlv (Truncated 0)) 0 octets >>= only_of 0x06 (length octets)) (λ e. data_fields octets e >>= data_from e.value) (ltb 8800 (length octets)) refl h
+  where
+    go : (r : Result Item PacketFault) (f : Item → Result Data PacketFault) (b : Bool) → ltb 8800 (length octets) ≡ b → IsOk (cond b (Err PacketTooLong) r >>= f) → length octets ≤ 8800
+    go r f true p h = absurd (true≢false (sym h))
+    go r f false p h = ltb-false 8800 (length octets) p
+
+one_fits : (plan : Holdings) (packets : List Packet) (x : Tried) → CanBeTaken plan packets x → arrival_octets x ≤ 8800
+one_fits plan packets x can = go x.arrival can.arrived where
+  go : (o : Option Arrival) → IfSome o (λ a. IsArrival packets x.part a.octets.items a.segments a.name) → length (unwrap_or (option_map (λ (a : Arrival). a.octets.items) o) []) ≤ 8800
+  go None h = omega (arith)
+  go (Some a) h = data_fits a.octets.items h.reads
+
+pub octets_fit : (plan : Holdings) (packets : List Packet) (xs : List Tried) → All (CanBeTaken plan packets) xs → sum_by arrival_octets xs ≤ 8800 * length xs
+octets_fit plan packets [] can = omega (arith)
+octets_fit plan packets (x ∷ xs) can =
+    let one = one_fits plan packets x (All-head (CanBeTaken plan packets) x xs can) in
+    let rest = octets_fit plan packets xs (All-tail (CanBeTaken plan packets) x xs can) in
+    let both = sum_by-cons arrival_octets x xs in
+    omega (arith, one, rest, both)
 
 -- whatever room there is
 takable_in_room : (n : ℕ) (p : Holdings) (packets : List Packet) (xs : List Tried) → AreTakable p packets xs → AreTakable (record p { spare = n }) packets xs
@@ -304,15 +356,15 @@ takable_in_room n p packets xs are = record {
 }
 
 module _ (m : Inside) (a : Alone) (view : alone m ≡ a) (mid : Holdings) (stored : List Packet) (plan : mid ≡ record m.plan { spare = mid.spare }) (packets : stored ≡ m.store.packets) where
-  pub takable_still : IsMember m → (xs : List Tried) → AreTakable (plan_of a) a.store xs → AreTakable mid stored xs
+  pub takable_still : IsMember m → (xs : List Tried) → AreTakable (alone_plan a) a.store xs → AreTakable mid stored xs
   takable_still is xs are =
-      let here : mid ≡ record (plan_of a) { spare = mid.spare } =
-      plan ∙ ap (λ (p : Holdings). record p { spare = mid.spare }) (plan_is m is) ∙ ap (λ (x : Alone). record (plan_of x) { spare = mid.spare }) view in
+      let here : mid ≡ record (alone_plan a) { spare = mid.spare } =
+      plan ∙ ap (λ (p : Holdings). record p { spare = mid.spare }) (plan_is m is) ∙ ap (λ (x : Alone). record (alone_plan x) { spare = mid.spare }) view in
       let there : stored ≡ a.store = packets ∙ ap (λ (x : Alone). x.store) view in
-      rw (here, there) (takable_in_room mid.spare (plan_of a) a.store xs are)
+      rw (here, there) (takable_in_room mid.spare (alone_plan a) a.store xs are)
 
   pub taken_is : (after : Holdings) (held : List Packet) (xs : List Fetched) → held ≡ with_all_fetched xs stored → after.attempts ≡ with_all_tries xs mid.attempts → KeepsButTries mid after
-      → record (alone m) { store = held; hidden = after.hidden; claims = after.claims; attempts = after.attempts } ≡ takes xs a
+      → record (alone m) { store = held; hidden = after.hidden; claims = after.claims; attempts = after.attempts } ≡ alone_takes xs a
   taken_is after held xs puts tries others =
       let store : held ≡ with_all_fetched xs m.store.packets = puts ∙ ap (with_all_fetched xs) packets in
       let hidden : after.hidden ≡ m.plan.hidden = others.hidden ∙ ap (λ (p : Holdings). p.hidden) plan in
@@ -321,15 +373,9 @@ module _ (m : Inside) (a : Alone) (view : alone m ≡ a) (mid : Holdings) (store
       let same : record (alone m) { store = held; hidden = after.hidden; claims = after.claims; attempts = after.attempts }
       ≡ record (alone m) { store = with_all_fetched xs m.store.packets; attempts = with_all_tries xs m.plan.attempts } =
       λ i. record (alone m) { store = store i; hidden = hidden i; claims = claims i; attempts = attempts i } in
-      same ∙ sym (takes_all xs (alone m)) ∙ ap (takes xs) view
+      same ∙ sym (takes_all xs (alone m)) ∙ ap (alone_takes xs) view
 
 -- ---- what a member plans can be taken, whatever came of it
-
--- what came of jobs was checked for them, and none was tried too often
-abbrev pub WereTried : GroupKeys → List Job → List (Option CheckedPart) → List ℕ → Type 0
-WereTried g [] [] [] = Unit {0}
-WereTried g (job ∷ jobs) (part ∷ parts) (n ∷ ns) = IfSome part (IsCheckedFor g job.want) × (job.base + n < 2097152) × WereTried g jobs parts ns
-WereTried g _ _ _ = ⊥
 
 apart_before : (t : Part) (ts : List Part) → IsBefore part_cmp t ts → contains part_cmp ts t ≡ false
 apart_before t [] before = refl
@@ -350,36 +396,49 @@ rises_take (suc n) [] rises = tt
 rises_take (suc n) (t ∷ ts) rises = (before_take t n ts rises.0, rises_take n ts rises.1)
 
 module _ (g : GroupKeys) (a : Alone) where
-  planned_parts : (ts : List Part) → map (λ (job : Job). job.want.part) (map (planned g a) ts) ≡ ts
-  planned_parts [] = refl
-  planned_parts (t ∷ ts) = rw (want_part g a.store t, planned_parts ts) refl
+  parts_of_jobs : (ts : List Part) → map (λ (job : Job). job.want.part) (map (job_for g a) ts) ≡ ts
+  parts_of_jobs [] = refl
+  parts_of_jobs (t ∷ ts) = rw (want_part g a.store t, parts_of_jobs ts) refl
 
-  planned_fetched : (ts : List Part) (parts : List (Option CheckedPart)) (ns : List ℕ) → All (λ t. is_unclaimed (plan_of a) t ≡ true) ts → WereTried g (map (planned g a) ts) parts ns
-      → AreFetched g a (map (planned g a) ts) parts ns
-  planned_fetched [] [] [] all were = tt
-  planned_fetched [] [] (n ∷ ns) all were = were
-  planned_fetched [] (part ∷ parts) ns all were = were
-  planned_fetched (t ∷ ts) [] ns all were = were
-  planned_fetched (t ∷ ts) (part ∷ parts) [] all were = were
-  planned_fetched (t ∷ ts) (part ∷ parts) (n ∷ ns) all were =
-      let same = want_part g a.store t in (
-        record {
-          unclaimed = ap (is_unclaimed (plan_of a)) same ∙ All-head (λ t. is_unclaimed (plan_of a) t ≡ true) t ts all;
-          wanted = ap (want_of g a.store) (sym same);
-          checked = were.0;
-          few = rw same were.1;
-        },
-        planned_fetched ts parts ns (All-tail (λ t. is_unclaimed (plan_of a) t ≡ true) t ts all) were.2,
-      )
+  planned_job : (t : Part) → HaveKeys g.members → IsOf g a → is_unclaimed (alone_plan a) t ≡ true → IsPlannedJob g a (job_for g a t)
+  planned_job t have of free =
+      let same : (want_of g a.store t).part ≡ t = want_part g a.store t in
+      let wanted : is_wanted (alone_plan a) t ≡ true = (and_parts (is_wanted (alone_plan a) t) (not (is_claimed (alone_plan a) t)) free).0 in
+      let inside : t.publisher < length a.known = asked_member (alone_plan a) t (wanted_parts (alone_plan a) t wanted).asked in
+      let there : t.publisher < length g.members.ring = let long = ring_length g.members have in omega (arith, inside, of, long) in
+      record {
+        unclaimed = ap (is_unclaimed (alone_plan a)) same ∙ free;
+        publisher = subst (λ (u : Part). u.publisher < length g.members.ring) (sym same) there;
+        wanted = ap (want_of g a.store) (sym same);
+        base = ap (attempts_of (alone_plan a)) (sym same);
+      }
 
-  pub planned_outcome : (after : Option Part) (most : ℕ) (jobs : List Job) (parts : List (Option CheckedPart)) (ns : List ℕ)
-      → jobs ≡ map (planned g a) (take most (filter (is_after after) (unclaimed (plan_of a)))) → WereTried g jobs parts ns → IsOutcome g a jobs parts ns
-  planned_outcome after most jobs parts ns is were =
-      let ts = take most (filter (is_after after) (unclaimed (plan_of a))) in
-      let rises = rises_take most (filter (is_after after) (unclaimed (plan_of a))) (rises_filter exact_parts.total (is_after after) (unclaimed (plan_of a)) (unclaimed_rises (plan_of a))) in
-      let free = All-take (λ t. is_unclaimed (plan_of a) t ≡ true) most (filter (is_after after) (unclaimed (plan_of a)))
-      (All-filter (is_after after) (λ t. is_unclaimed (plan_of a) t ≡ true) (unclaimed (plan_of a)) (filter_passes (is_unclaimed (plan_of a)) (known_parts (plan_of a)))) in
-      subst (λ (js : List Job). IsOutcome g a js parts ns) (sym is) (record {
-        apart = subst AreApart (sym (planned_parts ts)) (apart_in_order ts rises);
-        each = planned_fetched ts parts ns free (subst (λ (js : List Job). WereTried g js parts ns) is were);
-      })
+pub jobs_are_planned : JobsArePlanned
+jobs_are_planned g a after most have of =
+    let ts = take most (filter (is_after after) (unclaimed (alone_plan a))) in
+    let rises = rises_take most (filter (is_after after) (unclaimed (alone_plan a))) (rises_filter exact_parts.total (is_after after) (unclaimed (alone_plan a)) (unclaimed_rises (alone_plan a))) in
+    let free = All-take (λ t. is_unclaimed (alone_plan a) t ≡ true) most (filter (is_after after) (unclaimed (alone_plan a)))
+    (All-filter (is_after after) (λ t. is_unclaimed (alone_plan a) t ≡ true) (unclaimed (alone_plan a)) (filter_passes (is_unclaimed (alone_plan a)) (known_parts (alone_plan a)))) in
+    record {
+      apart = subst AreApart (sym (parts_of_jobs g a ts)) (apart_in_order ts rises);
+      each = All-map (IsPlannedJob g a) (job_for g a) ts
+          (All-weaker (λ t. is_unclaimed (alone_plan a) t ≡ true) (λ t. IsPlannedJob g a (job_for g a t)) (λ t h. planned_job g a t have of h) ts free);
+    }
+
+all_fetched : (g : GroupKeys) (a : Alone) (jobs : List Job) (parts : List (Option CheckedPart)) (ns : List ℕ) → All (IsPlannedJob g a) jobs → WereTried g jobs parts ns → AreFetched g a jobs parts ns
+all_fetched g a [] [] [] each were = tt
+all_fetched g a [] [] (n ∷ ns) each were = were
+all_fetched g a [] (part ∷ parts) ns each were = were
+all_fetched g a (job ∷ jobs) [] ns each were = were
+all_fetched g a (job ∷ jobs) (part ∷ parts) [] each were = were
+all_fetched g a (job ∷ jobs) (part ∷ parts) (n ∷ ns) each were =
+    let one : IsPlannedJob g a job = All-head (IsPlannedJob g a) job jobs each in (
+      record { unclaimed = one.unclaimed; wanted = one.wanted; checked = were.0; few = omega (arith, one.base, were.1) },
+      all_fetched g a jobs parts ns (All-tail (IsPlannedJob g a) job jobs each) were.2,
+    )
+
+pub planned_jobs_are_outcomes : PlannedJobsAreOutcomes
+planned_jobs_are_outcomes g a jobs parts attempts planned were = record {
+  apart = planned.apart;
+  each = all_fetched g a jobs parts attempts planned.each were;
+}

@@ -27,13 +27,13 @@ use Rattle.repo_object.specs.Wants.{WantedPart, want_record, want_segment}
 use Rattle.repo_object.specs.Verdict.{read_packet, packet_verdict, part_verdict, listing_in}
 use Rattle.repo_object.proofs.Publications.{listing_within_limits, record_listed, record_passes, segment_passes}
 use Rattle.repo_member.specs.declared.member.Member.TheInside.{Inside}
-use Rattle.repo_member.specs.Groups.{GroupKeys, IsGroup, IsNodeName, node_of, publisher_of}
+use Rattle.repo_member.specs.Groups.{GroupKeys, IsGroup, IsPlainNodeName, node_at, publisher_at}
 use Rattle.repo_catalog.specs.declared.entry.Entry.{Entry}
 use Rattle.std.specs.Option.{option_and_then}
 use Rattle.repo_member.specs.Records.{Packet}
-use Rattle.repo_member.specs.Listed.{shape, listing_at, entry_at, catalogue_alone}
-use Rattle.repo_member.specs.Alone.{plan_of, as_parts, with_packets}
-use Rattle.repo_member.specs.Holding.{AreTied, AreKept, with_listed}
+use Rattle.repo_member.specs.Listed.{shape, listing_at, entry_at, alone_catalogue}
+use Rattle.repo_member.specs.Alone.{alone_plan, as_parts, with_packets}
+use Rattle.repo_member.specs.Gaining.{AreTied, AreKept, with_listed}
 use Rattle.repo_member.specs.Publishing.{IsNew, ArePackets}
 use Rattle.repo_member.specs.Members.{alone, IsMember}
 use Rattle.repo_member.proofs.MemberLemmas.{knows_more}
@@ -41,10 +41,10 @@ use Rattle.repo_member.proofs.PublishLemmas.{record_stored, relisted_publication
 
 -- ---- who publishes
 
-pub is_publisher : (g : GroupKeys) (number : ℕ) → IsGroup g → number < length g.members.names → IsPublisher (publisher_of g number)
+pub is_publisher : (g : GroupKeys) (number : ℕ) → IsGroup g → number < length g.members.names → IsPublisher (publisher_at g number)
 is_publisher g number is inside =
     let at = is.members.node_names number [] inside in
-    let node : IsNodeName (node_of g number) = subst IsNodeName (sym (unwrap_or-slice_get g.members.names number [])) at in
+    let node : IsPlainNodeName (node_at g number) = subst IsPlainNodeName (sym (unwrap_or-slice_get g.members.names number [])) at in
     record { node = (node.valid, node.short); group = (is.name.valid, is.name.short) }
 
 -- ---- its packets
@@ -152,7 +152,7 @@ module _ (m : Inside) (is : IsMember m) where
           own = omega (arith, here, at, own, more);
           width = members ∙ is.alone.width ∙ sym wide;
           in_order = kept.tied.in_order;
-          hidden = λ pair h. knows_more (plan_of (alone m)) (plan_of (alone next)) pair
+          hidden = λ pair h. knows_more (alone_plan (alone m)) (alone_plan (alone next)) pair
               (λ p. subst (λ (v : List ℕ). slice_index m.vector p ≤ slice_index v p) (sym vector) (raised_at p))
               (is.alone.hidden pair (ap (λ (pairs : List Pair). hides (record m.plan { hidden = pairs }) pair) (sym hidden) ∙ h));
         };
@@ -196,14 +196,14 @@ publication_named publisher object seq made stored after pair name is_publisher 
     ∙ ap (λ (n : List Component). Some n) (sym named)
 
 pub published_kept : (stored after : List Packet) (pair : Pair) (made : List (List ℕ)) (entries listed : List Entry) (plan : Holdings) → contains part_cmp (keys stored) (part_of pair 0) ≡ false
-    → Rises part_cmp (keys stored) → AreTied plan after → after ≡ with_packets (as_parts pair 0 made) stored → entries ≡ catalogue_alone stored → listed ≡ with_listed (entry_at after pair) entries
+    → Rises part_cmp (keys stored) → AreTied plan after → after ≡ with_packets (as_parts pair 0 made) stored → entries ≡ alone_catalogue stored → listed ≡ with_listed (entry_at after pair) entries
     → AreKept plan after listed
 published_kept stored after pair made entries listed plan absent order tied puts was is = record {
   tied = tied;
   listed =
       let rises : Rises part_cmp (keys (with_packets (as_parts pair 0 made) stored)) = subst (λ (p : List Packet). Rises part_cmp (keys p)) puts tied.in_order in
-      is ∙ ap (with_listed (entry_at after pair)) was ∙ ap (λ (p : List Packet). with_listed (entry_at p pair) (catalogue_alone stored)) puts
-      ∙ sym (relisted_publication stored pair [] [] absent made order rises) ∙ ap catalogue_alone (sym puts);
+      is ∙ ap (with_listed (entry_at after pair)) was ∙ ap (λ (p : List Packet). with_listed (entry_at p pair) (alone_catalogue stored)) puts
+      ∙ sym (relisted_publication stored pair [] [] absent made order rises) ∙ ap alone_catalogue (sym puts);
 }
 
 -- one object more in a log

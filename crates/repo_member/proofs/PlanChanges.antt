@@ -12,10 +12,11 @@ use Rattle.repo_plan.proofs.Changes.{Keeps, IsWanted, wanted_parts, wanted_from,
 use Rattle.repo_object.specs.Verdict.{listing_in}
 use Rattle.repo_store.specs.StoreList.{with_packet}
 use Rattle.repo_member.specs.Listed.{shape}
-use Rattle.repo_member.specs.Alone.{Alone, plan_of, as_parts, with_packets, with_tries}
-use Rattle.repo_member.specs.Holding.{AreTied, told_shape}
+use Rattle.group_model.specs.Member.{with_tries}
+use Rattle.repo_member.specs.Alone.{Alone, alone_plan, as_parts, with_packets}
+use Rattle.repo_member.specs.Gaining.{AreTied, told_shape}
 use Rattle.repo_member.specs.Publishing.{IsNew}
-use Rattle.repo_member.proofs.HoldingLemmas.{tied_too, others_kept}
+use Rattle.repo_member.proofs.GainingLemmas.{tied_too, others_kept}
 use Rattle.repo_member.proofs.MemberLemmas.{knows_more}
 use Rattle.repo_member.proofs.ChangeLemmas.{rises_put}
 use Rattle.repo_member.proofs.PublishLemmas.{HasGained, TellsTheRest, can_ask, not_hidden, not_claimed, gained_more, told_first, room_kept, tells_later}
@@ -53,30 +54,30 @@ sound_known p known few more s = record {
 abbrev pub gains : Part → List ℕ → Alone → Alone
 gains t octets a = record a { store = with_packet t octets a.store }
 
-pub tied_alone : (a : Alone) → Rises part_cmp (keys a.store) → AreTied (plan_of a) a.store
+pub tied_alone : (a : Alone) → Rises part_cmp (keys a.store) → AreTied (alone_plan a) a.store
 tied_alone a order = record { in_order = order; held = refl; shapes = refl }
 
-module _ (a : Alone) (t : Part) (octets : List ℕ) (order : Rises part_cmp (keys a.store)) (fresh : holds (plan_of a) t ≡ false) (told : is_some (told_shape t octets) ≡ (t.part == 0)) where
-  pub plan_gained : plan_of (gains t octets a) ≡ uses_room (holds_too t (told_shape t octets) (plan_of a))
+module _ (a : Alone) (t : Part) (octets : List ℕ) (order : Rises part_cmp (keys a.store)) (fresh : holds (alone_plan a) t ≡ false) (told : is_some (told_shape t octets) ≡ (t.part == 0)) where
+  pub plan_gained : alone_plan (gains t octets a) ≡ uses_room (holds_too t (told_shape t octets) (alone_plan a))
   plan_gained =
-      let others = others_kept t (told_shape t octets) (plan_of a) in
-      let tied = tied_too (plan_of a) a.store t octets (told_shape t octets) (tied_alone a order) fresh told refl in
-      same_holdings (plan_of (gains t octets a)) (uses_room (holds_too t (told_shape t octets) (plan_of a)))
-      (sym others.known) (sym tied.held) (sym tied.shapes) (sym others.claims) (sym others.hidden) (sym others.attempts) (sym (room_kept t (told_shape t octets) (plan_of a)))
+      let others = others_kept t (told_shape t octets) (alone_plan a) in
+      let tied = tied_too (alone_plan a) a.store t octets (told_shape t octets) (tied_alone a order) fresh told refl in
+      same_holdings (alone_plan (gains t octets a)) (uses_room (holds_too t (told_shape t octets) (alone_plan a)))
+      (sym others.known) (sym tied.held) (sym tied.shapes) (sym others.claims) (sym others.hidden) (sym others.attempts) (sym (room_kept t (told_shape t octets) (alone_plan a)))
 
-  pub sound_gained : CanBeHeld (plan_of a) t → IsSound (plan_of a) → IsSound (plan_of (gains t octets a))
+  pub sound_gained : CanBeHeld (alone_plan a) t → IsSound (alone_plan a) → IsSound (alone_plan (gains t octets a))
   sound_gained can s =
-      let p = holds_too t (told_shape t octets) (plan_of a) in
-      subst IsSound (sym plan_gained) (sound_room (p.spare - 1) p (sound_holds t (told_shape t octets) (plan_of a) told can s))
+      let p = holds_too t (told_shape t octets) (alone_plan a) in
+      subst IsSound (sym plan_gained) (sound_room (p.spare - 1) p (sound_holds t (told_shape t octets) (alone_plan a) told can s))
 
 -- ---- attempts
 
-pub sound_tried : (a : Alone) (t : Part) (n : ℕ) → IsSound (plan_of a) → IsSound (plan_of (record a { attempts = with_tries t n a.attempts }))
-sound_tried a t n s = subst IsSound (go (n == 0)) (sound_attempts t n (plan_of a) s) where
+pub sound_tried : (a : Alone) (t : Part) (n : ℕ) → IsSound (alone_plan a) → IsSound (alone_plan (record a { attempts = with_tries t n a.attempts }))
+sound_tried a t n s = subst IsSound (go (n == 0)) (sound_attempts t n (alone_plan a) s) where
   more : List (Part × ℕ)
-  more = with_value part_cmp t (attempts_of (plan_of a) t + n) a.attempts
+  more = with_value part_cmp t (attempts_of (alone_plan a) t + n) a.attempts
 
-  go : (b : Bool) → cond b (plan_of a) (record (plan_of a) { attempts = more }) ≡ plan_of (record a { attempts = cond b a.attempts more })
+  go : (b : Bool) → cond b (alone_plan a) (record (alone_plan a) { attempts = more }) ≡ alone_plan (record a { attempts = cond b a.attempts more })
   go true = refl
   go false = refl
 
@@ -95,20 +96,20 @@ first_told segments x = go (x == 0) where
   go false = refl
 
 pub sound_puts : (start : Holdings) (pair : Pair) (segments : ℕ) → IsNew start pair → (x : ℕ) (made : List (List ℕ)) (a : Alone) → x + length made ≡ segments + 1 → TellsTheRest segments x made
-    → Rises part_cmp (keys a.store) → HasGained start (plan_of a) pair segments x → IsSound (plan_of a) → IsSound (plan_of (record a { store = with_packets (as_parts pair x made) a.store }))
+    → Rises part_cmp (keys a.store) → HasGained start (alone_plan a) pair segments x → IsSound (alone_plan a) → IsSound (alone_plan (record a { store = with_packets (as_parts pair x made) a.store }))
 sound_puts start pair segments new x [] a count tells order so_far s = s
 sound_puts start pair segments new x (octets ∷ made) a count tells order so_far s =
     let t = part_of pair x in
     let fresh = so_far.fresh x (omega arith) in
     let shape_is = told_by_first pair x segments octets tells in
     let told : is_some (told_shape t octets) ≡ (t.part == 0) = ap is_some shape_is ∙ first_told segments x in
-    let can : CanBeHeld (plan_of a) t = record {
-      asked = can_ask start (plan_of a) pair segments x new so_far (omega (arith, count));
-      not_hidden = not_hidden start (plan_of a) pair segments x new so_far;
-      not_claimed = not_claimed start (plan_of a) pair segments x new so_far;
+    let can : CanBeHeld (alone_plan a) t = record {
+      asked = can_ask start (alone_plan a) pair segments x new so_far (omega (arith, count));
+      not_hidden = not_hidden start (alone_plan a) pair segments x new so_far;
+      not_claimed = not_claimed start (alone_plan a) pair segments x new so_far;
     } in
     let next = gains t octets a in
     sound_puts start pair segments new (x + 1) made next (omega (arith, count)) (tells_later segments x made)
     (rises_put a.store t octets order)
-    (gained_more start (plan_of a) pair segments x new so_far (told_shape t octets) (plan_of next) shape_is (plan_gained a t octets order fresh told))
+    (gained_more start (alone_plan a) pair segments x new so_far (told_shape t octets) (alone_plan next) shape_is (plan_gained a t octets order fresh told))
     (sound_gained a t octets order fresh told can s)

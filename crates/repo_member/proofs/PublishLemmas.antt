@@ -13,12 +13,12 @@ use Rattle.repo_plan.proofs.Sets.{eq_same, eq_itself, contains-insert_key, value
 use Rattle.repo_store.specs.StoreList.{with_packet}
 use Rattle.repo_member.specs.Records.{Packet}
 use Rattle.repo_object.specs.Verdict.{listing_in}
-use Rattle.repo_member.specs.Listed.{shape, stored_at, entry_at, entry_listed, catalogue_alone}
+use Rattle.repo_member.specs.Listed.{shape, stored_at, entry_at, entry_listed, alone_catalogue}
 use Rattle.repo_member.specs.Alone.{as_parts, with_packets}
-use Rattle.repo_member.specs.Holding.{KeepsOthers, with_listed}
+use Rattle.repo_member.specs.Gaining.{KeepsOthers, with_listed}
 use Rattle.repo_member.specs.Publishing.{IsNew}
 use Rattle.repo_member.proofs.CatalogueLemmas.{relisted}
-use Rattle.repo_member.proofs.HoldingLemmas.{contains-value, put_here, put_elsewhere}
+use Rattle.repo_member.proofs.GainingLemmas.{contains-value, put_here, put_elsewhere}
 
 -- ---- what stays where packets are put elsewhere
 
@@ -157,7 +157,7 @@ module _ (packets : List Packet) (pair : Pair) (octets : List ℕ) (segments : L
 
   -- its entry is all that comes to the catalogue
   pub relisted_publication : (made : List (List ℕ)) → Rises part_cmp (keys packets) → Rises part_cmp (keys (with_packets (as_parts pair 0 made) packets))
-      → catalogue_alone (with_packets (as_parts pair 0 made) packets) ≡ with_listed (entry_at (with_packets (as_parts pair 0 made) packets) pair) (catalogue_alone packets)
+      → alone_catalogue (with_packets (as_parts pair 0 made) packets) ≡ with_listed (entry_at (with_packets (as_parts pair 0 made) packets) pair) (alone_catalogue packets)
   relisted_publication made before after =
       relisted packets (with_packets (as_parts pair 0 made) packets) pair before after
       (λ q other x. puts_aside pair 0 made packets (part_of q x) (λ y h. other_part pair q x y other)) nothing_before

@@ -18,10 +18,10 @@ use Rattle.repo_object.specs.Wants.{WantedPart, want_record, want_segment}
 use Rattle.repo_object.specs.Verdict.{listing_in, ring_verdict}
 use Rattle.repo_store.specs.StoreList.{with_packet}
 use Rattle.repo_member.specs.Records.{Packet}
-use Rattle.repo_member.specs.Groups.{GroupKeys, node_of, publisher_of}
-use Rattle.repo_member.specs.Alone.{Alone, plan_of, next_seq, as_parts, with_packets, publishes, logged, packet_in, nothing_listed, want_of}
+use Rattle.repo_member.specs.Groups.{GroupKeys, node_at, publisher_at}
+use Rattle.repo_member.specs.Alone.{Alone, alone_plan, next_seq, as_parts, with_packets, alone_publishes, logged, packet_in, nothing_listed, want_of}
 use Rattle.repo_member.specs.Publishing.{IsNew}
-use Rattle.repo_member.proofs.HoldingLemmas.{put_here, put_elsewhere}
+use Rattle.repo_member.proofs.GainingLemmas.{put_here, put_elsewhere}
 use Rattle.repo_member.proofs.PublishLemmas.{puts_aside, later_part, gained_none}
 use Rattle.repo_member.proofs.MemberLemmas.{knows_more}
 use Rattle.repo_member.proofs.OwnLemmas.{is_publisher, packets_are, next_to_last}
@@ -65,7 +65,7 @@ module _ (g : GroupKeys) (object : NamedContents) (moment draw : ℕ) (a : Alone
   pair = (a.number, next_seq a)
 
   abbrev by : Publisher
-  by = publisher_of g a.number
+  by = publisher_at g a.number
 
   abbrev made : List (List ℕ)
   made = packets by (next_seq a) object
@@ -96,19 +96,19 @@ module _ (g : GroupKeys) (object : NamedContents) (moment draw : ℕ) (a : Alone
   abbrev told : Alone
   told = record a { known = known }
 
-  told_sound : IsSound (plan_of told)
-  told_sound = sound_known (plan_of a) known (omega (arith, long, r.group.members.few, r.of)) more r.sound
+  told_sound : IsSound (alone_plan told)
+  told_sound = sound_known (alone_plan a) known (omega (arith, long, r.group.members.roster.few, r.of)) more r.sound
 
-  new : IsNew (plan_of told) pair
+  new : IsNew (alone_plan told) pair
   new =
       let greater : max (slice_index a.known a.number) (length a.log + 1) ≡ next_seq a = omega (arith, r.alone.own) in
-      subst (λ (n : ℕ). IsNew (plan_of (record a { known = slice_set a.known a.number n })) pair) greater
-      (next_to_last (plan_of a) a.number (length a.log) r.sound r.alone.member r.alone.own (r.alone.hidden pair))
+      subst (λ (n : ℕ). IsNew (alone_plan (record a { known = slice_set a.known a.number n })) pair) greater
+      (next_to_last (alone_plan a) a.number (length a.log) r.sound r.alone.member r.alone.own (r.alone.hidden pair))
 
-  all_sound : IsSound (plan_of (record told { store = after }))
+  all_sound : IsSound (alone_plan (record told { store = after }))
   all_sound =
       let are = packets_are by object (next_seq a) (is_publisher g a.number r.group (omega (arith, r.alone.member, r.of))) is_object (omega (arith, room)) made refl in
-      sound_puts (plan_of told) pair segments new 0 made told (omega arith) (λ e. are.lists) r.alone.in_order (gained_none (plan_of told) pair segments new) told_sound
+      sound_puts (alone_plan told) pair segments new 0 made told (omega arith) (λ e. are.lists) r.alone.in_order (gained_none (alone_plan told) pair segments new) told_sound
 
   -- ---- what is stored
 
@@ -127,7 +127,7 @@ module _ (g : GroupKeys) (object : NamedContents) (moment draw : ℕ) (a : Alone
     go true p = absurd (away (ap (λ (t : Part). t.seq) (eq_same exact_parts q (part_of pair y) p)))
     go false p = refl
 
-  logged_before : (q : Part) → q.seq ≢ next_seq a → logged g a q ≡ logged g (publishes g object moment draw a) q
+  logged_before : (q : Part) → q.seq ≢ next_seq a → logged g a q ≡ logged g (alone_publishes g object moment draw a) q
   logged_before q other = go (q.publisher == a.number) (q.seq == 0) refl where
     go : (b c : Bool) → (q.seq == 0) ≡ c
         → cond b (cond c None (option_and_then (packet_in by q) (slice_get a.log (q.seq - 1)))) None
@@ -139,7 +139,7 @@ module _ (g : GroupKeys) (object : NamedContents) (moment draw : ℕ) (a : Alone
           above : q.seq - 1 ≡ length a.log → (q.seq ≡ 0 → ⊥) → q.seq ≡ next_seq a
           above e ne = elim (cases_eq q.seq 0) [ inl z ↦ absurd (ne z) | inr n ↦ omega (arith, e, n) ]
 
-  own_parts : (q : Part) → q.publisher ≡ a.number → value_of part_cmp after q ≡ logged g (publishes g object moment draw a) q
+  own_parts : (q : Part) → q.publisher ≡ a.number → value_of part_cmp after q ≡ logged g (alone_publishes g object moment draw a) q
   own_parts q own = elim (cases_eq q.seq (next_seq a)) [
     | inl same ↦
         let is : q ≡ part_of pair q.part = λ i. record { publisher = own i; seq = same i; part = q.part } in
@@ -147,16 +147,16 @@ module _ (g : GroupKeys) (object : NamedContents) (moment draw : ℕ) (a : Alone
         let from_first : q.part ≡ 0 + q.part = omega arith in
         ap (value_of part_cmp after) (is ∙ ap (part_of pair) from_first) ∙ puts_value pair 0 made a.store (λ y h. new.not_held y) q.part
         ∙ ap (λ (n : ℕ). slice_get (packets by n object) q.part) (sym same)
-        ∙ sym (logged_own g (publishes g object moment draw a) q object own (omega (arith, same)) (ap (slice_get (a.log ++ object ∷ [])) last ∙ at_end a.log object))
+        ∙ sym (logged_own g (alone_publishes g object moment draw a) q object own (omega (arith, same)) (ap (slice_get (a.log ++ object ∷ [])) last ∙ at_end a.log object))
     | inr other ↦ aside q (of_another q other) ∙ r.own q own ∙ logged_before q other
   ]
 
   same_want : (q : Part) → q.publisher ≢ a.number → want_of g a.store q ≡ want_of g after q
   same_want q away =
-      ap (λ (o : Option (List ℕ)). cond (q.part == 0) (want_record q (node_of g q.publisher) g.name) (want_segment q (unwrap_or (option_and_then listing_in o) nothing_listed)))
+      ap (λ (o : Option (List ℕ)). cond (q.part == 0) (want_record q (node_at g q.publisher) g.name) (want_segment q (unwrap_or (option_and_then listing_in o) nothing_listed)))
       (sym (aside (part_of (pair_of q) 0) (of_others (part_of (pair_of q) 0) away)))
 
-  pub reached_publishes : IsReached g (publishes g object moment draw a)
+  pub reached_publishes : IsReached g (alone_publishes g object moment draw a)
   reached_publishes = record {
     group = r.group;
     alone = record {
@@ -164,7 +164,7 @@ module _ (g : GroupKeys) (object : NamedContents) (moment draw : ℕ) (a : Alone
       own = at_own ∙ sym (length_push a.log object);
       width = r.alone.width ∙ sym long;
       in_order = rises_puts (as_parts pair 0 made) a.store r.alone.in_order;
-      hidden = λ p h. knows_more (plan_of a) (plan_of told) p more (r.alone.hidden p h);
+      hidden = λ p h. knows_more (alone_plan a) (alone_plan told) p more (r.alone.hidden p h);
     };
     of = r.of ∙ sym long;
     sound = all_sound;

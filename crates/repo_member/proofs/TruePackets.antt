@@ -23,8 +23,8 @@ use Rattle.repo_object.proofs.Publications.{packets-length, record_listed}
 use Rattle.repo_object.proofs.Packing.{segment_from}
 use Rattle.group_model.specs.Publications.{Logs, no_object, object_at, last_of}
 use Rattle.group_model.specs.Sound.{IsPublished}
-use Rattle.repo_member.specs.Groups.{GroupKeys, publisher_of}
-use Rattle.repo_member.specs.Listed.{shape, content_read, content_of}
+use Rattle.repo_member.specs.Groups.{GroupKeys, publisher_at}
+use Rattle.repo_member.specs.Listed.{shape, content_read, packet_content}
 use Rattle.repo_member.specs.InGroup.{AreLogs}
 use Rattle.repo_member.proofs.OwnLemmas.{is_publisher}
 
@@ -56,7 +56,7 @@ module _ (publisher : Publisher) (seq : ℕ) (object : NamedContents) where
 
 -- the part behind it has the segment's content
 pub segment_content : (publisher : Publisher) (seq : ℕ) (object : NamedContents) (k : ℕ) (octets : List ℕ) → IsPublisher publisher → IsObject object → packet_at publisher seq object (suc k) ≡ Some octets
-    → content_of octets ≡ get_or object.contents k []
+    → packet_content octets ≡ get_or object.contents k []
 segment_content publisher seq object k octets is_publisher is_object h =
     let keyed = key_name publisher.node in
     let last = length object.contents - 1 in
@@ -71,12 +71,12 @@ segment_content publisher seq object k octets is_publisher is_object h =
     (IsName-number object.name 0x32 k is_object.name (omega arith) (omega arith) (omega (arith, inside, is_object.few)))
     (IsName-key publisher.node is_publisher.node.0)
     (segment-size keyed publisher.key object.name last k content (key_name-size publisher.node is_publisher.node.1) (named_short object.name is_object.named) (omega (arith, is_object.few)) (omega (arith, inside, is_object.few)) is_content.1) in
-    ap content_of (sym at.2 ∙ ap (λ (n : ℕ). segment_packet keyed publisher.key object.name last n content) same) ∙ ap content_read read ∙ sym there
+    ap packet_content (sym at.2 ∙ ap (λ (n : ℕ). segment_packet keyed publisher.key object.name last n content) same) ∙ ap content_read read ∙ sym there
 
 -- ---- what was published
 
 module _ (g : GroupKeys) (logs : Logs) (are : AreLogs g logs) (pair : Pair) (there : IsPublished logs pair) where
-  log_there : pair.0 < length logs
+  pub log_there : pair.0 < length logs
   log_there = elim (cases_lt pair.0 (length logs)) [
     | inl inside ↦ inside
     | inr past ↦
@@ -87,7 +87,7 @@ module _ (g : GroupKeys) (logs : Logs) (are : AreLogs g logs) (pair : Pair) (the
   pub published_object : IsObject (object_at logs pair)
   published_object = are.objects pair.0 [] log_there (pair.1 - 1) no_object (omega (arith, there.from_one, there.to_last))
 
-  pub published_by : IsPublisher (publisher_of g pair.0)
+  pub published_by : IsPublisher (publisher_at g pair.0)
   published_by = is_publisher g pair.0 are.group (omega (arith, log_there, are.width))
 
   pub published_low : pair.1 < 2 ^ 16

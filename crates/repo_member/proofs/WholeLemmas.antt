@@ -13,10 +13,10 @@ use Rattle.repo_object.specs.Publication.{Listed}
 use Rattle.repo_object.specs.Verdict.{listing_in}
 use Rattle.repo_store.specs.StoreList.{with_packet}
 use Rattle.repo_member.specs.Records.{Packet}
-use Rattle.repo_member.specs.Listed.{listing_at, shape, contents_joined, entry_at, entry_listed, entry_of_listing, catalogue_alone}
-use Rattle.repo_member.specs.Holding.{AreTied, with_listed}
+use Rattle.repo_member.specs.Listed.{listing_at, shape, contents_joined, entry_at, entry_listed, entry_of_listing, alone_catalogue}
+use Rattle.repo_member.specs.Gaining.{AreTied, with_listed}
 use Rattle.repo_member.proofs.CatalogueLemmas.{relisted}
-use Rattle.repo_member.proofs.HoldingLemmas.{contains-value, put_rises, other_pairs, absent, shape_told, complete_stored}
+use Rattle.repo_member.proofs.GainingLemmas.{contains-value, put_rises, other_pairs, absent, shape_told, complete_stored}
 use Rattle.repo_member.proofs.AskedLemmas.{asked_segment}
 
 none_listing : (l : Listed) → let n : Option Listed = None in n ≡ Some l → ⊥
@@ -71,7 +71,7 @@ missing_unlisted plan packets t tied asked missing = go (t.part == 0) refl where
 
 -- the catalogue after an asked part has come
 pub relisted_with : (plan : Holdings) (packets : List Packet) (t : Part) (octets : List ℕ) → AreTied plan packets → is_asked plan t ≡ true → holds plan t ≡ false
-    → catalogue_alone (with_packet t octets packets) ≡ with_listed (entry_at (with_packet t octets packets) (pair_of t)) (catalogue_alone packets)
+    → alone_catalogue (with_packet t octets packets) ≡ with_listed (entry_at (with_packet t octets packets) (pair_of t)) (alone_catalogue packets)
 relisted_with plan packets t octets tied asked missing =
     let gone = absent plan packets t octets None tied missing in
     relisted packets (with_packet t octets packets) (pair_of t) tied.in_order (put_rises packets t octets gone tied.in_order) (other_pairs packets t octets gone) (missing_unlisted plan packets t tied asked missing)

@@ -12,9 +12,10 @@ use Rattle.repo_object.specs.Objects.{NamedContents, Publisher}
 use Rattle.repo_object.specs.Publication.{Listed, packets}
 use Rattle.repo_object.specs.Wants.{WantedPart, want_record, want_segment}
 use Rattle.repo_store.specs.StoreList.{with_packet}
+use Rattle.group_model.specs.Member.{with_tries}
 use Rattle.repo_member.specs.Records.{Packet}
 use Rattle.repo_member.specs.Listed.{shapes_in, listing_at}
-use Rattle.repo_member.specs.Groups.{GroupKeys, node_of, publisher_of}
+use Rattle.repo_member.specs.Groups.{GroupKeys, node_at, publisher_at}
 
 -- what a member has
 pub record Alone : Type 0 where
@@ -28,8 +29,8 @@ pub record Alone : Type 0 where
   pub machine : Keeper
 
 -- a member of so many that has nothing
-abbrev pub opening_alone : ℕ → ℕ → ℕ → ℕ → Alone
-opening_alone members number moment draw = record {
+abbrev pub alone_opening : ℕ → ℕ → ℕ → ℕ → Alone
+alone_opening members number moment draw = record {
   number = number;
   log = [];
   known = replicate members 0;
@@ -41,8 +42,8 @@ opening_alone members number moment draw = record {
 }
 
 -- its fetch plan: it holds what it stores, and the stored records tell how many segments there are
-abbrev pub plan_of : Alone → Holdings
-plan_of a = record {
+abbrev pub alone_plan : Alone → Holdings
+alone_plan a = record {
   known = a.known;
   held = keys a.store;
   shapes = shapes_in a.store;
@@ -59,13 +60,17 @@ pub record IsAlone (a : Alone) : Type 0 where
   pub own : slice_index a.known a.number ≡ length a.log
   pub width : a.machine.members ≡ length a.known
   pub in_order : Rises part_cmp (keys a.store)
-  pub hidden : (pair : Pair) → hides (plan_of a) pair ≡ true → knows (plan_of a) pair ≡ true
+  pub hidden : (pair : Pair) → hides (alone_plan a) pair ≡ true → knows (alone_plan a) pair ≡ true
 
 -- the group has as many members as the member knows of
 abbrev pub IsOf : GroupKeys → Alone → Type 0
 IsOf g a = length g.members.names ≡ length a.known
 
 -- ---- publishing
+
+-- how many publications a member has at most, which is the number of the last
+abbrev pub publication_limit : ℕ
+publication_limit = 65535
 
 -- the number of the next publication
 abbrev pub next_seq : Alone → ℕ
@@ -84,10 +89,10 @@ as_parts pair x (octets ∷ more) = (part_of pair x, octets) ∷ as_parts pair (
 -- the member's packets of its next publication
 abbrev pub new_packets : GroupKeys → NamedContents → Alone → List Packet
 new_packets g object a =
-    as_parts (a.number, next_seq a) 0 (packets (publisher_of g a.number) (next_seq a) object)
+    as_parts (a.number, next_seq a) 0 (packets (publisher_at g a.number) (next_seq a) object)
 
-abbrev pub publishes : GroupKeys → NamedContents → ℕ → ℕ → Alone → Alone
-publishes g object moment draw a = record a {
+abbrev pub alone_publishes : GroupKeys → NamedContents → ℕ → ℕ → Alone → Alone
+alone_publishes g object moment draw a = record a {
   log = a.log ++ object ∷ [];
   known = slice_set a.known a.number (next_seq a);
   store = with_packets (new_packets g object a) a.store;
@@ -102,27 +107,27 @@ abbrev pub logged : GroupKeys → Alone → Part → Option (List ℕ)
 logged g a t =
     if t.publisher == a.number then
     if t.seq == 0 then None
-    else option_and_then (packet_in (publisher_of g a.number) t) (slice_get a.log (t.seq - 1))
+    else option_and_then (packet_in (publisher_at g a.number) t) (slice_get a.log (t.seq - 1))
     else None
 
 -- ---- hearing
 
-abbrev pub learns : List ℕ → Alone → Alone
-learns told a = record a { known = join a.known told }
+abbrev pub alone_learns : List ℕ → Alone → Alone
+alone_learns told a = record a { known = join a.known told }
 
 -- the machine hears the vector while the member still knows the one before
-abbrev pub hears : List ℕ → ℕ → ℕ → Alone → Alone
-hears told moment draw a =
-    record (learns told a) { machine = hears_kept moment told a.known draw a.machine a.machine.heard }
+abbrev pub alone_hears : List ℕ → ℕ → ℕ → Alone → Alone
+alone_hears told moment draw a =
+    record (alone_learns told a) { machine = hears_kept moment told a.known draw a.machine a.machine.heard }
 
-abbrev pub fires : ℕ → ℕ → Alone → Alone
-fires moment draw a = record a { machine = fired_kept moment draw a.machine }
+abbrev pub alone_fires : ℕ → ℕ → Alone → Alone
+alone_fires moment draw a = record a { machine = fired_kept moment draw a.machine }
 
 -- ---- fetching
 
 -- a fetcher claims a part, or nothing
-abbrev pub claims_part : ℕ → Option Part → Alone → Alone
-claims_part f claim a = record a { claims = slice_set a.claims (f - 1) claim }
+abbrev pub alone_claims : ℕ → Option Part → Alone → Alone
+alone_claims f claim a = record a { claims = slice_set a.claims (f - 1) claim }
 
 abbrev pub nothing_listed : Listed
 nothing_listed = record { name = []; digests = [] }
@@ -130,12 +135,12 @@ nothing_listed = record { name = []; digests = [] }
 -- the want of a part: a record is asked for by its publisher's name, a segment as the stored record lists it
 abbrev pub want_of : GroupKeys → List Packet → Part → WantedPart
 want_of g stored t =
-    if t.part == 0 then want_record t (node_of g t.publisher) g.name
+    if t.part == 0 then want_record t (node_at g t.publisher) g.name
     else want_segment t (unwrap_or (listing_at stored (pair_of t)) nothing_listed)
 
 -- a fetcher's part is held from now on, and its claim over
-abbrev pub accepts : ℕ → Part → List ℕ → Alone → Alone
-accepts f t octets a = record (claims_part f None a) { store = with_packet t octets a.store }
+abbrev pub alone_accepts : ℕ → Part → List ℕ → Alone → Alone
+alone_accepts f t octets a = record (alone_claims f None a) { store = with_packet t octets a.store }
 
 -- ---- a fetch's outcome
 
@@ -149,21 +154,17 @@ abbrev pub with_fetched : Part → Option (List ℕ) → List Packet → List Pa
 with_fetched t None stored = stored
 with_fetched t (Some octets) stored = with_packet t octets stored
 
-abbrev pub with_tries : Part → ℕ → List (Part × ℕ) → List (Part × ℕ)
-with_tries t n attempts =
-    if n == 0 then attempts else with_value part_cmp t (unwrap_or (value_of part_cmp attempts t) 0 + n) attempts
-
-abbrev pub takes : List Fetched → Alone → Alone
-takes [] a = a
-takes (x ∷ xs) a = takes xs (record a {
+abbrev pub alone_takes : List Fetched → Alone → Alone
+alone_takes [] a = a
+alone_takes (x ∷ xs) a = alone_takes xs (record a {
   store = with_fetched x.part x.packet a.store;
   attempts = with_tries x.part x.attempts a.attempts;
 })
 
 -- ---- starting again
 
-abbrev pub ends_claims : Alone → Alone
-ends_claims a = record a { claims = no_claims }
+abbrev pub alone_ends_claims : Alone → Alone
+alone_ends_claims a = record a { claims = no_claims }
 
-abbrev pub resets : ℕ → ℕ → Alone → Alone
-resets moment draw a = record a { machine = steady_kept moment draw a.machine }
+abbrev pub alone_resets : ℕ → ℕ → Alone → Alone
+alone_resets moment draw a = record a { machine = steady_kept moment draw a.machine }

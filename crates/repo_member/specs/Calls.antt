@@ -13,99 +13,99 @@ use Rattle.repo_object.specs.Verdict.{CheckedPart, IsChecked, ring_verdict}
 use Rattle.repo_member.specs.declared.refusals.HearRefusal.{HearRefusal}
 use Rattle.repo_member.specs.declared.refusals.AcceptRefusal.{AcceptRefusal}
 use Rattle.repo_member.specs.Groups.{GroupKeys, IsGroup}
-use Rattle.repo_member.specs.Alone.{Alone, IsAlone, plan_of, opening_alone, publishes, logged, learns, hears, fires, claims_part, want_of, accepts, takes, ends_claims, resets}
+use Rattle.repo_member.specs.Alone.{Alone, IsAlone, publication_limit, alone_plan, alone_opening, alone_publishes, logged, alone_learns, alone_hears, alone_fires, alone_claims, want_of, alone_accepts, alone_takes, alone_ends_claims, alone_resets}
 use Rattle.repo_member.specs.Verdicts.{hear_verdict, accept_verdict}
-use Rattle.repo_member.specs.Outcomes.{fetched, IsOutcome}
+use Rattle.repo_member.specs.Outcomes.{outcome_of, IsOutcome}
 
 -- A call that may change a member, with what it is given: octets, fetchers, moments and draws. One that answers want of
 -- memory changes nothing, so it is in no list.
-pub data Call : Type 0 where
-  Publish : NamedContents → ℕ → ℕ → Call
-  Hear : List ℕ → ℕ → ℕ → Call
-  JoinFrom : List ℕ → Call
-  Fire : ℕ → ℕ → Call
-  Claim : ℕ → Call
-  Lose : ℕ → Call
-  Accept : ℕ → List ℕ → Call
-  TakeOutcome : List Job → List (Option CheckedPart) → List ℕ → Call
-  EndClaims : Call
-  Reset : ℕ → ℕ → Call
-  Restart : ℕ → ℕ → Call
+pub data MemberCall : Type 0 where
+  Publish : NamedContents → ℕ → ℕ → MemberCall
+  Hear : List ℕ → ℕ → ℕ → MemberCall
+  JoinFrom : List ℕ → MemberCall
+  Fire : ℕ → ℕ → MemberCall
+  Claim : ℕ → MemberCall
+  Lose : ℕ → MemberCall
+  Accept : ℕ → List ℕ → MemberCall
+  TakeOutcome : List Job → List (Option CheckedPart) → List ℕ → MemberCall
+  EndClaims : MemberCall
+  Reset : ℕ → ℕ → MemberCall
+  Restart : ℕ → ℕ → MemberCall
 
 -- ---- what a call makes of a member: nothing, where it is refused
 
 -- What is told is learnt, and the machine hears it.
-abbrev pub after_hear : ℕ → ℕ → Alone → Result (List ℕ) HearRefusal → Alone
-after_hear moment draw a (Ok told) = hears told moment draw a
-after_hear moment draw a (Err refusal) = a
+abbrev pub if_heard : ℕ → ℕ → Alone → Result (List ℕ) HearRefusal → Alone
+if_heard moment draw a (Ok told) = alone_hears told moment draw a
+if_heard moment draw a (Err refusal) = a
 
 -- What is told is learnt.
-abbrev pub after_join : Alone → Result (List ℕ) HearRefusal → Alone
-after_join a (Ok told) = learns told a
-after_join a (Err refusal) = a
+abbrev pub if_joined : Alone → Result (List ℕ) HearRefusal → Alone
+if_joined a (Ok told) = alone_learns told a
+if_joined a (Err refusal) = a
 
 -- A fetcher that claims nothing claims the first part that is wanted and that nobody claims, if there is one.
-abbrev pub after_claim : ℕ → Alone → Option Part → Alone
-after_claim f a None = claims_part f (first (unclaimed (plan_of a))) a
-after_claim f a (Some t) = a
+abbrev pub if_claimed : ℕ → Alone → Option Part → Alone
+if_claimed f a None = alone_claims f (first (unclaimed (alone_plan a))) a
+if_claimed f a (Some t) = a
 
 -- The claim of a fetcher that has one ends.
-abbrev pub after_lose : ℕ → Alone → Option Part → Alone
-after_lose f a None = a
-after_lose f a (Some t) = claims_part f None a
+abbrev pub if_lost : ℕ → Alone → Option Part → Alone
+if_lost f a None = a
+if_lost f a (Some t) = alone_claims f None a
 
 -- A fetcher's part is held where the octets pass for it.
-abbrev pub after_accept : ℕ → List ℕ → Alone → Result Part AcceptRefusal → Alone
-after_accept f octets a (Ok t) = accepts f t octets a
-after_accept f octets a (Err refusal) = a
+abbrev pub if_accepted : ℕ → List ℕ → Alone → Result Part AcceptRefusal → Alone
+if_accepted f octets a (Ok t) = alone_accepts f t octets a
+if_accepted f octets a (Err refusal) = a
 
 -- The member after a call.
-abbrev pub after_call : GroupKeys → Call → Alone → Alone
-after_call g (Publish object moment draw) a = if nat_lt (length a.log) 65535 then publishes g object moment draw a else a
-after_call g (Hear octets moment draw) a = after_hear moment draw a (hear_verdict g a octets)
-after_call g (JoinFrom octets) a = after_join a (hear_verdict g a octets)
-after_call g (Fire moment draw) a = fires moment draw a
-after_call g (Claim f) a = after_claim f a (claim_of (plan_of a) f)
-after_call g (Lose f) a = after_lose f a (claim_of (plan_of a) f)
-after_call g (Accept f octets) a = after_accept f octets a (accept_verdict g a f octets)
-after_call g (TakeOutcome jobs parts attempts) a = takes (fetched jobs parts attempts) a
-after_call g EndClaims a = ends_claims a
-after_call g (Reset moment draw) a = resets moment draw a
-after_call g (Restart moment draw) a = resets moment draw (ends_claims a)
+abbrev pub after_call : GroupKeys → MemberCall → Alone → Alone
+after_call g (Publish object moment draw) a = if nat_lt (length a.log) publication_limit then alone_publishes g object moment draw a else a
+after_call g (Hear octets moment draw) a = if_heard moment draw a (hear_verdict g a octets)
+after_call g (JoinFrom octets) a = if_joined a (hear_verdict g a octets)
+after_call g (Fire moment draw) a = alone_fires moment draw a
+after_call g (Claim f) a = if_claimed f a (claim_of (alone_plan a) f)
+after_call g (Lose f) a = if_lost f a (claim_of (alone_plan a) f)
+after_call g (Accept f octets) a = if_accepted f octets a (accept_verdict g a f octets)
+after_call g (TakeOutcome jobs parts attempts) a = alone_takes (outcome_of jobs parts attempts) a
+after_call g EndClaims a = alone_ends_claims a
+after_call g (Reset moment draw) a = alone_resets moment draw a
+after_call g (Restart moment draw) a = alone_resets moment draw (alone_ends_claims a)
 
 -- The member after a list of calls.
-abbrev pub after_calls : GroupKeys → List Call → Alone → Alone
+abbrev pub after_calls : GroupKeys → List MemberCall → Alone → Alone
 after_calls g [] a = a
 after_calls g (call ∷ calls) a = after_calls g calls (after_call g call a)
 
 -- ---- which calls can be made
 
 -- The conditions of a call, but for those that keep moments and draws small. A checked part passed its checks by its type.
-abbrev pub IsTaken : GroupKeys → Alone → Call → Type 0
-IsTaken g a (Publish object moment draw) = IsObject object
-IsTaken g a (Hear octets moment draw) = Unit {0}
-IsTaken g a (JoinFrom octets) = Unit {0}
-IsTaken g a (Fire moment draw) = Unit {0}
-IsTaken g a (Claim f) = IsFetcher f
-IsTaken g a (Lose f) = IsFetcher f
-IsTaken g a (Accept f octets) = IsFetcher f
-IsTaken g a (TakeOutcome jobs parts attempts) =
+abbrev pub IsAllowedCall : GroupKeys → Alone → MemberCall → Type 0
+IsAllowedCall g a (Publish object moment draw) = IsObject object
+IsAllowedCall g a (Hear octets moment draw) = Unit {0}
+IsAllowedCall g a (JoinFrom octets) = Unit {0}
+IsAllowedCall g a (Fire moment draw) = Unit {0}
+IsAllowedCall g a (Claim f) = IsFetcher f
+IsAllowedCall g a (Lose f) = IsFetcher f
+IsAllowedCall g a (Accept f octets) = IsFetcher f
+IsAllowedCall g a (TakeOutcome jobs parts attempts) =
     IsOutcome g a jobs parts attempts × All (λ part. IfSome part IsChecked) parts
-IsTaken g a EndClaims = Unit {0}
-IsTaken g a (Reset moment draw) = Unit {0}
-IsTaken g a (Restart moment draw) = Unit {0}
+IsAllowedCall g a EndClaims = Unit {0}
+IsAllowedCall g a (Reset moment draw) = Unit {0}
+IsAllowedCall g a (Restart moment draw) = Unit {0}
 
 -- Each call's conditions hold when its turn comes.
-abbrev pub AreTaken : GroupKeys → Alone → List Call → Type 0
-AreTaken g a [] = Unit {0}
-AreTaken g a (call ∷ calls) = IsTaken g a call × AreTaken g (after_call g call a) calls
+abbrev pub AreAllowedCalls : GroupKeys → Alone → List MemberCall → Type 0
+AreAllowedCalls g a [] = Unit {0}
+AreAllowedCalls g a (call ∷ calls) = IsAllowedCall g a call × AreAllowedCalls g (after_call g call a) calls
 
 -- It holds of every member of a group, from its beginning on and after any calls.
 abbrev pub InEveryMember : (GroupKeys → Alone → Type 0) → Type 0
-InEveryMember P = (g : GroupKeys) (number moment draw : ℕ) (calls : List Call)
+InEveryMember P = (g : GroupKeys) (number moment draw : ℕ) (calls : List MemberCall)
     → IsGroup g → number < length g.members.names →
-    let begun = opening_alone (length g.members.names) number moment draw in
-    AreTaken g begun calls → P g (after_calls g calls begun)
+    let begun = alone_opening (length g.members.names) number moment draw in
+    AreAllowedCalls g begun calls → P g (after_calls g calls begun)
 
 -- ---- what is published
 
@@ -115,43 +115,43 @@ pub record GoesOn (earlier log : List NamedContents) : Type 0 where
   pub longer : length earlier ≤ length log
 
 abbrev pub LogsGoOn : Type 0
-LogsGoOn = (g : GroupKeys) (calls : List Call) (a : Alone) → GoesOn a.log (after_calls g calls a).log
+LogsGoOn = (g : GroupKeys) (calls : List MemberCall) (a : Alone) → GoesOn a.log (after_calls g calls a).log
 
 -- The publication that is made after `n` others has the number `n + 1`, and its object stands at place `n` from then on.
 abbrev pub PublicationsStay : Type 0
-PublicationsStay = (g : GroupKeys) (object : NamedContents) (moment draw : ℕ) (calls : List Call) (a : Alone)
-    → length a.log < 65535
+PublicationsStay = (g : GroupKeys) (object : NamedContents) (moment draw : ℕ) (calls : List MemberCall) (a : Alone)
+    → length a.log < publication_limit
     → slice_get (after_calls g (Publish object moment draw ∷ calls) a).log (length a.log) ≡ Some object
 
 -- The packet of a part that was published stays what it is.
 abbrev pub LoggedPacketsStay : Type 0
-LoggedPacketsStay = (g : GroupKeys) (calls : List Call) (a : Alone) (t : Part) (octets : List ℕ)
+LoggedPacketsStay = (g : GroupKeys) (calls : List MemberCall) (a : Alone) (t : Part) (octets : List ℕ)
     → logged g a t ≡ Some octets → logged g (after_calls g calls a) t ≡ Some octets
 
 -- ---- what is known
 
 abbrev pub NumbersNeverFall : Type 0
-NumbersNeverFall = (g : GroupKeys) (calls : List Call) (a : Alone) (p : ℕ) → IsAlone a
+NumbersNeverFall = (g : GroupKeys) (calls : List MemberCall) (a : Alone) (p : ℕ) → IsAlone a
     → slice_index a.known p ≤ slice_index (after_calls g calls a).known p
 
 -- The vector that a call told the member, if it took one.
-abbrev pub vector_told : Result (List ℕ) HearRefusal → List (List ℕ)
-vector_told (Ok told) = told ∷ []
-vector_told (Err refusal) = []
+abbrev pub vector_taken : Result (List ℕ) HearRefusal → List (List ℕ)
+vector_taken (Ok told) = told ∷ []
+vector_taken (Err refusal) = []
 
-abbrev pub vector_of_call : GroupKeys → Alone → Call → List (List ℕ)
-vector_of_call g a (Hear octets moment draw) = vector_told (hear_verdict g a octets)
-vector_of_call g a (JoinFrom octets) = vector_told (hear_verdict g a octets)
+abbrev pub vector_of_call : GroupKeys → Alone → MemberCall → List (List ℕ)
+vector_of_call g a (Hear octets moment draw) = vector_taken (hear_verdict g a octets)
+vector_of_call g a (JoinFrom octets) = vector_taken (hear_verdict g a octets)
 vector_of_call g a _ = []
 
 -- The vectors that calls told it, in order.
-abbrev pub vectors_told : GroupKeys → List Call → Alone → List (List ℕ)
+abbrev pub vectors_told : GroupKeys → List MemberCall → Alone → List (List ℕ)
 vectors_told g [] a = []
 vectors_told g (call ∷ calls) a = vector_of_call g a call ++ vectors_told g calls (after_call g call a)
 
 -- A member knows the join of what it knew and of what it was told, and of itself how many objects it published.
 abbrev pub KnownIsTheJoin : Type 0
-KnownIsTheJoin = (g : GroupKeys) (calls : List Call) (a : Alone) → IsAlone a
+KnownIsTheJoin = (g : GroupKeys) (calls : List MemberCall) (a : Alone) → IsAlone a
     → (after_calls g calls a).known
     ≡ slice_set (join_all (a.known ∷ vectors_told g calls a)) a.number (length (after_calls g calls a).log)
 
@@ -159,7 +159,7 @@ KnownIsTheJoin = (g : GroupKeys) (calls : List Call) (a : Alone) → IsAlone a
 
 -- A packet that is stored stays.
 abbrev pub HeldPacketsStay : Type 0
-HeldPacketsStay = (g : GroupKeys) (calls : List Call) (a : Alone) (t : Part) (octets : List ℕ)
+HeldPacketsStay = (g : GroupKeys) (calls : List MemberCall) (a : Alone) (t : Part) (octets : List ℕ)
     → value_of part_cmp a.store t ≡ Some octets → value_of part_cmp (after_calls g calls a).store t ≡ Some octets
 
 -- Each packet of another publisher's part that is stored passes for the want that the member has of that part now.

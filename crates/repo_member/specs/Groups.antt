@@ -1,10 +1,14 @@
 -- Groups: a group's name, its members and its clients, each with a node name and a key.
-use Rattle.std.specs.Prelude.{◌≡◌, ℕ, ◌<◌, ◌≤◌, Bool, List, [], ◌∷◌, ◌++◌, map, length, is_some, ◌||◌, unwrap_or, slice_get}
+use Rattle.std.specs.Prelude.{◌≡◌, ℕ, ◌<◌, ◌≤◌, Bool, List, [], ◌∷◌, ◌++◌, map, length, None, is_some, ◌||◌, unwrap_or, slice_get}
 use Rattle.std.specs.List.{All}
 use Rattle.ndn_name.specs.Names.{Component, IsName, encoding}
 use Rattle.ndn_sign.specs.Ring.{Pair, pair}
-use Rattle.svs_vector.specs.Rosters.{member_of}
+use Rattle.svs_vector.specs.Rosters.{member_of, IsRoster}
 use Rattle.repo_object.specs.Objects.{Publisher, publisher, key_name}
+
+-- how many members a group has at most, and how many clients
+abbrev pub node_limit : ℕ
+node_limit = 16
 
 -- nodes, numbered from 0, and the ring of their keys under the same numbers
 pub record NodeKeys : Type 0 where
@@ -28,25 +32,25 @@ pub record GroupKeys : Type 0 where
   pub clients : NodeKeys
 
 -- whether a member or a client has the name
-abbrev pub is_taken : GroupKeys → List Component → Bool
-is_taken group node = is_some (member_of node group.members.names) || is_some (member_of node group.clients.names)
+abbrev pub is_name_taken : GroupKeys → List Component → Bool
+is_name_taken group node = is_some (member_of node group.members.names) || is_some (member_of node group.clients.names)
 
 -- the node name of a member
-abbrev pub node_of : GroupKeys → ℕ → List Component
-node_of group number = unwrap_or (slice_get group.members.names number) []
+abbrev pub node_at : GroupKeys → ℕ → List Component
+node_at group number = unwrap_or (slice_get group.members.names number) []
 
 -- the key of a member
-abbrev pub key_of : GroupKeys → ℕ → List ℕ
-key_of group number = (unwrap_or (slice_get group.members.ring number) (pair [] [])).key
+abbrev pub key_at : GroupKeys → ℕ → List ℕ
+key_at group number = (unwrap_or (slice_get group.members.ring number) (pair [] [])).key
 
 -- who a member publishes as
-abbrev pub publisher_of : GroupKeys → ℕ → Publisher
-publisher_of group number = publisher (node_of group number) group.name (key_of group number)
+abbrev pub publisher_at : GroupKeys → ℕ → Publisher
+publisher_at group number = publisher (node_at group number) group.name (key_at group number)
 
 -- ---- limits
 
 -- the name of a group, a member or a client: 1 to 200 octets of value, and no digest among its components
-pub record IsNodeName (name : List Component) : Type 0 where
+pub record IsPlainNodeName (name : List Component) : Type 0 where
   pub valid : IsName name
   pub some : 1 ≤ length (encoding name)
   pub short : length (encoding name) ≤ 200
@@ -57,15 +61,26 @@ pub record IsKey (key : List ℕ) : Type 0 where
   pub some : 1 ≤ length key
   pub short : length key ≤ 128
 
--- the names in the ring are those of the nodes' keys, number by number, and there are 16 nodes at most
+-- the names in the ring are those of the nodes' keys, number by number; there are 16 nodes at most, and no two have one
+-- name
 pub record HaveKeys (nodes : NodeKeys) : Type 0 where
   pub keys : map (λ (p : Pair). p.name) nodes.ring ≡ map (λ node. encoding (key_name node)) nodes.names
-  pub few : length nodes.names ≤ 16
-  pub node_names : All IsNodeName nodes.names
+  pub roster : IsRoster nodes.names
+  pub node_names : All IsPlainNodeName nodes.names
   pub short_keys : All (λ (p : Pair). IsKey p.key) nodes.ring
+
+-- no client has the name of a member
+abbrev pub DifferInNames : NodeKeys → NodeKeys → Type 0
+DifferInNames members clients = All (λ node. member_of node clients.names ≡ None) members.names
+
+-- a group's name is one, and no client has the name of a member
+pub record AreNamed (group : GroupKeys) : Type 0 where
+  pub name : IsPlainNodeName group.name
+  pub apart : DifferInNames group.members group.clients
 
 -- what holds of every group
 pub record IsGroup (group : GroupKeys) : Type 0 where
-  pub name : IsNodeName group.name
+  pub name : IsPlainNodeName group.name
   pub members : HaveKeys group.members
   pub clients : HaveKeys group.clients
+  pub apart : DifferInNames group.members group.clients

@@ -12,15 +12,15 @@ use Rattle.repo_plan.specs.Plan.{wanted}
 use Rattle.repo_object.specs.Objects.{NamedContents, IsObject}
 use Rattle.repo_object.specs.Publication.{packet_at}
 use Rattle.group_model.specs.Publications.{Logs, object_at, last_of}
-use Rattle.group_model.specs.Member.{Member, holds, catalogue, gains, with_each_tried, without_claims}
+use Rattle.group_model.specs.Member.{Member, member_holds, catalogue, gains, with_each_tried, member_without_claims}
 use Rattle.group_model.specs.Member as group_member
-use Rattle.group_model.specs.Sound.{IsPublished, SoundMember}
+use Rattle.group_model.specs.Sound.{IsPublished, IsSoundMember}
 use Rattle.group_model.specs.Wanted.{IsWantedPart}
 use Rattle.group_model.specs.Changes as group
-use Rattle.group_model.specs.World.{Outside, member, opening}
-use Rattle.repo_member.specs.Groups.{GroupKeys, IsGroup, publisher_of}
-use Rattle.repo_member.specs.Listed.{catalogue_alone}
-use Rattle.repo_member.specs.Alone.{Alone, Fetched, plan_of, opening_alone, publishes, learns, hears, fires, claims_part, accepts, takes, ends_claims, resets}
+use Rattle.group_model.specs.World.{Outside, member, opening_world}
+use Rattle.repo_member.specs.Groups.{GroupKeys, IsGroup, publisher_at}
+use Rattle.repo_member.specs.Listed.{alone_catalogue}
+use Rattle.repo_member.specs.Alone.{Alone, Fetched, publication_limit, alone_plan, alone_opening, alone_publishes, alone_learns, alone_hears, alone_fires, alone_claims, alone_accepts, alone_takes, alone_ends_claims, alone_resets}
 
 -- The member as its group has it: it holds the parts whose packets it stores. It takes no commands, so it has no
 -- insertion processes.
@@ -45,22 +45,22 @@ StoresInOrder a = Rises part_cmp (keys a.store)
 
 -- A member begins as each does in a group in which nothing has happened.
 abbrev pub BeginsAlike : Type 0
-BeginsAlike = (out : Outside) (n j : ℕ) → j < n → in_group (opening_alone n j 0 (out.draw j 0)) ≡ member (opening out n) j
+BeginsAlike = (out : Outside) (n j : ℕ) → j < n → in_group (alone_opening n j 0 (out.draw j 0)) ≡ member (opening_world out n) j
 
 -- It publishes an object, and stores all its packets.
 abbrev pub PublishesAlike : Type 0
 PublishesAlike = (g : GroupKeys) (object : NamedContents) (moment draw : ℕ) (a : Alone) → StoresInOrder a
-    → in_group (publishes g object moment draw a) ≡ group.publishes draw moment a.number object (in_group a)
+    → in_group (alone_publishes g object moment draw a) ≡ group.publishes draw moment a.number object (in_group a)
 
 -- It is told of a vector.
 abbrev pub HearsAlike : Type 0
 HearsAlike = (told : List ℕ) (moment draw : ℕ) (a : Alone)
-    → in_group (hears told moment draw a) ≡ group.learns draw moment told (in_group a)
+    → in_group (alone_hears told moment draw a) ≡ group.learns draw moment told (in_group a)
 
 -- A vector that the machine isn't told of, as in a settle.
 abbrev pub LearnsAlike : Type 0
 LearnsAlike = (told : List ℕ) (a : Alone)
-    → in_group (learns told a) ≡ record (in_group a) { known = join (in_group a).known told }
+    → in_group (alone_learns told a) ≡ record (in_group a) { known = join (in_group a).known told }
 
 -- What the timer makes of a member, by what it says.
 abbrev pub after_timer : Fired → (draw moment : ℕ) → Member → Member
@@ -71,18 +71,18 @@ after_timer fired.Send draw moment m = group.resets draw moment m
 -- Its timer fires.
 abbrev pub FiresAlike : Type 0
 FiresAlike = (moment draw : ℕ) (a : Alone)
-    → in_group (fires moment draw a)
+    → in_group (alone_fires moment draw a)
     ≡ after_timer (fires_kept moment (in_group a).known (in_group a).machine) draw moment (in_group a)
 
 -- A fetcher claims a part, or nothing.
 abbrev pub ClaimsAlike : Type 0
 ClaimsAlike = (f : ℕ) (claim : Option Part) (a : Alone)
-    → in_group (claims_part f claim a) ≡ group.with_claim f claim (in_group a)
+    → in_group (alone_claims f claim a) ≡ group.member_with_claim f claim (in_group a)
 
 -- A packet came for the part that a fetcher claims.
 abbrev pub AcceptsAlike : Type 0
 AcceptsAlike = (f : ℕ) (t : Part) (octets : List ℕ) (a : Alone) → StoresInOrder a
-    → in_group (accepts f t octets a) ≡ group.takes f t (in_group a)
+    → in_group (alone_accepts f t octets a) ≡ group.takes f t (in_group a)
 
 -- The parts that a fetch asked for, and those of them that came.
 abbrev pub asked_for : List Fetched → List Part
@@ -98,24 +98,24 @@ AreTries tries xs = All (λ x. x.attempts ≡ tries x.part) xs
 -- The outcome of a fetch: the parts that came are held, and the attempts of each count.
 abbrev pub TakesAlike : Type 0
 TakesAlike = (tries : Part → ℕ) (xs : List Fetched) (a : Alone) → StoresInOrder a → AreTries tries xs
-    → in_group (takes xs a)
+    → in_group (alone_takes xs a)
     ≡ record (gains (that_came xs) (in_group a)) {
       attempts = with_each_tried tries (asked_for xs) (in_group a).attempts;
     }
 
 -- All claims end.
 abbrev pub EndsClaimsAlike : Type 0
-EndsClaimsAlike = (a : Alone) → in_group (ends_claims a) ≡ without_claims (in_group a)
+EndsClaimsAlike = (a : Alone) → in_group (alone_ends_claims a) ≡ member_without_claims (in_group a)
 
 -- Its machine is Steady again.
 abbrev pub ResetsAlike : Type 0
 ResetsAlike = (moment draw : ℕ) (a : Alone)
-    → in_group (resets moment draw a) ≡ group.resets draw moment (in_group a)
+    → in_group (alone_resets moment draw a) ≡ group.resets draw moment (in_group a)
 
 -- It starts again.
 abbrev pub RestartsAlike : Type 0
 RestartsAlike = (moment draw : ℕ) (a : Alone)
-    → in_group (resets moment draw (ends_claims a)) ≡ group.restarts draw moment (in_group a)
+    → in_group (alone_resets moment draw (alone_ends_claims a)) ≡ group.restarts draw moment (in_group a)
 
 -- ---- what is stored and what was published
 
@@ -125,50 +125,50 @@ pub record AreLogs (g : GroupKeys) (logs : Logs) : Type 0 where
   pub group : IsGroup g
   pub width : length logs ≡ length g.members.names
   pub objects : All (All IsObject) logs
-  pub few : All (λ log. length log ≤ 65535) logs
+  pub few : All (λ log. length log ≤ publication_limit) logs
 
 -- The packet of a part, as its publisher makes it.
-abbrev pub packet_of : GroupKeys → Logs → Part → Option (List ℕ)
-packet_of g logs t = packet_at (publisher_of g t.publisher) t.seq (object_at logs (pair_of t)) t.part
+abbrev pub true_packet : GroupKeys → Logs → Part → Option (List ℕ)
+true_packet g logs t = packet_at (publisher_at g t.publisher) t.seq (object_at logs (pair_of t)) t.part
 
 -- Each stored packet is that of its part.
 abbrev pub AreItsPackets : GroupKeys → Logs → Alone → Type 0
 AreItsPackets g logs a = (t : Part) (octets : List ℕ) → value_of part_cmp a.store t ≡ Some octets
-    → packet_of g logs t ≡ Some octets
+    → true_packet g logs t ≡ Some octets
 
 -- The member stores parts of what was published, in order, and of each the packet that its publisher made.
 pub record StoresTruly (g : GroupKeys) (logs : Logs) (a : Alone) : Type 0 where
   pub in_order : StoresInOrder a
-  pub published : (t : Part) → holds (in_group a) t ≡ true → IsPublished logs (pair_of t)
+  pub published : (t : Part) → member_holds (in_group a) t ≡ true → IsPublished logs (pair_of t)
   pub packets : AreItsPackets g logs a
 
 -- A member that is as each is in a group that events can reach stores truly, where the packets are those of their parts.
 abbrev pub SoundStoresTruly : Type 0
-SoundStoresTruly = (g : GroupKeys) (logs : Logs) (a : Alone) → SoundMember logs a.number (in_group a)
+SoundStoresTruly = (g : GroupKeys) (logs : Logs) (a : Alone) → IsSoundMember logs a.number (in_group a)
     → AreItsPackets g logs a → StoresTruly g logs a
 
 -- The plan of the member by itself, which reads what the stored records list, is the group's plan of that member.
 abbrev pub PlansAlike : Type 0
 PlansAlike = (g : GroupKeys) (logs : Logs) (a : Alone) → AreLogs g logs → StoresTruly g logs a
-    → plan_of a ≡ group_member.plan_of logs (in_group a)
+    → alone_plan a ≡ group_member.plan_of logs (in_group a)
 
 -- So it wants the records of the known publications, and the published segments of those whose records it holds, that it
 -- neither holds nor hides.
 abbrev pub WantsAlike : Type 0
 WantsAlike = (g : GroupKeys) (logs : Logs) (a : Alone) (t : Part) → AreLogs g logs → StoresTruly g logs a
-    → (contains part_cmp (wanted (plan_of a)) t ≡ true) ↔ IsWantedPart logs (in_group a) t
+    → (contains part_cmp (wanted (alone_plan a)) t ≡ true) ↔ IsWantedPart logs (in_group a) t
 
 -- Its catalogue, which reads the stored packets, is the group's catalogue of that member.
 abbrev pub ListsAlike : Type 0
 ListsAlike = (g : GroupKeys) (logs : Logs) (a : Alone) → AreLogs g logs → StoresTruly g logs a
-    → catalogue_alone a.store ≡ catalogue logs (in_group a)
+    → alone_catalogue a.store ≡ catalogue logs (in_group a)
 
 -- ---- what lasts
 
 -- A packet is that of the part, of a publication that there is.
 pub record IsItsPacket (g : GroupKeys) (logs : Logs) (t : Part) (octets : List ℕ) : Type 0 where
   pub published : IsPublished logs (pair_of t)
-  pub packet : packet_of g logs t ≡ Some octets
+  pub packet : true_packet g logs t ≡ Some octets
 
 -- So is the packet that came for a part, if one did.
 abbrev pub CameTruly : GroupKeys → Logs → Part → Option (List ℕ) → Type 0
@@ -182,7 +182,7 @@ GrowInto logs later = (p : ℕ) → take (last_of logs p) (slice_index_or later 
 -- A member that has just begun stores nothing.
 abbrev pub BeginsTruly : Type 0
 BeginsTruly = (g : GroupKeys) (logs : Logs) (members number moment draw : ℕ)
-    → StoresTruly g logs (opening_alone members number moment draw)
+    → StoresTruly g logs (alone_opening members number moment draw)
 
 -- Others may publish more.
 abbrev pub GrowsTruly : Type 0
@@ -193,18 +193,18 @@ GrowsTruly = (g : GroupKeys) (logs later : Logs) (a : Alone) → GrowInto logs l
 abbrev pub PublishesTruly : Type 0
 PublishesTruly = (g : GroupKeys) (object : NamedContents) (moment draw : ℕ) (logs : Logs) (a : Alone)
     → a.number < length logs → slice_index_or logs a.number [] ≡ a.log → StoresTruly g logs a →
-    let published = publishes g object moment draw a in
+    let published = alone_publishes g object moment draw a in
     StoresTruly g (slice_set logs a.number published.log) published
 
 -- The packet that is accepted is that of its part.
 abbrev pub AcceptsTruly : Type 0
 AcceptsTruly = (g : GroupKeys) (logs : Logs) (f : ℕ) (t : Part) (octets : List ℕ) (a : Alone)
-    → IsItsPacket g logs t octets → StoresTruly g logs a → StoresTruly g logs (accepts f t octets a)
+    → IsItsPacket g logs t octets → StoresTruly g logs a → StoresTruly g logs (alone_accepts f t octets a)
 
 -- So is each that a fetch brought.
 abbrev pub TakesTruly : Type 0
 TakesTruly = (g : GroupKeys) (logs : Logs) (xs : List Fetched) (a : Alone)
-    → All (λ x. CameTruly g logs x.part x.packet) xs → StoresTruly g logs a → StoresTruly g logs (takes xs a)
+    → All (λ x. CameTruly g logs x.part x.packet) xs → StoresTruly g logs a → StoresTruly g logs (alone_takes xs a)
 
 -- All other changes store nothing.
 abbrev pub StaysTrue : Type 0
@@ -217,5 +217,5 @@ LogsBegin = (g : GroupKeys) → IsGroup g → AreLogs g (replicate (length g.mem
 -- A member publishes one object more.
 abbrev pub LogsGrow : Type 0
 LogsGrow = (g : GroupKeys) (logs : Logs) (j : ℕ) (object : NamedContents) → AreLogs g logs → j < length logs
-    → IsObject object → last_of logs j < 65535
+    → IsObject object → last_of logs j < publication_limit
     → AreLogs g (slice_set logs j (slice_index_or logs j [] ++ object ∷ []))

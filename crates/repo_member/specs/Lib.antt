@@ -30,11 +30,14 @@ pub mod Listed
 pub mod Alone
 pub mod Verdicts
 pub mod Fires
-pub mod Holding
+pub mod Gaining
 pub mod Publishing
 pub mod Listings
 pub mod Outcomes
 pub mod Members
 pub mod InGroup
 pub mod InEvents
+pub mod TrueMembers
+pub mod TrueChanges
+pub mod TrueSyncs
 pub mod Calls

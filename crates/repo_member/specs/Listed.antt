@@ -36,16 +36,16 @@ abbrev pub content_read : Result Data PacketFault → List ℕ
 content_read (Ok d) = d.content
 content_read (Err fault) = []
 
-abbrev pub content_of : List ℕ → List ℕ
-content_of octets = content_read (data_of octets)
+abbrev pub packet_content : List ℕ → List ℕ
+packet_content octets = content_read (data_of octets)
 
 -- the content of a publication's part
-abbrev pub content_at : List Packet → Pair → ℕ → List ℕ
-content_at packets pair x = content_of (unwrap_or (stored_at packets pair x) [])
+abbrev pub stored_content : List Packet → Pair → ℕ → List ℕ
+stored_content packets pair x = packet_content (unwrap_or (stored_at packets pair x) [])
 
 -- the contents of its first so many segments, one after another
 abbrev pub contents_joined : List Packet → Pair → ℕ → List ℕ
-contents_joined packets pair n = flat_map (content_at packets pair) (numbers_from 1 n)
+contents_joined packets pair n = flat_map (stored_content packets pair) (numbers_from 1 n)
 
 -- ---- the catalogue
 
@@ -78,5 +78,5 @@ entries_in packets =
     kept_values (λ pair octets. option_and_then (entry_listed packets pair) (listing_in octets)) (records_in packets)
 
 -- the catalogue of who has these packets: an entry for each publication that is wholly stored, in order
-abbrev pub catalogue_alone : List Packet → List Entry
-catalogue_alone packets = map (λ e. e.1) (entries_in packets)
+abbrev pub alone_catalogue : List Packet → List Entry
+alone_catalogue packets = map (λ e. e.1) (entries_in packets)

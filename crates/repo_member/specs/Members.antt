@@ -2,7 +2,7 @@
 use Rattle.std.specs.Prelude.{◌≡◌}
 use Rattle.repo_member.specs.declared.member.Member.TheInside.{Inside}
 use Rattle.repo_member.specs.Alone.{Alone, IsAlone}
-use Rattle.repo_member.specs.Holding.{AreKept}
+use Rattle.repo_member.specs.Gaining.{AreKept}
 
 -- what a member's fields say
 abbrev pub alone : Inside → Alone

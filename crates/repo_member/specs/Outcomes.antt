@@ -1,28 +1,33 @@
 -- What came of a fetch, as a member takes it.
-use Rattle.std.specs.Prelude.{◌≡◌, ℕ, ◌+◌, ◌<◌, true, false, List, [], ◌∷◌, map, Option, option_map, IfSome}
-use Rattle.std.specs.List.{All}
+use Rattle.std.specs.Prelude.{◌≡◌, ℕ, ◌+◌, ◌<◌, true, false, List, [], ◌∷◌, map, take, length, Option, option_map, unwrap_or, IfSome}
+use Rattle.std.specs.List.{All, filter}
 use Rattle.repo_plan.specs.declared.part.Part.{Part}
 use Rattle.repo_plan.specs.Parts.{part_cmp, pair_of}
 use Rattle.repo_plan.specs.SortedList.{contains}
-use Rattle.repo_plan.specs.Plan.{Holdings, holds, hides, is_asked, is_claimed, is_unclaimed, attempts_of}
+use Rattle.repo_plan.specs.Plan.{Holdings, holds, hides, is_asked, is_claimed, is_unclaimed, unclaimed, is_after, attempts_of}
 use Rattle.repo_object.specs.declared.job.Job.{Job}
 use Rattle.repo_object.specs.Wants.{WantedPart}
 use Rattle.repo_object.specs.Verdict.{CheckedPart, publisher_key}
-use Rattle.repo_member.specs.Groups.{GroupKeys}
+use Rattle.repo_member.specs.Groups.{GroupKeys, HaveKeys}
 use Rattle.repo_member.specs.Records.{Packet}
-use Rattle.repo_member.specs.Alone.{Alone, Fetched, plan_of, want_of, with_fetched, with_tries}
-use Rattle.repo_member.specs.Holding.{KeepsOthers, IsArrival}
+use Rattle.group_model.specs.Member.{with_tries}
+use Rattle.repo_member.specs.Alone.{Alone, Fetched, IsOf, alone_plan, want_of, with_fetched}
+use Rattle.repo_member.specs.Gaining.{KeepsOthers, IsArrival}
 use Rattle.repo_member.specs.declared.member.outcome.Tried.{Tried}
 
 -- the job of a part: its attempts go on from those that were made
-abbrev pub planned : GroupKeys → Alone → Part → Job
-planned g a t = record { want = want_of g a.store t; base = attempts_of (plan_of a) t }
+abbrev pub job_for : GroupKeys → Alone → Part → Job
+job_for g a t = record { want = want_of g a.store t; base = attempts_of (alone_plan a) t }
 
 -- the jobs, with what came for each and how often it was tried
-abbrev pub fetched : List Job → List (Option CheckedPart) → List ℕ → List Fetched
-fetched (job ∷ jobs) (part ∷ parts) (n ∷ ns) =
-    record { part = job.want.part; packet = option_map (λ c. c.octets) part; attempts = n } ∷ fetched jobs parts ns
-fetched _ _ _ = []
+abbrev pub outcome_of : List Job → List (Option CheckedPart) → List ℕ → List Fetched
+outcome_of (job ∷ jobs) (part ∷ parts) (n ∷ ns) =
+    record { part = job.want.part; packet = option_map (λ c. c.octets) part; attempts = n } ∷ outcome_of jobs parts ns
+outcome_of _ _ _ = []
+
+-- how many octets came for a job, if a packet came
+abbrev pub octets_in : Option CheckedPart → ℕ
+octets_in part = length (unwrap_or (option_map (λ c. c.octets) part) [])
 
 -- no part stands twice in the list
 abbrev pub AreApart : List Part → Type 0
@@ -38,10 +43,10 @@ pub record IsCheckedFor (g : GroupKeys) (want : WantedPart) (c : CheckedPart) : 
 -- a job of the member: its part is wanted and unclaimed, its want is the member's, what came was checked for it, and it
 -- was not tried too often
 pub record IsFetched (g : GroupKeys) (a : Alone) (job : Job) (part : Option CheckedPart) (n : ℕ) : Type 0 where
-  pub unclaimed : is_unclaimed (plan_of a) job.want.part ≡ true
+  pub unclaimed : is_unclaimed (alone_plan a) job.want.part ≡ true
   pub wanted : job.want ≡ want_of g a.store job.want.part
   pub checked : IfSome part (IsCheckedFor g job.want)
-  pub few : attempts_of (plan_of a) job.want.part + n < 2097152
+  pub few : attempts_of (alone_plan a) job.want.part + n < 2097152
 
 -- there are as many of each
 abbrev pub AreFetched : GroupKeys → Alone → List Job → List (Option CheckedPart) → List ℕ → Type 0
@@ -54,11 +59,51 @@ pub record IsOutcome (g : GroupKeys) (a : Alone) (jobs : List Job) (parts : List
   pub apart : AreApart (map (λ (job : Job). job.want.part) jobs)
   pub each : AreFetched g a jobs parts attempts
 
+-- ---- jobs that were planned
+
+-- a job that the member has planned: its part is wanted and unclaimed, and of a member that the ring has a key of; its
+-- want is the member's; and its attempts go on from those that were made
+pub record IsPlannedJob (g : GroupKeys) (a : Alone) (job : Job) : Type 0 where
+  pub unclaimed : is_unclaimed (alone_plan a) job.want.part ≡ true
+  pub publisher : job.want.part.publisher < length g.members.ring
+  pub wanted : job.want ≡ want_of g a.store job.want.part
+  pub base : job.base ≡ attempts_of (alone_plan a) job.want.part
+
+-- such jobs, of different parts
+pub record ArePlannedJobs (g : GroupKeys) (a : Alone) (jobs : List Job) : Type 0 where
+  pub apart : AreApart (map (λ (job : Job). job.want.part) jobs)
+  pub each : All (IsPlannedJob g a) jobs
+
+-- the jobs of the next parts that are wanted and unclaimed, behind a place
+abbrev pub jobs_behind : GroupKeys → Alone → Option Part → ℕ → List Job
+jobs_behind g a after most = map (job_for g a) (take most (filter (is_after after) (unclaimed (alone_plan a))))
+
+-- what came of jobs was checked for them, and none was tried too often
+abbrev pub WereTried : GroupKeys → List Job → List (Option CheckedPart) → List ℕ → Type 0
+WereTried g [] [] [] = Unit {0}
+WereTried g (job ∷ jobs) (part ∷ parts) (n ∷ ns) =
+    IfSome part (IsCheckedFor g job.want) × (job.base + n < 2097152) × WereTried g jobs parts ns
+WereTried g _ _ _ = ⊥
+
+-- those jobs are planned
+abbrev pub JobsArePlanned : Type 0
+JobsArePlanned = (g : GroupKeys) (a : Alone) (after : Option Part) (most : ℕ) → HaveKeys g.members → IsOf g a
+    → ArePlannedJobs g a (jobs_behind g a after most)
+
+-- whatever comes of planned jobs can be taken
+abbrev pub PlannedJobsAreOutcomes : Type 0
+PlannedJobsAreOutcomes = (g : GroupKeys) (a : Alone) (jobs : List Job) (parts : List (Option CheckedPart))
+    (attempts : List ℕ) → ArePlannedJobs g a jobs → WereTried g jobs parts attempts → IsOutcome g a jobs parts attempts
+
 -- ---- taking it, job after job
 
 -- what came of a tried part
 abbrev pub came : Tried → Fetched
 came x = record { part = x.part; packet = option_map (λ a. a.octets.items) x.arrival; attempts = x.attempts }
+
+-- how many octets came for it, if a packet came
+abbrev pub arrival_octets : Tried → ℕ
+arrival_octets x = length (unwrap_or (came x).packet [])
 
 -- what came of a tried part can be taken: the part is wanted and unclaimed, the packet is of it, and it was not tried too
 -- often

@@ -8,7 +8,7 @@ use Rattle.repo_plan.specs.Plan.{Holdings, knows, holds, hides, is_claimed}
 use Rattle.repo_object.specs.Objects.{NamedContents}
 use Rattle.repo_object.specs.Publication.{packets}
 use Rattle.repo_object.specs.Verdict.{listing_in}
-use Rattle.repo_member.specs.Groups.{GroupKeys, publisher_of}
+use Rattle.repo_member.specs.Groups.{GroupKeys, publisher_at}
 use Rattle.repo_member.specs.Listed.{shape}
 use Rattle.repo_member.specs.Alone.{Alone, next_seq}
 use Rattle.repo_member.specs.Verdicts.{sync_of}
@@ -18,7 +18,7 @@ pub record IsPrepared (g : GroupKeys) (a : Alone) (object : NamedContents) (kept
     (made : List (List ℕ)) (sync : List ℕ) : Type 0 where
   pub same : kept ≡ object
   pub named : name ≡ object.name
-  pub packed : made ≡ packets (publisher_of g a.number) (next_seq a) object
+  pub packed : made ≡ packets (publisher_at g a.number) (next_seq a) object
   pub told : sync ≡ sync_of g a.number (slice_set a.known a.number (next_seq a))
 
 -- the first packet is a record that lists as many segments as there are packets behind it

@@ -12,21 +12,25 @@ use Rattle.repo_member.specs.declared.refusals.HearRefusal.{HearRefusal}
 use Rattle.repo_member.specs.declared.refusals.HearRefusal.TheVariants.{Sync, OwnNumberAhead}
 use Rattle.repo_member.specs.declared.refusals.AcceptRefusal.{AcceptRefusal}
 use Rattle.repo_member.specs.declared.refusals.AcceptRefusal.TheVariants.{FetcherIdle, Refused}
-use Rattle.repo_member.specs.Groups.{GroupKeys, node_of, key_of}
-use Rattle.repo_member.specs.Alone.{Alone, plan_of, want_of}
+use Rattle.repo_member.specs.Groups.{GroupKeys, node_at, key_at}
+use Rattle.repo_member.specs.Alone.{Alone, alone_plan, want_of}
 
 -- the sync Interest by which a member tells a vector
 abbrev pub sync_of : GroupKeys → ℕ → List ℕ → List ℕ
 sync_of g number vector =
-    sync_interest g.name vector g.members.names (key_name (node_of g number)) (key_of g number)
+    sync_interest g.name vector g.members.names (key_name (node_at g number)) (key_at g number)
 
 -- a vector that is told, unless it tells of more publications of the member than it made
+abbrev pub vector_verdict : Alone → List ℕ → Result (List ℕ) HearRefusal
+vector_verdict a told =
+    if nat_lt (length a.log) (slice_index told a.number)
+    then Err (OwnNumberAhead (length a.log) (slice_index told a.number))
+    else Ok told
+
+-- the same of the vector of a sync Interest, where the octets are one
 abbrev pub told_verdict : Alone → Result (ℕ × List ℕ) SyncRefusal → Result (List ℕ) HearRefusal
 told_verdict a (Err refusal) = Err (Sync refusal)
-told_verdict a (Ok told) =
-    if nat_lt (length a.log) (slice_index told.1 a.number)
-    then Err (OwnNumberAhead (length a.log) (slice_index told.1 a.number))
-    else Ok told.1
+told_verdict a (Ok told) = vector_verdict a told.1
 
 -- the vector that octets tell the member, or why they are refused
 abbrev pub hear_verdict : GroupKeys → Alone → List ℕ → Result (List ℕ) HearRefusal
@@ -43,4 +47,4 @@ claim_verdict g a octets (Some t) = passed t (ring_verdict (want_of g a.store t)
 
 -- the part that a fetcher's octets are taken for, or why they are refused
 abbrev pub accept_verdict : GroupKeys → Alone → ℕ → List ℕ → Result Part AcceptRefusal
-accept_verdict g a f octets = claim_verdict g a octets (claim_of (plan_of a) f)
+accept_verdict g a f octets = claim_verdict g a octets (claim_of (alone_plan a) f)

@@ -1,5 +1,5 @@
 ghost use Rattle.std.specs.Prelude.{◌≡◌, ◌≤◌, ◌↔◌, true, false, length, IfOk, OnOk, OnErr, Err};
-ghost use Rattle.repo_member.specs.Groups.{IsNodeName, IsKey, IsGroup, HaveKeys, is_taken, no_nodes, with_node};
+ghost use Rattle.repo_member.specs.Groups.{IsPlainNodeName, IsKey, IsGroup, HaveKeys, is_name_taken, node_limit, no_nodes, with_node};
 
 use crate::group_fault::GroupFault;
 use crate::nodes::Nodes;
@@ -28,17 +28,18 @@ impl Model for Group {
 
     ghost Value = { GroupKeys };
 
-    ghost use Rattle.repo_member.specs.Groups.{IsNodeName};
+    ghost use Rattle.repo_member.specs.Groups.{AreNamed};
 
     ghost view = { λ group. record { name = group.name; members = group.members; clients = group.clients } };
 
-    ghost invariant = { λ group. IsNodeName group.name };
+    ghost invariant = { λ group. AreNamed
+        (record { name = group.name; members = group.members; clients = group.clients }) };
 }
 
 impl Group {
     /// A group of this name without members and clients.
     pub fn new(alloc: Global, name: &Name) -> Result<Group, AllocError>
-        requires { IsNodeName name.now }
+        requires { IsPlainNodeName name.now }
         ensures { IfOk result (λ group.
             group ≡ record { name = name.now; members = no_nodes; clients = no_nodes }) }
     {
@@ -53,14 +54,14 @@ impl Group {
     ///
     /// The member signs its packets with the key, under the name `node` with the component `KEY`.
     pub fn add_member(&mut self, node: &Name, key: &[u8]) -> Result<u32, GroupFault>
-        requires node { IsNodeName node.now }
+        requires node { IsPlainNodeName node.now }
         requires key { IsKey key.now }
         ensures number { IfOk result (λ number. number ≡ length self.old.members.names) }
         ensures ok { OnOk result
             (self.new ≡ record self.old { members = with_node node.now key.now self.old.members }) }
-        ensures duplicate { (result ≡ Err GroupFault.Duplicate) ↔ (is_taken self.old node.now ≡ true) }
+        ensures duplicate { (result ≡ Err GroupFault.Duplicate) ↔ (is_name_taken self.old node.now ≡ true) }
         ensures full { (result ≡ Err GroupFault.Full)
-            ↔ ((is_taken self.old node.now ≡ false) × (MEMBER_LIMIT ≤ length self.old.members.names)) }
+            ↔ ((is_name_taken self.old node.now ≡ false) × (node_limit ≤ length self.old.members.names)) }
         ensures err { OnErr result (self.new ≡ self.old) }
     {
         if self.is_taken(node) {
@@ -78,14 +79,14 @@ impl Group {
     ///
     /// The client signs its commands with the key, under the name `node` with the component `KEY`.
     pub fn add_client(&mut self, node: &Name, key: &[u8]) -> Result<u32, GroupFault>
-        requires node { IsNodeName node.now }
+        requires node { IsPlainNodeName node.now }
         requires key { IsKey key.now }
         ensures number { IfOk result (λ number. number ≡ length self.old.clients.names) }
         ensures ok { OnOk result
             (self.new ≡ record self.old { clients = with_node node.now key.now self.old.clients }) }
-        ensures duplicate { (result ≡ Err GroupFault.Duplicate) ↔ (is_taken self.old node.now ≡ true) }
+        ensures duplicate { (result ≡ Err GroupFault.Duplicate) ↔ (is_name_taken self.old node.now ≡ true) }
         ensures full { (result ≡ Err GroupFault.Full)
-            ↔ ((is_taken self.old node.now ≡ false) × (CLIENT_LIMIT ≤ length self.old.clients.names)) }
+            ↔ ((is_name_taken self.old node.now ≡ false) × (node_limit ≤ length self.old.clients.names)) }
         ensures err { OnErr result (self.new ≡ self.old) }
     {
         if self.is_taken(node) {
@@ -134,7 +135,7 @@ impl Group {
 
     // Whether a member or a client has the name.
     fn is_taken(&self, node: &Name) -> bool
-        ensures { result ≡ is_taken self.now node.now }
+        ensures { result ≡ is_name_taken self.now node.now }
     {
         let name = node.view();
         self.members.names().find(&name).is_some() || self.clients.names().find(&name).is_some()

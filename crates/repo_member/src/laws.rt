@@ -1,8 +1,12 @@
 ghost use Rattle.repo_plan.specs.Sound.{IsSound};
 ghost use Rattle.repo_plan.specs.Calls.{ClaimsOnce};
-ghost use Rattle.repo_member.specs.Alone.{IsAlone, IsOf, plan_of};
+ghost use Rattle.repo_member.specs.Alone.{IsAlone, IsOf, alone_plan};
 ghost use Rattle.repo_member.specs.InGroup.{BeginsAlike, PublishesAlike, HearsAlike, LearnsAlike, FiresAlike, ClaimsAlike, AcceptsAlike, TakesAlike, EndsClaimsAlike, ResetsAlike, RestartsAlike, SoundStoresTruly, PlansAlike, WantsAlike, ListsAlike, BeginsTruly, GrowsTruly, PublishesTruly, AcceptsTruly, TakesTruly, StaysTrue, LogsBegin, LogsGrow};
-ghost use Rattle.repo_member.specs.InEvents.{PublishIsEvent, DeliverIsEvent, HearIsEvent, FireIsEvent, RestartIsEvent, ClaimIsEvent, LoseIsEvent, AnswerIsEvent, FeedIsEvent, FetchIsEvent, SettleIsEvent, OpenPartsAlike, CataloguesAlike};
+ghost use Rattle.repo_member.specs.InEvents.{PublishIsEvent, DeliverIsEvent, HearIsEvent, FireIsEvent, RestartIsEvent, ClaimIsEvent, LoseIsEvent, AnswerIsEvent, FeedIsEvent, FetchIsEvent, LearnsAtOnce, LearnsWhatAllKnow, GatheringIsEvent, SettleIsEvent, OpenPartsAlike, CataloguesAlike};
+ghost use Rattle.repo_member.specs.Outcomes.{JobsArePlanned, PlannedJobsAreOutcomes};
+ghost use Rattle.repo_member.specs.TrueMembers.{TrueIsAlone, TrueIsOf, TrueStores, StoresThose, LogsThose, WantsPublished, WantsThose, PacketsAreThere, PacketsPass, PacketsPassForMembers, AcceptsTheClaimed, TakesTheTrue};
+ghost use Rattle.repo_member.specs.TrueChanges.{BeginsTrue, PublishesTrue, OthersPublish, LogsHaveGrown, LearnsTrue, HearsTrue, FiresTrue, ResetsTrue, EndsClaimsTrue, ClaimsTrue, LosesTrue, AcceptsTrue, TakesTrue};
+ghost use Rattle.repo_member.specs.TrueSyncs.{KeysAreFound, SyncsAreTold, SyncsAreTaken};
 ghost use Rattle.repo_member.specs.Calls.{LogsGoOn, PublicationsStay, LoggedPacketsStay, NumbersNeverFall, KnownIsTheJoin, InEveryMember, HeldPacketsStay, OthersPassed, OwnStored};
 
 /// A member by itself begins as its group has it, and each change of it is the group's change of that member.
@@ -46,7 +50,7 @@ pub fn truly_stored_lasts()
 {}
 
 /// Each change of a member by itself is what an event makes of it in any world in which it is a member, and what the world
-/// says of it there is what the member says.
+/// says of it there is what the member says. In a settle vectors and parts may come in any order.
 pub fn calls_are_events()
     ensures publish { PublishIsEvent }
     ensures deliver { DeliverIsEvent }
@@ -58,6 +62,9 @@ pub fn calls_are_events()
     ensures answer { AnswerIsEvent }
     ensures feed { FeedIsEvent }
     ensures fetch { FetchIsEvent }
+    ensures learns { LearnsAtOnce }
+    ensures learns_all { LearnsWhatAllKnow }
+    ensures gathering { GatheringIsEvent }
     ensures settle { SettleIsEvent }
     ensures open_parts { OpenPartsAlike }
     ensures catalogue { CataloguesAlike }
@@ -80,7 +87,7 @@ pub fn vectors_only_rise()
 
 /// In every member that calls reach, no two fetchers claim one part, and what is claimed is wanted.
 pub fn claims_differ()
-    ensures { InEveryMember (λ g a. ClaimsOnce (plan_of a)) }
+    ensures { InEveryMember (λ g a. ClaimsOnce (alone_plan a)) }
 {}
 
 /// In every member that calls reach, a stored packet of another publisher's part passes for the want that the member has of
@@ -96,5 +103,63 @@ pub fn held_parts_passed_their_checks()
 pub fn calls_keep_members_sound()
     ensures alone { InEveryMember (λ g a. IsAlone a) }
     ensures group { InEveryMember IsOf }
-    ensures plan { InEveryMember (λ g a. IsSound (plan_of a)) }
+    ensures plan { InEveryMember (λ g a. IsSound (alone_plan a)) }
+{}
+
+/// A member as each is in a sound group, whose stored packets are those of their parts, is one by itself. It stores the
+/// packets of the parts that it holds, and its log gives those of its own.
+pub fn true_members_store_what_was_published()
+    ensures alone { TrueIsAlone }
+    ensures group { TrueIsOf }
+    ensures truly { TrueStores }
+    ensures stores { StoresThose }
+    ensures logs { LogsThose }
+{}
+
+/// Such a member wants parts that were published, by the want of the published part. A published part has a packet of at most
+/// 8,800 octets, which passes for that want.
+pub fn published_packets_pass()
+    ensures published { WantsPublished }
+    ensures wants { WantsThose }
+    ensures there { PacketsAreThere }
+    ensures passes { PacketsPass }
+    ensures for_members { PacketsPassForMembers }
+{}
+
+/// What octets are accepted for is what the fetcher claims, and such a member accepts the packet of the part.
+pub fn claimed_parts_are_accepted()
+    ensures claimed { AcceptsTheClaimed }
+    ensures taken { TakesTheTrue }
+{}
+
+/// A member begins so, and stays so whatever it does, as long as what it is told and what it takes is what was published.
+pub fn true_members_stay_true()
+    ensures begins { BeginsTrue }
+    ensures publishes { PublishesTrue }
+    ensures others { OthersPublish }
+    ensures grown { LogsHaveGrown }
+    ensures learns { LearnsTrue }
+    ensures hears { HearsTrue }
+    ensures fires { FiresTrue }
+    ensures resets { ResetsTrue }
+    ensures ends_claims { EndsClaimsTrue }
+    ensures claims { ClaimsTrue }
+    ensures loses { LosesTrue }
+    ensures accepts { AcceptsTrue }
+    ensures takes { TakesTrue }
+{}
+
+/// The key of each node is found under its number. A sync Interest of a member tells its number and the vector, and each member
+/// takes it.
+pub fn syncs_of_members_are_taken()
+    ensures keys { KeysAreFound }
+    ensures told { SyncsAreTold }
+    ensures taken { SyncsAreTaken }
+{}
+
+/// Jobs that a member plans are of different parts, each wanted and claimed by nobody. Whatever comes of them, if it was
+/// checked for them, is an outcome that the member takes.
+pub fn planned_jobs_can_be_taken()
+    ensures planned { JobsArePlanned }
+    ensures outcomes { PlannedJobsAreOutcomes }
 {}

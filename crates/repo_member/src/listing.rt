@@ -3,8 +3,8 @@ ghost use Rattle.std.specs.Prelude.{◌≡◌, ◌+◌, ◌-◌, ◌<◌, ◌≤
 ghost use Rattle.sha2.specs.Sha256.{sha256};
 ghost use Rattle.repo_object.specs.Verdict.{listing_in};
 ghost use Rattle.repo_object.specs.Records.{IsListing};
-ghost use Rattle.repo_member.specs.Listed.{listing_at, entry_at, content_of, contents_joined};
-ghost use Rattle.repo_member.specs.Holding.{AreTied, with_listed};
+ghost use Rattle.repo_member.specs.Listed.{listing_at, entry_at, packet_content, contents_joined};
+ghost use Rattle.repo_member.specs.Gaining.{AreTied, with_listed};
 
 use ndn_data::DataView;
 use ndn_name::Name;
@@ -84,7 +84,7 @@ fn contents_digest(store: &Store, publisher: u32, seq: u16, segments: u8) -> (u6
 
 // The content of a packet.
 fn content_of(packet: &[u8]) -> &[u8]
-    ensures exact { result.now ≡ content_of packet.now }
+    ensures exact { result.now ≡ packet_content packet.now }
     ensures short { length result.now ≤ 8800 }
 {
     match DataView::read(packet) {

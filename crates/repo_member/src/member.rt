@@ -3,8 +3,8 @@ ghost use Rattle.svs_sync.specs.Suppression.{mode_of};
 ghost use Rattle.repo_plan.specs.SortedList.{value_of};
 ghost use Rattle.repo_plan.specs.Parts.{part_cmp};
 ghost use Rattle.repo_store.specs.Served.{served};
-ghost use Rattle.repo_member.specs.Listed.{catalogue_alone};
-ghost use Rattle.repo_member.specs.Alone.{IsAlone, opening_alone, ends_claims, resets};
+ghost use Rattle.repo_member.specs.Listed.{alone_catalogue};
+ghost use Rattle.repo_member.specs.Alone.{IsAlone, alone_opening, alone_ends_claims, alone_resets};
 
 mod fetching;
 mod outcome;
@@ -13,6 +13,7 @@ mod syncing;
 
 use crate::group::Group;
 use ndn_name::PacketFault;
+pub use outcome::Kept;
 pub use publishing::Published;
 use repo_catalog::Catalogue;
 use repo_object::Object;
@@ -64,7 +65,7 @@ impl Member {
         requires number { number < length g.now.members.names }
         requires early { now < 2 ^ 62 }
         ensures { IfOk result (λ member.
-            member ≡ opening_alone (length g.now.members.names) number now draw) }
+            member ≡ alone_opening (length g.now.members.names) number now draw) }
     {
         let members = g.roster().len();
         Ok(Member {
@@ -80,7 +81,7 @@ impl Member {
 
     /// The objects that the member published or wholly fetched.
     pub fn catalogue(&self) -> &Catalogue
-        ensures { result.now.entries ≡ catalogue_alone self.now.store }
+        ensures { result.now.entries ≡ alone_catalogue self.now.store }
     {
         &self.catalogue
     }
@@ -134,7 +135,7 @@ impl Member {
 
     /// Every fetcher's claim ends. It takes no memory.
     pub fn end_claims(&mut self)
-        ensures { self.new ≡ ends_claims self.old }
+        ensures { self.new ≡ alone_ends_claims self.old }
     {
         self.plan.end_claims();
     }
@@ -143,7 +144,7 @@ impl Member {
     pub fn reset(&mut self, now: u64, draw: u32)
         requires early { now < 2 ^ 62 }
         requires few { self.old.machine.draws < 2 ^ 62 }
-        ensures { self.new ≡ resets now draw self.old }
+        ensures { self.new ≡ alone_resets now draw self.old }
     {
         self.machine.reset(now, draw);
     }
@@ -153,7 +154,7 @@ impl Member {
     pub fn restart(&mut self, now: u64, draw: u32)
         requires early { now < 2 ^ 62 }
         requires few { self.old.machine.draws < 2 ^ 62 }
-        ensures { self.new ≡ resets now draw (ends_claims self.old) }
+        ensures { self.new ≡ alone_resets now draw (alone_ends_claims self.old) }
     {
         self.end_claims();
         self.reset(now, draw);

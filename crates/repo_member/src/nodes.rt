@@ -1,14 +1,14 @@
 ghost use Rattle.std.specs.Prelude.{◌≡◌, ◌<◌, ◌≤◌, ◌∷◌, [], ◌++◌, None, length, IfOk, OnOk, OnErr};
 ghost use Rattle.ndn_sign.specs.Ring.{pair};
 ghost use Rattle.svs_vector.specs.Rosters.{member_of};
-ghost use Rattle.repo_member.specs.Groups.{IsNodeName, IsKey, HaveKeys, no_nodes, with_node};
+ghost use Rattle.repo_member.specs.Groups.{IsPlainNodeName, IsKey, HaveKeys, node_limit, no_nodes, with_node};
 
 use ndn_name::Name;
 use ndn_sign::KeyRing;
 use repo_object::key_name;
 use std::alloc::{AllocError, Global};
 use std::marker::Model;
-use svs_vector::{MEMBER_LIMIT, Roster};
+use svs_vector::Roster;
 
 // The node names of a group's members, or of its clients, and under the same numbers their keys.
 #[derive(Drop)]
@@ -41,10 +41,10 @@ impl Nodes {
 
     // The ring is copied, so that it stays as it was where there is no memory for the name.
     pub(crate) fn add(&mut self, node: &Name, key: &[u8]) -> Result<(), AllocError>
-        requires name { IsNodeName node.now }
+        requires name { IsPlainNodeName node.now }
         requires key { IsKey key.now }
         requires new_name { member_of node.now self.old.names ≡ None }
-        requires room { length self.old.names < MEMBER_LIMIT }
+        requires room { length self.old.names < node_limit }
         ensures ok { OnOk result (self.new ≡ with_node node.now key.now self.old) }
         ensures err { OnErr result (self.new ≡ self.old) }
     {

@@ -1,5 +1,5 @@
 ghost use Rattle.std.specs.Prelude.{◌≡◌, length, IfOk};
-ghost use Rattle.repo_member.specs.Groups.{IsNodeName, IsKey};
+ghost use Rattle.repo_member.specs.Groups.{IsPlainNodeName, IsKey};
 
 mod peer;
 mod play;
@@ -24,7 +24,7 @@ const CAROL: u32 = 2;
 
 // The name of a group or a node.
 fn node_name(rt: &(impl Abort + AllocGlobal), text: &str) -> Result<Name, Fail>
-    ensures { IfOk result (λ name. IsNodeName name) }
+    ensures { IfOk result (λ name. IsPlainNodeName name) }
 {
     let name = Name::from_uri(rt.alloc(), text)?;
     assert!(rt; is_object_name(&name.view()));

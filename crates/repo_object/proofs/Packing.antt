@@ -1,5 +1,5 @@
 -- Packets and records, written one after another.
-use Rattle.std.proofs.Common.{◌≡◌, ℕ, ◌+◌, ◌-◌, ◌<◌, ◌≤◌, zero, suc, List, [], ◌∷◌, ◌++◌, length, map, drop, append_assoc, get_or, Vec, Global, Option, Some, None, option_map, Result, Err, refl, sym, ap, subst, ◌∙◌, arith}
+use Rattle.std.proofs.Common.{◌≡◌, ℕ, ◌+◌, ◌-◌, ◌<◌, ◌≤◌, zero, suc, List, [], ◌∷◌, ◌++◌, length, map, drop, append_assoc, get_or, Vec, Global, Option, Some, option_map, Result, Err, refl, sym, ap, subst, ◌∙◌, arith}
 use Rattle.std.specs.List.{All, flat_map, slice_get}
 use Rattle.std.proofs.lemmas.List.{append-nil, at_drop_more, at_drop_all, length-map, get_or-map}
 use Rattle.std.proofs.lemmas.Simd.{map-map}
@@ -13,6 +13,7 @@ use Rattle.ndn_name.specs.Names.{Component, encoding}
 use Rattle.repo_object.specs.Objects.{NamedContents, IsContent, Publisher, key_name}
 use Rattle.repo_object.specs.Publication.{record_content, packet_at, segment_packet, segment_packets_from, segment_packets, published_segments, published_listing}
 use Rattle.repo_object.specs.Records.{listed}
+use Rattle.repo_object.proofs.RecordLemmas.{mapped_some}
 
 abbrev pub items : Vec ℕ Global → List ℕ
 items v = v.items
@@ -63,16 +64,12 @@ segment_at keyed key name last j (content ∷ contents) (suc i) =
     segment_at keyed key name last (j + 1) contents i
     ∙ ap (λ (n : ℕ). option_map (segment_packet keyed key name last n) (slice_get contents i)) same
 
-mapped_from : {A : Type 0} (f : A → List ℕ) (o : Option A) (octets : List ℕ) → option_map f o ≡ Some octets → (x : A) × (o ≡ Some x) × (f x ≡ octets)
-mapped_from f None octets h = absurd cc
-mapped_from f (Some x) octets h = let same : f x ≡ octets = cc in (x, refl, same)
-
 -- so a packet at a place is that of the content there
 pub segment_from : (keyed : List Component) (key : List ℕ) (name : List Component) (last j : ℕ) (contents : List (List ℕ)) (i : ℕ) (octets : List ℕ)
     → slice_get (segment_packets_from keyed key name last j contents) i ≡ Some octets
     → (content : List ℕ) × (slice_get contents i ≡ Some content) × (segment_packet keyed key name last (j + i) content ≡ octets)
 segment_from keyed key name last j contents i octets h =
-    mapped_from (segment_packet keyed key name last (j + i)) (slice_get contents i) octets (sym (segment_at keyed key name last j contents i) ∙ h)
+    mapped_some (segment_packet keyed key name last (j + i)) (slice_get contents i) octets (sym (segment_at keyed key name last j contents i) ∙ h)
 
 pub packet_behind : (publisher : Publisher) (seq : ℕ) (object : NamedContents) (x : ℕ) → (x ≡ 0 → ⊥)
     → packet_at publisher seq object x

@@ -9,7 +9,7 @@ use Rattle.ndn_tlv.specs.Spelling.{element}
 use Rattle.ndn_tlv.specs.Listing.{◌>>=◌}
 use Rattle.ndn_name.specs.declared.fault.PacketFault.{PacketFault}
 use Rattle.ndn_name.specs.Names.{Component, encoding}
-use Rattle.ndn_name.proofs.Encodings.{bind_ok}
+use Rattle.ndn_tlv.proofs.Steps.{bind_ok}
 use Rattle.ndn_sign.specs.Hmac.{hmac}
 use Rattle.ndn_data.specs.Data.{Data, data_of}
 use Rattle.repo_object.specs.declared.part_refusal.PartRefusal.{PartRefusal}

@@ -20,8 +20,6 @@ AreClear p q =
     → sha256 a ≡ sha256 b
     → a ≡ b
 
--- So are any two segment packets of all that was published.
-abbrev pub Clear : List Published → Type 0
-Clear published =
-    (k l : ℕ) (p q : Published)
-    → slice_get published k ≡ Some p → slice_get published l ≡ Some q → AreClear p q
+-- So it is between any two of a family of publications, as those of a group by member and number.
+abbrev pub Clear : {A : Type 0} → (A → Published) → Type 0
+Clear {A} published = (p q : A) → AreClear (published p) (published q)

@@ -1,8 +1,10 @@
+use crate::expected::{Expected, expect_segment};
 use crate::listing::{Listing, read_digests};
 use crate::names::owned_name;
 use crate::record_fields::{DigestReader, RecordReader};
 use ndn_data::DataView;
 use ndn_name::NameView;
+use repo_plan::Part;
 use std::alloc::{AllocError, Global};
 use std::marker::Model;
 
@@ -28,8 +30,9 @@ impl<'p> Model for RecordView<'p> {
 }
 
 impl<'p> RecordView<'p> {
-    ghost use Rattle.std.specs.Prelude.{◌≡◌, ◌<◌, Some, IsSome, IfOk, length, option_map, slice_get};
+    ghost use Rattle.std.specs.Prelude.{◌≡◌, ◌<◌, ◌≤◌, Some, IsSome, IfOk, length, option_map, slice_get};
     ghost use Rattle.repo_object.specs.Records.{listing_of, IsListing};
+    ghost use Rattle.repo_object.specs.Wants.{want_segment};
     ghost use Rattle.repo_object.specs.Verdict.{listing_in};
 
     /// The record of this content, or `None` where it is none. It takes no memory.
@@ -81,6 +84,16 @@ impl<'p> RecordView<'p> {
         ensures { option_map (λ digest. digest.now) result ≡ slice_get self.now.digests i }
     {
         self.digests.copy().at(i)
+    }
+
+    /// The packet that is expected for a segment that the record lists.
+    pub fn expect_segment(&self, alloc: Global, part: Part) -> Result<Expected, AllocError>
+        requires segment { 0 < part.part }
+        requires listed { part.part ≤ length self.now.digests }
+        ensures { IfOk result (λ expected. expected ≡ want_segment part self.now) }
+    {
+        let digest = self.digest(usize::from(part.part - 1)).unwrap();
+        expect_segment(alloc, part, &self.name, digest)
     }
 
     /// The same with octets of its own.

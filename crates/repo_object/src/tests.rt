@@ -12,7 +12,6 @@ use hostile::{FOR_THE_RECORD, FOR_THE_SEGMENT};
 use ndn_data::DataView;
 use ndn_name::{Name, NameFault};
 use ndn_sign::{KeyRing, digest};
-use ndn_tlv::Writer;
 use repo_plan::Part;
 use std::alloc::{AllocError, Global};
 use std::process::Abort;
@@ -145,11 +144,30 @@ fn worked_record_is_checked(rt: HostRuntime) -> Result<(), Fail> {
 #[test]
 fn worked_segment_is_checked(rt: HostRuntime) -> Result<(), Fail> {
     let alloc = rt.alloc();
-    let ring = ring_of(alloc, &short_name(&rt, alloc, "/alice")?, KEY)?;
+    let alice = short_name(&rt, alloc, "/alice")?;
+    let ring = ring_of(alloc, &alice, KEY)?;
     let listing = read_record(alloc, DataView::read(&RECORD)?.content)?;
+    record_is_written(&rt, alloc, &listing, &alice)?;
     let want = segment_want(&rt, alloc, 1, 1, &listing)?;
     assert_eq!(rt; want.interest(), SEGMENT_INTEREST.as_slice());
     check_all(&rt, &want, &ring, &FOR_THE_SEGMENT);
+    Ok(())
+}
+
+// Sees that what the record lists is written as the record's packet, without its segment's.
+fn record_is_written(
+    rt: &impl Abort,
+    alloc: Global,
+    listing: &Listing,
+    node: &Name,
+) -> Result<(), Fail>
+    requires { length (encoding node.now) ≤ 200 }
+{
+    let group = short_name(rt, alloc, "/g")?;
+    assert!(rt; listing.name.octets().len() <= OBJECT_NAME_LIMIT);
+    assert!(rt; listing.digests.len() <= SEGMENT_LIMIT);
+    let packet = record_packet(alloc, listing, 1, node, &group, KEY)?;
+    assert_eq!(rt; packet.as_slice(), RECORD.as_slice());
     Ok(())
 }
 
@@ -159,67 +177,13 @@ fn contents_are_read_as_records(rt: HostRuntime) {
         assert_eq!(rt; is_record(content), segments.is_some(), "{content:?}");
         let read = read_record(rt.alloc(), content).map(|listing| listing.digests.len());
         assert_eq!(rt; read, segments.ok_or(RecordFault::BadRecord), "{content:?}");
-    }
-}
-
-// The content of a record with a name of one component of so many octets, and so many digests.
-fn listing_content(alloc: Global, component: &[u8], digests: u64) -> Result<Vec<u8>, AllocError> {
-    let mut name = Writer::new(alloc);
-    name.put(8, component)?;
-    let mut writer = Writer::new(alloc);
-    writer.put(0x07, name.octets())?;
-    writer.put_number(0x81, digests)?;
-    for _ in 0..digests {
-        writer.put(0x83, &[7; 32])?;
-    }
-    Ok(writer.finish())
-}
-
-#[test]
-fn records_have_limits(rt: HostRuntime) -> Result<(), Fail> {
-    let octets = [b'a'; 397];
-    let cases = [
-        (&octets[..396], 0, true),
-        (&octets, 0, false),
-        (&octets[..1], 200, true),
-        (&octets[..1], 201, false),
-    ];
-    for (component, digests, is) in cases {
-        let content = listing_content(rt.alloc(), component, digests)?;
-        assert_eq!(rt; is_record(&content), is, "{digests}");
-        assert_eq!(rt; read_record(rt.alloc(), &content).is_ok(), is, "{digests}");
-    }
-    Ok(())
-}
-
-// Contents of so many octets, the size of a piece, how many pieces come, and how long the last is.
-const CUTS: [(usize, usize, usize, usize); 8] = [
-    (0, 10, 0, 0),
-    (3, 1, 3, 1),
-    (3, 2, 2, 1),
-    (3, 10, 1, 3),
-    (4, 4, 1, 4),
-    (5, 4, 2, 1),
-    (800, 4, 200, 4),
-    (8_000, 8_000, 1, 8_000),
-];
-
-#[test]
-fn contents_are_cut(rt: HostRuntime) -> Result<(), Fail> {
-    let content = [b'A'; 8_000];
-    for (octets, size, count, last) in CUTS {
-        assert!(rt; octets <= 8_000 && 0 < size);
-        let pieces = cut(rt.alloc(), &content[..octets], size)?;
-        assert_eq!(rt; pieces.len(), count, "{octets}");
+        let first = digest_at(content, 0);
         assert_eq!(rt;
-            pieces.last().map_or(0, |piece| piece.len()),
-            last,
-            "{octets}"
+            first.is_some(),
+            segments.is_some_and(|n| n > 0),
+            "{content:?}"
         );
     }
-    let too_many = CutFault::TooMany { segments: 201 };
-    assert_eq!(rt; cut(rt.alloc(), &content[..801], 4).err(), Some(too_many));
-    Ok(())
 }
 
 // A value that may go to another thread and be let go there.
@@ -259,9 +223,14 @@ fn pass(
     assert_eq!(rt; (record.len(), segments.len()), (7_871, 200));
     assert_eq!(rt; digest(record), RECORD_DIGEST);
     goes_anywhere(check_part(want, record, ring)?);
-    let listing = read_record(alloc, DataView::read(record)?.content)?;
+    let content = DataView::read(record)?.content;
+    let listing = read_record(alloc, content)?;
     let mut part = 0u8;
     for segment in segments {
+        assert_eq!(rt;
+            digest_at(content, usize::from(part)),
+            Some(&digest(segment))
+        );
         part = part.saturating_add(1);
         let want = segment_want(rt, alloc, 65_535, part, &listing)?;
         let checked = check_part(&want, segment, ring)?;

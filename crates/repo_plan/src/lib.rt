@@ -5,11 +5,13 @@
 mod laws;
 mod part;
 mod plan;
-mod sorted;
+mod runs;
+mod sorted_map;
+mod table;
 
 pub use laws::{
-    calls_keep_plans_sound, claims_are_wanted_once, released_parts_can_be_claimed,
-    wanted_parts_are_listed,
+    calls_keep_plans_sound, claims_are_wanted_once, least_unclaimed_parts_are_claimed,
+    listed_parts_are_wanted_once, released_parts_can_be_claimed, wanted_parts_are_listed,
 };
 pub use part::Part;
 pub use plan::{FetcherBusy, FetcherIdle, Plan};

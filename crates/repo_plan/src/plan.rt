@@ -1,18 +1,20 @@
 ghost use Rattle.std.specs.Prelude.{◌≡◌, ◌+◌, ◌<◌, ◌==◌, false, true, not, length, is_some, IfOk, OnOk, OnErr};
 ghost use Rattle.repo_plan.specs.Plan.{opening, holds, hides, is_asked, is_claimed, claims_part_in, shape_of};
-ghost use Rattle.repo_plan.specs.Plan.{attempts_of, is_complete, raises, holds_too, hides_too, with_attempts};
+ghost use Rattle.repo_plan.specs.Plan.{attempts_of, is_complete, run_ends, raises, holds_too, hides_too, with_attempts};
 ghost use Rattle.repo_plan.specs.Parts.{pair_of};
 ghost use Rattle.repo_plan.specs.Sound.{IsSound};
 
 mod claims;
-mod done;
 mod reserved;
 mod wanted;
+mod whole;
 
 use crate::part::Part;
-use crate::sorted;
+use crate::runs::Runs;
+use crate::table;
 pub use claims::{FetcherBusy, FetcherIdle};
 use std::alloc::{AllocError, Global};
+use std::collections::HashMap;
 use std::marker::Model;
 
 /// What a member knows of, holds, hides and claims.
@@ -22,15 +24,16 @@ use std::marker::Model;
 #[derive(Debug, Drop)]
 pub struct Plan {
     known: Vec<u16>,
-    held: Vec<Part>,
-    shapes: Vec<((u32, u16), u8)>,
+    // By publisher, the numbers of the publications of which no part is wanted any more. A search passes them run by run.
+    done: Runs<u32>,
+    // By publication, the numbers of the held parts of those that are not done.
+    held: Runs<(u32, u16)>,
+    // What each held record tells. A publication that is done and has no entry is hidden.
+    shapes: HashMap<(u32, u16), u8>,
     claims: [Option<Part>; 16],
-    hidden: Vec<(u32, u16)>,
-    attempts: Vec<(Part, u32)>,
-    // There is room for so many more in each of the four above.
+    attempts: HashMap<Part, u32>,
+    // There is room for so many more in each of the four.
     spare: usize,
-    // By publisher, a number up to which every publication is done. A search for wanted parts starts behind it.
-    done: Vec<u16>,
 }
 
 impl Model for Plan {
@@ -52,13 +55,12 @@ impl Plan {
     {
         Ok(Plan {
             known: vec![in alloc; 0; members]?,
-            held: Vec::new(alloc),
-            shapes: Vec::new(alloc),
+            done: Runs::new(alloc),
+            held: Runs::new(alloc),
+            shapes: HashMap::new(alloc),
             claims: [None; 16],
-            hidden: Vec::new(alloc),
-            attempts: Vec::new(alloc),
+            attempts: HashMap::new(alloc),
             spare: 0,
-            done: vec![in alloc; 0; members]?,
         })
     }
 
@@ -94,40 +96,36 @@ impl Plan {
         ensures held { result ≡ holds self.now part }
         ensures sound { IsSound self.now }
     {
-        sorted::contains(&self.held, &part)
+        let publication = (part.publisher, part.seq);
+        match self.segments(part.publisher, part.seq) {
+            Some(segments) if part.part <= segments => {
+                self.done.contains(publication)
+                    || self.held.contains((publication, u16::from(part.part)))
+            }
+            _ => false,
+        }
     }
 
     /// How many segments the held record of a publication counts, or `None` where its record is not held.
     pub fn segments(&self, publisher: u32, seq: u16) -> Option<u8>
         ensures { result ≡ shape_of self.now (publisher, seq) }
     {
-        sorted::value_of(&self.shapes, (publisher, seq))
+        table::value_of(&self.shapes, (publisher, seq))
     }
 
     /// Whether the record of a publication and every segment that it counts are held.
     pub fn complete(&self, publisher: u32, seq: u16) -> bool
         ensures { result ≡ is_complete self.now (publisher, seq) }
     {
-        let record_part = Part {
-            publisher,
-            seq,
-            part: 0,
-        };
-        let Ok(first) = self.held.binary_search(&record_part) else {
-            return false;
-        };
-        let Some(segments) = self.segments(publisher, seq) else {
-            return false;
-        };
-        let last_part = Part {
-            part: segments,
-            ..record_part
-        };
-        let Ok(last) = self.held.binary_search(&last_part) else {
-            return false;
-        };
-        // The parts stand in order, each once, so none is missing between these.
-        first + usize::from(segments) == last
+        self.segments(publisher, seq).is_some() && self.done.contains((publisher, seq))
+    }
+
+    /// How many runs there are, over all publishers, of numbers that follow one another and whose publications are hidden
+    /// or held whole, each run as long as can be.
+    pub fn runs(&self) -> usize
+        ensures { result ≡ length (run_ends self.now) }
+    {
+        self.done.count()
     }
 
     /// The publication is hidden: its held parts are forgotten, and none of its parts is wanted from now on.
@@ -147,7 +145,7 @@ impl Plan {
     pub fn attempts(&self, part: Part) -> u32
         ensures { result ≡ attempts_of self.now part }
     {
-        sorted::value_of(&self.attempts, part).unwrap_or(0)
+        table::value_of(&self.attempts, part).unwrap_or(0)
     }
 
     /// The part was tried so often more.

@@ -1,6 +1,13 @@
+pub mod Names
+pub mod IndexLemmas
+pub mod SearchLemmas
+pub mod WalkLemmas
 pub mod PlaceLemmas
 pub mod NameLemmas
 pub mod StoreLemmas
+pub mod SlotLemmas
+pub mod FindLemmas
+pub mod KeptLemmas
+pub mod StoredLemmas
 pub mod ServedLemmas
 pub mod LawLemmas
-pub mod NameIndexLemmas

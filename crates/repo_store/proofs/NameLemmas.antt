@@ -133,7 +133,7 @@ pub goes_on : (asked own last claimed octets : List ℕ) → asked ≡ own ++ la
 goes_on asked own last claimed octets e f g =
     e ∙ ap (λ (x : List ℕ). own ++ x) (f ∙ ap (λ (x : List ℕ). (1 ∷ 32 ∷ []) ++ x) g ∙ sym (digest_element (sha256 octets) (length-sha256 octets)))
 
-append-same : (a b d : List ℕ) → a ++ b ≡ a ++ d → b ≡ d
+pub append-same : (a b d : List ℕ) → a ++ b ≡ a ++ d → b ≡ d
 append-same [] b d e = e
 append-same (x ∷ a) b d e = append-same a b d (ap (λ (o : List ℕ). drop 1 o) e)
 

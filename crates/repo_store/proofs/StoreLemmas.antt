@@ -1,9 +1,7 @@
--- What searches and edits make of the packets.
-use Rattle.std.proofs.Common.{◌≡◌, ℕ, zero, suc, ◌+◌, ◌-◌, ◌^◌, inl, inr, ◌<◌, ◌≤◌, Bool, true, false, cond, not, List, [], ◌∷◌, ◌++◌, map, length, length-append, length-take, length-drop, get_or, Some, Result, Ok, Err, refl, sym, ap, subst, ◌∙◌, arith}
-use Rattle.std.specs.Prelude.{IsOk, drop, take}
-use Rattle.std.specs.List.{All, AllWithin, HoldsAt, filter, insert}
-use Rattle.std.specs.Bool.{nat_eq}
-use Rattle.std.specs.HashMap.{HashMap, get}
+-- What searches and edits make of what is held, and of the packets.
+use Rattle.std.proofs.Common.{◌≡◌, ◌≢◌, ℕ, zero, suc, ◌+◌, ◌-◌, ◌^◌, inl, inr, ◌<◌, ◌≤◌, Bool, true, false, cond, not, List, [], ◌∷◌, ◌++◌, map, length, length-append, length-take, length-drop, get_or, Option, Some, None, Result, Ok, Err, refl, sym, ap, subst, ◌∙◌, arith}
+use Rattle.std.specs.Prelude.{IsOk, is_ok, drop, take, unwrap_or}
+use Rattle.std.specs.List.{All, HoldsAt, filter, insert}
 use Rattle.std.specs.List.Sorted.{IsSearchInRange, IsBinarySearchResult}
 use Rattle.std.specs.Ordering.{nat_cmp, ordering_then}
 use Rattle.std.specs.declared.cmp.Ordering.{Ordering}
@@ -12,21 +10,56 @@ use Rattle.std.proofs.lemmas.Bool.Decides.{nat_tests}
 use Rattle.std.proofs.lemmas.List.{get_or-map, map-append, take-map, drop-map, length-map}
 use Rattle.std.proofs.lemmas.List.Elements.{All-cons, All-head, All-tail, All-filter, filter_passes}
 use Rattle.std.proofs.lemmas.List.Filters.{length-filter_both}
+use Rattle.slab.specs.Slab.{Slab, get}
 use Rattle.repo_plan.specs.declared.part.Part.{Part}
-use Rattle.repo_plan.specs.SortedList.{by_order, keys, Rises, value_of, with_value}
+use Rattle.repo_plan.specs.SortedList.{by_order, keys, Rises, contains, value_of, with_value}
 use Rattle.repo_plan.specs.Parts.{Pair, part_cmp, pair_of}
 use Rattle.repo_plan.specs.Plan.{is_in}
 use Rattle.repo_plan.proofs.Orders.{exact_pairs, exact_parts, nat_itself, then_second}
 use Rattle.repo_plan.proofs.Search.{Found, at_key, at_gap, found, contains_found, value_at, no_value_between, with_value_between}
-use Rattle.repo_plan.proofs.Sets.{In, each_before, eq_same, rises_with_value, rises_keys_filter}
+use Rattle.repo_plan.proofs.Sets.{In, eq_same, rises_with_value, rises_keys_filter}
 use Rattle.ndn_data.specs.Data.{data_of}
-use Rattle.repo_store.specs.declared.store.Stored.{Stored}
+use Rattle.repo_store.specs.declared.index.Held.{Held}
 use Rattle.repo_store.specs.StoreList.{with_packet, packets_in, packets_outside, IsSound}
-use Rattle.repo_store.specs.NameIndex.{packet_hash, IsBy}
-use Rattle.repo_store.specs.StoreFields.{AreIndexed, packets_of, ArePartsSmall, IsAt, IsMissingAt, IsPlaceOf}
+use Rattle.repo_store.specs.Kept.{octets_at, entries_of}
+use Rattle.repo_store.specs.Indexes.{LacksPart}
+use Rattle.repo_store.specs.Slots.{IsPlaceOf, held_outside}
+use Rattle.repo_store.specs.StoreFields.{ArePartsSmall}
+use Rattle.repo_store.proofs.IndexLemmas.{in_split, in_front, in_back}
 
-pub length-packets_of : (stored : List Stored) → length (packets_of stored) ≡ length stored
-length-packets_of stored = length-map stored (λ (s : Stored). (s.part, s.packet))
+-- ---- what is held, with its packets
+
+pub parts_of_entries : (packets : Slab (List ℕ)) (held : List Held) → keys (entries_of packets held) ≡ map (λ (h : Held). h.part) held
+parts_of_entries packets [] = refl
+parts_of_entries packets (h ∷ held) = ap (λ (ts : List Part). h.part ∷ ts) (parts_of_entries packets held)
+
+pub parts_rise : (packets : Slab (List ℕ)) (held : List Held) → IsSound (entries_of packets held) → Rises part_cmp (map (λ (h : Held). h.part) held)
+parts_rise packets held sound = subst (Rises part_cmp) (parts_of_entries packets held) sound.in_order
+
+pub length-entries_of : (packets : Slab (List ℕ)) (held : List Held) → length (entries_of packets held) ≡ length held
+length-entries_of packets held = length-map held (λ (h : Held). (h.part, octets_at packets h.slot))
+
+-- slots that keep their packets
+pub entries_same : (old new : Slab (List ℕ)) (held : List Held) → ((h : Held) → In h held → get new h.slot ≡ get old h.slot) → entries_of new held ≡ entries_of old held
+entries_same old new [] same = refl
+entries_same old new (h ∷ held) same =
+    ap (λ (o : List ℕ). (h.part, o) ∷ entries_of new held) (ap (λ (v : Option (List ℕ)). unwrap_or v []) (same h (inl refl)))
+    ∙ ap (λ (es : List (Part × List ℕ)). (h.part, octets_at old h.slot) ∷ es) (entries_same old new held (λ o i. same o (inr i)))
+
+pub entries-filter : (p : Part → Bool) (packets : Slab (List ℕ)) (held : List Held) → entries_of packets (filter (λ h. p h.part) held) ≡ filter (λ e. p e.0) (entries_of packets held)
+entries-filter p packets [] = refl
+entries-filter p packets (h ∷ held) = go (entries-filter p packets held) (p h.part) where
+  go : entries_of packets (filter (λ h. p h.part) held) ≡ filter (λ e. p e.0) (entries_of packets held) → (b : Bool) → entries_of packets (cond b (h ∷ filter (λ h. p h.part) held) (filter (λ h. p h.part) held)) ≡ cond b ((h.part, octets_at packets h.slot) ∷ filter (λ e. p e.0) (entries_of packets held)) (filter (λ e. p e.0) (entries_of packets held))
+  go h' true = ap (λ (es : List (Part × List ℕ)). (h.part, octets_at packets h.slot) ∷ es) h'
+  go h' false = h'
+
+pub entries-outside : (pair : Pair) (packets : Slab (List ℕ)) (held : List Held) → entries_of packets (held_outside pair held) ≡ packets_outside pair (entries_of packets held)
+entries-outside pair packets held = entries-filter (λ t. not (is_in pair t)) packets held
+
+entries-insert : (packets : Slab (List ℕ)) (held : List Held) (i : ℕ) (h : Held) → entries_of packets (insert held i h) ≡ insert (entries_of packets held) i (h.part, octets_at packets h.slot)
+entries-insert packets held i h =
+    let f : Held → Part × List ℕ = λ h. (h.part, octets_at packets h.slot) in
+    map-append f (take i held) (h ∷ drop i held) ∙ ap (λ (xs : List (Part × List ℕ)). xs ++ (f h ∷ map f (drop i held))) (sym (take-map f i held)) ∙ ap (λ (xs : List (Part × List ℕ)). take i (map f held) ++ (f h ∷ xs)) (sym (drop-map f i held))
 
 -- ---- searches
 
@@ -41,59 +74,58 @@ found_mapped {X} {Y} {K} {R} f key (x ∷ xs) k (Err i) (at_gap j l below above)
     (λ n e a b. subst (λ (y : Y). R (key y) k ≡ Less) (sym (get_or-map f (x ∷ xs) n x e (omega arith))) (below n x a b))
     (λ n e a b. let within : n < length (x ∷ xs) = omega (arith, length-map xs f) in subst (λ (y : Y). R (key y) k ≡ Greater) (sym (get_or-map f (x ∷ xs) n x e within)) (above n x a within))
 
-in_keys : (packets : List (Part × List ℕ)) (i : ℕ) (part : Part) → i < length packets → HoldsAt (λ e. part_cmp e.0 part ≡ Equal) packets i → In part (keys packets)
-in_keys [] i part l h = absurd (omega arith)
-in_keys (e ∷ es) zero part l h = inl (sym (exact_parts.same e.0 part (h e)))
-in_keys (e ∷ es) (suc i) part l h = inr (in_keys es i part (omega arith) h)
-
-before_found : (packets : List (Part × List ℕ)) (i : ℕ) (part : Part) → Rises part_cmp (keys packets) → i < length packets → HoldsAt (λ e. part_cmp e.0 part ≡ Equal) packets i → All (λ e. part_cmp e.0 part ≡ Less) (take i packets)
-before_found packets zero part rises l h = λ k d m. absurd (omega arith)
-before_found [] (suc i) part rises l h = absurd (omega arith)
-before_found (e ∷ es) (suc i) part rises l h =
-    All-cons (λ (e : Part × List ℕ). part_cmp e.0 part ≡ Less) e (take i es) (each_before exact_parts.total e.0 (keys es) rises.0 part (in_keys es i part (omega arith) h)) (before_found es i part rises.1 (omega arith) h)
-
-before_gap : (packets : List (Part × List ℕ)) (i : ℕ) (part : Part) → AllWithin (λ e. part_cmp e.0 part ≡ Less) packets 0 i → All (λ e. part_cmp e.0 part ≡ Less) (take i packets)
-before_gap packets zero part h = λ k d m. absurd (omega arith)
-before_gap [] (suc i) part h = λ k d m. absurd (omega arith)
-before_gap (e ∷ es) (suc i) part h =
-    All-cons (λ (e : Part × List ℕ). part_cmp e.0 part ≡ Less) e (take i es) (h 0 e (omega arith) (omega arith)) (before_gap es i part (λ k d a b. h (suc k) d (omega arith) (omega arith)))
-
 -- what a search for a part finds
-pub placed : (packets : List (Part × List ℕ)) (part : Part) (r : Result ℕ ℕ) → Rises part_cmp (keys packets) → Found part_cmp (λ e. e.0) packets part r → IsPlaceOf packets part r
-placed packets part (Ok i) rises found = record {
-  within = (within found).0;
-  before = (within found).1;
-  there = sym (contains_found exact_parts.total (keys packets) part (Ok i) (found_mapped (λ (e : Part × List ℕ). e.0) (λ (t : Part). t) packets part (Ok i) found));
-  value = value_at exact_parts.total packets part i rises found;
-}
-  where
-    within : Found part_cmp (λ e. e.0) packets part (Ok i) → (i < length packets) × All (λ e. part_cmp e.0 part ≡ Less) (take i packets)
-    within (at_key j l h) = (l, before_found packets j part rises l h)
-placed packets part (Err i) rises found = record {
-  within = (within found).0;
-  before = (within found).1;
-  missing = sym (contains_found exact_parts.total (keys packets) part (Err i) (found_mapped (λ (e : Part × List ℕ). e.0) (λ (t : Part). t) packets part (Err i) found));
-  no_value = no_value_between exact_parts.total packets part i found;
-  put = λ octets. with_value_between exact_parts.total packets part octets i found;
-}
-  where
-    within : Found part_cmp (λ e. e.0) packets part (Err i) → (i ≤ length packets) × All (λ e. part_cmp e.0 part ≡ Less) (take i packets)
-    within (at_gap j l below above) = (l, before_gap packets j part below)
+pub placed_part : (held : List Held) (part : Part) (r : Result ℕ ℕ) → Rises part_cmp (map (λ (h : Held). h.part) held) → IsSearchInRange r (length held) → IsBinarySearchResult (λ (h : Held). part_cmp h.part part) held r → IsPlaceOf held part r
+placed_part held part r rises bound position = go r (found exact_parts.total (λ (h : Held). h.part) held part r rises bound position) where
+  go : (r : Result ℕ ℕ) → Found part_cmp (λ (h : Held). h.part) held part r → IsPlaceOf held part r
+  go (Ok i) (at_key j l h) = (l, h)
+  go (Err i) (at_gap j l below above) = (l, below, above)
 
-keys_of_stored : (stored : List Stored) → keys (packets_of stored) ≡ map (λ (s : Stored). s.part) stored
-keys_of_stored [] = refl
-keys_of_stored (s ∷ stored) = ap (λ (ts : List Part). s.part ∷ ts) (keys_of_stored stored)
+found_part : (held : List Held) (part : Part) (r : Result ℕ ℕ) → IsPlaceOf held part r → Found part_cmp (λ (h : Held). h.part) held part r
+found_part held part (Ok i) place = at_key i place.0 place.1
+found_part held part (Err i) place = at_gap i place.0 place.1 place.2
 
-pub placed_stored : (stored : List Stored) (part : Part) (r : Result ℕ ℕ) → Rises part_cmp (keys (packets_of stored)) → IsSearchInRange r (length stored) → IsBinarySearchResult (λ (s : Stored). part_cmp s.part part) stored r → IsPlaceOf (packets_of stored) part r
-placed_stored stored part r rises bound position =
-    placed (packets_of stored) part r rises (found_mapped (λ (s : Stored). (s.part, s.packet)) (λ (e : Part × List ℕ). e.0) stored part r (found exact_parts.total (λ (s : Stored). s.part) stored part r (subst (Rises part_cmp) (keys_of_stored stored) rises) bound position))
+found_entry : (packets : Slab (List ℕ)) (held : List Held) (part : Part) (r : Result ℕ ℕ) → IsPlaceOf held part r → Found part_cmp (λ e. e.0) (entries_of packets held) part r
+found_entry packets held part r place = found_mapped (λ (h : Held). (h.part, octets_at packets h.slot)) (λ (e : Part × List ℕ). e.0) held part r (found_part held part r place)
 
--- the packet at a part's place
-pub value_there : (stored : List Stored) (part : Part) (place : ℕ) (s : Stored) → s ≡ get_or stored place s → IsAt (packets_of stored) part place → Some s.packet ≡ value_of part_cmp (packets_of stored) part
-value_there stored part place s e at =
-    let f : Stored → Part × List ℕ = λ s. (s.part, s.packet) in
-    let within : place < length stored = omega (arith, at.within, length-map stored f) in
-    sym (at.value (f s) ∙ ap (λ (x : Part × List ℕ). Some x.1) (get_or-map f stored place s (f s) within ∙ ap f (sym e)))
+-- whether a part is there
+pub part_there : (packets : Slab (List ℕ)) (held : List Held) (part : Part) (r : Result ℕ ℕ) → IsPlaceOf held part r → contains part_cmp (keys (entries_of packets held)) part ≡ is_ok r
+part_there packets held part r place =
+    sym (contains_found exact_parts.total (keys (entries_of packets held)) part r (found_mapped (λ (e : Part × List ℕ). e.0) (λ (t : Part). t) (entries_of packets held) part r (found_entry packets held part r place)))
+
+-- nothing is held of a missing part
+pub missing_part : (held : List Held) (part : Part) (place : ℕ) → IsPlaceOf held part (Err place) → LacksPart part held
+missing_part held part place at h i same =
+    let tied = exact_parts.itself part in
+    elim (in_split place held h i) [
+      | inl a ↦ let less = ap (λ (t : Part). part_cmp t part) (sym same) ∙ in_front (λ (x : Held). part_cmp x.part part ≡ Less) held place at.0 at.1 h a in absurd cc
+      | inr b ↦ let more = ap (λ (t : Part). part_cmp t part) (sym same) ∙ in_back (λ (x : Held). part_cmp x.part part ≡ Greater) held place at.2 h b in absurd cc
+    ]
+
+pub value_there : (packets : Slab (List ℕ)) (held : List Held) (part : Part) (place : ℕ) (d : Held) → Rises part_cmp (keys (entries_of packets held)) → IsPlaceOf held part (Ok place) → value_of part_cmp (entries_of packets held) part ≡ Some (octets_at packets (get_or held place d).slot)
+value_there packets held part place d rises at =
+    let f : Held → Part × List ℕ = λ h. (h.part, octets_at packets h.slot) in
+    value_at exact_parts.total (entries_of packets held) part place rises (found_entry packets held part (Ok place) at) (f d)
+    ∙ ap (λ (x : Part × List ℕ). Some x.1) (get_or-map f held place d (f d) at.0)
+
+pub value_missing : (packets : Slab (List ℕ)) (held : List Held) (part : Part) (place : ℕ) → IsPlaceOf held part (Err place) → None ≡ value_of part_cmp (entries_of packets held) part
+value_missing packets held part place at = sym (no_value_between exact_parts.total (entries_of packets held) part place (found_entry packets held part (Err place) at))
+
+-- what an insertion at a missing part's place makes of the packets
+pub put_there : (packets : Slab (List ℕ)) (held : List Held) (h : Held) (octets : List ℕ) (place : ℕ) → get packets h.slot ≡ Some octets → IsPlaceOf held h.part (Err place) → entries_of packets (insert held place h) ≡ with_value part_cmp h.part octets (entries_of packets held)
+put_there packets held h octets place there at =
+    entries-insert packets held place h
+    ∙ ap (λ (o : List ℕ). insert (entries_of packets held) place (h.part, o)) (ap (λ (v : Option (List ℕ)). unwrap_or v []) there)
+    ∙ sym (with_value_between exact_parts.total (entries_of packets held) h.part octets place (found_entry packets held h.part (Err place) at))
+
+-- of a missing part a packet is put
+pub with_missing : (packets : Slab (List ℕ)) (held : List Held) (part : Part) (octets : List ℕ) (place : ℕ) → IsPlaceOf held part (Err place) → with_value part_cmp part octets (entries_of packets held) ≡ with_packet part octets (entries_of packets held)
+with_missing packets held part octets place at =
+    sym (ap (λ (b : Bool). cond b (entries_of packets held) (with_value part_cmp part octets (entries_of packets held))) (part_there packets held part (Err place) at))
+
+pub with_there : (packets : Slab (List ℕ)) (held : List Held) (part : Part) (octets : List ℕ) (place : ℕ) → IsPlaceOf held part (Ok place) → entries_of packets held ≡ with_packet part octets (entries_of packets held)
+with_there packets held part octets place at =
+    sym (ap (λ (b : Bool). cond b (entries_of packets held) (with_value part_cmp part octets (entries_of packets held))) (part_there packets held part (Ok place) at))
 
 -- ---- a packet more
 
@@ -114,42 +146,7 @@ sound_more part octets packets reads s = record {
 pub small_more : (part : Part) (octets : List ℕ) (packets : List (Part × List ℕ)) → part.part < 2 ^ 8 → ArePartsSmall packets → ArePartsSmall (with_value part_cmp part octets packets)
 small_more part octets packets small all = All-with_value (λ e. e.0.part < 2 ^ 8) part octets packets small all
 
--- the index tells of the new packet and of the old ones
-pub indexed_more : {S : Type 0} (index new : HashMap ℕ Part S) (hash : ℕ) (part : Part) (octets : List ℕ) (packets : List (Part × List ℕ)) → hash ≡ packet_hash octets → IsBy (get nat_eq new hash) part → ((q : ℕ) (t : Part) → IsBy (get nat_eq index q) t → IsBy (get nat_eq new q) t) → AreIndexed index packets → AreIndexed new (with_value part_cmp part octets packets)
-indexed_more index new hash part octets packets is there others all =
-    All-with_value (λ e. IsBy (get nat_eq new (packet_hash e.1)) e.0) part octets packets (subst (λ (n : ℕ). IsBy (get nat_eq new n) part) is there) (λ k d l. others _ _ (all k d l))
-
-pub indexed_outside : {S : Type 0} (index : HashMap ℕ Part S) (pair : Pair) (packets : List (Part × List ℕ)) → AreIndexed index packets → AreIndexed index (packets_outside pair packets)
-indexed_outside index pair packets all = All-filter (λ e. not (is_in pair e.0)) (λ e. IsBy (get nat_eq index (packet_hash e.1)) e.0) packets all
-
-pub packets-insert : (stored : List Stored) (i : ℕ) (s : Stored) → packets_of (insert stored i s) ≡ insert (packets_of stored) i (s.part, s.packet)
-packets-insert stored i s =
-    let f : Stored → Part × List ℕ = λ s. (s.part, s.packet) in
-    map-append f (take i stored) (s ∷ drop i stored) ∙ ap (λ (xs : List (Part × List ℕ)). xs ++ (f s ∷ map f (drop i stored))) (sym (take-map f i stored)) ∙ ap (λ (xs : List (Part × List ℕ)). take i (map f stored) ++ (f s ∷ xs)) (sym (drop-map f i stored))
-
--- what an insertion at a missing part's place makes of the packets
-pub put_there : (stored new : List Stored) (s : Stored) (place : ℕ) (b : Bool) → b ≡ true → new ≡ cond b (insert stored place s) stored → IsMissingAt (packets_of stored) s.part place → packets_of new ≡ with_value part_cmp s.part s.packet (packets_of stored)
-put_there stored new s place b ok e missing =
-    ap packets_of (e ∙ ap (λ (x : Bool). cond x (insert stored place s) stored) ok) ∙ packets-insert stored place s ∙ sym (missing.put s.packet)
-
--- how many packets there are then
-pub inserted-length : (stored new : List Stored) (s : Stored) (place : ℕ) (b : Bool) → b ≡ true → new ≡ cond b (insert stored place s) stored → place ≤ length stored → length new ≡ length stored + 1
-inserted-length stored new s place b ok e low =
-    let at = ap length (e ∙ ap (λ (x : Bool). cond x (insert stored place s) stored) ok) in
-    omega (arith, at, length-append (take place stored) (s ∷ drop place stored), length-take place stored, length-drop place stored)
-
--- of a missing part a packet is put
-pub with_missing : (packets : List (Part × List ℕ)) (part : Part) (place : ℕ) (octets : List ℕ) → IsMissingAt packets part place → with_value part_cmp part octets packets ≡ with_packet part octets packets
-with_missing packets part place octets missing = sym (ap (λ (b : Bool). cond b packets (with_value part_cmp part octets packets)) missing.missing)
-
 -- ---- the packets of a publication
-
-pub packets-filter : (p : Part → Bool) (stored : List Stored) → packets_of (filter (λ s. p s.part) stored) ≡ filter (λ e. p e.0) (packets_of stored)
-packets-filter p [] = refl
-packets-filter p (s ∷ stored) = go (packets-filter p stored) (p s.part) where
-  go : packets_of (filter (λ s. p s.part) stored) ≡ filter (λ e. p e.0) (packets_of stored) → (b : Bool) → packets_of (cond b (s ∷ filter (λ s. p s.part) stored) (filter (λ s. p s.part) stored)) ≡ cond b ((s.part, s.packet) ∷ filter (λ e. p e.0) (packets_of stored)) (filter (λ e. p e.0) (packets_of stored))
-  go h true = ap (λ (es : List (Part × List ℕ)). (s.part, s.packet) ∷ es) h
-  go h false = h
 
 pub sound_outside : (pair : Pair) (packets : List (Part × List ℕ)) → IsSound packets → IsSound (packets_outside pair packets)
 sound_outside pair packets s = record {

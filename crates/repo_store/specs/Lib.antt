@@ -7,5 +7,7 @@ pub mod StoreList
 pub mod Served
 pub mod Answers
 pub mod Places
-pub mod NameIndex
+pub mod Kept
+pub mod Indexes
+pub mod Slots
 pub mod StoreFields

@@ -9,11 +9,15 @@ pub record StandsIn (part octets : List ℕ) : Type 0 where
   pub behind : List ℕ
   pub parts : octets ≡ before ++ (part ++ behind)
 
--- The octets read as a Data packet, whose name's value is those from one place to another.
-pub record IsNamed (octets : List ℕ) (start end : ℕ) : Type 0 where
+-- The octets read as a Data packet, which has a name.
+pub record IsPacket (octets : List ℕ) : Type 0 where
   pub packet : Data
   pub read : data_of octets ≡ Ok packet
   pub name : IsName packet.name
+
+-- The octets read as a Data packet, whose name's value is those from one place to another.
+pub record IsNamed (octets : List ℕ) (start end : ℕ) : Type 0 where
+  pub is : IsPacket octets
   pub ordered : start ≤ end
   pub within : end ≤ length octets
-  pub spelled : slice_range octets start end ≡ encoding packet.name
+  pub spelled : slice_range octets start end ≡ encoding is.packet.name

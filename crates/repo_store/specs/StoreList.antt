@@ -1,9 +1,11 @@
 -- Packets by their parts, as a list in order of the parts.
-use Rattle.std.specs.Prelude.{ℕ, not, List, IsOk, if◌then◌else◌}
+use Rattle.std.specs.Prelude.{ℕ, not, List, [], ◌∷◌, IsOk, if◌then◌else◌}
 use Rattle.std.specs.List.{All, filter}
+use Rattle.std.specs.Ordering.{nat_cmp}
+use Rattle.std.specs.Cmp.Lexicographic.{slice_cmp}
 use Rattle.ndn_data.specs.Data.{data_of}
 use Rattle.repo_plan.specs.declared.part.Part.{Part}
-use Rattle.repo_plan.specs.SortedList.{Rises, keys, contains, with_value}
+use Rattle.repo_plan.specs.SortedList.{Rises, keys, contains, insert_key, with_value}
 use Rattle.repo_plan.specs.Parts.{Pair, part_cmp}
 use Rattle.repo_plan.specs.Plan.{is_in}
 
@@ -17,6 +19,11 @@ abbrev pub with_packet : Part → List ℕ → List (Part × List ℕ) → List 
 with_packet part octets packets =
     if contains part_cmp (keys packets) part then packets
     else with_value part_cmp part octets packets
+
+-- The different octet lists among the packets, in order.
+abbrev pub different_octets : List (Part × List ℕ) → List (List ℕ)
+different_octets [] = []
+different_octets (e ∷ es) = insert_key (slice_cmp nat_cmp) e.1 (different_octets es)
 
 -- The packets of a publication's parts, and the others.
 abbrev pub packets_in : Pair → List (Part × List ℕ) → List (Part × List ℕ)

@@ -1,17 +1,18 @@
 ghost use Rattle.std.specs.Prelude.{◌≡◌, ◌↔◌, ℕ, Bool, not, IsTrue, List, Option, Some, None, Ok, IsOk};
 ghost use Rattle.std.specs.Prelude.{if◌then◌else◌};
-ghost use Rattle.std.specs.List.{filter};
-ghost use Rattle.std.specs.Ordering.{eq_by_cmp};
+ghost use Rattle.std.specs.List.{filter, list_any};
+ghost use Rattle.std.specs.Ordering.{eq_by_cmp, nat_cmp};
+ghost use Rattle.std.specs.Cmp.Lexicographic.{slice_cmp};
 ghost use Rattle.std.specs.Option.{option_or};
 ghost use Rattle.sha2.specs.Sha256.{sha256};
 ghost use Rattle.ndn_name.specs.Names.{Component};
 ghost use Rattle.ndn_interest.specs.Interest.{Interest, interest_of};
 ghost use Rattle.ndn_data.specs.Data.{Data, data_of, Satisfies};
 ghost use Rattle.repo_plan.specs.declared.part.Part.{Part};
-ghost use Rattle.repo_plan.specs.SortedList.{Rises, keys, value_of, insert_key};
+ghost use Rattle.repo_plan.specs.SortedList.{Rises, keys, contains, value_of, insert_key};
 ghost use Rattle.repo_plan.specs.Parts.{Pair, part_cmp};
 ghost use Rattle.repo_plan.specs.Plan.{is_in};
-ghost use Rattle.repo_store.specs.StoreList.{with_packet, packets_outside, IsSound};
+ghost use Rattle.repo_store.specs.StoreList.{with_packet, packets_outside, different_octets, IsSound};
 ghost use Rattle.repo_store.specs.Served.{satisfies, served, served_part};
 ghost use Rattle.repo_store.specs.Answers.{IsAnswer};
 
@@ -64,4 +65,13 @@ pub fn put_part_is_among_the_parts()
 pub fn dropped_parts_are_gone()
     ensures { (pair : Pair) (packets : List (Part × List ℕ))
         → keys (packets_outside pair packets) ≡ filter (λ t. not (is_in pair t)) (keys packets) }
+{}
+
+/// The different octet lists are those that some part has, each once.
+pub fn different_octets_are_of_parts()
+    ensures once { (packets : List (Part × List ℕ))
+        → Rises (slice_cmp nat_cmp) (different_octets packets) }
+    ensures those { (packets : List (Part × List ℕ)) (octets : List ℕ)
+        → contains (slice_cmp nat_cmp) (different_octets packets) octets
+        ≡ list_any (λ e. eq_by_cmp (slice_cmp nat_cmp) octets e.1) packets }
 {}

@@ -2,14 +2,15 @@
 //! an Interest.
 #![tactic(auto)]
 
+mod index;
 mod laws;
-mod name_index;
 mod packet;
 mod store;
 
 pub use laws::{
-    dropped_parts_are_gone, got_packets_are_data, put_packet_is_got, put_part_is_among_the_parts,
-    satisfying_is_decided, served_packet_is_of_its_part, served_part_is_the_least,
+    different_octets_are_of_parts, dropped_parts_are_gone, got_packets_are_data, put_packet_is_got,
+    put_part_is_among_the_parts, satisfying_is_decided, served_packet_is_of_its_part,
+    served_part_is_the_least,
 };
 pub use store::Store;
 

@@ -1,49 +1,50 @@
-ghost use Rattle.std.specs.Prelude.{◌≡◌, ◌↔◌, ◌+◌, ◌++◌, ◌≤◌, length, IsOk, IsTrue, slice_range};
+ghost use Rattle.std.specs.Prelude.{◌≡◌, ◌+◌, ◌≤◌, length, IsOk, slice_range};
 ghost use Rattle.sha2.specs.Sha256.{sha256};
-ghost use Rattle.ndn_tlv.specs.Spelling.{element};
-ghost use Rattle.ndn_name.specs.Names.{encoding};
 ghost use Rattle.ndn_data.specs.Data.{data_of};
-ghost use Rattle.repo_store.specs.Served.{satisfies};
-ghost use Rattle.repo_store.specs.NameIndex.{packet_hash};
-ghost use Rattle.repo_store.specs.Places.{StandsIn, IsNamed};
+ghost use Rattle.repo_store.specs.Places.{StandsIn, IsNamed, IsPacket};
+ghost use Rattle.repo_store.specs.Kept.{name_of, octets_at};
 
-use crate::name_index::name_hash;
 use ndn_data::DataView;
-use ndn_name::NameView;
-use ndn_sign::digest;
+use slab::Slab;
 use std::marker::Model;
 
-// A Data packet, with the place of its name in its octets.
+// A Data packet, with the place of its name in its octets, and its digest.
 #[derive(Drop)]
 pub(crate) struct Packet {
     octets: Vec<u8>,
     name_start: usize,
     name_end: usize,
+    digest: [u8; 32],
 }
 
 // A packet is seen as its octets.
 impl Model for Packet {
-    ghost use Rattle.std.specs.Prelude.{ℕ, List};
+    ghost use Rattle.std.specs.Prelude.{◌≡◌, ℕ, List};
+    ghost use Rattle.sha2.specs.Sha256.{sha256};
     ghost use Rattle.repo_store.specs.Places.{IsNamed};
 
     ghost Value = { List ℕ };
 
     ghost view = { λ p. p.octets.items };
 
-    ghost invariant = { λ p. IsNamed p.octets.items p.name_start p.name_end };
+    ghost invariant = { λ p. IsNamed p.octets.items p.name_start p.name_end
+        × (p.digest ≡ sha256 p.octets.items) };
 }
 
 impl Packet {
-    // The packet of these octets.
-    pub(crate) fn of_data(octets: Vec<u8>) -> Packet
-        requires { IsOk (data_of octets.items) }
-        ensures { result ≡ octets.items }
+    // The packet of these octets, which have this digest.
+    pub(crate) fn of_data(octets: Vec<u8>, digest: &[u8; 32]) -> Packet
+        requires is_data { IsOk (data_of octets.items) }
+        requires digest { digest.now ≡ sha256 octets.items }
+        ensures octets { result ≡ octets.items }
+        ensures named { IsPacket octets.items }
     {
         let (name_start, name_end) = name_place(&octets);
         Packet {
             octets,
             name_start,
             name_end,
+            digest: *digest,
         }
     }
 
@@ -53,37 +54,30 @@ impl Packet {
         &self.octets
     }
 
-    // The hash of the packet's name.
-    pub(crate) fn name_hash(&self) -> u64
-        ensures { result ≡ packet_hash self.now }
+    pub(crate) fn name(&self) -> &[u8]
+        ensures { result.now ≡ name_of self.now }
     {
-        name_hash(&self.octets[self.name_start..self.name_end])
+        &self.octets[self.name_start..self.name_end]
     }
 
-    // Whether the packet satisfies an Interest of this name.
-    pub(crate) fn satisfies(&self, name: &NameView<'_>, can_be_prefix: bool) -> bool
-        ensures { result ≡ satisfies name.now can_be_prefix self.now }
+    pub(crate) fn digest(&self) -> &[u8]
+        ensures { result.now ≡ sha256 self.now }
     {
-        let asked = name.octets();
-        let own = &self.octets[self.name_start..self.name_end];
-        asked == own
-            || can_be_prefix && own.starts_with(asked)
-            || is_full_name(asked, own, &self.octets)
+        &self.digest
     }
 }
 
-// Whether the name, as octets, is the full name of the packet of that name and these octets. These
-// are hashed only where it could be.
-fn is_full_name(asked: &[u8], own: &[u8], octets: &[u8]) -> bool
-    ensures { IsTrue result ↔ (asked.now ≡ own.now ++ element 0x01 (sha256 octets.now)) }
+// Packets, each different one once, in slots that the slab picks.
+pub(crate) type Packets = Slab<Packet>;
+
+// The octets in a slot.
+pub(crate) fn octets_at(packets: &Packets, slot: usize) -> &[u8]
+    ensures { result.now ≡ octets_at packets.now slot }
 {
-    let Some(last) = asked.strip_prefix(own) else {
-        return false;
-    };
-    let Some(claimed) = last.strip_prefix(&[0x01, 0x20]) else {
-        return false;
-    };
-    claimed.len() == 32 && claimed == digest(octets).as_slice()
+    match packets.get(slot) {
+        Some(packet) => packet.octets(),
+        None => &[],
+    }
 }
 
 // Where the name of a Data packet stands in its octets.
@@ -91,9 +85,7 @@ fn name_place(octets: &[u8]) -> (usize, usize)
     requires { IsOk (data_of octets.now) }
     ensures { IsNamed octets.now result.0 result.1 }
 {
-    let Ok(packet) = DataView::read(octets) else {
-        unreachable!();
-    };
+    let packet = DataView::read(octets).unwrap();
     let name = packet.name.octets();
     let start = place_of(name, octets);
     (start, start + name.len())

@@ -1,33 +1,37 @@
-ghost use Rattle.std.specs.Prelude.{◌≡◌, ◌-◌, ◌<◌, false, [], length, max, not, option_map, Ok, Err, IsOk, IfOk, OnOk, OnErr, MatchResult, vec_capacity};
+ghost use Rattle.std.specs.Prelude.{◌≡◌, ◌↔◌, ℕ, ◌+◌, ◌-◌, ◌<◌, ◌≤◌, [], length, max, not, map, option_map, Ok, Err, IsOk, IfOk, OnOk, OnErr, MatchResult, vec_len, vec_capacity};
 ghost use Rattle.std.specs.List.{find};
+ghost use Rattle.slab.specs.Slab.{get, ContainsKey, HasRoomFor};
+ghost use Rattle.sha2.specs.Sha256.{sha256};
 ghost use Rattle.ndn_data.specs.Data.{data_of};
 ghost use Rattle.repo_plan.specs.SortedList.{Rises, keys, contains, value_of};
 ghost use Rattle.repo_plan.specs.Parts.{part_cmp};
-ghost use Rattle.repo_store.specs.StoreList.{with_packet, packets_in, packets_outside, IsSound};
-ghost use Rattle.repo_store.specs.StoreFields.{packets_of, AreIndexed, IsPlaceOf, ArePartsSmall};
-ghost use Rattle.repo_store.specs.Served.{satisfies, served};
+ghost use Rattle.repo_plan.proofs.Sets.{In};
+ghost use Rattle.repo_store.specs.declared.index.Held as declared_held;
+ghost use Rattle.repo_store.specs.declared.index.Order.TheVariants.{Names, FullNames};
+ghost use Rattle.repo_store.specs.StoreList.{with_packet, packets_in, packets_outside, different_octets, IsSound};
+ghost use Rattle.repo_store.specs.Indexes.{key_cmp, keys_in, satisfies_held, IsData, IsFirstOf, IsIndexOf};
+ghost use Rattle.repo_store.specs.Slots.{AreSlots, IsPlaceOf, KeepsOne, IsUsed, held_outside};
+ghost use Rattle.repo_store.specs.Served.{served};
 
-use crate::name_index::{self, NameIndex};
-use crate::packet::Packet;
+use crate::index::{self, Held, Index, Order};
+use crate::packet::{Packet, Packets, octets_at};
 use ndn_interest::InterestView;
 use ndn_name::{NameView, PacketFault};
+use ndn_sign::digest;
 use repo_plan::Part;
+use slab::Slab;
 use std::alloc::{AllocError, Global};
-use std::collections::HashMap;
 use std::marker::Model;
 
-// A part and its packet.
-#[derive(Drop)]
-struct Stored {
-    part: Part,
-    packet: Packet,
-}
-
-/// The packets of parts, in order of the parts, each part once, and room for more.
+/// The packets of parts, each part once, and room for more. Packets of the same octets are kept once.
 #[derive(Drop)]
 pub struct Store {
-    stored: Vec<Stored>,
-    index: NameIndex,
+    packets: Packets,
+    // In order of the parts.
+    parts: Vec<Held>,
+    // The same in order of the packets' names and of their full names.
+    names: Vec<Held>,
+    full_names: Vec<Held>,
     spare: usize,
 }
 
@@ -38,11 +42,12 @@ impl Model for Store {
 
     ghost Value = { StoreList };
 
-    ghost use Rattle.repo_store.specs.StoreFields.{packets_of, IsKept};
+    ghost use Rattle.repo_store.specs.Kept.{entries_of};
+    ghost use Rattle.repo_store.specs.StoreFields.{IsStored};
 
-    ghost view = { λ s. record { packets = packets_of s.stored.items; spare = s.spare } };
+    ghost view = { λ s. record { packets = entries_of s.packets s.parts.items; spare = s.spare } };
 
-    ghost invariant = { IsKept };
+    ghost invariant = { IsStored };
 }
 
 impl Store {
@@ -50,8 +55,10 @@ impl Store {
         ensures { result ≡ record { packets = []; spare = 0 } }
     {
         Store {
-            stored: Vec::new(alloc),
-            index: HashMap::new(alloc),
+            packets: Slab::new(alloc),
+            parts: Vec::new(alloc),
+            names: Vec::new(alloc),
+            full_names: Vec::new(alloc),
             spare: 0,
         }
     }
@@ -63,7 +70,14 @@ impl Store {
         ensures number { result ≡ length self.now.packets }
         ensures sound { IsSound self.now.packets }
     {
-        self.stored.len()
+        self.parts.len()
+    }
+
+    /// How many different packets there are: those of the same octets count once.
+    pub fn kept(&self) -> usize
+        ensures { result ≡ length (different_octets self.now.packets) }
+    {
+        self.packets.len()
     }
 
     /// The packet of a part.
@@ -72,8 +86,8 @@ impl Store {
             ≡ value_of part_cmp self.now.packets part }
         ensures sound { IsSound self.now.packets }
     {
-        match place_of(&self.stored, part) {
-            Ok(place) => Some(self.stored[place].packet.octets()),
+        match place_of(&self.parts, part) {
+            Ok(place) => Some(octets_at(&self.packets, self.parts[place].slot)),
             Err(_) => None,
         }
     }
@@ -90,10 +104,10 @@ impl Store {
         }) }
         ensures err { OnErr result (self.new ≡ self.old) }
     {
-        if place_of(&self.stored, part).is_ok() {
+        if place_of(&self.parts, part).is_ok() {
             return Ok(false);
         }
-        let octets = octets.to_vec(*self.stored.allocator())?;
+        let octets = octets.to_vec(*self.parts.allocator())?;
         let Some(room) = self.spare.checked_add(1) else {
             return Err(AllocError);
         };
@@ -107,8 +121,10 @@ impl Store {
         ensures err { OnErr result (self.new ≡ self.old) }
     {
         if self.spare < n {
-            self.stored.reserve(n)?;
-            self.index.reserve(n)?;
+            self.packets.reserve(n)?;
+            self.parts.reserve(n)?;
+            self.names.reserve(n)?;
+            self.full_names.reserve(n)?;
             self.spare = n;
         }
         Ok(())
@@ -127,16 +143,37 @@ impl Store {
           spare = self.old.spare - 1;
         } }
     {
+        let digest = digest(&octets);
+        self.put_reserved_with_digest(part, octets, &digest)
+    }
+
+    /// As `put_reserved`, for a caller that has the packet's digest already.
+    pub fn put_reserved_with_digest(
+        &mut self,
+        part: Part,
+        octets: Vec<u8>,
+        digest: &[u8; 32],
+    ) -> bool
+        requires spare { 0 < self.old.spare }
+        requires is_data { IsOk (data_of octets.items) }
+        requires digest { digest.now ≡ sha256 octets.items }
+        ensures fresh { result ≡ not (contains part_cmp (keys self.old.packets) part) }
+        ensures put { self.new ≡ record {
+          packets = with_packet part octets.items self.old.packets;
+          spare = self.old.spare - 1;
+        } }
+    {
         self.spare -= 1;
-        match place_of(&self.stored, part) {
-            Ok(_) => false,
-            Err(place) => {
-                let packet = Packet::of_data(octets);
-                name_index::add(&mut self.index, packet.name_hash(), part);
-                self.stored.insert(place, Stored { part, packet }).unwrap();
-                true
-            }
-        }
+        let Err(place) = place_of(&self.parts, part) else {
+            return false;
+        };
+        let packet = Packet::of_data(octets, digest);
+        let slot = keep(&mut self.packets, &self.full_names, packet);
+        let held = Held { part, slot };
+        index::add(&mut self.names, Order::Names, &self.packets, held);
+        index::add(&mut self.full_names, Order::FullNames, &self.packets, held);
+        self.parts.insert(place, held).unwrap();
+        true
     }
 
     /// The packet of the least part that satisfies the Interest: the packet's name is the Interest's,
@@ -153,11 +190,17 @@ impl Store {
         if interest.must_be_fresh {
             return Ok(None);
         }
-        let name = &interest.name;
-        if interest.can_be_prefix {
-            return Ok(first_for(&self.stored, name, true));
+        let found = first_for(
+            &self.packets,
+            &self.names,
+            &self.full_names,
+            &interest.name,
+            interest.can_be_prefix,
+        );
+        match found {
+            Some(held) => Ok(Some(octets_at(&self.packets, held.slot))),
+            None => Ok(None),
         }
-        Ok(first_named(&self.stored, &self.index, name))
     }
 
     /// Drops the packets of a publication's parts, and gives their number. It takes no memory.
@@ -167,57 +210,115 @@ impl Store {
           packets = packets_outside (publisher, seq) self.old.packets;
         } }
     {
-        drop_pair(&mut self.stored, (publisher, seq))
+        let pair = (publisher, seq);
+        drop_pair(&mut self.names, pair);
+        drop_pair(&mut self.full_names, pair);
+        drop_unused(&mut self.packets, &self.parts, &self.full_names, pair);
+        drop_pair(&mut self.parts, pair) as u32
     }
 }
 
 // The place of a part, or else the place where it would stand.
-fn place_of(stored: &[Stored], part: Part) -> Result<usize, usize>
-    requires { Rises part_cmp (keys (packets_of stored.now)) }
-    ensures { IsPlaceOf (packets_of stored.now) part result }
+fn place_of(parts: &[Held], part: Part) -> Result<usize, usize>
+    requires { Rises part_cmp (map (λ h. h.part) parts.now) }
+    ensures { IsPlaceOf parts.now part result }
 {
-    stored.binary_search_by_key(&part, |stored| stored.part)
+    parts.binary_search_by_key(&part, |held| held.part)
 }
 
-// The first packet that satisfies an Interest of this name.
-fn first_for<'s>(stored: &'s [Stored], name: &NameView<'_>, can_be_prefix: bool) -> Option<&'s [u8]>
-    ensures { option_map (λ octets. octets.now) result ≡ option_map (λ e. e.1)
-        (find (λ e. satisfies name.now can_be_prefix e.1) (packets_of stored.now)) }
+// What is held of the least part whose packet satisfies an Interest of this name.
+fn first_for(
+    packets: &Packets,
+    names: &[Held],
+    full_names: &[Held],
+    name: &NameView<'_>,
+    can_be_prefix: bool,
+) -> Option<Held>
+    requires names { Rises key_cmp (keys_in Names packets.now names.now) }
+    requires full_names { Rises key_cmp (keys_in FullNames packets.now full_names.now) }
+    requires same { (h : declared_held.Held) → In h names.now ↔ In h full_names.now }
+    requires are_data { (h : declared_held.Held) → In h names.now → IsData (get packets.now h.slot) }
+    ensures { IsFirstOf names.now (satisfies_held packets.now name.now can_be_prefix) result }
 {
-    for entry in stored {
-        if entry.packet.satisfies(name, can_be_prefix) {
-            return Some(entry.packet.octets());
+    let asked = name.octets();
+    let names = Index {
+        order: Order::Names,
+        held: names,
+        packets,
+    };
+    let full_names = Index {
+        order: Order::FullNames,
+        held: full_names,
+        packets,
+    };
+    let named = if can_be_prefix {
+        names.first_below(asked)
+    } else {
+        names.first_named(asked)
+    };
+    index::lesser(named, full_names.first_with_full_name(asked))
+}
+
+// The slot of a packet, which is put into one where none has its octets.
+fn keep(packets: &mut Packets, full_names: &[Held], packet: Packet) -> usize
+    requires in_order { Rises key_cmp (keys_in FullNames packets.old full_names.now) }
+    requires kept { (h : declared_held.Held) → In h full_names.now → ContainsKey packets.old h.slot }
+    requires room { HasRoomFor packets.old 1 }
+    ensures kept { KeepsOne full_names.now packet packets.old packets.new result }
+    ensures room { (n : ℕ) → HasRoomFor packets.old (n + 1) → HasRoomFor packets.new n }
+{
+    let index = Index {
+        order: Order::FullNames,
+        held: full_names,
+        packets,
+    };
+    match index.slot_of(&packet) {
+        Some(slot) => slot,
+        None => packets.insert_reserved(packet),
+    }
+}
+
+// Whether what an index holds has the packet in this slot.
+fn is_used(packets: &Packets, full_names: &[Held], slot: usize) -> bool
+    requires { Rises key_cmp (keys_in FullNames packets.now full_names.now) }
+    ensures { IsUsed packets.now full_names.now slot result }
+{
+    let Some(packet) = packets.get(slot) else {
+        return false;
+    };
+    let index = Index {
+        order: Order::FullNames,
+        held: full_names,
+        packets,
+    };
+    index.slot_of(packet).is_some()
+}
+
+// Drops the packets of a publication's parts that no other part uses.
+fn drop_unused(packets: &mut Packets, parts: &[Held], full_names: &[Held], pair: (u32, u16))
+    requires slots { AreSlots packets.old parts.now }
+    requires index { IsIndexOf FullNames packets.old (held_outside pair parts.now) full_names.now }
+    ensures slots { AreSlots packets.new (held_outside pair parts.now) }
+    ensures same { (h : declared_held.Held) → In h (held_outside pair parts.now) → get packets.new h.slot ≡ get packets.old h.slot }
+    ensures room { (n : ℕ) → HasRoomFor packets.old n → HasRoomFor packets.new n }
+{
+    for held in parts {
+        if (held.part.publisher, held.part.seq) == pair
+            && !is_used(packets, full_names, held.slot)
+        {
+            let _ = packets.try_remove(held.slot);
         }
     }
-    None
 }
 
-// The first packet that has this name or full name.
-fn first_named<'s>(stored: &'s [Stored], index: &NameIndex, name: &NameView<'_>) -> Option<&'s [u8]>
-    requires in_order { Rises part_cmp (keys (packets_of stored.now)) }
-    requires indexed { AreIndexed index.now (packets_of stored.now) }
-    ensures { option_map (λ octets. octets.now) result ≡ option_map (λ e. e.1)
-        (find (λ e. satisfies name.now false e.1) (packets_of stored.now)) }
+// Drops a publication's parts, and gives their number.
+fn drop_pair(held: &mut Vec<Held>, pair: (u32, u16)) -> usize
+    ensures number { result + length held.new.items ≡ length held.old.items }
+    ensures dropped { held.new.items ≡ held_outside pair held.old.items }
+    ensures len { vec_len held.new ≤ vec_len held.old }
+    ensures capacity { vec_capacity held.new ≡ vec_capacity held.old }
 {
-    let first = name_index::first_of(index, name.octets())?;
-    let place = match place_of(stored, first) {
-        Ok(place) => place,
-        Err(place) => place,
-    };
-    let (_, rest) = stored.split_at(place);
-    first_for(rest, name, false)
-}
-
-// Drops the packets of a publication's parts, and gives their number.
-fn drop_pair(stored: &mut Vec<Stored>, pair: (u32, u16)) -> u32
-    requires in_order { Rises part_cmp (keys (packets_of stored.old.items)) }
-    requires small { ArePartsSmall (packets_of stored.old.items) }
-    ensures number { result ≡ length (packets_in pair (packets_of stored.old.items)) }
-    ensures dropped { packets_of stored.new.items
-        ≡ packets_outside pair (packets_of stored.old.items) }
-    ensures capacity { vec_capacity stored.new ≡ vec_capacity stored.old }
-{
-    let before = stored.len();
-    stored.retain(|stored| (stored.part.publisher, stored.part.seq) != pair);
-    (before - stored.len()) as u32
+    let before = held.len();
+    held.retain(|held| (held.part.publisher, held.part.seq) != pair);
+    before - held.len()
 }

@@ -73,6 +73,20 @@ fn packets_are_put_once_and_dropped(rt: HostRuntime) -> Result<(), Fail> {
 }
 
 #[test]
+fn equal_packets_are_kept_once(rt: HostRuntime) -> Result<(), Fail> {
+    let mut store = Store::new(rt.alloc());
+    put(&mut store, part(0, 1, 0), &RECORD)?;
+    put(&mut store, part(0, 1, 1), &SEGMENT)?;
+    put(&mut store, part(0, 2, 0), &SECOND_RECORD)?;
+    put(&mut store, part(0, 2, 1), &SEGMENT)?;
+    assert_eq!(rt; (store.len(), store.kept()), (4, 3));
+    assert_eq!(rt; store.drop_parts(0, 1), 2);
+    assert_eq!(rt; (store.len(), store.kept()), (2, 2));
+    assert_eq!(rt; store.serve(&FULL_ASKED)?, Some(SEGMENT.as_slice()));
+    Ok(())
+}
+
+#[test]
 fn packets_are_put_within_rooms(rt: HostRuntime) -> Result<(), Fail> {
     let alloc = rt.alloc();
     DataView::read(&RECORD)?;

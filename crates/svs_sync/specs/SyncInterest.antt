@@ -4,11 +4,13 @@ use Rattle.std.specs.Prelude.{◌≡◌, ℕ, ◌≤◌, Bool, false, ◌&&◌, 
 use Rattle.std.specs.Option.{option_map_or}
 use Rattle.std.specs.Str.{bytes_eq}
 use Rattle.sha2.specs.Sha256.{sha256}
+use Rattle.ndn_tlv.specs.Types as types
 use Rattle.ndn_tlv.specs.Listing.{◌>>=◌}
 use Rattle.ndn_name.specs.declared.fault.PacketFault.{PacketFault}
 use Rattle.ndn_name.specs.Names.{Component, encoding}
 use Rattle.ndn_sign.specs.Hmac.{hmac}
 use Rattle.ndn_sign.specs.Ring.{Pair, number_of}
+use Rattle.ndn_packet.specs.SignatureInfo.{SignatureHmacWithSha256}
 use Rattle.ndn_interest.specs.Interest.{Interest, interest_of, last_component, without_last, ends_in_digest}
 use Rattle.ndn_interest.specs.WrittenInterest.{written_interest}
 use Rattle.svs_vector.specs.declared.vector_fault.VectorFault.{VectorFault}
@@ -22,7 +24,7 @@ use Rattle.svs_sync.specs.declared.sync_refusal.SyncRefusal.TheVariants.{Packet,
 
 -- The name of a group's sync Interests without the parameters digest: the group's name, and version 2.
 abbrev pub sync_name : List Component → List Component
-sync_name group = group ++ (0x36, 2 ∷ []) ∷ []
+sync_name group = group ++ (types.VersionNameComponent, 2 ∷ []) ∷ []
 
 -- The name of a node, or of a group: 1 to 200 octets of value.
 abbrev pub IsNodeName : List Component → Type 0
@@ -30,7 +32,7 @@ IsNodeName name = (1 ≤ length (encoding name)) × (length (encoding name) ≤ 
 
 -- The component behind a node's name in the name of its key: the generic component KEY.
 abbrev pub key_component : Component
-key_component = (8, 75 ∷ 69 ∷ 89 ∷ [])
+key_component = (types.GenericNameComponent, 75 ∷ 69 ∷ 89 ∷ [])
 
 -- The name of a node's key.
 pub record IsKeyName (name : List Component) : Type 0 where
@@ -71,14 +73,14 @@ is_sync_name group name = is_same_name (without_last name) (sync_name group) && 
 -- The last component of the name is the digest of the octets.
 abbrev pub is_digest_of : List ℕ → Option Component → Bool
 is_digest_of octets None = false
-is_digest_of octets (Some last) = last.0 == 2 && bytes_eq last.1 (sha256 octets)
+is_digest_of octets (Some last) = last.0 == types.ParametersSha256DigestComponent && bytes_eq last.1 (sha256 octets)
 
 abbrev pub has_its_digest : Interest → Bool
 has_its_digest i = option_map_or (λ octets. is_digest_of octets (last_component i.name)) i.digested false
 
--- The number of the key that the Interest names, where it is signed by HMAC with SHA-256, which is signature type 4.
+-- The number of the key that the Interest names, where it is signed by HMAC with SHA-256.
 abbrev pub key_of : List Pair → Option ℕ → Option (List Component) → Option ℕ
-key_of ring (Some typ) (Some name) = if typ == 4 then number_of (encoding name) ring else None
+key_of ring (Some typ) (Some name) = if typ == SignatureHmacWithSha256 then number_of (encoding name) ring else None
 key_of ring (Some typ) None = None
 key_of ring None locator = None
 

@@ -6,6 +6,7 @@ ghost use Rattle.ndn_sign.specs.Ring.{Pair, number_of, pair};
 ghost use Rattle.ndn_interest.specs.Interest.{Interest, IsDigested};
 ghost use Rattle.svs_vector.specs.Rosters.{IsRoster};
 ghost use Rattle.svs_sync.specs.Suppression.{Event, Member, after_all, fires, mode_of};
+ghost use Rattle.ndn_tlv.specs.Types as types;
 ghost use Rattle.svs_sync.specs.SyncInterest.{sync_interest, sync_verdict, is_sync_name, has_its_digest, is_signed, IsNodeName, IsKeyName};
 ghost use Rattle.svs_sync.specs.KeptVector.{kept, after_all_kept, fires_kept};
 
@@ -39,7 +40,7 @@ pub fn made_sync_interests_are_checked()
 pub fn sync_interests_are_tested()
     ensures name { (group name : List Component) → IsName group → IsName name
         → IsTrue (is_sync_name group name)
-        ↔ ((digest : List ℕ) × (name ≡ group ++ (0x36, 2 ∷ []) ∷ (2, digest) ∷ [])) }
+        ↔ ((digest : List ℕ) × (name ≡ group ++ (types.VersionNameComponent, 2 ∷ []) ∷ (types.ParametersSha256DigestComponent, digest) ∷ [])) }
     ensures digest { (i : Interest) → IsTrue (has_its_digest i) ↔ IsDigested i }
     ensures signature { (ring : List Pair) (signer : ℕ) (signed : List ℕ × List ℕ) (i : Interest)
         → IsTrue (is_signed ring signer signed i)

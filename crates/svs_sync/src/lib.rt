@@ -1,5 +1,3 @@
-// FOUNDER to helper names: leave svs_vector and svs_sync out (steps 3 and 4): they are done in /work/scratch/vectors.
-// Revert this file (git checkout) and end with ndn_name and ndn_sign.
 //! Sync Interests and the suppression of State Vector Sync: how a member tells the others of its
 //! state vector, and what it takes from them; when it sends, and when it holds back because others
 //! have told what it knows.

@@ -1,5 +1,3 @@
-// FOUNDER to helper names: leave svs_vector and svs_sync out (steps 3 and 4): they are done in /work/scratch/vectors.
-// Revert this file (git checkout) and end with ndn_name and ndn_sign.
 ghost use Rattle.std.specs.Prelude.{◌≡◌, ◌≤◌, ◌⊎◌, IfOk, IsTrue, MatchResult, Ok, Err, Some, length, slice_get, is_some};
 ghost use Rattle.std.specs.List.{All};
 ghost use Rattle.ndn_interest.specs.Interest.{packet};
@@ -8,13 +6,24 @@ ghost use Rattle.svs_sync.specs.SyncInterest.{sync_name, sync_interest, sync_ver
 use crate::sync_refusal::SyncRefusal;
 use ndn_interest::{InterestView, write_signed};
 use ndn_name::{Name, NameFault, NameView, PacketWriteFault};
+use ndn_packet::SIGNATURE_HMAC_WITH_SHA256;
 use ndn_sign::KeyRing;
+use ndn_tlv::types;
 use std::alloc::{AllocError, Global};
 use svs_vector::{Roster, Vector, VectorFault};
 
 // What stands behind the group's name in that of its sync Interests: the component of version 2,
 // and the head of the parameters digest's component.
-const BEHIND_GROUP: [u8; 5] = [0x36, 1, 2, 2, 32];
+const BEHIND_GROUP: [u8; 5] = [
+    types::VERSION_NAME_COMPONENT as u8,
+    1,
+    VERSION,
+    types::PARAMETERS_SHA256_DIGEST_COMPONENT as u8,
+    32,
+];
+
+// Of State Vector Sync.
+const VERSION: u8 = 2;
 
 /// Makes the sync Interest of a member that knows this vector, signed with its key (State Vector
 /// Sync; NDN Packet Format 0.3, "Signed Interest").
@@ -48,7 +57,7 @@ fn sync_name(alloc: Global, group: &Name) -> Result<Name, AllocError>
     ensures { IfOk result (λ name. name ≡ sync_name group.now) }
 {
     let mut name = group.clone()?;
-    match name.push(0x36, &[2]) {
+    match name.push(types::VERSION_NAME_COMPONENT, &[VERSION]) {
         Ok(()) => Ok(name),
         Err(NameFault::NameTooLong) => unreachable!(),
         Err(_) => Err(AllocError),
@@ -112,7 +121,7 @@ fn key_of(interest: &InterestView<'_>, ring: &KeyRing) -> Option<u32>
         ≡ key_of ring.now (packet interest.now).signature_type (packet interest.now).locator }
 {
     match (interest.signature_type, &interest.locator) {
-        (Some(4), Some(name)) => ring.find(name.octets()),
+        (Some(SIGNATURE_HMAC_WITH_SHA256), Some(name)) => ring.find(name.octets()),
         _ => None,
     }
 }

@@ -1,5 +1,6 @@
 pub mod JoinLemmas
 pub mod RosterLemmas
+pub mod NumberLemmas
 pub mod OrderLemmas
 pub mod ToldLemmas
 pub mod SortedLemmas

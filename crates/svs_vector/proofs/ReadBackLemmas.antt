@@ -23,9 +23,9 @@ use Rattle.ndn_name.proofs.Encodings.{name_of-encoding}
 use Rattle.ndn_packet.proofs.ReadBack.{alone, followed, gathers, gathered-nothing}
 use Rattle.svs_vector.specs.declared.vector_fault.VectorFault.{VectorFault}
 use Rattle.svs_vector.specs.declared.entry.EntryField.TheVariants as entry_field
-use Rattle.svs_vector.specs.declared.entry.TheConstants.{ENTRY}
+use Rattle.svs_vector.specs.Format.{entry_table}
 use Rattle.svs_vector.specs.declared.read.VectorField.TheVariants as vector_field
-use Rattle.svs_vector.specs.declared.read.TheConstants.{STATE_VECTOR}
+use Rattle.svs_vector.specs.Format.{state_vector_table}
 use Rattle.svs_vector.specs.Vectors.{join}
 use Rattle.svs_vector.specs.Rosters.{is_same_name, member_of, IsOwnName, IsRoster}
 use Rattle.svs_vector.specs.StateVector.{Entry, EntrySoFar, good_name, good_number, with_entry_field, entry_fields, entry_in, both, fault_in, counted, with_entry, vector_in, vector_among, vector_of}
@@ -39,13 +39,13 @@ use Rattle.svs_vector.proofs.ToldLemmas.{told_by, told_more, told_none, Counts, 
 
 -- ---- an entry
 
-entry_place : place_of 202 STATE_VECTOR ≡ Some (vector_field.Entry, STATE_VECTOR)
+entry_place : place_of 202 state_vector_table ≡ Some (vector_field.Entry, state_vector_table)
 unfolding place_of
 entry_place = refl
 
-entry_table : (a b : Item) → a.typ ≡ 7 → b.typ ≡ 204 → fields ENTRY (a then (b then nothing)) ≡ ((entry_field.Name, a) then ((entry_field.SeqNo, b) then nothing))
+entry_places : (a b : Item) → a.typ ≡ 7 → b.typ ≡ 204 → fields entry_table (a then (b then nothing)) ≡ ((entry_field.Name, a) then ((entry_field.SeqNo, b) then nothing))
 unfolding fields_among place_of
-entry_table a b h k = rw (h, k) refl
+entry_places a b h k = rw (h, k) refl
 
 name_again : (e : Item) (name : List Component) → e.value ≡ encoding name → IsName name → good_name e (name_of e.value_start e.value) ≡ Ok name
 name_again e name is valid = ap (good_name e) (ap (name_of e.value_start) is ∙ name_of-encoding e.value_start name valid)
@@ -73,8 +73,8 @@ module _ (o typ : ℕ) (entry : Entry) (is : IsWritten entry) where
       let first : with_entry_field none (entry_field.Name, a) ≡ Ok named = ap (λ (r : Result (List Component) VectorFault). r >>= λ n. Ok (record none { name = Some n })) (name_again a entry.0 refl is.name.0) in
       let second : with_entry_field named (entry_field.SeqNo, b) ≡ Ok whole = ap (λ (r : Option ℕ). good_number b r >>= λ n. Ok (record named { number = Some n })) (number_of-number_field entry.1 (omega (arith, is.small))) in
       let all : entry_fields e ≡ Ok whole =
-      ap (λ (l : Listing Item TlvFault). gathered with_entry_field (fault_in e) none (fields ENTRY l)) read
-      ∙ ap (gathered with_entry_field (fault_in e) none) (entry_table a b refl refl)
+      ap (λ (l : Listing Item TlvFault). gathered with_entry_field (fault_in e) none (fields entry_table l)) read
+      ∙ ap (gathered with_entry_field (fault_in e) none) (entry_places a b refl refl)
       ∙ gathers with_entry_field (fault_in e) none named (entry_field.Name, a) ((entry_field.SeqNo, b) then nothing) first
       ∙ gathers with_entry_field (fault_in e) named whole (entry_field.SeqNo, b) nothing second
       ∙ gathered-nothing with_entry_field (fault_in e) whole in
@@ -96,10 +96,10 @@ counted_small v n (Some m) h = rw (le-ltb 65535 n (omega (arith, h))) refl
 
 module _ (roster : List (List Component)) (named : FieldFault → VectorFault) where
   entries_again : (o : ℕ) (v : List ℕ) (es : List Entry) → All IsOwnName (keys_of es) → All (λ n. n < 2 ^ 16) (values_of es)
-      → gathered (with_entry roster) named v (fields STATE_VECTOR (elements o (flat_map written_entry es))) ≡ Ok (taken roster v es)
+      → gathered (with_entry roster) named v (fields state_vector_table (elements o (flat_map written_entry es))) ≡ Ok (taken roster v es)
   entries_again o v [] names numbers =
-      ap (λ (l : Listing Item TlvFault). gathered (with_entry roster) named v (fields STATE_VECTOR l)) (elements-nil o [] refl)
-      ∙ ap (gathered (with_entry roster) named v) (fields-nothing STATE_VECTOR)
+      ap (λ (l : Listing Item TlvFault). gathered (with_entry roster) named v (fields state_vector_table l)) (elements-nil o [] refl)
+      ∙ ap (gathered (with_entry roster) named v) (fields-nothing state_vector_table)
       ∙ gathered-nothing (with_entry roster) named v
   entries_again o v (e ∷ es) names numbers =
       let take = with_entry roster in
@@ -110,14 +110,14 @@ module _ (roster : List (List Component)) (named : FieldFault → VectorFault) w
       let next = raised v e.1 (member_of e.0 roster) in
       let read : elements o (flat_map written_entry (e ∷ es)) ≡ (item then rest) =
       followed o 202 (entry_value e) (flat_map written_entry es) rest (omega arith) (omega arith) (omega (arith, value_short 1000 e is.name.1)) refl in
-      let field : fields STATE_VECTOR (item then rest) ≡ ((vector_field.Entry, item) then fields STATE_VECTOR rest) =
-      fields-field STATE_VECTOR item rest vector_field.Entry STATE_VECTOR entry_place in
+      let field : fields state_vector_table (item then rest) ≡ ((vector_field.Entry, item) then fields state_vector_table rest) =
+      fields-field state_vector_table item rest vector_field.Entry state_vector_table entry_place in
       let step : take v (vector_field.Entry, item) ≡ Ok next =
       ap (λ (r : Result Entry VectorFault). r >>= λ entry. counted v entry.1 (member_of entry.0 roster)) (entry_again o 202 e is)
       ∙ counted_small v e.1 (member_of e.0 roster) is.small in
-      ap (λ (l : Listing Item TlvFault). gathered take named v (fields STATE_VECTOR l)) read
+      ap (λ (l : Listing Item TlvFault). gathered take named v (fields state_vector_table l)) read
       ∙ ap (gathered take named v) field
-      ∙ gathers take named v next (vector_field.Entry, item) (fields STATE_VECTOR rest) step
+      ∙ gathers take named v next (vector_field.Entry, item) (fields state_vector_table rest) step
       ∙ entries_again p next es (All-tail IsOwnName e.0 (keys_of es) names) (All-tail (λ n. n < 2 ^ 16) e.1 (values_of es) numbers)
 
 module _ (roster : List (List Component)) (are : IsRoster roster) where

@@ -14,7 +14,7 @@ use Rattle.ndn_name.specs.Names.{Component, encoding}
 use Rattle.svs_vector.specs.declared.vector_fault.VectorFault.{VectorFault}
 use Rattle.svs_vector.specs.declared.vector_fault.VectorFault.TheVariants.{BadVector, NumberTooLarge}
 use Rattle.svs_vector.specs.declared.read.VectorField.{VectorField}
-use Rattle.svs_vector.specs.declared.read.TheConstants.{STATE_VECTOR}
+use Rattle.svs_vector.specs.Format.{state_vector_table}
 use Rattle.svs_vector.specs.Vectors.{join}
 use Rattle.svs_vector.specs.Rosters.{is_same_name, member_of, IsRoster}
 use Rattle.svs_vector.specs.StateVector.{Entry, entry_in, fault_in, counted, with_entry, vector_in, vector_among, vector_of}
@@ -196,7 +196,7 @@ module _ (roster : List (List Component)) (octets : List ℕ) where
   Whole (Err fault) = IsFault roster octets fault
 
   inside : (e : Item) (es : List Item) → (elements 0 octets).items ≡ e ∷ es → e.typ ≡ 201 → (r : Result (List ℕ) VectorFault)
-      → Outcome roster e (replicate (length roster) 0) (fields STATE_VECTOR (elements e.value_start e.value)) r → Whole r
+      → Outcome roster e (replicate (length roster) 0) (fields state_vector_table (elements e.value_start e.value)) r → Whole r
   inside e es first typ (Ok vector) o = λ are. record {
     entries = o.0;
     begins = record { vector = e; behind = es; first = first; typ = typ; tells = o.1 };
@@ -207,7 +207,7 @@ module _ (roster : List (List Component)) (octets : List ℕ) where
   typed : (b : Bool) (e : Item) (es : List Item) → (elements 0 octets).items ≡ e ∷ es → eqb e.typ 201 ≡ b
       → Whole (cond b (Ok e) (Err (BadVector 0)) >>= vector_in roster)
   typed true e es first typ =
-      let read = fields STATE_VECTOR (elements e.value_start e.value) in
+      let read = fields state_vector_table (elements e.value_start e.value) in
       inside e es first (eqb-true e.typ 201 typ) (vector_in roster e) (outcome roster e (replicate (length roster) 0) read.items read.fault)
   typed false e es first typ = inl ((λ e' es' first' typ'. other e e' es es' (sym first ∙ first') typ typ'), refl)
 

@@ -5,6 +5,7 @@ pub use Rattle.ndn_tlv.specs.NumberField
 pub use Rattle.ndn_tlv.specs.OrderTable
 pub use Rattle.ndn_name.specs.Names
 pub use Rattle.ndn_name.specs.CanonicalOrder
+pub mod Format
 pub mod Vectors
 pub mod Rosters
 pub mod StateVector

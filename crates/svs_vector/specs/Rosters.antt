@@ -2,7 +2,8 @@
 use Rattle.std.specs.Prelude.{◌≡◌, ℕ, ◌≤◌, Bool, List, Option, Vec, length, position}
 use Rattle.std.specs.List.{All, IsDistinct}
 use Rattle.std.specs.Str.{bytes_eq}
-use Rattle.ndn_name.specs.Names.{Component, IsName, encoding}
+use Rattle.ndn_name.specs.Names.{Component, IsName, encoding, name_limit}
+use Rattle.svs_vector.specs.Format.{member_limit}
 
 -- Names are the same exactly where their octets are.
 abbrev pub is_same_name : List Component → List Component → Bool
@@ -14,11 +15,11 @@ member_of name roster = position (is_same_name name) roster
 
 -- A name that may be owned.
 abbrev pub IsOwnName : List Component → Type 0
-IsOwnName name = IsName name × (length (encoding name) ≤ 1000)
+IsOwnName name = IsName name × (length (encoding name) ≤ name_limit)
 
 -- The names of a roster differ, and there are 16 at most.
 pub record IsRoster (roster : List (List Component)) : Type 0 where
-  pub few : length roster ≤ 16
+  pub few : length roster ≤ member_limit
   pub names : All IsOwnName roster
   pub different : IsDistinct is_same_name roster
 
@@ -26,4 +27,4 @@ pub record IsRoster (roster : List (List Component)) : Type 0 where
 pub record AreMembers {A : Type 0} (entries : List (Vec ℕ A × List Component)) : Type 0 where
   pub octets : All (λ (entry : Vec ℕ A × List Component). entry.0.items ≡ encoding entry.1) entries
   pub names : All (λ (entry : Vec ℕ A × List Component). IsOwnName entry.1) entries
-  pub few : length entries ≤ 16
+  pub few : length entries ≤ member_limit

@@ -14,9 +14,9 @@ use Rattle.svs_vector.specs.declared.vector_fault.VectorFault.TheVariants.{BadVe
 use Rattle.svs_vector.specs.declared.entry.EntryField.{EntryField}
 use Rattle.svs_vector.specs.declared.entry.EntryField.TheVariants as entry_field
 use Rattle.svs_vector.specs.declared.entry.Gathered.{Gathered}
-use Rattle.svs_vector.specs.declared.entry.TheConstants.{ENTRY}
 use Rattle.svs_vector.specs.declared.read.VectorField.{VectorField}
-use Rattle.svs_vector.specs.declared.read.TheConstants.{STATE_VECTOR}
+use Rattle.svs_vector.specs.Format as format
+use Rattle.svs_vector.specs.Format.{entry_table, state_vector_table, number_limit}
 use Rattle.svs_vector.specs.Rosters.{member_of}
 
 -- Where elements end that begin at an offset: behind the last of them.
@@ -58,7 +58,7 @@ with_entry_field s (entry_field.SeqNo, e) =
 abbrev pub entry_fields : Item → Result EntrySoFar VectorFault
 entry_fields e =
     gathered with_entry_field (fault_in e) (record { name = None; number = None })
-    (fields ENTRY (elements e.value_start e.value))
+    (fields entry_table (elements e.value_start e.value))
 
 -- An entry has a name and a number.
 abbrev pub both : Item → Option (List Component) → Option ℕ → Result Entry VectorFault
@@ -78,7 +78,7 @@ entry_so_far g = record { name = g.name; number = g.number }
 abbrev pub counted : List ℕ → ℕ → Option ℕ → Result (List ℕ) VectorFault
 counted vector n None = Ok vector
 counted vector n (Some member) =
-    if nat_lt 65535 n then Err (NumberTooLarge member n)
+    if nat_lt number_limit n then Err (NumberTooLarge member n)
     else Ok (slice_set vector member (max (slice_index vector member) n))
 
 abbrev pub with_entry : List (List Component) → List ℕ → VectorField × Item → Result (List ℕ) VectorFault
@@ -88,12 +88,12 @@ with_entry roster vector field =
 abbrev pub vector_in : List (List Component) → Item → Result (List ℕ) VectorFault
 vector_in roster e =
     gathered (with_entry roster) (fault_in e) (replicate (length roster) 0)
-    (fields STATE_VECTOR (elements e.value_start e.value))
+    (fields state_vector_table (elements e.value_start e.value))
 
 -- The first element is the vector. What follows it is not looked at.
 abbrev pub vector_among : List Item → Result Item VectorFault
 vector_among [] = Err (BadVector 0)
-vector_among (e ∷ es) = if e.typ == 201 then Ok e else Err (BadVector 0)
+vector_among (e ∷ es) = if e.typ == format.StateVector then Ok e else Err (BadVector 0)
 
 abbrev pub vector_of : List (List Component) → List ℕ → Result (List ℕ) VectorFault
 vector_of roster octets = vector_among (elements 0 octets).items >>= vector_in roster

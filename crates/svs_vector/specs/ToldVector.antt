@@ -9,7 +9,8 @@ use Rattle.ndn_name.specs.Names.{Component}
 use Rattle.svs_vector.specs.declared.vector_fault.VectorFault.{VectorFault}
 use Rattle.svs_vector.specs.declared.vector_fault.VectorFault.TheVariants.{BadVector, NumberTooLarge}
 use Rattle.svs_vector.specs.declared.read.VectorField.{VectorField}
-use Rattle.svs_vector.specs.declared.read.TheConstants.{STATE_VECTOR}
+use Rattle.svs_vector.specs.Format as format
+use Rattle.svs_vector.specs.Format.{state_vector_table, number_limit}
 use Rattle.svs_vector.specs.Rosters.{is_same_name, member_of}
 use Rattle.svs_vector.specs.StateVector.{Entry, entry_in, fault_in}
 
@@ -30,12 +31,12 @@ vector_told roster entries = map (λ name. greatest_told name entries) roster
 abbrev pub HaveSameEntries : List Entry → List Entry → Type 0
 HaveSameEntries a b = (e : Entry) → Contains a e ↔ Contains b e
 
--- A member's number is at most 65,535. That of a node that is no member may be any.
+-- A member's number is at most the greatest. That of a node that is no member may be any.
 abbrev pub IsCounted : List (List Component) → Entry → Type 0
-IsCounted roster entry = IfSome (member_of entry.0 roster) (λ member. entry.1 ≤ 65535)
+IsCounted roster entry = IfSome (member_of entry.0 roster) (λ member. entry.1 ≤ number_limit)
 
 -- What the fields of a state vector's element tell: the entries that they are, or the first fault in reading order.
--- That is an element that is no entry, a member's number above 65,535, or a fault of the fields behind the last of them.
+-- That is an element that is no entry, a member's number above the greatest, or a fault of the fields behind the last of them.
 pub data Tells (roster : List (List Component)) (vector : Item) : Listing (VectorField × Item) FieldFault
     → Result (List Entry) VectorFault → Type 0 where
   ended : Tells roster vector nothing (Ok [])
@@ -44,7 +45,7 @@ pub data Tells (roster : List (List Component)) (vector : Item) : Listing (Vecto
       → entry_in field.1 ≡ Err fault → Tells roster vector (field then rest) (Err fault)
   too_large : {field : VectorField × Item} {rest : Listing (VectorField × Item) FieldFault}
       (entry : Entry) (member : ℕ) → entry_in field.1 ≡ Ok entry
-      → member_of entry.0 roster ≡ Some member → 65535 < entry.1
+      → member_of entry.0 roster ≡ Some member → number_limit < entry.1
       → Tells roster vector (field then rest) (Err (NumberTooLarge member entry.1))
   one : {field : VectorField × Item} {rest : Listing (VectorField × Item) FieldFault} {entries : List Entry}
       (entry : Entry) → entry_in field.1 ≡ Ok entry → IsCounted roster entry → Tells roster vector rest (Ok entries)
@@ -53,18 +54,18 @@ pub data Tells (roster : List (List Component)) (vector : Item) : Listing (Vecto
       (entry : Entry) → entry_in field.1 ≡ Ok entry → IsCounted roster entry → Tells roster vector rest (Err fault)
       → Tells roster vector (field then rest) (Err fault)
 
--- The element of type 201 that octets begin with, and what its fields tell.
+-- The StateVector that octets begin with, and what its fields tell.
 pub record Begins (roster : List (List Component)) (octets : List ℕ) (told : Result (List Entry) VectorFault)
     : Type 0 where
   pub vector : Item
   pub behind : List Item
   pub first : (elements 0 octets).items ≡ vector ∷ behind
-  pub typ : vector.typ ≡ 201
-  pub tells : Tells roster vector (fields STATE_VECTOR (elements vector.value_start vector.value)) told
+  pub typ : vector.typ ≡ format.StateVector
+  pub tells : Tells roster vector (fields state_vector_table (elements vector.value_start vector.value)) told
 
--- Octets do not begin with an element of type 201.
+-- Octets do not begin with a StateVector.
 abbrev pub BeginsOtherwise : List ℕ → Type 0
-BeginsOtherwise octets = (e : Item) (es : List Item) → (elements 0 octets).items ≡ e ∷ es → e.typ ≡ 201 → ⊥
+BeginsOtherwise octets = (e : Item) (es : List Item) → (elements 0 octets).items ≡ e ∷ es → e.typ ≡ format.StateVector → ⊥
 
 -- The octets are a state vector, and this is the vector that its entries tell.
 pub record IsVector (roster : List (List Component)) (octets vector : List ℕ) : Type 0 where

@@ -1,6 +1,10 @@
 -- State vectors, as lists of numbers, one a member: the latest sequence number that is known of each (State Vector Sync).
-use Rattle.std.specs.Prelude.{◌≡◌, ℕ, max, Bool, true, false, List, [], ◌∷◌, nat_le, ◌&&◌, ◌↔◌}
-use Rattle.std.specs.List.{Contains}
+use Rattle.std.specs.Prelude.{◌≡◌, ◌<◌, ◌^◌, ℕ, max, Bool, true, false, List, [], ◌∷◌, nat_le, ◌&&◌, ◌↔◌}
+use Rattle.std.specs.List.{All, Contains}
+
+-- Numbers of publications have 16 bits at most.
+abbrev pub AreNumbers : List ℕ → Type 0
+AreNumbers v = All (λ n. n < 2 ^ 16) v
 
 -- The greater number in each place. A place that one of them lacks counts as 0.
 unfoldable pub join : List ℕ → List ℕ → List ℕ

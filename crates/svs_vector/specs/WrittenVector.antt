@@ -7,6 +7,8 @@ use Rattle.ndn_tlv.specs.Spelling.{element}
 use Rattle.ndn_tlv.specs.NumberField.{number_field}
 use Rattle.ndn_name.specs.Names.{Component, encoding}
 use Rattle.ndn_name.specs.CanonicalOrder.{canonical_cmp}
+use Rattle.ndn_tlv.specs.Types as types
+use Rattle.svs_vector.specs.Format as format
 use Rattle.svs_vector.specs.StateVector.{Entry}
 
 -- The members of whom something is known, in the order of the roster.
@@ -19,14 +21,14 @@ in_canonical_order entries = fold (λ placed entry. insert_entry canonical_cmp p
 
 -- StateVectorEntry, and what is in it: Name and SeqNo.
 abbrev pub entry_value : Entry → List ℕ
-entry_value entry = element 7 (encoding entry.0) ++ element 204 (number_field entry.1)
+entry_value entry = element types.Name (encoding entry.0) ++ element format.SeqNo (number_field entry.1)
 
 abbrev pub written_entry : Entry → List ℕ
-written_entry entry = element 202 (entry_value entry)
+written_entry entry = element format.StateVectorEntry (entry_value entry)
 
 -- StateVector: an entry for each member whose number is not 0, in canonical order of the node names.
 abbrev pub written_vector : List (List Component) → List ℕ → List ℕ
-written_vector roster vector = element 201 (flat_map written_entry (in_canonical_order (known_entries roster vector)))
+written_vector roster vector = element format.StateVector (flat_map written_entry (in_canonical_order (known_entries roster vector)))
 
 -- Entries whose names are lent, without where those lie in memory.
 abbrev pub lent_entries : BTreeMap (Bor (List Component)) ℕ → List Entry

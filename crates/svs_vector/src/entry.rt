@@ -1,11 +1,11 @@
-// FOUNDER to helper names: leave svs_vector and svs_sync out (steps 3 and 4): they are done in /work/scratch/vectors.
-// Revert this file (git checkout) and end with ndn_name and ndn_sign.
 ghost use Rattle.std.specs.Prelude.{◌≡◌, ◌+◌, ◌^◌, ◌<◌, length, MatchResult, Ok, Err};
 ghost use Rattle.ndn_tlv.specs.Elements.{item, elements};
 ghost use Rattle.svs_vector.specs.StateVector.{end_of, fault_in, with_entry_field, entry_fields, entry_in, entry_so_far, both};
 
+use crate::types::SEQ_NO;
 use crate::vector_fault::VectorFault;
 use ndn_name::NameView;
+use ndn_tlv::types::NAME;
 use ndn_tlv::{Element, FieldFault, FieldReader, Place, Reader, read_number};
 
 #[derive(Clone, Copy, Debug)]
@@ -14,14 +14,14 @@ pub(crate) enum EntryField {
     SeqNo,
 }
 
-const ENTRY: [Place<EntryField>; 2] = [
+pub(crate) const ENTRY_PLACES: [Place<EntryField>; 2] = [
     Place {
-        typ: 7,
+        typ: NAME,
         field: EntryField::Name,
         repeats: false,
     },
     Place {
-        typ: 204,
+        typ: SEQ_NO,
         field: EntryField::SeqNo,
         repeats: false,
     },
@@ -53,7 +53,7 @@ impl<'p> Gathered<'p> {
             (λ fault. entry_fields (item element.entry) ≡ Err fault) }
     {
         let elements = Reader::new(element.value, element.value_start);
-        let mut fields = FieldReader::new(elements, &ENTRY);
+        let mut fields = FieldReader::new(elements, &ENTRY_PLACES);
         let mut gathered = Gathered {
             name: None,
             number: None,

@@ -1,5 +1,3 @@
-// FOUNDER to helper names: leave svs_vector and svs_sync out (steps 3 and 4): they are done in /work/scratch/vectors.
-// Revert this file (git checkout) and end with ndn_name and ndn_sign.
 //! State vectors of a group whose members are numbered from 0: one sequence number a member, joined by taking the
 //! greater number in each place (State Vector Sync).
 #![tactic(auto)]
@@ -9,6 +7,7 @@ mod laws;
 mod read;
 mod roster;
 mod roster_fault;
+mod types;
 mod vector;
 mod vector_fault;
 mod vector_laws;
@@ -24,8 +23,9 @@ pub use roster_fault::RosterFault;
 pub use vector::Vector;
 pub use vector_fault::VectorFault;
 pub use vector_laws::{
-    entries_are_written_in_canonical_order, entries_tell_the_same_in_any_order,
-    state_vectors_tell_their_entries, written_vectors_are_read_back,
+    constants_are_the_formats, entries_are_written_in_canonical_order,
+    entries_tell_the_same_in_any_order, state_vectors_tell_their_entries,
+    written_vectors_are_read_back,
 };
 
 #[cfg(test)]

@@ -1,11 +1,10 @@
-// FOUNDER to helper names: leave svs_vector and svs_sync out (steps 3 and 4): they are done in /work/scratch/vectors.
-// Revert this file (git checkout) and end with ndn_name and ndn_sign.
 ghost use Rattle.std.specs.Prelude.{◌≡◌, ◌+◌, ◌^◌, ◌<◌, ◌⊎◌, length, replicate, MatchResult, IfOk, IfErr, OnOk, Ok, Err};
 ghost use Rattle.ndn_tlv.specs.Elements.{item, elements};
 ghost use Rattle.svs_vector.specs.StateVector.{with_entry, vector_in, vector_among, vector_of};
 
 use crate::entry::{entry_in, fault_in};
 use crate::roster::Roster;
+use crate::types;
 use crate::vector::Vector;
 use crate::vector_fault::VectorFault;
 use ndn_tlv::{Element, FieldReader, Place, Reader};
@@ -16,8 +15,8 @@ pub(crate) enum VectorField {
     Entry,
 }
 
-const STATE_VECTOR: [Place<VectorField>; 1] = [Place {
-    typ: 202,
+pub(crate) const VECTOR_PLACES: [Place<VectorField>; 1] = [Place {
+    typ: types::STATE_VECTOR_ENTRY,
     field: VectorField::Entry,
     repeats: true,
 }];
@@ -57,7 +56,7 @@ impl Vector {
         ensures width { OnOk result (length self.new ≡ length roster.now) }
     {
         let elements = Reader::new(element.value, element.value_start);
-        let mut fields = FieldReader::new(elements, &STATE_VECTOR);
+        let mut fields = FieldReader::new(elements, &VECTOR_PLACES);
         loop {
             match fields.next() {
                 Ok(Some(next)) => self.take_entry(next.0, next.1, roster)?,
@@ -100,7 +99,7 @@ fn vector_element(octets: &[u8]) -> Result<Element<'_>, VectorFault>
     ensures fits { IfOk result (λ e. e.value_start + length e.value.now < 2 ^ 64) }
 {
     match Reader::new(octets, 0).next() {
-        Ok(Some(element)) if element.typ == 201 => Ok(element),
+        Ok(Some(element)) if element.typ == types::STATE_VECTOR => Ok(element),
         _ => Err(VectorFault::BadVector { at: 0 }),
     }
 }

@@ -1,4 +1,5 @@
 ghost use Rattle.std.specs.Prelude.{◌≡◌, ◌<◌, ◌≤◌, ◌↔◌, ◌++◌, ◌∷◌, [], ℕ, Some, None, length, slice_get, IfOk, OnOk, OnErr, Err};
+ghost use Rattle.svs_vector.specs.Format.{member_limit};
 ghost use Rattle.svs_vector.specs.Rosters.{IsRoster, member_of};
 
 use crate::roster_fault::RosterFault;
@@ -46,7 +47,7 @@ impl Roster {
         ensures duplicate { (member : ℕ)
             → (result ≡ Err (RosterFault.Duplicate member)) ↔ (member_of name.now self.old ≡ Some member) }
         ensures full { (result ≡ Err RosterFault.Full)
-            ↔ ((member_of name.now self.old ≡ None) × (MEMBER_LIMIT ≤ length self.old)) }
+            ↔ ((member_of name.now self.old ≡ None) × (member_limit ≤ length self.old)) }
         ensures err { OnErr result (self.new ≡ self.old) }
     {
         if let Some(member) = self.find(&name.view()) {
@@ -63,7 +64,7 @@ impl Roster {
     // Adds a member whose name is not there.
     fn insert(&mut self, name: &Name) -> Result<(), AllocError>
         requires new_name { member_of name.now self.old ≡ None }
-        requires room { length self.old < MEMBER_LIMIT }
+        requires room { length self.old < member_limit }
         ensures ok { OnOk result (self.new ≡ self.old ++ name.now ∷ []) }
         ensures err { OnErr result (self.new ≡ self.old) }
     {
@@ -93,7 +94,7 @@ impl Roster {
     /// How many members there are: at most 16.
     pub fn len(&self) -> usize
         ensures len { result ≡ length self.now }
-        ensures few { result ≤ MEMBER_LIMIT }
+        ensures few { result ≤ member_limit }
         ensures roster { IsRoster self.now }
     {
         self.members.len()

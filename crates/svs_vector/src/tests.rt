@@ -61,8 +61,18 @@ const UNORDERED: [u8; 52] = [
     7, 3, 8, 1, 120, 0xcc, 1, 9,
 ];
 
+// Alice at 3, with a second number in her entry, which is no field.
+const TWO_NUMBERS: [u8; 19] = [
+    0xc9, 0x11, 0xca, 0x0f, 7, 7, 8, 5, 97, 108, 105, 99, 101, 0xcc, 1, 3, 0xcc, 1, 5,
+];
+
 // Octets, and the numbers of alice and bob that they tell.
-const TOLD: [(&[u8], u16, u16); 3] = [(&[0xc9, 0], 0, 0), (&WRITTEN, 3, 0), (&UNORDERED, 3, 2)];
+const TOLD: [(&[u8], u16, u16); 4] = [
+    (&[0xc9, 0], 0, 0),
+    (&WRITTEN, 3, 0),
+    (&TWO_NUMBERS, 3, 0),
+    (&UNORDERED, 3, 2),
+];
 
 #[test]
 fn vectors_are_read(rt: HostRuntime) -> Result<(), Fail> {

@@ -1,5 +1,5 @@
 ghost use Rattle.std.specs.Prelude.{◌≡◌, ◌<◌, ◌↔◌, length, max, not, replicate, slice_index, slice_set, IfOk, IsFalse};
-ghost use Rattle.svs_vector.specs.Vectors.{join, covers};
+ghost use Rattle.svs_vector.specs.Vectors.{AreNumbers, join, covers};
 
 use std::alloc::{AllocError, Global};
 use std::marker::Model;
@@ -18,6 +18,11 @@ impl Model for Vector {
     ghost Value = { List ℕ };
 
     ghost view = { λ v. v.numbers.items };
+
+    ghost use Rattle.svs_vector.specs.Vectors.{AreNumbers};
+
+    // No number takes more than 16 bits.
+    ghost invariant = { λ v. AreNumbers v.numbers.items };
 }
 
 impl Vector {
@@ -46,8 +51,12 @@ impl Vector {
         self.numbers.copy_from_slice(&other.numbers);
     }
 
+    /// How many members there are.
+    //
+    // A caller sees the value alone, so `numbers` states what holds of every vector.
     pub fn members(&self) -> usize
-        ensures { result ≡ length self.now }
+        ensures len { result ≡ length self.now }
+        ensures numbers { AreNumbers self.now }
     {
         self.numbers.len()
     }

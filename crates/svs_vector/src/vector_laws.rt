@@ -6,9 +6,25 @@ ghost use Rattle.ndn_name.specs.Names.{Component};
 ghost use Rattle.ndn_name.specs.CanonicalOrder.{canonical_cmp};
 ghost use Rattle.svs_vector.specs.declared.vector_fault.VectorFault.{VectorFault};
 ghost use Rattle.svs_vector.specs.Rosters.{IsRoster};
+ghost use Rattle.svs_vector.specs.Format as format;
 ghost use Rattle.svs_vector.specs.StateVector.{Entry, vector_of};
 ghost use Rattle.svs_vector.specs.ToldVector.{vector_told, HaveSameEntries, IsVector, IsFault};
 ghost use Rattle.svs_vector.specs.WrittenVector.{in_canonical_order, known_entries, written_vector};
+
+use crate::entry::ENTRY_PLACES;
+use crate::read::VECTOR_PLACES;
+use crate::roster::MEMBER_LIMIT;
+use crate::types::{SEQ_NO, STATE_VECTOR, STATE_VECTOR_ENTRY};
+
+/// The types of elements, the order tables and the limit of members are those of the format.
+pub fn constants_are_the_formats()
+    ensures state_vector { STATE_VECTOR ≡ format.StateVector }
+    ensures entry { STATE_VECTOR_ENTRY ≡ format.StateVectorEntry }
+    ensures number { SEQ_NO ≡ format.SeqNo }
+    ensures vector_table { VECTOR_PLACES ≡ format.state_vector_table }
+    ensures entry_table { ENTRY_PLACES ≡ format.entry_table }
+    ensures members { MEMBER_LIMIT ≡ format.member_limit }
+{}
 
 /// What is read as a state vector is what its entries tell: the greatest number of each member.
 /// What is refused has this fault first, in reading order.

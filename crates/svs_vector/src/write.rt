@@ -1,12 +1,15 @@
 ghost use Rattle.std.specs.Prelude.{◌≡◌, ◌+◌, ◌*◌, ◌<◌, ◌≤◌, ◌++◌, length, map, IfOk, OnOk};
 ghost use Rattle.std.specs.List.{flat_map};
+ghost use Rattle.svs_vector.specs.Format.{member_limit};
 ghost use Rattle.svs_vector.specs.WrittenVector.{entry_value, in_canonical_order, known_entries, lent_entries, written_entry, written_vector};
 
-use crate::roster::{MEMBER_LIMIT, Roster};
+use crate::roster::Roster;
+use crate::types::{SEQ_NO, STATE_VECTOR, STATE_VECTOR_ENTRY};
 use crate::vector::Vector;
 use ndn_name::Name;
 use ndn_packet::{element_len, number_field_len};
 use ndn_tlv::Writer;
+use ndn_tlv::types::NAME;
 use std::alloc::{AllocError, Global};
 use std::collections::BTreeMap;
 
@@ -17,12 +20,12 @@ impl Vector {
     pub fn write(&self, alloc: Global, roster: &Roster) -> Result<Vec<u8>, AllocError>
         requires { length self.now ≡ length roster.now }
         ensures ok { IfOk result (λ octets. octets.items ≡ written_vector roster.now self.now) }
-        ensures members { length self.now ≤ MEMBER_LIMIT }
+        ensures members { length self.now ≤ member_limit }
     {
         let entries = self.known_entries(alloc, roster)?;
         let len = entries_len(&entries);
-        let mut writer = Writer::with_capacity(alloc, element_len(201, len))?;
-        writer.put_head(201, len)?;
+        let mut writer = Writer::with_capacity(alloc, element_len(STATE_VECTOR, len))?;
+        writer.put_head(STATE_VECTOR, len)?;
         put_entries(&mut writer, &entries)?;
         Ok(writer.finish())
     }
@@ -36,8 +39,8 @@ impl Vector {
         requires { length self.now ≡ length roster.now }
         ensures known { IfOk result (λ entries.
             lent_entries entries ≡ in_canonical_order (known_entries roster.now self.now)) }
-        ensures few { IfOk result (λ entries. length entries.entries ≤ MEMBER_LIMIT) }
-        ensures members { length self.now ≤ MEMBER_LIMIT }
+        ensures few { IfOk result (λ entries. length entries.entries ≤ member_limit) }
+        ensures members { length self.now ≤ member_limit }
     {
         let mut entries = BTreeMap::new(alloc);
         for member in 0..roster.len() as u32 {
@@ -52,13 +55,13 @@ impl Vector {
 
 // How many octets the entries have.
 fn entries_len(entries: &BTreeMap<&Name, u16>) -> usize
-    requires { length entries.now.entries ≤ MEMBER_LIMIT }
+    requires { length entries.now.entries ≤ member_limit }
     ensures exact { result ≡ length (flat_map written_entry (lent_entries entries.now)) }
     ensures small { result ≤ 1_100 * length entries.now.entries }
 {
     let mut len = 0;
     for (name, number) in entries {
-        len += element_len(202, entry_len(name, *number));
+        len += element_len(STATE_VECTOR_ENTRY, entry_len(name, *number));
     }
     len
 }
@@ -79,13 +82,14 @@ fn entry_len(name: &Name, number: u16) -> usize
     ensures exact { result ≡ length (entry_value (name.now, number)) }
     ensures small { result ≤ 1_060 }
 {
-    element_len(7, name.octets().len()) + element_len(204, number_field_len(u64::from(number)))
+    element_len(NAME, name.octets().len())
+        + element_len(SEQ_NO, number_field_len(u64::from(number)))
 }
 
 fn put_entry(writer: &mut Writer, name: &Name, number: u16) -> Result<(), AllocError>
     ensures { OnOk result (writer.new ≡ writer.old ++ written_entry (name.now, number)) }
 {
-    writer.put_head(202, entry_len(name, number))?;
-    writer.put(7, name.octets())?;
-    writer.put_number(204, u64::from(number))
+    writer.put_head(STATE_VECTOR_ENTRY, entry_len(name, number))?;
+    writer.put(NAME, name.octets())?;
+    writer.put_number(SEQ_NO, u64::from(number))
 }

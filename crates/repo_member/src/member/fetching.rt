@@ -4,18 +4,18 @@ ghost use Rattle.repo_plan.specs.Plan.{claim_of, unclaimed, first, is_after, is_
 ghost use Rattle.repo_plan.specs.Calls.{IsFetcher};
 ghost use Rattle.ndn_data.specs.Data.{data_of};
 ghost use Rattle.repo_object.specs.Verdict.{listing_in, ring_verdict};
-ghost use Rattle.repo_member.specs.Alone.{IsOf, plan_of, claims_part, want_of, accepts};
+ghost use Rattle.repo_member.specs.Alone.{IsOf, alone_plan, alone_claims, want_of, alone_accepts};
 ghost use Rattle.repo_member.specs.Verdicts.{passed, accept_verdict};
-ghost use Rattle.repo_member.specs.Holding.{IsArrival};
+ghost use Rattle.repo_member.specs.Gaining.{IsArrival};
 ghost use Rattle.repo_member.specs.Listings.{IsStored, IsListingFor};
-ghost use Rattle.repo_member.specs.Outcomes.{planned};
+ghost use Rattle.repo_member.specs.Outcomes.{job_for, IsCheckedFor};
 
 use super::Member;
 use crate::group::Group;
-use crate::holding::{Arrival, gain_listed, make_room};
+use crate::gaining::{Arrival, gain_listed, make_room};
 use crate::listing::read_listing;
 use crate::refusals::{AcceptRefusal, WantFault};
-use repo_object::{Job, Listing, Want, check_part, want_record, want_segment};
+use repo_object::{Checked, Job, Listing, Want, check_part, want_record, want_segment};
 use repo_plan::{FetcherBusy, FetcherIdle, Part};
 use std::alloc::{AllocError, Global};
 
@@ -31,10 +31,10 @@ impl Member {
     /// no memory.
     pub fn claim(&mut self, f: u8) -> Result<Option<Part>, FetcherBusy>
         requires { IsFetcher f }
-        ensures idle { IsOk result ↔ (claim_of (plan_of self.old) f ≡ None) }
-        ensures busy { IfErr result (λ e. claim_of (plan_of self.old) f ≡ Some e.part) }
-        ensures part { IfOk result (λ claim. claim ≡ first (unclaimed (plan_of self.old))) }
-        ensures new { IfOk result (λ claim. self.new ≡ claims_part f claim self.old) }
+        ensures idle { IsOk result ↔ (claim_of (alone_plan self.old) f ≡ None) }
+        ensures busy { IfErr result (λ e. claim_of (alone_plan self.old) f ≡ Some e.part) }
+        ensures part { IfOk result (λ claim. claim ≡ first (unclaimed (alone_plan self.old))) }
+        ensures new { IfOk result (λ claim. self.new ≡ alone_claims f claim self.old) }
         ensures err { OnErr result (self.new ≡ self.old) }
     {
         self.plan.claim(f)
@@ -43,9 +43,9 @@ impl Member {
     /// The fetcher's claim ends, and its part can be claimed again. It takes no memory.
     pub fn lose(&mut self, f: u8) -> Result<Part, FetcherIdle>
         requires { IsFetcher f }
-        ensures busy { IfOk result (λ part. claim_of (plan_of self.old) f ≡ Some part) }
-        ensures idle { IsErr result ↔ (claim_of (plan_of self.old) f ≡ None) }
-        ensures ok { OnOk result (self.new ≡ claims_part f None self.old) }
+        ensures busy { IfOk result (λ part. claim_of (alone_plan self.old) f ≡ Some part) }
+        ensures idle { IsErr result ↔ (claim_of (alone_plan self.old) f ≡ None) }
+        ensures ok { OnOk result (self.new ≡ alone_claims f None self.old) }
         ensures err { OnErr result (self.new ≡ self.old) }
     {
         self.plan.release(f)
@@ -55,9 +55,9 @@ impl Member {
     pub fn want(&self, alloc: Global, g: &Group, f: u8) -> Result<Want, WantFault>
         requires fetcher { IsFetcher f }
         requires group { IsOf g.now self.now }
-        ensures want { IfOk result (λ want. IsSomeAnd (claim_of (plan_of self.now) f)
+        ensures want { IfOk result (λ want. IsSomeAnd (claim_of (alone_plan self.now) f)
             (λ part. want ≡ want_of g.now self.now.store part)) }
-        ensures idle { (result ≡ Err WantFault.FetcherIdle) ↔ (claim_of (plan_of self.now) f ≡ None) }
+        ensures idle { (result ≡ Err WantFault.FetcherIdle) ↔ (claim_of (alone_plan self.now) f ≡ None) }
     {
         let Some(part) = self.claimed(f) else {
             return Err(WantFault::FetcherIdle);
@@ -72,7 +72,7 @@ impl Member {
         requires fetcher { IsFetcher f }
         requires group { IsOf g.now self.old }
         ensures part { IfOk result (λ part. accept_verdict g.now self.old f octets.now ≡ Ok part) }
-        ensures ok { IfOk result (λ part. self.new ≡ accepts f part octets.now self.old) }
+        ensures ok { IfOk result (λ part. self.new ≡ alone_accepts f part octets.now self.old) }
         ensures refused { IfErr result (λ refusal. (refusal ≡ AcceptRefusal.NoMemory)
             ⊎ (accept_verdict g.now self.old f octets.now ≡ Err refusal)) }
         ensures err { OnErr result (self.new ≡ self.old) }
@@ -81,6 +81,47 @@ impl Member {
             return Err(AcceptRefusal::FetcherIdle);
         };
         let arrival = self.arrival(g, part, octets)?;
+        self.gain_claimed(f, part, arrival)?;
+        Ok(part)
+    }
+
+    /// A packet that the caller has checked for the member's want of the part that the fetcher claims is taken, as
+    /// `accept` takes it.
+    pub fn accept_checked(
+        &mut self,
+        g: &Group,
+        f: u8,
+        checked: &Checked<'_>,
+    ) -> Result<Part, AcceptRefusal>
+        requires fetcher { IsFetcher f }
+        requires group { IsOf g.now self.old }
+        requires checked { IfSome (claim_of (alone_plan self.old) f)
+            (λ part. IsCheckedFor g.now (want_of g.now self.old.store part) checked.now) }
+        ensures part { IfOk result (λ part. claim_of (alone_plan self.old) f ≡ Some part) }
+        ensures ok { IfOk result (λ part. self.new ≡ alone_accepts f part checked.now.octets self.old) }
+        ensures idle { (result ≡ Err AcceptRefusal.FetcherIdle) ↔ (claim_of (alone_plan self.old) f ≡ None) }
+        ensures refused { IfErr result (λ refusal. (refusal ≡ AcceptRefusal.NoMemory)
+            ⊎ (refusal ≡ AcceptRefusal.FetcherIdle)) }
+        ensures err { OnErr result (self.new ≡ self.old) }
+    {
+        let Some(part) = self.claimed(f) else {
+            return Err(AcceptRefusal::FetcherIdle);
+        };
+        let listing = self.listing_for(*self.log.allocator(), part, None)?;
+        let arrival = self.arrived(part, checked.octets(), &listing)?;
+        self.gain_claimed(f, part, arrival)?;
+        Ok(part)
+    }
+
+    // The packet that came for the part that the fetcher claims is held from now on, and the claim is over.
+    fn gain_claimed(&mut self, f: u8, part: Part, arrival: Arrival) -> Result<(), AllocError>
+        requires fetcher { IsFetcher f }
+        requires claimed { claim_of (alone_plan self.old) f ≡ Some part }
+        requires wanted { is_wanted (alone_plan self.old) part ≡ true }
+        requires arrival { IsArrival self.old.store part arrival.octets.items arrival.segments arrival.name }
+        ensures ok { OnOk result (self.new ≡ alone_accepts f part arrival.octets.items self.old) }
+        ensures err { OnErr result (self.new ≡ self.old) }
+    {
         make_room(&mut self.plan, &mut self.store, &mut self.catalogue, 1)?;
         let _ = self.plan.release(f);
         gain_listed(
@@ -90,7 +131,7 @@ impl Member {
             part,
             arrival,
         );
-        Ok(part)
+        Ok(())
     }
 
     /// The least parts that are wanted, that no fetcher claims and that are greater than `after`, at most `most` of them,
@@ -103,8 +144,8 @@ impl Member {
         most: usize,
     ) -> Result<Vec<Job>, AllocError>
         requires { IsOf g.now self.now }
-        ensures { IfOk result (λ jobs. jobs.items ≡ map (planned g.now self.now)
-            (take most (filter (is_after after) (unclaimed (plan_of self.now))))) }
+        ensures { IfOk result (λ jobs. jobs.items ≡ map (job_for g.now self.now)
+            (take most (filter (is_after after) (unclaimed (alone_plan self.now))))) }
     {
         let parts = self.plan.wanted_after(alloc, after, most)?;
         self.jobs(alloc, g, &parts)
@@ -113,8 +154,8 @@ impl Member {
     // The part that the fetcher claims. It is wanted, and so not held.
     fn claimed(&self, f: u8) -> Option<Part>
         requires { IsFetcher f }
-        ensures claim { result ≡ claim_of (plan_of self.now) f }
-        ensures wanted { IfSome result (λ part. is_wanted (plan_of self.now) part ≡ true) }
+        ensures claim { result ≡ claim_of (alone_plan self.now) f }
+        ensures wanted { IfSome result (λ part. is_wanted (alone_plan self.now) part ≡ true) }
     {
         let part = self.plan.claimed(f)?;
         let held = self.plan.holds(part);
@@ -125,8 +166,8 @@ impl Member {
     // The jobs of these parts. The listing of a record is read once for segments in a row.
     fn jobs(&self, alloc: Global, g: &Group, parts: &[Part]) -> Result<Vec<Job>, AllocError>
         requires group { IsOf g.now self.now }
-        requires asked { All (λ part. is_asked (plan_of self.now) part ≡ true) parts.now }
-        ensures { IfOk result (λ jobs. jobs.items ≡ map (planned g.now self.now) parts.now) }
+        requires asked { All (λ part. is_asked (alone_plan self.now) part ≡ true) parts.now }
+        ensures { IfOk result (λ jobs. jobs.items ≡ map (job_for g.now self.now) parts.now) }
     {
         let mut jobs = Vec::with_capacity(alloc, parts.len())?;
         let mut listing = None;
@@ -146,7 +187,7 @@ impl Member {
         part: Part,
         last: Option<StoredListing>,
     ) -> Result<Option<StoredListing>, AllocError>
-        requires asked { is_asked (plan_of self.now) part ≡ true }
+        requires asked { is_asked (alone_plan self.now) part ≡ true }
         requires last { IsStored self.now.store last }
         ensures stored { IfOk result (IsStored self.now.store) }
         ensures own { IfOk result (IsListingFor part) }
@@ -180,7 +221,7 @@ impl Member {
         listing: &Option<StoredListing>,
     ) -> Result<Want, AllocError>
         requires group { IsOf g.now self.now }
-        requires asked { is_asked (plan_of self.now) part ≡ true }
+        requires asked { is_asked (alone_plan self.now) part ≡ true }
         requires stored { IsStored self.now.store listing.now }
         requires own { IsListingFor part listing.now }
         ensures { IfOk result (λ want. want ≡ want_of g.now self.now.store part) }
@@ -197,7 +238,7 @@ impl Member {
     // The packet that came for a part, if the octets pass for it.
     fn arrival(&self, g: &Group, part: Part, octets: &[u8]) -> Result<Arrival, AcceptRefusal>
         requires group { IsOf g.now self.now }
-        requires asked { is_asked (plan_of self.now) part ≡ true }
+        requires asked { is_asked (alone_plan self.now) part ≡ true }
         ensures passed { IfOk result (λ _. passed part (ring_verdict (want_of g.now self.now.store part)
             g.now.members.ring octets.now) ≡ Ok part) }
         ensures octets { IfOk result (λ arrival. arrival.octets.items ≡ octets.now) }

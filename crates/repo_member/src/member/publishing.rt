@@ -1,20 +1,20 @@
 ghost use Rattle.std.specs.Prelude.{◌≡◌, ◌<◌, ◌≤◌, ◌^◌, ◌↔◌, ℕ, Err, IsTrue, IfOk, OnOk, OnErr, length, map, option_map, vec_len};
 ghost use Rattle.std.specs.List.{All};
 ghost use Rattle.repo_object.specs.Objects.{is_object_name, IsContent, IsObject, IsPublisher};
-ghost use Rattle.repo_member.specs.Groups.{publisher_of};
-ghost use Rattle.repo_member.specs.Alone.{IsOf, as_parts, with_packets, next_seq, publishes, logged};
-ghost use Rattle.repo_member.specs.Holding.{AreTied, KeepsOthers};
+ghost use Rattle.repo_member.specs.Groups.{publisher_at};
+ghost use Rattle.repo_member.specs.Alone.{IsOf, publication_limit, as_parts, with_packets, next_seq, alone_publishes, logged};
+ghost use Rattle.repo_member.specs.Gaining.{AreTied, KeepsOthers};
 ghost use Rattle.repo_member.specs.Verdicts.{sync_of};
 ghost use Rattle.repo_member.specs.Publishing.{IsPrepared, ArePackets, IsNew};
 
 use super::Member;
 use super::syncing::sync_of;
 use crate::group::Group;
-use crate::holding::{gain, make_room};
+use crate::gaining::{gain, make_room};
 use crate::listing::list_if_whole;
 use crate::refusals::PublishRefusal;
 use ndn_name::Name;
-use repo_object::{Object, SEGMENT_LIMIT, packet_of, packets_of};
+use repo_object::{Object, packet_of, packets_of};
 use repo_plan::{Part, Plan};
 use repo_store::Store;
 use std::alloc::AllocError;
@@ -52,17 +52,19 @@ impl Member {
     ) -> Result<Published, PublishRefusal>
         requires group { IsOf g.now self.old }
         requires name { IsTrue (is_object_name name.now) }
-        requires few { length contents.now ≤ SEGMENT_LIMIT }
+        requires few { length contents.now ≤ 200 }
         requires contents { All (λ c. IsContent c.items) contents.now }
         requires early { now < 2 ^ 62 }
         requires draws { self.old.machine.draws < 2 ^ 62 }
-        ensures ok { OnOk result (self.new ≡ publishes g.now
+        ensures ok { OnOk result (self.new ≡ alone_publishes g.now
             (record { name = name.now; contents = map (λ c. c.items) contents.now }) now draw self.old) }
+        ensures object { OnOk result (IsObject
+            (record { name = name.now; contents = map (λ c. c.items) contents.now })) }
         ensures seq { IfOk result (λ published. published.seq ≡ next_seq self.old) }
         ensures sync { IfOk result (λ published.
             published.sync.items ≡ sync_of g.now self.old.number self.new.known) }
         ensures spent { (log : ℕ) → (result ≡ Err (PublishRefusal.NumbersSpent log))
-            ↔ ((log ≡ length self.old.log) × (LOG_LIMIT ≤ length self.old.log)) }
+            ↔ ((log ≡ length self.old.log) × (publication_limit ≤ length self.old.log)) }
         ensures err { OnErr result (self.new ≡ self.old) }
     {
         let log = self.log_len();
@@ -138,11 +140,11 @@ impl Member {
     ) -> Result<Prepared, AllocError>
         requires group { IsOf g.now self.now }
         requires name { IsTrue (is_object_name name.now) }
-        requires few { length contents.now ≤ SEGMENT_LIMIT }
+        requires few { length contents.now ≤ 200 }
         requires contents { All (λ c. IsContent c.items) contents.now }
         requires seq { seq ≡ next_seq self.now }
         ensures within { IfOk result (λ prepared. IsObject prepared.object) }
-        ensures publisher { IfOk result (λ _. IsPublisher (publisher_of g.now self.now.number)) }
+        ensures publisher { IfOk result (λ _. IsPublisher (publisher_at g.now self.now.number)) }
         ensures prepared { IfOk result (λ prepared. IsPrepared g.now self.now
             (record { name = name.now; contents = map (λ c. c.items) contents.now })
             prepared.object prepared.name (map (λ p. p.items) prepared.packets.items) prepared.sync.items) }

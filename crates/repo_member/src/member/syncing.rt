@@ -2,8 +2,8 @@ ghost use Rattle.std.specs.Prelude.{◌≡◌, ◌<◌, ◌≤◌, ◌^◌, ◌�
 ghost use Rattle.svs_vector.specs.Vectors.{join};
 ghost use Rattle.svs_sync.specs.Suppression.{mode_of};
 ghost use Rattle.svs_sync.specs.KeptVector.{fires_kept};
-ghost use Rattle.repo_member.specs.Alone.{IsOf, learns, hears, fires};
-ghost use Rattle.repo_member.specs.Verdicts.{sync_of, hear_verdict};
+ghost use Rattle.repo_member.specs.Alone.{IsOf, alone_learns, alone_hears, alone_fires};
+ghost use Rattle.repo_member.specs.Verdicts.{sync_of, vector_verdict, hear_verdict};
 ghost use Rattle.repo_member.specs.Fires.{TellsFire};
 
 use super::Member;
@@ -40,15 +40,36 @@ impl Member {
         requires early { now < 2 ^ 62 }
         requires few { self.old.machine.draws < 2 ^ 62 }
         ensures ok { OnOk result (IsOkAnd (hear_verdict g.now self.old octets.now)
-            (λ told. self.new ≡ hears told now draw self.old)) }
+            (λ told. self.new ≡ alone_hears told now draw self.old)) }
         ensures mode { IfOk result (λ mode. mode ≡ mode_of self.new.machine.heard) }
         ensures refused { IfErr result (λ refusal. (refusal ≡ HearRefusal.NoMemory)
             ⊎ (hear_verdict g.now self.old octets.now ≡ Err refusal)) }
         ensures err { OnErr result (self.new ≡ self.old) }
     {
         let told = self.told(g, octets)?;
-        let mode = self.machine.heard(now, &told, &self.vector, draw);
-        learn(&mut self.vector, &mut self.plan, &told);
+        self.hear_vector(&told, now, draw)
+    }
+
+    /// The member hears the vector of a sync Interest that the caller has checked, as `hear` does. It takes no memory.
+    pub fn hear_vector(
+        &mut self,
+        told: &Vector,
+        now: u64,
+        draw: u32,
+    ) -> Result<Mode, HearRefusal>
+        requires width { length told.now ≡ length self.old.known }
+        requires members { length told.now ≤ 16 }
+        requires early { now < 2 ^ 62 }
+        requires few { self.old.machine.draws < 2 ^ 62 }
+        ensures ok { OnOk result (IsOkAnd (vector_verdict self.old told.now)
+            (λ told. self.new ≡ alone_hears told now draw self.old)) }
+        ensures mode { IfOk result (λ mode. mode ≡ mode_of self.new.machine.heard) }
+        ensures refused { IfErr result (λ refusal. vector_verdict self.old told.now ≡ Err refusal) }
+        ensures err { OnErr result (self.new ≡ self.old) }
+    {
+        self.not_ahead(told)?;
+        let mode = self.machine.heard(now, told, &self.vector, draw);
+        learn(&mut self.vector, &mut self.plan, told);
         Ok(mode)
     }
 
@@ -58,14 +79,29 @@ impl Member {
     pub fn join_from(&mut self, g: &Group, octets: &[u8]) -> Result<bool, HearRefusal>
         requires group { IsOf g.now self.old }
         ensures ok { OnOk result (IsOkAnd (hear_verdict g.now self.old octets.now)
-            (λ told. self.new ≡ learns told self.old)) }
+            (λ told. self.new ≡ alone_learns told self.old)) }
         ensures changed { IfOk result (λ changed. IsFalse changed ↔ (self.new.known ≡ self.old.known)) }
         ensures refused { IfErr result (λ refusal. (refusal ≡ HearRefusal.NoMemory)
             ⊎ (hear_verdict g.now self.old octets.now ≡ Err refusal)) }
         ensures err { OnErr result (self.new ≡ self.old) }
     {
         let told = self.told(g, octets)?;
-        Ok(learn(&mut self.vector, &mut self.plan, &told))
+        self.join_vector(&told)
+    }
+
+    /// The member learns the vector of a sync Interest that the caller has checked, as `join_from` does. It takes no
+    /// memory.
+    pub fn join_vector(&mut self, told: &Vector) -> Result<bool, HearRefusal>
+        requires width { length told.now ≡ length self.old.known }
+        requires members { length told.now ≤ 16 }
+        ensures ok { OnOk result (IsOkAnd (vector_verdict self.old told.now)
+            (λ told. self.new ≡ alone_learns told self.old)) }
+        ensures changed { IfOk result (λ changed. IsFalse changed ↔ (self.new.known ≡ self.old.known)) }
+        ensures refused { IfErr result (λ refusal. vector_verdict self.old told.now ≡ Err refusal) }
+        ensures err { OnErr result (self.new ≡ self.old) }
+    {
+        self.not_ahead(told)?;
+        Ok(learn(&mut self.vector, &mut self.plan, told))
     }
 
     /// The member's timer fires.
@@ -75,7 +111,7 @@ impl Member {
         requires few { self.old.machine.draws < 2 ^ 62 }
         ensures fire { IfOk result (TellsFire (fires_kept now self.old.known self.old.machine)
             (sync_of g.now self.old.number self.old.known)) }
-        ensures ok { OnOk result (self.new ≡ fires now draw self.old) }
+        ensures ok { OnOk result (self.new ≡ alone_fires now draw self.old) }
         ensures err { OnErr result (self.new ≡ self.old) }
     {
         if self.machine.deadline() > now {
@@ -97,23 +133,31 @@ impl Member {
         sync_of(alloc, g, self.number, &self.vector)
     }
 
-    // The vector that octets tell the member.
+    // The vector that octets tell, if they are a sync Interest of the group.
     fn told(&self, g: &Group, octets: &[u8]) -> Result<Vector, HearRefusal>
         requires { IsOf g.now self.now }
-        ensures told { IfOk result (λ told. hear_verdict g.now self.now octets.now ≡ Ok told) }
+        ensures told { IfOk result (λ told.
+            hear_verdict g.now self.now octets.now ≡ vector_verdict self.now told) }
         ensures width { IfOk result (λ told. length told ≡ length self.now.known) }
-        ensures few { IfOk result (λ told. length told ≤ 16) }
-        ensures own { IfOk result (λ told. slice_index told self.now.number ≤ length self.now.log) }
+        ensures members { IfOk result (λ told. length told ≤ 16) }
         ensures refused { IfErr result (λ refusal. (refusal ≡ HearRefusal.NoMemory)
             ⊎ (hear_verdict g.now self.now octets.now ≡ Err refusal)) }
     {
         let alloc = *self.log.allocator();
-        let roster = g.roster();
-        let told = match check_sync(alloc, octets, g.name(), roster, g.members()) {
-            Ok((_, told)) => told,
-            Err(SyncRefusal::NoMemory) => return Err(HearRefusal::NoMemory),
-            Err(refusal) => return Err(HearRefusal::Sync(refusal)),
-        };
+        match check_sync(alloc, octets, g.name(), g.roster(), g.members()) {
+            Ok((_, told)) => Ok(told),
+            Err(SyncRefusal::NoMemory) => Err(HearRefusal::NoMemory),
+            Err(refusal) => Err(HearRefusal::Sync(refusal)),
+        }
+    }
+
+    // The vector tells of no more publications of this member than it made.
+    fn not_ahead(&self, told: &Vector) -> Result<(), HearRefusal>
+        requires { length told.now ≡ length self.now.known }
+        ensures ok { OnOk result (vector_verdict self.now told.now ≡ Ok told.now) }
+        ensures own { OnOk result (slice_index told.now self.now.number ≤ length self.now.log) }
+        ensures refused { IfErr result (λ refusal. vector_verdict self.now told.now ≡ Err refusal) }
+    {
         let own = self.vector.get(self.number);
         let ahead = told.get(self.number);
         if ahead > own {
@@ -122,7 +166,7 @@ impl Member {
                 told: u32::from(ahead),
             });
         }
-        Ok(told)
+        Ok(())
     }
 }
 

@@ -4,8 +4,9 @@ ghost use Rattle.repo_plan.specs.Plan.{holds_too, hides_too, with_attempts, with
 ghost use Rattle.repo_plan.specs.Parts.{pair_of};
 
 use super::Plan;
+use super::whole::{note_held, note_shape};
 use crate::part::Part;
-use crate::sorted;
+use crate::table;
 use std::alloc::AllocError;
 
 impl Plan {
@@ -18,10 +19,10 @@ impl Plan {
         ensures err { OnErr result (self.new ≡ self.old) }
     {
         if self.spare < n {
+            self.done.reserve(n)?;
             self.held.reserve(n)?;
-            self.shapes.reserve(n)?;
-            self.hidden.reserve(n)?;
-            self.attempts.reserve(n)?;
+            table::reserve(&mut self.shapes, n)?;
+            table::reserve(&mut self.attempts, n)?;
             self.spare = n;
         }
         Ok(())
@@ -55,11 +56,11 @@ impl Plan {
         if held {
             return false;
         }
-        sorted::insert_key(&mut self.held, part);
-        if let Some(segments) = segments {
-            sorted::set_value(&mut self.shapes, (part.publisher, part.seq), segments);
-        }
-        self.advance_done(part.publisher);
+        let publication = (part.publisher, part.seq);
+        note_shape(&mut self.shapes, publication, segments);
+        let told = table::value_of(&self.shapes, publication).unwrap_or(0);
+        let number = (publication, u16::from(part.part));
+        note_held(&mut self.done, &mut self.held, number, told);
         true
     }
 
@@ -69,12 +70,11 @@ impl Plan {
         requires not_claimed { claims_part_in self.old (publisher, seq) ≡ false }
         ensures { self.new ≡ uses_room (hides_too (publisher, seq) self.old) }
     {
-        let pair = (publisher, seq);
+        let publication = (publisher, seq);
         self.spare -= 1;
-        sorted::insert_key(&mut self.hidden, pair);
-        self.held.retain(|part| (part.publisher, part.seq) != pair);
-        self.shapes.retain(|shape| shape.0 != pair);
-        self.advance_done(publisher);
+        self.held.remove_all(publication);
+        table::remove(&mut self.shapes, publication);
+        self.done.insert(publication);
     }
 
     /// The part was tried so often more, as after `add_attempts`.
@@ -86,7 +86,7 @@ impl Plan {
         let tried = self.attempts(part) + n;
         self.spare -= 1;
         if n > 0 {
-            sorted::set_value(&mut self.attempts, part, tried);
+            table::set_value(&mut self.attempts, part, tried);
         }
     }
 }

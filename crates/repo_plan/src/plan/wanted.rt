@@ -2,7 +2,7 @@ ghost use Rattle.std.specs.Prelude.{ℕ, ◌≡◌, ◌<◌, ◌≤◌, true, fa
 ghost use Rattle.std.specs.List.{list_any, filter, flat_map};
 ghost use Rattle.repo_plan.specs.declared.part.Part.{Part};
 ghost use Rattle.repo_plan.specs.Parts.{pair_of, part_of};
-ghost use Rattle.repo_plan.specs.Plan.{knows, holds, hides, is_asked, is_claim_of, unclaimed, first, is_after, is_next, parts_known, pairs_of};
+ghost use Rattle.repo_plan.specs.Plan.{knows, holds, hides, is_asked, is_claim_of, is_done, unclaimed, first, is_after, is_next, parts_known, pairs_of};
 
 use super::Plan;
 use crate::part::Part;
@@ -54,27 +54,37 @@ impl Plan {
         ensures { result ≡ first (filter (is_next self.now after)
             (flat_map (parts_known self.now) (pairs_of publisher 1 last))) }
     {
-        let done = self.done[publisher as usize];
-        for s in passed_numbers(publisher, after).max(done)..last {
-            let found = self.next_of_publication(publisher, s + 1, after);
+        let mut passed = passed_numbers(publisher, after);
+        while passed < last {
+            // The next publication that is not done.
+            let seq = self.done.gap_from((publisher, passed + 1));
+            if seq > u32::from(last) {
+                return None;
+            }
+            let found = self.next_of_publication(publisher, seq as u16, after);
             if found.is_some() {
                 return found;
             }
+            passed = seq as u16;
         }
         None
     }
 
     // The same among the parts of one publication.
     fn next_of_publication(&self, publisher: u32, seq: u16, after: Option<Part>) -> Option<Part>
-        requires { knows self.now (publisher, seq) ≡ true }
+        requires known { knows self.now (publisher, seq) ≡ true }
+        requires undone { is_done self.now (publisher, seq) ≡ false }
         ensures { result ≡ first (filter (is_next self.now after)
             (parts_known self.now (publisher, seq))) }
     {
-        if self.is_done(publisher, seq) {
-            return None;
-        }
-        let segments = self.segments(publisher, seq).unwrap_or(0);
-        for x in self.held_in_front(publisher, seq)..u16::from(segments) + 1 {
+        let told = u32::from(self.segments(publisher, seq).unwrap_or(0));
+        let mut passed = passed_parts(publisher, seq, after);
+        while passed <= told {
+            // The next part that is not held.
+            let x = self.held.gap_from(((publisher, seq), passed as u16));
+            if x > told {
+                return None;
+            }
             let part = Part {
                 publisher,
                 seq,
@@ -83,41 +93,19 @@ impl Plan {
             if self.is_next(part, after) {
                 return Some(part);
             }
+            passed = x + 1;
         }
         None
     }
 
-    // How many parts of the publication are held in front of the first that isn't.
-    //
-    // Held parts stand in order, so one look-up finds where these begin.
-    fn held_in_front(&self, publisher: u32, seq: u16) -> u16
-        ensures { (x : ℕ) → x < result → holds self.now (part_of (publisher, seq) x) ≡ true }
-    {
-        let record_part = Part {
-            publisher,
-            seq,
-            part: 0,
-        };
-        let Ok(place) = self.held.binary_search(&record_part) else {
-            return 0;
-        };
-        let mut count = 0;
-        for part in &self.held[place..] {
-            if (part.publisher, part.seq, u16::from(part.part)) != (publisher, seq, count) {
-                return count;
-            }
-            count += 1;
-        }
-        count
-    }
-
-    // Whether a part that is asked for is greater than `after`, not held and claimed by no fetcher.
+    // Whether a part that is asked for and not held is greater than `after` and claimed by no fetcher.
     fn is_next(&self, part: Part, after: Option<Part>) -> bool
         requires asked { is_asked self.now part ≡ true }
+        requires not_held { holds self.now part ≡ false }
         requires not_hidden { hides self.now (pair_of part) ≡ false }
         ensures { result ≡ is_next self.now after part }
     {
-        is_behind(part, after) && !self.holds(part) && !is_claimed(&self.claims, part)
+        is_behind(part, after) && !is_claimed(&self.claims, part)
     }
 }
 
@@ -138,6 +126,16 @@ fn passed_numbers(publisher: u32, after: Option<Part>) -> u16
 {
     match after {
         Some(part) if part.publisher == publisher => part.seq.saturating_sub(1),
+        _ => 0,
+    }
+}
+
+// How many parts of the publication, from its record on, are not greater than `after`.
+fn passed_parts(publisher: u32, seq: u16, after: Option<Part>) -> u32
+    ensures { (x : ℕ) → x < result → is_after after (part_of (publisher, seq) x) ≡ false }
+{
+    match after {
+        Some(part) if part.publisher == publisher && part.seq == seq => u32::from(part.part) + 1,
         _ => 0,
     }
 }

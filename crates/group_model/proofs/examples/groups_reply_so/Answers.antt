@@ -4,75 +4,75 @@ use Rattle.group_model.proofs.examples.groups_reply_so.Goals as goal
 
 pub returns-clause-settles : goal.returns-clause-settles
 unfolding join join_all covers
-returns-clause-settles c = refl
+returns-clause-settles c = (refl, refl)
 
 pub returns-clause-nothing : goal.returns-clause-nothing
 unfolding join join_all covers
-returns-clause-nothing c = refl
+returns-clause-nothing c = (refl, refl)
 
 pub returns-clause-delivers : goal.returns-clause-delivers
 unfolding join join_all covers
-returns-clause-delivers c = refl
+returns-clause-delivers c = (refl, refl)
 
 pub returns-clause-old_repeats : goal.returns-clause-old_repeats
 unfolding join join_all covers
-returns-clause-old_repeats c = refl
+returns-clause-old_repeats c = (refl, refl)
 
 pub returns-clause-part_by_part : goal.returns-clause-part_by_part
 unfolding join join_all covers
-returns-clause-part_by_part c = refl
+returns-clause-part_by_part c = (refl, refl)
 
 pub returns-clause-same_object_twice : goal.returns-clause-same_object_twice
 unfolding join join_all covers
-returns-clause-same_object_twice c = refl
+returns-clause-same_object_twice c = (refl, refl)
 
 pub returns-clause-three_members : goal.returns-clause-three_members
 unfolding join join_all covers
-returns-clause-three_members c = refl
+returns-clause-three_members c = (refl, refl)
 
 pub returns-clause-segment_counts : goal.returns-clause-segment_counts
 unfolding join join_all covers
-returns-clause-segment_counts c = refl
+returns-clause-segment_counts c = (refl, refl)
 
 pub returns-clause-settle_ends_claims : goal.returns-clause-settle_ends_claims
 unfolding join join_all covers
-returns-clause-settle_ends_claims c = refl
+returns-clause-settle_ends_claims c = (refl, refl)
 
 pub returns-clause-timers : goal.returns-clause-timers
 unfolding join join_all covers
-returns-clause-timers c = refl
+returns-clause-timers c = (refl, refl)
 
 pub returns-clause-fetches : goal.returns-clause-fetches
 unfolding join join_all covers
-returns-clause-fetches c = refl
+returns-clause-fetches c = (refl, refl)
 
 pub returns-clause-third_attempts : goal.returns-clause-third_attempts
 unfolding join join_all covers
-returns-clause-third_attempts c = refl
+returns-clause-third_attempts c = (refl, refl)
 
 pub returns-clause-from_outside : goal.returns-clause-from_outside
 unfolding join join_all covers
-returns-clause-from_outside c = refl
+returns-clause-from_outside c = (refl, refl)
 
 pub returns-clause-restart_keeps_numbers : goal.returns-clause-restart_keeps_numbers
 unfolding join join_all covers
-returns-clause-restart_keeps_numbers c = refl
+returns-clause-restart_keeps_numbers c = (refl, refl)
 
 pub returns-clause-insertion : goal.returns-clause-insertion
 unfolding join join_all covers
-returns-clause-insertion c = refl
+returns-clause-insertion c = (refl, refl)
 
 pub returns-clause-blocks : goal.returns-clause-blocks
 unfolding join join_all covers
-returns-clause-blocks c = refl
+returns-clause-blocks c = (refl, refl)
 
 pub returns-clause-deleted_before : goal.returns-clause-deleted_before
 unfolding join join_all covers
-returns-clause-deleted_before c = refl
+returns-clause-deleted_before c = (refl, refl)
 
 pub returns-clause-told_of_all : goal.returns-clause-told_of_all
 unfolding join join_all covers
-returns-clause-told_of_all c = refl
+returns-clause-told_of_all c = (refl, refl)
 
 pub returns-clause-join_of_them : goal.returns-clause-join_of_them
 unfolding join join_all covers

@@ -2,7 +2,8 @@ use Rattle.std.proofs.Common.{◌≡◌, ◌-◌, List, length, slice_get, refl,
 use Rattle.std.specs.Cmp.{unsigned_Decides}
 use Rattle.std.proofs.lemmas.Slice.Eq.{slice_eq-Decides}
 use Rattle.ndn_name.specs.Names.{Component, component}
-use Rattle.ndn_data.proofs.FullNames.{one_more, slice_get-push, same_value, pair_is}
+use Rattle.ndn_packet.proofs.Ends.{slice_get-push}
+use Rattle.ndn_data.proofs.FullNames.{one_more, same_value, pair_is}
 use Rattle.ndn_data.proofs.full_name.is_full_name.Goals as goal
 
 pub returns : goal.returns

@@ -1,4 +1,4 @@
-use Rattle.repo_member.proofs.EventLemmas.{publish_is_event, deliver_is_event, hear_is_event, fire_is_event, restart_is_event, claim_is_event, lose_is_event, answer_is_event, feed_is_event, fetch_is_event, settle_is_event, open_parts_alike, catalogues_alike}
+use Rattle.repo_member.proofs.EventLemmas.{publish_is_event, deliver_is_event, hear_is_event, fire_is_event, restart_is_event, claim_is_event, lose_is_event, answer_is_event, feed_is_event, fetch_is_event, learns_at_once, learns_what_all_know, gathering_is_event, settle_is_event, open_parts_alike, catalogues_alike}
 use Rattle.repo_member.proofs.laws.calls_are_events.Goals as goal
 
 pub returns-clause-publish : goal.returns-clause-publish
@@ -30,6 +30,15 @@ returns-clause-feed c = feed_is_event
 
 pub returns-clause-fetch : goal.returns-clause-fetch
 returns-clause-fetch c = fetch_is_event
+
+pub returns-clause-learns : goal.returns-clause-learns
+returns-clause-learns c = learns_at_once
+
+pub returns-clause-learns_all : goal.returns-clause-learns_all
+returns-clause-learns_all c = learns_what_all_know
+
+pub returns-clause-gathering : goal.returns-clause-gathering
+returns-clause-gathering c = gathering_is_event
 
 pub returns-clause-settle : goal.returns-clause-settle
 returns-clause-settle c = settle_is_event

@@ -1,5 +1,5 @@
 use Rattle.repo_plan.specs.Sound.{IsSound}
-use Rattle.repo_member.specs.Alone.{IsAlone, IsOf, plan_of}
+use Rattle.repo_member.specs.Alone.{IsAlone, IsOf, alone_plan}
 use Rattle.repo_member.proofs.CallReach.{in_every_member}
 use Rattle.repo_member.proofs.laws.calls_keep_members_sound.Goals as goal
 
@@ -10,4 +10,4 @@ pub returns-clause-group : goal.returns-clause-group
 returns-clause-group c = in_every_member IsOf (λ g a r. r.of)
 
 pub returns-clause-plan : goal.returns-clause-plan
-returns-clause-plan c = in_every_member (λ g a. IsSound (plan_of a)) (λ g a r. r.sound)
+returns-clause-plan c = in_every_member (λ g a. IsSound (alone_plan a)) (λ g a r. r.sound)

@@ -1,7 +1,7 @@
 use Rattle.std.proofs.Common.{Bor, Option, ◌≡◌, ◌+◌, ◌++◌, List, ℕ, [], length, length-append, unwrap_or, sym, ap, ◌∙◌, subst, arith}
 use Rattle.sha2.specs.Hashers.{Holds256}
 use Rattle.repo_plan.specs.Parts.{Pair}
-use Rattle.repo_member.specs.Listed.{content_of, content_at, contents_joined}
+use Rattle.repo_member.specs.Listed.{packet_content, stored_content, contents_joined}
 use Rattle.repo_member.proofs.ContentLemmas.{joined_more, lent_or}
 use Rattle.repo_member.proofs.listing.contents_digest.Goals as goal
 
@@ -11,9 +11,9 @@ loop-x-preserved c =
     let pair : Pair = (c.args.publisher, c.args.seq) in
     let so_far = contents_joined packets pair c.loop-x.x in
     let more = joined_more packets pair c.loop-x.x in
-    let content : c.content_of-content.result.now ≡ content_at packets pair (c.loop-x.x + 1) =
+    let content : c.content_of-content.result.now ≡ stored_content packets pair (c.loop-x.x + 1) =
     c.content_of-content.ensures.exact
-    ∙ ap content_of (ap (λ (b : Bor (List ℕ)). b.now) c.unwrap_or.ensures ∙ lent_or c.get.result _ ∙ ap (λ (o : Option (List ℕ)). unwrap_or o []) c.get.ensures.found) in
+    ∙ ap packet_content (ap (λ (b : Bor (List ℕ)). b.now) c.unwrap_or.ensures ∙ lent_or c.get.result _ ∙ ap (λ (o : Option (List ℕ)). unwrap_or o []) c.get.ensures.found) in
     let whole : so_far ++ c.content_of-content.result.now ≡ contents_joined packets pair (c.loop-x.x + 1) = ap (λ (m : List ℕ). so_far ++ m) content ∙ sym more in
     let long = length-append so_far c.content_of-content.result.now in
     let all = ap (λ (m : List ℕ). length m) whole in

@@ -1,7 +1,7 @@
 use Rattle.std.proofs.Common.{ℕ, Option, sym, ap, ◌∙◌, unwrap_or}
 use Rattle.repo_catalog.specs.declared.entry.Entry.{Entry}
 use Rattle.repo_catalog.specs.Entries.{with_entry}
-use Rattle.repo_member.specs.Holding.{with_listed}
+use Rattle.repo_member.specs.Gaining.{with_listed}
 use Rattle.repo_member.proofs.WholeLemmas.{listed_whole, listed_not}
 use Rattle.repo_member.proofs.listing.list_if_whole.Goals as goal
 

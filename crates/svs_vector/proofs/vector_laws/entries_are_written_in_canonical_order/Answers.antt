@@ -1,4 +1,3 @@
-use Rattle.svs_vector.specs.WrittenVector.{known_entries}
 use Rattle.svs_vector.proofs.SortedLemmas.{names_rise, known_in_order}
 use Rattle.svs_vector.proofs.vector_laws.entries_are_written_in_canonical_order.Goals as goal
 

@@ -7,8 +7,8 @@ use Rattle.repo_plan.specs.Plan.{Holdings, raises}
 use Rattle.svs_sync.specs.KeptVector.{Keeper}
 use Rattle.repo_object.specs.Objects.{IsObject, NamedContents}
 use Rattle.repo_member.specs.Records.{Packet}
-use Rattle.repo_member.specs.Listed.{catalogue_alone}
-use Rattle.repo_member.specs.Groups.{publisher_of}
+use Rattle.repo_member.specs.Listed.{alone_catalogue}
+use Rattle.repo_member.specs.Groups.{publisher_at}
 use Rattle.repo_member.specs.Alone.{Alone, next_seq}
 use Rattle.repo_member.proofs.OwnLemmas.{next_is_new_at, packets_are, publication_named, published_kept, published_is, log_longer}
 use Rattle.repo_member.proofs.member.Member.publish.Goals as goal
@@ -22,7 +22,7 @@ pub gain_all-requires-clause-packets : goal.gain_all-requires-clause-packets
 gain_all-requires-clause-packets c =
     let low : next_seq c.args.self.now < 2 ^ 16 = omega (arith, c.log_len-log.ensures.len, c.if-log-ge-LOG_LIMIT.false) in
     let prepared = c.in_ok-prepared.ensures.prepared in
-    packets_are (publisher_of c.args.g.now c.args.self.now.number) _ (next_seq c.args.self.now) c.in_ok-prepared.ensures.publisher (subst IsObject prepared.same c.in_ok-prepared.ensures.within) low _ prepared.packed
+    packets_are (publisher_at c.args.g.now c.args.self.now.number) _ (next_seq c.args.self.now) c.in_ok-prepared.ensures.publisher (subst IsObject prepared.same c.in_ok-prepared.ensures.within) low _ prepared.packed
 
 pub list_if_whole-requires-clause-named : goal.list_if_whole-requires-clause-named
 list_if_whole-requires-clause-named c =
@@ -32,7 +32,7 @@ list_if_whole-requires-clause-named c =
     let absent : contains part_cmp (keys c.make_room.new.store.packets) (part_of pair 0) ≡ false =
     ap (λ (p : List Packet). contains part_cmp (keys p) (part_of pair 0)) c.make_room.ensures.store
     ∙ ap (λ (ts : List Part). contains part_cmp ts (part_of pair 0)) (sym c.self.invariant.kept.tied.held) ∙ sym c.holds-held.ensures.held ∙ c.if-prove.false in
-    publication_named (publisher_of c.args.g.now c.args.self.now.number) _ (next_seq c.args.self.now) _ c.make_room.new.store.packets c.gain_all.new.store.packets pair c.in_ok-prepared.prepared.name
+    publication_named (publisher_at c.args.g.now c.args.self.now.number) _ (next_seq c.args.self.now) _ c.make_room.new.store.packets c.gain_all.new.store.packets pair c.in_ok-prepared.prepared.name
     c.in_ok-prepared.ensures.publisher (subst IsObject prepared.same c.in_ok-prepared.ensures.within) low prepared.packed absent c.gain_all.ensures.packets prepared.named
 
 pub invariant_of-self-2 : goal.invariant_of-self-2
@@ -42,7 +42,7 @@ invariant_of-self-2 c =
     ap (λ (p : List Packet). contains part_cmp (keys p) (part_of pair 0)) c.make_room.ensures.store
     ∙ ap (λ (ts : List Part). contains part_cmp ts (part_of pair 0)) (sym c.self.invariant.kept.tied.held) ∙ sym c.holds-held.ensures.held ∙ c.if-prove.false in
     let order : Rises part_cmp (keys c.make_room.new.store.packets) = subst (λ (p : List Packet). Rises part_cmp (keys p)) (sym c.make_room.ensures.store) c.self.invariant.kept.tied.in_order in
-    let listed = c.make_room.ensures.catalogue ∙ c.self.invariant.kept.listed ∙ ap catalogue_alone (sym c.make_room.ensures.store) in
+    let listed = c.make_room.ensures.catalogue ∙ c.self.invariant.kept.listed ∙ ap alone_catalogue (sym c.make_room.ensures.store) in
     let kept = published_kept c.make_room.new.store.packets c.gain_all.new.store.packets pair (map (λ p. p.items) c.in_ok-prepared.prepared.packets.items) c.make_room.new.catalogue.entries c.list_if_whole.new.catalogue.entries c.gain_all.new.plan absent order c.gain_all.ensures.tied c.gain_all.ensures.packets listed c.list_if_whole.ensures.entries in
     let long : c.log_len-log.result ≡ length c.self.inside.log.items = c.log_len-log.ensures.len ∙ sym (ap (λ (a : Alone). length a.log) c.self.view_is) in
     let number = c.self.inside.number in

@@ -6,12 +6,12 @@ use Rattle.std.specs.Iterator.Adapters.{zip_first, zip_second}
 use Rattle.std.proofs.lemmas.List.{append-nil}
 use Rattle.std.proofs.lemmas.List.Elements.{All-push}
 use Rattle.repo_object.specs.Verdict.{CheckedPart}
-use Rattle.repo_member.specs.declared.holding.Arrival.{Arrival}
+use Rattle.repo_member.specs.declared.gaining.Arrival.{Arrival}
 use Rattle.repo_member.specs.declared.member.outcome.Tried.{Tried}
-use Rattle.repo_member.specs.Alone.{plan_of, Fetched}
+use Rattle.repo_member.specs.Alone.{alone_plan, Fetched}
 use Rattle.repo_member.specs.Listings.{IsStored}
-use Rattle.repo_member.specs.Holding.{IsArrival}
-use Rattle.repo_member.specs.Outcomes.{fetched, came, CanBeTaken}
+use Rattle.repo_member.specs.Gaining.{IsArrival}
+use Rattle.repo_member.specs.Outcomes.{outcome_of, came, CanBeTaken}
 use Rattle.repo_member.proofs.OutcomeLemmas.{IsSmallPart, nothing_left, first_fetched, one_more, can_be_taken, all_apart, few_tried}
 use Rattle.repo_member.proofs.member.Member.tried.Goals.{in-Some-checked+in_ok-listing-in-Some-checked+in_ok-arrived-in-Some-checked, in-None-checked}
 use Rattle.repo_member.proofs.member.Member.tried.Goals as goal
@@ -47,16 +47,16 @@ loop-job-preserved c =
     let pushed = c.in_ok-push.ensures.items in
     record {
       came =
-          ap (λ (xs : List Tried). map came xs ++ fetched later behind rest) pushed
+          ap (λ (xs : List Tried). map came xs ++ outcome_of later behind rest) pushed
           ∙ one_more c.args.g.now c.args.self.now c.in-Some.job.now c.in-Some.checked.now c.in-Some.tries.now one _ _ _ _ _ _ c.loop-job.all.items steps.0.0 steps.0.1 steps.1 c.part-part.ensures (same_packet c) refl
           ∙ inv.came;
-      can = subst (All (CanBeTaken (plan_of c.args.self.now) c.args.self.now.store)) (sym pushed) (All-push (CanBeTaken (plan_of c.args.self.now) c.args.self.now.store) c.loop-job.all.items one inv.can can);
+      can = subst (All (CanBeTaken (alone_plan c.args.self.now) c.args.self.now.store)) (sym pushed) (All-push (CanBeTaken (alone_plan c.args.self.now) c.args.self.now.store) c.loop-job.all.items one inv.can can);
       small = subst (All (λ (x : Tried). IsSmallPart x.part)) (sym pushed) (All-push (λ (x : Tried). IsSmallPart x.part) c.loop-job.all.items one inv.small (record { seq = omega (arith, c.part-part.type_inv); part = omega (arith, c.part-part.type_inv) }));
       stored = stored c;
       rest = is.1;
     }
 
-came_all : (c : goal.Joined-listing-3) → map came c.loop-job.all.items ≡ fetched c.args.jobs.now c.args.parts.now c.args.attempts.now
+came_all : (c : goal.Joined-listing-3) → map came c.loop-job.all.items ≡ outcome_of c.args.jobs.now c.args.parts.now c.args.attempts.now
 came_all c =
     let nothing = nothing_left (iter_rest (zip_first (zip_first c.loop-job.job-iterator))) (iter_rest (zip_second (zip_first c.loop-job.job-iterator))) (iter_rest (zip_second c.loop-job.job-iterator))
     (elim c.in-None.ensures.steps [ inl earlier ↦ elim earlier.1 [ inl jobs ↦ inl jobs.1.0 | inr parts ↦ inr (inl parts.1.0) ] | inr tries ↦ inr (inr tries.1.0) ]) in

@@ -1,7 +1,7 @@
-use Rattle.std.proofs.Common.{◌≡◌, ◌+◌, map, length, count_by, is_some}
+use Rattle.std.proofs.Common.{◌≡◌, ◌+◌, map, length, count_by, sum_by, is_some}
 use Rattle.std.specs.Vec.Iter.{into_iter_items}
-use Rattle.repo_member.specs.Holding.{AreKept, HaveRoom}
-use Rattle.repo_member.specs.Outcomes.{came, AreTakable, KeepsButTries, with_all_fetched, with_all_tries}
+use Rattle.repo_member.specs.Gaining.{AreKept, HaveRoom}
+use Rattle.repo_member.specs.Outcomes.{came, arrival_octets, AreTakable, KeepsButTries, with_all_fetched, with_all_tries}
 use Rattle.repo_member.proofs.member.outcome.take_all.Given as goal
 
 abbrev pub invariant-loop-tried : goal.invariant-loop-tried
@@ -13,5 +13,6 @@ invariant-loop-tried l =
       kept : AreKept l.plan l.store.packets l.catalogue.entries;
       room : HaveRoom (length rest) l.plan l.store l.catalogue;
       takable : AreTakable l.plan l.store.packets rest;
-      count : l.kept + count_by (λ x. is_some x.arrival) rest ≡ count_by (λ x. is_some x.arrival) l.fn.all.items;
+      count : l.parts + count_by (λ x. is_some x.arrival) rest ≡ count_by (λ x. is_some x.arrival) l.fn.all.items;
+      octets : l.octets + sum_by arrival_octets rest ≡ sum_by arrival_octets l.fn.all.items;
     }

@@ -1,4 +1,10 @@
+use Rattle.std.proofs.Common.{ap, ◌∙◌}
+use Rattle.repo_plan.specs.Plan.{Holdings, shape_of}
+use Rattle.repo_plan.proofs.Orders.{exact_pairs}
 use Rattle.repo_plan.proofs.plan.Plan.segments.Goals as goal
 
 pub value_of-requires : goal.value_of-requires
-value_of-requires c = rw c.deref.ensures.value c.self.invariant.sound.in_order.shapes
+value_of-requires c = exact_pairs.same
+
+pub returns : goal.returns
+returns c = c.value_of.ensures ∙ ap (λ (p : Holdings). shape_of p (c.args.publisher, c.args.seq)) c.self.view_is

@@ -7,13 +7,13 @@ use Rattle.ndn_tlv.specs.declared.order_table.FieldFault.{FieldFault}
 use Rattle.ndn_tlv.proofs.Gathers.{all_gathered, ends_at_fault, ends_at_step, goes_on}
 use Rattle.svs_vector.specs.declared.vector_fault.VectorFault.{VectorFault}
 use Rattle.svs_vector.specs.declared.entry.EntryField.{EntryField}
-use Rattle.svs_vector.specs.declared.entry.TheConstants.{ENTRY}
+use Rattle.svs_vector.specs.Format.{entry_table}
 use Rattle.svs_vector.specs.StateVector.{EntrySoFar, fault_in, with_entry_field, entry_fields, entry_so_far}
 use Rattle.svs_vector.proofs.entry.Gathered.of_fields.Goals as goal
 
 pub loop-next-init : goal.loop-next-init
 loop-next-init c = record {
-  so_far = ap (gathered with_entry_field (fault_in (item c.args.element)) (record { name = None; number = None })) (c.new-fields.ensures.fields ∙ ap (fields ENTRY) c.new-elements.ensures.elements);
+  so_far = ap (gathered with_entry_field (fault_in (item c.args.element)) (record { name = None; number = None })) (c.new-fields.ensures.fields ∙ ap (fields entry_table) c.new-elements.ensures.elements);
   low = c.args.element.value_start;
   within = c.new-fields.ensures.within c.args.element.value_start (c.args.element.value_start + length c.args.element.value.now) c.new-elements.ensures.within;
 }

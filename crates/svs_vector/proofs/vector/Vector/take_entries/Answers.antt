@@ -8,13 +8,13 @@ use Rattle.ndn_tlv.specs.declared.order_table.FieldFault.{FieldFault}
 use Rattle.ndn_tlv.proofs.Gathers.{all_gathered, ends_at_fault, ends_at_step, goes_on}
 use Rattle.svs_vector.specs.declared.vector_fault.VectorFault.{VectorFault}
 use Rattle.svs_vector.specs.declared.read.VectorField.{VectorField}
-use Rattle.svs_vector.specs.declared.read.TheConstants.{STATE_VECTOR}
+use Rattle.svs_vector.specs.Format.{state_vector_table}
 use Rattle.svs_vector.specs.StateVector.{fault_in, with_entry, vector_in}
 use Rattle.svs_vector.proofs.vector.Vector.take_entries.Goals as goal
 
 pub loop-next-init : goal.loop-next-init
 loop-next-init c = record {
-  so_far = ap (gathered (with_entry c.args.roster.now) (fault_in (item c.args.element)) c.args.self.now) (c.new-fields.ensures.fields ∙ ap (fields STATE_VECTOR) c.new-elements.ensures.elements) ∙ ap (λ (v : List ℕ). gathered (with_entry c.args.roster.now) (fault_in (item c.args.element)) v (fields STATE_VECTOR (elements c.args.element.value_start c.args.element.value.now))) c.requires.empty;
+  so_far = ap (gathered (with_entry c.args.roster.now) (fault_in (item c.args.element)) c.args.self.now) (c.new-fields.ensures.fields ∙ ap (fields state_vector_table) c.new-elements.ensures.elements) ∙ ap (λ (v : List ℕ). gathered (with_entry c.args.roster.now) (fault_in (item c.args.element)) v (fields state_vector_table (elements c.args.element.value_start c.args.element.value.now))) c.requires.empty;
   low = c.args.element.value_start;
   within = c.new-fields.ensures.within c.args.element.value_start (c.args.element.value_start + length c.args.element.value.now) c.new-elements.ensures.within;
   width = ap length c.requires.empty ∙ length-replicate (length c.args.roster.now) 0;

@@ -13,8 +13,8 @@ use Rattle.repo_plan.proofs.Sets.{eq_same}
 use Rattle.repo_object.specs.declared.job.Job.{Job}
 use Rattle.repo_object.specs.Verdict.{CheckedPart}
 use Rattle.repo_member.specs.Groups.{GroupKeys}
-use Rattle.repo_member.specs.Alone.{Alone, plan_of, want_of}
-use Rattle.repo_member.specs.Outcomes.{planned, IsCheckedFor, IsFetched, IsOutcome}
+use Rattle.repo_member.specs.Alone.{Alone, alone_plan, want_of}
+use Rattle.repo_member.specs.Outcomes.{job_for, IsCheckedFor, IsFetched, IsOutcome}
 use Rattle.repo_member.proofs.MemberLemmas.{want_part}
 use Rattle.repo_member.proofs.tests.peer.Peer.take_two.Goals as goal
 
@@ -23,12 +23,12 @@ record Came (g : GroupKeys) (job : Job) (part : Option CheckedPart) (n : ℕ) : 
   checked : IfSome part (IsCheckedFor g job.want)
   few : job.base + n < 2000
 
-fetched_is : (g : GroupKeys) (a : Alone) (t : Part) (part : Option CheckedPart) (n : ℕ) → is_unclaimed (plan_of a) t ≡ true → Came g (planned g a t) part n → IsFetched g a (planned g a t) part n
+fetched_is : (g : GroupKeys) (a : Alone) (t : Part) (part : Option CheckedPart) (n : ℕ) → is_unclaimed (alone_plan a) t ≡ true → Came g (job_for g a t) part n → IsFetched g a (job_for g a t) part n
 fetched_is g a t part n h came =
     let same = sym (want_part g a.store t) in
-    let few = subst (λ (u : Part). attempts_of (plan_of a) u + n < 2000) same came.few in
+    let few = subst (λ (u : Part). attempts_of (alone_plan a) u + n < 2000) same came.few in
     record {
-      unclaimed = subst (λ (u : Part). is_unclaimed (plan_of a) u ≡ true) same h;
+      unclaimed = subst (λ (u : Part). is_unclaimed (alone_plan a) u ≡ true) same h;
       wanted = ap (want_of g a.store) same;
       checked = came.checked;
       few = omega (arith, few);
@@ -40,15 +40,15 @@ same_part t u h = elim (or_cases (eq_by_cmp part_cmp t u) false h) [
   | inr e ↦ absurd (true≢false (sym e))
 ]
 
-are_two : (g : GroupKeys) (a : Alone) (ts : List Part) (first second : Job) (p q : Option CheckedPart) (m n : ℕ) → All (λ t. is_unclaimed (plan_of a) t ≡ true) ts
-    → 2 ≤ length (map (planned g a) ts) → length (map (planned g a) ts) < 3 → first ≡ get_or (map (planned g a) ts) 0 first → second ≡ get_or (map (planned g a) ts) 1 second
+are_two : (g : GroupKeys) (a : Alone) (ts : List Part) (first second : Job) (p q : Option CheckedPart) (m n : ℕ) → All (λ t. is_unclaimed (alone_plan a) t ≡ true) ts
+    → 2 ≤ length (map (job_for g a) ts) → length (map (job_for g a) ts) < 3 → first ≡ get_or (map (job_for g a) ts) 0 first → second ≡ get_or (map (job_for g a) ts) 1 second
     → first.want.part ≢ second.want.part → Came g first p m → Came g second q n
-    → IsOutcome g a (map (planned g a) ts) (p ∷ q ∷ []) (m ∷ n ∷ [])
+    → IsOutcome g a (map (job_for g a) ts) (p ∷ q ∷ []) (m ∷ n ∷ [])
 are_two g a [] first second p q m n all low high is_first is_second apart came next = absurd (omega arith)
 are_two g a (x ∷ []) first second p q m n all low high is_first is_second apart came next = absurd (omega arith)
 are_two g a (x ∷ y ∷ z ∷ zs) first second p q m n all low high is_first is_second apart came next = absurd (omega arith)
 are_two g a (t ∷ u ∷ []) first second p q m n all low high is_first is_second apart came next =
-    let P = λ (v : Part). is_unclaimed (plan_of a) v ≡ true in
+    let P = λ (v : Part). is_unclaimed (alone_plan a) v ≡ true in
     let one = subst (λ (job : Job). Came g job p m) is_first came in
     let two = subst (λ (job : Job). Came g job q n) is_second next in
     let other : (want_of g a.store t).part ≢ (want_of g a.store u).part = λ h. apart (ap (λ (job : Job). job.want.part) is_first ∙ h ∙ sym (ap (λ (job : Job). job.want.part) is_second)) in
@@ -61,10 +61,10 @@ pub take_outcome-requires-clause-outcome : goal.take_outcome-requires-clause-out
 take_outcome-requires-clause-outcome g c =
     let group = c.args.self.now.g.now in
     let a = c.args.self.now.member in
-    let ts : List Part = take 2 (filter (is_after None) (unclaimed (plan_of a))) in
-    let seen : c.as_slice.result.now ≡ map (planned group a) ts = c.as_slice.ensures.value ∙ c.in_ok-jobs.ensures in
-    let all = All-take (λ t. is_unclaimed (plan_of a) t ≡ true) 2 (filter (is_after None) (unclaimed (plan_of a)))
-    (All-filter (is_after None) (λ t. is_unclaimed (plan_of a) t ≡ true) (unclaimed (plan_of a)) (filter_passes (is_unclaimed (plan_of a)) (known_parts (plan_of a)))) in
+    let ts : List Part = take 2 (filter (is_after None) (unclaimed (alone_plan a))) in
+    let seen : c.as_slice.result.now ≡ map (job_for group a) ts = c.as_slice.ensures.value ∙ c.in_ok-jobs.ensures in
+    let all = All-take (λ t. is_unclaimed (alone_plan a) t ≡ true) 2 (filter (is_after None) (unclaimed (alone_plan a)))
+    (All-filter (is_after None) (λ t. is_unclaimed (alone_plan a) t ≡ true) (unclaimed (alone_plan a)) (filter_passes (is_unclaimed (alone_plan a)) (known_parts (alone_plan a)))) in
     let apart : c.first-item.result.want.part ≢ c.second-item.result.want.part = search rules in
     let first = c.first-item.result in
     let second = c.second-item.result in

@@ -1,0 +1,12 @@
+pub mod Totals
+pub mod Marks
+pub mod Moves
+pub mod Phases
+pub mod Looks
+pub mod Claims
+pub mod Ends
+pub mod Seats
+pub mod Closes
+pub mod Places
+pub mod Opened
+pub mod Known

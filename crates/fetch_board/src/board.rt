@@ -1,0 +1,125 @@
+ghost use Rattle.std.specs.Prelude.{◌≡◌, ◌-◌, ◌<◌, ◌≤◌, length, IfOk, All};
+ghost use Rattle.fetch_board.specs.Seats.{IsSeatOf, fresh};
+
+use crate::hand::Hand;
+use crate::plays::Shares;
+use crate::rule::{Fair, Terms};
+use crate::seat::Seat;
+use atomic_table::Table;
+use std::alloc::{AllocError, Global};
+use std::marker::Model;
+
+/// A word and a place for each of a number of items, which the threads that have a seat share.
+///
+/// The word says what its item stands at: wanted, held, done or spent, and how many attempts at it ended without a
+/// value. The place takes the value. Both change by single atomic steps: no call waits for another.
+#[derive(Drop)]
+pub struct Board<T> {
+    pub(crate) table: Table<Option<T>, Hand<T>, Terms, Fair, Global>,
+    pub(crate) items: usize,
+    pub(crate) tries: u32,
+    pub(crate) alloc: Global,
+}
+
+// What is fixed of it. The words and places are in many hands, and no contract can tell what they are at a moment.
+impl<T> Model for Board<T> {
+    ghost use Rattle.fetch_board.specs.Seats.{BoardTerms};
+
+    ghost Value = { BoardTerms };
+
+    ghost use Rattle.fetch_board.specs.Boards.{IsLaidOut};
+
+    ghost view = { λ b. record {
+      board = b.table.shared.table_id;
+      items = b.items;
+      tries = b.tries;
+      seats = b.table.shared.key.seats;
+    } };
+
+    ghost invariant = { λ b. IsLaidOut b.table.shared.table_id b.items b.tries b.table.shared.key.tries };
+}
+
+impl<T: Drop> Board<T> {
+    /// A board whose items are all wanted, and its seats.
+    pub fn new(
+        alloc: Global,
+        items: usize,
+        tries: u32,
+        seats: usize,
+    ) -> Result<(Board<T>, Vec<Seat<T>>), AllocError>
+        requires items { items ≤ 4096 }
+        requires tries { (1 ≤ tries) × (tries ≤ 16) }
+        requires seats { (1 ≤ seats) × (seats ≤ 16) }
+        ensures board { IfOk result (λ r. (r.0.items ≡ items) × (r.0.tries ≡ tries) × (r.0.seats ≡ seats)) }
+        ensures count { IfOk result (λ r. length r.1.items ≡ seats) }
+        ensures seats { IfOk result (λ r. All (λ seat. seat ≡ fresh r.0 1) r.1.items) }
+    {
+        let (board, first) = Board::open(alloc, items, tries, seats)?;
+        let seats = board.deal(first, seats)?;
+        Ok((board, seats))
+    }
+
+    // The board with one seat that stands for all.
+    fn open(
+        alloc: Global,
+        items: usize,
+        tries: u32,
+        seats: usize,
+    ) -> Result<(Board<T>, Seat<T>), AllocError>
+        requires items { items ≤ 4096 }
+        requires tries { (1 ≤ tries) × (tries ≤ 16) }
+        requires seats { (1 ≤ seats) × (seats ≤ 16) }
+        ensures board { IfOk result (λ r. (r.0.items ≡ items) × (r.0.tries ≡ tries) × (r.0.seats ≡ seats)) }
+        ensures seat { IfOk result (λ r. r.1 ≡ fresh r.0 seats) }
+    {
+        // A board of no items keeps one word that nobody asks for.
+        let cells = items.max(1);
+        let words = vec![in alloc; 0u64; cells]?;
+        let terms = Terms {
+            tries,
+            seats: seats as u64,
+        };
+        let (table, inner) = Table::vacant(alloc, words.as_slice(), cells, &terms)?;
+        let board = Board {
+            table,
+            items,
+            tries,
+            alloc,
+        };
+        Ok((board, Seat { inner }))
+    }
+
+    // The seat that stands for so many, as so many that stand for one each.
+    fn deal(&self, mut first: Seat<T>, seats: usize) -> Result<Vec<Seat<T>>, AllocError>
+        requires first { first ≡ fresh self.now seats }
+        requires some { 1 ≤ seats }
+        ensures count { IfOk result (λ v. length v.items ≡ seats) }
+        ensures seats { IfOk result (λ v. All (λ seat. seat ≡ fresh self.now 1) v.items) }
+    {
+        let mut dealt = Vec::with_capacity(self.alloc, seats)?;
+        for _ in 1..seats {
+            dealt.push(self.split(&mut first))?;
+        }
+        dealt.push(first)?;
+        Ok(dealt)
+    }
+
+    // A seat of its own for one of those that the seat stands for.
+    fn split(&self, seat: &mut Seat<T>) -> Seat<T>
+        requires seat { IsSeatOf self.now seat.old }
+        requires shares { 1 < seat.old.shares }
+        ensures old { seat.new ≡ record seat.old { shares = seat.old.shares - 1 } }
+        ensures new { result ≡ fresh self.now 1 }
+    {
+        let inner = self.table.shared.split_seat::<Shares>(&mut seat.inner);
+        Seat { inner }
+    }
+
+    /// How many attempts an item may have.
+    pub fn tries(&self) -> u32
+        ensures same { result ≡ self.now.tries }
+        ensures within { (1 ≤ result) × (result ≤ 16) }
+    {
+        self.tries
+    }
+}

@@ -1,0 +1,108 @@
+ghost use Rattle.std.specs.Prelude.{◌≡◌, ◌≢◌, ℕ, ◌+◌, ◌/◌, ◌<◌, ◌≤◌, length, IfOk, None, slice_index_or};
+ghost use Rattle.core.specs.Mem.Slots.{slots_items, slots_len, IsFull};
+ghost use mathlib.Core.Option.{some};
+ghost use lib.ListN.{get_elem?};
+ghost use Rattle.fetch_board.specs.Counts.{items};
+ghost use Rattle.fetch_board.specs.Places.{TakenBelow};
+ghost use Rattle.fetch_board.specs.Answers.{Rests, Settled};
+ghost use Rattle.fetch_board.specs.Seats.{IsSeatOf};
+
+use crate::board::Board;
+use crate::outcome::Outcome;
+use crate::seat::Seat;
+use crate::word::SPENT;
+use atomic_table::Closed;
+use std::alloc::{AllocError, Global};
+
+// So many places without a value.
+fn vacant<T: Drop>(alloc: Global, items: usize) -> Result<Vec<Option<T>>, AllocError>
+    ensures { IfOk result (λ v. length v.items ≡ items) }
+{
+    let mut values = Vec::with_capacity(alloc, items)?;
+    for _ in 0..items {
+        values.push(None)?;
+    }
+    Ok(values)
+}
+
+// How many attempts the word of an item tells that was finished or spent.
+fn attempts_of(word: u64, tries: u32) -> u32
+    requires { word ≢ 3 → word / 4 < tries }
+    ensures spent { word ≡ 3 → result ≡ tries }
+    ensures done { word ≢ 3 → result ≡ word / 4 + 1 }
+{
+    match word {
+        SPENT => tries,
+        done => (done / 4) as u32 + 1,
+    }
+}
+
+// Takes each item's value out of its place, and the number of attempts that its word tells.
+fn settle<T: Drop>(
+    closed: &mut Closed<Option<T>, Global>,
+    mut values: Vec<Option<T>>,
+    mut attempts: Vec<u32>,
+    tries: u32,
+) -> Outcome<T>
+    requires full { IsFull closed.old.words × IsFull closed.old.slots }
+    requires even { slots_len closed.old.words ≡ slots_len closed.old.slots }
+    requires room { length values.items ≤ slots_len closed.old.slots }
+    requires counts { length attempts.items ≡ length values.items }
+    requires words { (i n : ℕ) → i < length values.items → get_elem? (slots_items closed.old.words) i ≡ some n
+        → n ≢ 3 → n / 4 < tries }
+    ensures same { slots_len closed.new.slots ≡ slots_len closed.old.slots }
+    ensures taken { TakenBelow closed.new.slots (length values.items) }
+    ensures count { length result.values.items ≡ length values.items }
+    ensures counts { length result.attempts.items ≡ length values.items }
+    ensures values { (i : ℕ) → i < length values.items
+        → get_elem? (slots_items closed.old.slots) i ≡ some (slice_index_or result.values.items i None) }
+    ensures attempts { (i : ℕ) → i < length values.items
+        → (n : ℕ) × (get_elem? (slots_items closed.old.words) i ≡ some n)
+        × (n ≡ 3 → slice_index_or result.attempts.items i 0 ≡ tries)
+        × (n ≢ 3 → slice_index_or result.attempts.items i 0 ≡ n / 4 + 1) }
+{
+    for i in 0..values.len() {
+        attempts[i] = attempts_of(closed.word(i), tries);
+        values[i] = closed.take(i);
+    }
+    Outcome { values, attempts }
+}
+
+// Drops the values from the place `from` on, and the memory.
+fn discard<T: Drop>(mut closed: Closed<Option<T>, Global>, from: usize)
+    requires { (from ≤ slots_len closed.slots) × TakenBelow closed.slots from }
+{
+    for i in from..closed.slot_count() {
+        drop(closed.take(i));
+    }
+    closed.free();
+}
+
+impl<T: Drop> Board<T> {
+    /// Closes the board for the seat that all others were joined into, and gives what became of the items. The board is
+    /// gone, also where memory ran out.
+    pub fn close(self, seat: Seat<T>) -> Result<Outcome<T>, AllocError>
+        requires seat { IsSeatOf self seat }
+        requires shares { seat.shares ≡ self.seats }
+        requires rests { Rests seat }
+        requires passed { (i : ℕ) → i < self.items → 0 < items i seat.passed }
+        ensures count { IfOk result (λ o. length o.values.items ≡ self.items) }
+        ensures counts { IfOk result (λ o. length o.attempts.items ≡ self.items) }
+        ensures settled { IfOk result (λ o. (i : ℕ) → i < self.items
+            → Settled seat i (slice_index_or o.values.items i None) (slice_index_or o.attempts.items i 0)) }
+    {
+        let Board {
+            table,
+            items,
+            tries,
+            alloc,
+        } = self;
+        let Seat { inner } = seat;
+        let values = vacant(alloc, items)?;
+        let attempts = vec![in alloc; 0u32; items]?;
+        let mut closed = table.close_with(inner);
+        let outcome = settle(&mut closed, values, attempts, tries);
+        discard(closed, items);
+        Ok(outcome)
+    }
+}

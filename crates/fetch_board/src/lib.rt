@@ -1,0 +1,23 @@
+//! A board on which threads claim items of work: an item is held by one seat at a time and finished by one, and none is
+//! forgotten.
+#![tactic(auto)]
+
+mod board;
+mod close;
+mod hand;
+mod outcome;
+mod plays;
+mod rule;
+mod seat;
+mod taken;
+mod turns;
+mod word;
+
+pub use board::Board;
+pub use outcome::Outcome;
+pub use seat::Seat;
+pub use taken::{Seen, Taken};
+pub use word::Word;
+
+#[cfg(test)]
+mod tests;

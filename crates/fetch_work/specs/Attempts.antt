@@ -1,0 +1,50 @@
+-- What an attempt at a job brings.
+use Rattle.std.specs.Prelude.{ℕ, ◌+◌, ◌<◌, List, [], slice_index_or, Option, Some, None, Result, Ok, Err}
+use Rattle.ndn_data.specs.Data.{Data}
+use Rattle.ndn_sign.specs.Ring.{Pair}
+use Rattle.repo_object.specs.declared.job.Job.{Job}
+use Rattle.repo_object.specs.declared.part_refusal.PartRefusal.{PartRefusal}
+use Rattle.repo_object.specs.Wants.{WantedPart}
+use Rattle.repo_object.specs.Verdict.{CheckedPart, ring_verdict, checked_part}
+use Rattle.fetch_work.specs.declared.link.Reply.{Reply}
+use Rattle.fetch_work.specs.declared.link.Reply.TheVariants.{Lost, Came}
+
+-- The octets that came.
+abbrev pub octets_of : Reply → Option (List ℕ)
+octets_of Lost = None
+octets_of (Came octets) = Some octets.now
+
+-- The part, where the verdict on its octets is that they pass.
+abbrev pub if_passed : Result Data PartRefusal → CheckedPart → Option CheckedPart
+if_passed (Ok d) part = Some part
+if_passed (Err refusal) part = None
+
+-- The part, where octets came that pass for the want under the key that the ring has for its publisher.
+abbrev pub checked_reply : WantedPart → List Pair → Option (List ℕ) → Option CheckedPart
+checked_reply want ring None = None
+checked_reply want ring (Some octets) = if_passed (ring_verdict want ring octets) (checked_part want ring octets)
+
+-- What an attempt at the job brings after so many others in the same phase, where a link gives these
+-- answers. Behind `base` attempts of earlier phases the link is told of it as the next.
+abbrev pub brings : (WantedPart → ℕ → Option (List ℕ)) → List Pair → Job → ℕ → Option CheckedPart
+brings answer ring job before = checked_reply job.want ring (answer job.want (job.base + before + 1))
+
+abbrev pub no_job : Job
+no_job =
+    record {
+      want = record {
+        part = record { publisher = 0; seq = 0; part = 0 };
+        name = [];
+        digest = None;
+        interest = [];
+      };
+      base = 0;
+    }
+
+abbrev pub job_at : List Job → ℕ → Job
+job_at jobs i = slice_index_or jobs i no_job
+
+-- The job can be tried so often: its publisher is in the ring, and its attempts are numbers below 2^21.
+pub record CanBeTried (ring_length tries : ℕ) (job : Job) : Type 0 where
+  pub known : job.want.part.publisher < ring_length
+  pub few : job.base + tries < 2097152

@@ -1,0 +1,48 @@
+-- What a worker's seat knows between its turns.
+use Rattle.std.specs.Prelude.{◌≡◌, ℕ, ◌+◌, ◌<◌, ◌≤◌, Bool, true, false, [], length, Option, Some, None}
+use Rattle.fetch_board.specs.Counts.{items, pairs, triples, Has}
+use Rattle.fetch_board.specs.Seats.{SeatData}
+
+module _ {T : Type 0} where
+  -- The seat has no item in any list.
+  pub record HasNothing (v : SeatData T) : Type 0 where
+    pub held : v.held ≡ []
+    pub done : v.done ≡ []
+    pub spent : v.spent ≡ []
+    pub tried : v.tried ≡ []
+    pub owed : v.owed ≡ []
+    pub passed : v.passed ≡ []
+
+  -- The seat holds nothing. What it tried are different attempts at items of the board. Each value that
+  -- it finished an item with is what that attempt brings, and each other attempt brings none.
+  pub record Works (brings : ℕ → ℕ → Option T) (count tries : ℕ) (v : SeatData T) : Type 0 where
+    pub holds : v.held ≡ []
+    pub owes : (i : ℕ) → 0 < items i v.owed → i < count
+    pub once : (i a : ℕ) → pairs i a v.tried ≤ 1
+    pub within : (i a : ℕ) → 0 < pairs i a v.tried → (i < count) × (a < tries)
+    pub brought : (i a : ℕ) (x : T) → Has (i, a, x) v.done → brings i a ≡ Some x
+    pub missed : (i a : ℕ) → 0 < pairs i a v.tried → triples i a v.done ≡ 0 → brings i a ≡ None
+
+  -- What one visit of the item i makes of the seat v, which gave the item back or not.
+  pub record Visits (brings : ℕ → ℕ → Option T) (count tries i : ℕ) (v : SeatData T) (gave_back : Bool)
+      (w : SeatData T) : Type 0 where
+    pub works : Works brings count tries w
+    pub shares : w.shares ≡ v.shares
+    pub passed : 0 < items i w.passed
+    pub passes : (j : ℕ) → items j v.passed ≤ items j w.passed
+    pub grows : length v.tried ≤ length w.tried
+    pub tries_one : gave_back ≡ true → length v.tried < length w.tried
+    pub owes_less : gave_back ≡ false → (j : ℕ) → items j w.owed ≤ items j v.owed
+    pub owes_none : gave_back ≡ false → items i w.owed ≡ 0
+
+  -- What visits of the items from lo to hi make of the seat v, which gave one of them back or none.
+  pub record Scans (brings : ℕ → ℕ → Option T) (count tries lo hi : ℕ) (v : SeatData T) (gave_back : Bool)
+      (w : SeatData T) : Type 0 where
+    pub works : Works brings count tries w
+    pub shares : w.shares ≡ v.shares
+    pub passed : (i : ℕ) → lo ≤ i → i < hi → 0 < items i w.passed
+    pub passes : (j : ℕ) → items j v.passed ≤ items j w.passed
+    pub grows : length v.tried ≤ length w.tried
+    pub tries_one : gave_back ≡ true → length v.tried < length w.tried
+    pub owes_less : gave_back ≡ false → (j : ℕ) → items j w.owed ≤ items j v.owed
+    pub owes_none : gave_back ≡ false → (i : ℕ) → lo ≤ i → i < hi → items i w.owed ≡ 0

@@ -1,0 +1,21 @@
+//! Workers that fetch the parts of jobs in threads, over a board that shares the jobs out.
+#![tactic(auto)]
+
+mod laws;
+mod link;
+mod link_trial;
+mod outcome;
+mod phases;
+mod team;
+mod trial;
+mod turns;
+mod worker;
+
+pub use laws::phases_are_alike;
+pub use link::{Link, Reply};
+pub use outcome::PhaseOutcome;
+pub use phases::phase;
+pub use worker::Worker;
+
+#[cfg(test)]
+mod tests;

@@ -1,0 +1,40 @@
+ghost use Rattle.std.specs.Prelude.{◌≤◌, length, All, IfOk};
+ghost use Rattle.fetch_work.specs.Attempts.{CanBeTried};
+ghost use Rattle.fetch_work.specs.Phases.{AreFirst};
+
+use crate::link::Link;
+use crate::link_trial::LinkTrial;
+use crate::outcome::PhaseOutcome;
+use crate::team;
+use ndn_sign::KeyRing;
+use repo_object::Job;
+use std::alloc::{AllocError, Global};
+use std::thread::Threads;
+
+/// Tries each job until its packet comes, at most so many times, by so many workers in threads.
+///
+/// The answer is that of one worker who tries one job after another, whatever the number of workers and their turns.
+/// Where a thread can't be started, its work is done by the others.
+pub fn phase<'p, L: Link + Sync, R: Threads + Sync>(
+    rt: &R,
+    alloc: Global,
+    link: &'p L,
+    jobs: &'p [Job],
+    ring: &'p KeyRing,
+    tries: u32,
+    workers: u32,
+) -> Result<PhaseOutcome<'p>, AllocError>
+    requires few { length jobs.now ≤ 4096 }
+    requires jobs { All (λ job. CanBeTried (length ring.now) tries job) jobs.now }
+    requires tries { (1 ≤ tries) × (tries ≤ 16) }
+    requires workers { (1 ≤ workers) × (workers ≤ 16) }
+    ensures first { IfOk result (λ o.
+        AreFirst (L.answer link.now) ring.now tries jobs.now o.parts.items o.attempts.items) }
+{
+    let trial = LinkTrial { link, jobs, ring };
+    let outcome = team::run(rt, alloc, &trial, jobs.len(), tries, workers)?;
+    Ok(PhaseOutcome {
+        parts: outcome.values,
+        attempts: outcome.attempts,
+    })
+}

@@ -1,0 +1,85 @@
+ghost use Rattle.std.specs.Prelude.{◌≡◌, ℕ, ◌*◌, ◌≤◌, ◌<◌, length, All, Some, None};
+ghost use Rattle.fetch_board.specs.Counts.{items, pairs, triples, Has};
+ghost use Rattle.fetch_board.specs.Seats.{IsSeatOf};
+ghost use Rattle.fetch_board.specs.Answers.{Rests};
+ghost use Rattle.repo_object.specs.Verdict.{CheckedPart};
+ghost use Rattle.fetch_work.specs.Attempts.{brings, job_at, CanBeTried};
+ghost use Rattle.fetch_work.specs.Works.{HasNothing};
+
+use crate::link::Link;
+use crate::link_trial::LinkTrial;
+use crate::turns::work;
+use fetch_board::{Board, Seat};
+use ndn_sign::KeyRing;
+use repo_object::{Checked, Job};
+use std::marker::Model;
+
+/// A fetcher with a seat at a board of jobs.
+#[derive(Drop)]
+pub struct Worker<T> {
+    pub(crate) seat: Seat<T>,
+    // The item that its rounds begin at.
+    pub(crate) first: usize,
+}
+
+// It is seen as its seat.
+impl<T> Model for Worker<T> {
+    ghost use Rattle.fetch_board.specs.Seats.{SeatData};
+
+    ghost Value = { SeatData T };
+
+    ghost view = { λ w. w.seat };
+}
+
+impl<T> Worker<T> {
+    pub fn new(seat: Seat<T>) -> Worker<T>
+        ensures { result ≡ seat }
+    {
+        Worker::beginning_at(seat, 0)
+    }
+
+    /// A worker whose rounds begin at that item, so that workers who begin together meet different items.
+    pub fn beginning_at(seat: Seat<T>, first: usize) -> Worker<T>
+        ensures { result ≡ seat }
+    {
+        Worker { seat, first }
+    }
+
+    pub fn into_seat(self) -> Seat<T>
+        ensures { result ≡ self }
+    {
+        let Worker { seat, first: _ } = self;
+        seat
+    }
+}
+
+impl<'p> Worker<Checked<'p>> {
+    /// Tries the jobs of a board, item `i` being job `i`, until none of them is left that is wanted.
+    ///
+    /// It takes no memory. It makes at most one attempt for each item and each of its tries, and goes round the items at
+    /// most once more than that.
+    pub fn work<L: Link>(
+        &mut self,
+        board: &Board<Checked<'p>>,
+        link: &'p L,
+        jobs: &'p [Job],
+        ring: &'p KeyRing,
+    )
+        requires seat { IsSeatOf board.now self.old × HasNothing self.old }
+        requires count { length jobs.now ≡ board.now.items }
+        requires jobs { All (λ job. CanBeTried (length ring.now) board.now.tries job) jobs.now }
+        ensures seat { IsSeatOf board.now self.new }
+        ensures shares { self.new.shares ≡ self.old.shares }
+        ensures rests { Rests self.new }
+        ensures passed { (i : ℕ) → i < length jobs.now → 0 < items i self.new.passed }
+        ensures finished { (i a : ℕ) (part : CheckedPart) → Has (i, a, part) self.new.done
+            → brings (L.answer link.now) ring.now (job_at jobs.now i) a ≡ Some part }
+        ensures failed { (i a : ℕ) → 0 < pairs i a self.new.tried → triples i a self.new.done ≡ 0
+            → brings (L.answer link.now) ring.now (job_at jobs.now i) a ≡ None }
+        ensures different { (i a : ℕ) → pairs i a self.new.tried ≤ 1 }
+        ensures few { length self.new.tried ≤ length jobs.now * board.now.tries }
+    {
+        let trial = LinkTrial { link, jobs, ring };
+        work(board, &mut self.seat, &trial, jobs.len(), self.first);
+    }
+}

@@ -1,0 +1,132 @@
+-- An answer that was written is read back.
+use Rattle.std.proofs.Common.{◌≡◌, ℕ, ◌+◌, ◌^◌, ◌<◌, ◌≤◌, List, [], ◌∷◌, ◌++◌, length, length-append, append_assoc, Option, Some, None, Result, Ok, refl, ap, ◌∙◌, arith}
+use Rattle.std.specs.Option.{option_and_then}
+use Rattle.std.specs.Result.{result_ok}
+use Rattle.std.proofs.lemmas.Bool.{lt-ltb}
+use Rattle.std.proofs.lemmas.List.{append-nil}
+use Rattle.ndn_tlv.specs.declared.order_table.Place.{Place}
+use Rattle.ndn_tlv.specs.declared.tlv_fault.TlvFault.{TlvFault}
+use Rattle.ndn_tlv.specs.Spelling.{element}
+use Rattle.ndn_tlv.specs.NumberField.{number_field}
+use Rattle.ndn_tlv.specs.Listing.{Listing, nothing, ◌then◌, gathered, ◌>>=◌}
+use Rattle.ndn_tlv.specs.Elements.{Item, placed, elements}
+use Rattle.ndn_tlv.specs.OrderTable.{place_of, fields}
+use Rattle.ndn_tlv.proofs.NumberFields.{number_of-number_field}
+use Rattle.ndn_packet.proofs.ReadBack.{alone}
+use Rattle.repo_command.specs.declared.answer.Answer.{Answer}
+use Rattle.repo_command.specs.declared.answer_fields.AnswerField.{AnswerField}
+use Rattle.repo_command.specs.declared.answer_fields.AnswerField.TheVariants.{ProcessId, StatusCode, InsertNum, DeleteNum}
+use Rattle.repo_command.specs.OrderTables.{once, repo_command_response}
+use Rattle.repo_command.specs.Signer.{or_refused}
+use Rattle.repo_command.specs.Answers.{IsSmall, IsAnswer, NoAnswer, none, written_field, response_value, written_answer, AnswerSoFar, no_number, with_number, with_answer_field, bad_field, answer_fields, whole_answer, response_among, answer_in, answer_of}
+use Rattle.repo_command.proofs.LengthLemmas.{field_short, number_element-size}
+use Rattle.repo_command.proofs.FieldLemmas.{field_again, fields_end}
+
+abbrev behind_process : List (Place AnswerField)
+behind_process = once 208 StatusCode ∷ once 209 InsertNum ∷ once 210 DeleteNum ∷ []
+
+abbrev behind_code : List (Place AnswerField)
+behind_code = once 209 InsertNum ∷ once 210 DeleteNum ∷ []
+
+abbrev behind_inserted : List (Place AnswerField)
+behind_inserted = once 210 DeleteNum ∷ []
+
+abbrev gather_answer : AnswerSoFar → List (Place AnswerField) → ℕ → List ℕ → Result AnswerSoFar NoAnswer
+gather_answer s places o octets = gathered with_answer_field bad_field s (fields places (elements o octets))
+
+-- with a number that may be there
+abbrev with_some : AnswerSoFar → AnswerField → Option ℕ → AnswerSoFar
+with_some s field None = s
+with_some s field (Some n) = with_number s field n
+
+number_taken : (s : AnswerSoFar) (field : AnswerField) (o typ n : ℕ) → n < 2 ^ 64
+    → with_answer_field s (field, placed o typ (number_field n)) ≡ Ok (with_number s field n)
+number_taken s field o typ n small =
+    ap (λ (r : Option ℕ). or_refused none r >>= λ m. Ok (with_number s field m)) (number_of-number_field n small)
+
+next_number : (places behind : List (Place AnswerField)) (field : AnswerField) (o typ n : ℕ) (rest : List ℕ) (s : AnswerSoFar)
+    → place_of typ places ≡ Some (field, behind) → 0 < typ → typ < 2 ^ 32 → n < 2 ^ 64
+    → gather_answer s places o (element typ (number_field n) ++ rest)
+    ≡ gather_answer (with_number s field n) behind (o + length (element typ (number_field n))) rest
+next_number places behind field o typ n rest s place above below small =
+    field_again with_answer_field bad_field places behind field o typ (number_field n) rest s (with_number s field n) place above below (omega (arith, field_short n)) (number_taken s field o typ n small)
+
+-- ---- field by field, from the last
+
+deleted_again : (places : List (Place AnswerField)) (o : ℕ) (s : AnswerSoFar) (d : Option ℕ) → place_of 210 places ≡ Some (DeleteNum, []) → IsSmall d
+    → gather_answer s places o (written_field 210 d ++ []) ≡ Ok (with_some s DeleteNum d)
+deleted_again places o s None place small = fields_end with_answer_field bad_field places o s
+deleted_again places o s (Some n) place small =
+    next_number places [] DeleteNum o 210 n [] s place (omega arith) (omega arith) small
+    ∙ fields_end with_answer_field bad_field [] (o + length (element 210 (number_field n))) (with_number s DeleteNum n)
+
+last_place : place_of 210 behind_inserted ≡ Some (DeleteNum, [])
+unfolding place_of
+last_place = refl
+
+inserted_again : (o : ℕ) (s : AnswerSoFar) (i d : Option ℕ) → IsSmall i → IsSmall d
+    → gather_answer s behind_code o (written_field 209 i ++ (written_field 210 d ++ [])) ≡ Ok (with_some (with_some s InsertNum i) DeleteNum d)
+unfolding place_of
+inserted_again o s None d small_i small_d = deleted_again behind_code o s d refl small_d
+inserted_again o s (Some n) d small_i small_d =
+    next_number behind_code behind_inserted InsertNum o 209 n (written_field 210 d ++ []) s refl (omega arith) (omega arith) small_i
+    ∙ deleted_again behind_inserted (o + length (element 209 (number_field n))) (with_number s InsertNum n) d last_place small_d
+
+code_again : (places : List (Place AnswerField)) (o : ℕ) (s : AnswerSoFar) (code : ℕ) (i d : Option ℕ) → place_of 208 places ≡ Some (StatusCode, behind_code)
+    → code < 2 ^ 16 → IsSmall i → IsSmall d
+    → gather_answer s places o (element 208 (number_field code) ++ (written_field 209 i ++ (written_field 210 d ++ [])))
+    ≡ Ok (with_some (with_some (with_number s StatusCode code) InsertNum i) DeleteNum d)
+code_again places o s code i d place small small_i small_d =
+    next_number places behind_code StatusCode o 208 code (written_field 209 i ++ (written_field 210 d ++ [])) s place (omega arith) (omega arith) (omega arith)
+    ∙ inserted_again (o + length (element 208 (number_field code))) (with_number s StatusCode code) i d small_i small_d
+
+abbrev made : Option ℕ → ℕ → Option ℕ → Option ℕ → AnswerSoFar
+made p code i d = with_some (with_some (with_number (with_some no_number ProcessId p) StatusCode code) InsertNum i) DeleteNum d
+
+value_again : (o code : ℕ) (p i d : Option ℕ) → IsSmall p → code < 2 ^ 16 → IsSmall i → IsSmall d
+    → gather_answer no_number repo_command_response o (written_field 206 p ++ (element 208 (number_field code) ++ (written_field 209 i ++ (written_field 210 d ++ []))))
+    ≡ Ok (made p code i d)
+unfolding place_of
+value_again o code None i d small_p small small_i small_d = code_again repo_command_response o no_number code i d refl small small_i small_d
+value_again o code (Some n) i d small_p small small_i small_d =
+    next_number repo_command_response behind_process ProcessId o 206 n (element 208 (number_field code) ++ (written_field 209 i ++ (written_field 210 d ++ []))) no_number refl (omega arith) (omega arith) small_p
+    ∙ code_again behind_process (o + length (element 206 (number_field n))) (with_number no_number ProcessId n) code i d refl small small_i small_d
+
+-- ---- the whole
+
+regroup : (a b c d : List ℕ) → ((a ++ b) ++ c) ++ d ≡ a ++ (b ++ (c ++ (d ++ [])))
+regroup a b c d = simp (append_assoc, append-nil)
+
+abbrev answer : Option ℕ → ℕ → Option ℕ → Option ℕ → Answer
+answer p code i d = record { code = code; process = p; inserted = i; deleted = d }
+
+whole_again : (p i d : Option ℕ) (code : ℕ) → code < 2 ^ 16 → whole_answer (made p code i d) ≡ Some (answer p code i d)
+whole_again None None None code small = rw (lt-ltb code 65536 small) refl
+whole_again None None (Some d) code small = rw (lt-ltb code 65536 small) refl
+whole_again None (Some i) None code small = rw (lt-ltb code 65536 small) refl
+whole_again None (Some i) (Some d) code small = rw (lt-ltb code 65536 small) refl
+whole_again (Some p) None None code small = rw (lt-ltb code 65536 small) refl
+whole_again (Some p) None (Some d) code small = rw (lt-ltb code 65536 small) refl
+whole_again (Some p) (Some i) None code small = rw (lt-ltb code 65536 small) refl
+whole_again (Some p) (Some i) (Some d) code small = rw (lt-ltb code 65536 small) refl
+
+field-size : (typ : ℕ) (n : Option ℕ) → typ < 253 → length (written_field typ n) ≤ 10
+field-size typ None low = omega arith
+field-size typ (Some n) low = number_element-size typ n low
+
+pub answer_again : (a : Answer) → IsAnswer a → answer_of (written_answer a) ≡ Some a
+answer_again a is =
+    let value = response_value a in
+    let e = placed 0 207 value in
+    let p = written_field 206 a.process in
+    let c = element 208 (number_field a.code) in
+    let i = written_field 209 a.inserted in
+    let d = written_field 210 a.deleted in
+    let long : length value < 2 ^ 64 = omega (arith, length-append ((p ++ c) ++ i) d, length-append (p ++ c) i, length-append p c, field-size 206 a.process (omega arith), number_element-size 208 a.code (omega arith), field-size 209 a.inserted (omega arith), field-size 210 a.deleted (omega arith)) in
+    let read : elements 0 (written_answer a) ≡ (e then nothing) = alone 0 207 value (omega arith) (omega arith) long in
+    let all : answer_fields e ≡ Ok (made a.process a.code a.inserted a.deleted) =
+    ap (gather_answer no_number repo_command_response e.value_start) (regroup p c i d)
+    ∙ value_again e.value_start a.code a.process a.inserted a.deleted is.process is.code is.inserted is.deleted in
+    ap (λ (l : Listing Item TlvFault). option_and_then answer_in (response_among l.items l.fault)) read
+    ∙ ap (λ (r : Result AnswerSoFar NoAnswer). option_and_then whole_answer (result_ok r)) all
+    ∙ whole_again a.process a.inserted a.deleted a.code is.code

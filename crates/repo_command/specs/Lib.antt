@@ -1,0 +1,15 @@
+pub use Rattle.ndn_tlv.specs.Spelling
+pub use Rattle.ndn_tlv.specs.NumberField
+pub use Rattle.ndn_name.specs.Names
+pub use Rattle.ndn_sign.specs.Ring
+pub use Rattle.ndn_interest.specs.Interest
+pub use Rattle.ndn_interest.specs.WrittenInterest
+pub use Rattle.repo_object.specs.Objects
+pub mod OrderTables
+pub mod Refusals
+pub mod Signer
+pub mod Verbs
+pub mod Commands
+pub mod Parameters
+pub mod Verdict
+pub mod Answers

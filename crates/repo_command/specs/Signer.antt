@@ -1,0 +1,52 @@
+-- Who signed an Interest, among those whose keys a ring has, or the first reason why nobody did (NDN Packet Format 0.3,
+-- "Signed Interest"; RFC 2104).
+use Rattle.std.specs.Prelude.{ℕ, Bool, false, ◌&&◌, List, ◌++◌, Option, Some, None, Result, Ok, Err, slice_get, ◌==◌, if◌then◌else◌}
+use Rattle.std.specs.Option.{option_map_or}
+use Rattle.std.specs.Str.{bytes_eq}
+use Rattle.sha2.specs.Sha256.{sha256}
+use Rattle.ndn_tlv.specs.Listing.{◌>>=◌}
+use Rattle.ndn_name.specs.Names.{Component, encoding}
+use Rattle.ndn_sign.specs.Hmac.{hmac}
+use Rattle.ndn_sign.specs.Ring.{Pair, number_of}
+use Rattle.ndn_interest.specs.Interest.{Interest, last_component}
+use Rattle.repo_command.specs.declared.signature_refusal.SignatureRefusal.{SignatureRefusal}
+use Rattle.repo_command.specs.declared.signature_refusal.SignatureRefusal.TheVariants.{Unsigned, ParamsDigest, UnknownKey, BadSignature}
+
+-- A refusal, where a test fails, or where something is not there.
+abbrev pub ensured : {E : Type 0} → Bool → E → Result (Unit {0}) E
+ensured passes refusal = if passes then Ok tt else Err refusal
+
+abbrev pub or_refused : {A E : Type 0} → E → Option A → Result A E
+or_refused refusal (Some x) = Ok x
+or_refused refusal None = Err refusal
+
+-- The last component of the name is the digest of the octets.
+abbrev pub is_digest_of : List ℕ → Option Component → Bool
+is_digest_of octets None = false
+is_digest_of octets (Some last) = last.0 == 2 && bytes_eq last.1 (sha256 octets)
+
+abbrev pub has_its_digest : Interest → Bool
+has_its_digest i = option_map_or (λ octets. is_digest_of octets (last_component i.name)) i.digested false
+
+-- The number of the key that the Interest names, where it is signed by HMAC with SHA-256, which is signature type 4.
+abbrev pub key_of : List Pair → Option ℕ → Option (List Component) → Option ℕ
+key_of ring (Some typ) (Some name) = if typ == 4 then number_of (encoding name) ring else None
+key_of ring (Some typ) None = None
+key_of ring None locator = None
+
+-- The signature is the mac of what is signed under the key of that number.
+abbrev pub is_mac : List ℕ × List ℕ → Option Pair → List ℕ → Bool
+is_mac signed None signature = false
+is_mac signed (Some pair) signature = bytes_eq (hmac pair.key (signed.0 ++ signed.1)) signature
+
+abbrev pub is_signed : List Pair → ℕ → List ℕ × List ℕ → Interest → Bool
+is_signed ring signer signed i = option_map_or (is_mac signed (slice_get ring signer)) i.signature false
+
+-- The number of the key that signed an Interest, or the first refusal.
+abbrev pub signer_of : List Pair → Interest → Result ℕ SignatureRefusal
+signer_of ring i = do
+  signed ← or_refused Unsigned i.signed
+  _ ← ensured (has_its_digest i) ParamsDigest
+  signer ← or_refused UnknownKey (key_of ring i.signature_type i.locator)
+  _ ← ensured (is_signed ring signer signed i) BadSignature
+  Ok signer

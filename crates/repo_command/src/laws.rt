@@ -1,0 +1,64 @@
+ghost use Rattle.std.specs.Prelude.{◌≡◌, ◌^◌, ◌<◌, ◌≤◌, ◌↔◌, ◌++◌, ◌∷◌, [], ℕ, List, Ok, Err, Some, IsTrue, length, slice_get, if◌then◌else◌};
+ghost use Rattle.ndn_name.specs.Names.{Component, IsName, encoding};
+ghost use Rattle.ndn_sign.specs.Hmac.{hmac};
+ghost use Rattle.ndn_sign.specs.Ring.{Pair, number_of, pair};
+ghost use Rattle.ndn_interest.specs.Interest.{Interest, IsDigested};
+ghost use Rattle.repo_command.specs.declared.answer.Answer.{Answer};
+ghost use Rattle.repo_command.specs.declared.command.Command.{Command};
+ghost use Rattle.repo_command.specs.declared.command_refusal.CommandRefusal.TheVariants.{BadParameter};
+ghost use Rattle.repo_command.specs.declared.verb.Verb.{Verb};
+ghost use Rattle.repo_command.specs.OrderTables.{repo_command_parameter, repo_command_response};
+ghost use Rattle.repo_command.specs.Signer.{has_its_digest, is_signed};
+ghost use Rattle.repo_command.specs.Verbs.{verb_component, verb_in};
+ghost use Rattle.repo_command.specs.Commands.{named_length, is_command, command_interest, IsSpelled};
+ghost use Rattle.repo_command.specs.Verdict.{command_verdict};
+ghost use Rattle.repo_command.specs.Answers.{written_answer, answer_of, IsAnswer};
+
+use crate::answer_fields::RESPONSE;
+use crate::element_types::{REPO_COMMAND_PARAMETER, REPO_COMMAND_RESPONSE};
+use crate::parameters::PARAMETER;
+
+/// The order tables of commands and answers are those of the profile, and so are the types of the elements that they are
+/// for.
+pub fn order_tables_are_the_profiles()
+    ensures parameter { PARAMETER ≡ repo_command_parameter }
+    ensures response { RESPONSE ≡ repo_command_response }
+    ensures types { (REPO_COMMAND_PARAMETER ≡ 201) × (REPO_COMMAND_RESPONSE ≡ 207) }
+{}
+
+/// The command that was made is checked: it tells the command that was given, and the number of the client's key in the
+/// ring. One that goes beyond the limits is refused as such.
+pub fn made_commands_are_checked()
+    ensures { (node key_name : List Component) (command : Command) (key : List ℕ) (ring : List Pair) (client : ℕ)
+        → IsName node → length (encoding node) ≤ 200 → IsSpelled command → named_length command ≤ 400
+        → IsName key_name → length (encoding key_name) ≤ 205
+        → number_of (encoding key_name) ring ≡ Some client
+        → slice_get ring client ≡ Some (pair (encoding key_name) key)
+        → command_verdict node ring (command_interest node command key_name key)
+        ≡ (if is_command command then Ok (client, command) else Err BadParameter) }
+{}
+
+/// What is taken is within the limits of commands, and of a client of the ring.
+pub fn taken_commands_are_within_limits()
+    ensures { (node : List Component) (ring : List Pair) (octets : List ℕ) (client : ℕ) (command : Command)
+        → command_verdict node ring octets ≡ Ok (client, command)
+        → IsTrue (is_command command) × (client < length ring) }
+{}
+
+/// What the tests of a command's name, digest and signature say. The name is the node's, the verb and one parameters
+/// digest; and the signature is the mac, under the key of that number, of what is signed.
+pub fn commands_are_tested()
+    ensures name { (node name : List Component) (verb : Verb) → IsName node → IsName name
+        → (verb_in node name ≡ Some verb)
+        ↔ ((digest : List ℕ) × (name ≡ node ++ verb_component verb ∷ (2, digest) ∷ [])) }
+    ensures digest { (i : Interest) → IsTrue (has_its_digest i) ↔ IsDigested i }
+    ensures signature { (ring : List Pair) (signer : ℕ) (signed : List ℕ × List ℕ) (i : Interest)
+        → IsTrue (is_signed ring signer signed i)
+        ↔ ((pair : Pair) × (slice_get ring signer ≡ Some pair)
+        × (i.signature ≡ Some (hmac pair.key (signed.0 ++ signed.1)))) }
+{}
+
+/// An answer that was written is read back.
+pub fn written_answers_are_read()
+    ensures { (answer : Answer) → IsAnswer answer → answer_of (written_answer answer) ≡ Some answer }
+{}

@@ -1,0 +1,29 @@
+//! Commands of the repo protocol and their answers, in this project's profile: what a client asks a repository for by a
+//! signed Interest, what a repository takes of it, and what it says to it.
+#![tactic(auto)]
+
+mod answer;
+mod answer_fields;
+mod command;
+mod command_interest;
+mod command_refusal;
+mod element_types;
+mod laws;
+mod parameters;
+mod signature_refusal;
+mod signer;
+mod verb;
+
+pub use answer::{Answer, read_answer, write_answer};
+pub use command::Command;
+pub use command_interest::{KEY_NAME_LIMIT, check_command, make_command};
+pub use command_refusal::CommandRefusal;
+pub use laws::{
+    commands_are_tested, made_commands_are_checked, order_tables_are_the_profiles,
+    taken_commands_are_within_limits, written_answers_are_read,
+};
+pub use signature_refusal::SignatureRefusal;
+pub use signer::signer_of;
+
+#[cfg(test)]
+mod tests;

@@ -1,0 +1,40 @@
+ghost use Rattle.std.specs.Prelude.{◌≡◌, Ok, Err, MatchResult};
+ghost use Rattle.ndn_interest.specs.Interest.{packet};
+ghost use Rattle.repo_command.specs.Signer.{key_of, signer_of};
+
+use crate::signature_refusal::SignatureRefusal;
+use ndn_interest::InterestView;
+use ndn_sign::KeyRing;
+
+// HMAC with SHA-256, as a signature type.
+const HMAC_WITH_SHA256: u64 = 4;
+
+/// The number of the key in the ring under which an Interest is signed (NDN Packet Format 0.3, "Signed Interest"; RFC
+/// 2104). It takes no memory.
+pub fn signer_of(interest: &InterestView<'_>, ring: &KeyRing) -> Result<u32, SignatureRefusal>
+    ensures { MatchResult result
+        (λ signer. signer_of ring.now (packet interest.now) ≡ Ok signer)
+        (λ refusal. signer_of ring.now (packet interest.now) ≡ Err refusal) }
+{
+    let (first, second) = interest.signed_portion().ok_or(SignatureRefusal::Unsigned)?;
+    if !interest.params_digest_matches() {
+        return Err(SignatureRefusal::ParamsDigest);
+    }
+    let signer = key_of(interest, ring).ok_or(SignatureRefusal::UnknownKey)?;
+    let signature = interest.signature;
+    if !signature.is_some_and(|mac| ring.check_mac(signer, first, second, mac)) {
+        return Err(SignatureRefusal::BadSignature);
+    }
+    Ok(signer)
+}
+
+// The number of the key that an Interest names, where it is signed by HMAC with SHA-256.
+fn key_of(interest: &InterestView<'_>, ring: &KeyRing) -> Option<u32>
+    ensures { result
+        ≡ key_of ring.now (packet interest.now).signature_type (packet interest.now).locator }
+{
+    match (interest.signature_type, &interest.locator) {
+        (Some(HMAC_WITH_SHA256), Some(name)) => ring.find(name.octets()),
+        _ => None,
+    }
+}

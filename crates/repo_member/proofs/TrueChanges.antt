@@ -1,0 +1,292 @@
+-- Which changes leave a member one whose stored packets are those of their parts.
+use Rattle.std.proofs.Common.{◌≡◌, inl, inr, ℕ, zero, suc, ◌+◌, ◌-◌, ◌<◌, ◌≤◌, max, Bool, true, false, cond, not, List, [], ◌∷◌, ◌++◌, map, length, get_or, take, set, replicate, Option, Some, None, refl, sym, ap, ◌∙◌, subst, arith}
+use Rattle.std.specs.Prelude.{nat_lt, is_some, filter, IfSome}
+use Rattle.std.specs.List.{All}
+use Rattle.std.proofs.lemmas.Bool.{true≢false, and_parts, not-true}
+use Rattle.std.proofs.lemmas.List.{length-set, length-replicate, get_or-replicate, get_or-set_same, length_push, take_all}
+use Rattle.std.proofs.lemmas.List.Elements.{All-head, All-tail, All-weaker}
+use Rattle.svs_vector.specs.Vectors.{join}
+use Rattle.svs_sync.specs.KeptVector.{Keeper, steady_kept, fired_kept, hears_kept}
+use Rattle.repo_plan.specs.declared.part.Part.{Part}
+use Rattle.repo_plan.specs.SortedList.{keys, Rises}
+use Rattle.repo_plan.specs.Parts.{part_cmp}
+use Rattle.repo_plan.specs.Plan.{Holdings, no_claims, is_wanted, is_claimed, claim_of, unclaimed, is_unclaimed, first}
+use Rattle.repo_plan.proofs.Orders.{exact_parts}
+use Rattle.repo_plan.proofs.Sets.{In, contains_in}
+use Rattle.repo_plan.proofs.Known.{contains-unclaimed}
+use Rattle.repo_object.specs.Objects.{NamedContents}
+use Rattle.group_model.specs.Publications.{Logs, last_of}
+use Rattle.group_model.specs.Member.{Member, plan_of, gains, with_tries}
+use Rattle.group_model.specs.Changes as group
+use Rattle.group_model.specs.Sound.{IsSoundMember, HeardTruly}
+use Rattle.group_model.proofs.Members.{Grows, grown, with_machine, sound_learns, sound_claims, sound_loses}
+use Rattle.group_model.proofs.Gains.{Publishes, AreTried, sound_takes, sound_gains, sound_publishes, rises_tried, tried_once_more}
+use Rattle.group_model.proofs.Settles.{no_claim}
+use Rattle.repo_member.specs.Groups.{GroupKeys}
+use Rattle.repo_member.specs.Alone.{Alone, Fetched, alone_plan, alone_opening, alone_publishes, alone_learns, alone_hears, alone_fires, alone_claims, alone_accepts, alone_takes, alone_ends_claims, next_seq, with_fetched}
+use Rattle.repo_member.specs.InGroup.{in_group, AreLogs, GrowInto, AreItsPackets, CameTruly, asked_for, that_came}
+use Rattle.repo_member.specs.Outcomes.{with_all_fetched, with_all_tries}
+use Rattle.repo_member.specs.TrueMembers.{IsTrueMember}
+use Rattle.repo_member.specs.TrueChanges.{BeginsTrue, PublishesTrue, OthersPublish, LogsHaveGrown, LearnsTrue, HearsTrue, FiresTrue, ResetsTrue, EndsClaimsTrue, ClaimsTrue, LosesTrue, AcceptsTrue, IsTrueArrival, TakesTrue}
+use Rattle.repo_member.proofs.CallReach.{fired_wide}
+use Rattle.repo_member.proofs.ChangeLemmas.{publishes_alike, accepts_alike, takes_in_group}
+use Rattle.repo_member.proofs.GroupPlans.{plans_alike}
+use Rattle.repo_member.proofs.LastingPackets.{begins_truly, grown_last, grown_object, grows_truly, publishes_truly, published_grows, object_next, accepts_truly, takes_truly}
+use Rattle.repo_member.proofs.MemberLemmas.{still_wide}
+use Rattle.repo_member.proofs.OutcomeLemmas.{takes_all}
+use Rattle.repo_member.proofs.TrueMembers.{true_stores, wanted_published, claimed_wanted}
+
+-- ---- the beginning
+
+nothing_in : (n p : ℕ) → last_of (replicate n []) p ≡ 0
+nothing_in zero p = refl
+nothing_in (suc n) zero = refl
+nothing_in (suc n) (suc p) = nothing_in n p
+
+abbrev zeros : ℕ → List ℕ
+zeros n = replicate n 0
+
+all_zeros : (n p : ℕ) → get_or (zeros n) p 0 ≡ 0
+all_zeros zero p = refl
+all_zeros (suc n) zero = refl
+all_zeros (suc n) (suc p) = all_zeros n p
+
+none_logged : (n p : ℕ) → get_or (replicate n (let l : List NamedContents = [] in l)) p [] ≡ []
+none_logged zero p = refl
+none_logged (suc n) zero = refl
+none_logged (suc n) (suc p) = none_logged n p
+
+pub begins_true : BeginsTrue
+begins_true g n number moment draw inside =
+    let logs : Logs = replicate n [] in
+    let many : length logs ≡ n = length-replicate n [] in
+    record {
+      there = omega (arith, inside, many);
+      log = none_logged n number;
+      sound = record {
+        width = length-replicate n 0 ∙ sym many;
+        fetchers = refl;
+        in_order = record { held = tt; hidden = tt; attempts = tt; tried = λ t k e. absurd cc };
+        known = λ p. let z : get_or (zeros n) p 0 ≡ 0 = all_zeros n p in omega (arith, z);
+        own = all_zeros n number ∙ sym (nothing_in n number);
+        heard = tt;
+        held = λ t h. absurd (true≢false (sym h));
+        hidden = λ q h. absurd (true≢false (sym h));
+        own_held = λ s p. absurd (let z : last_of logs number ≡ 0 = nothing_in n number in omega (arith, z, p.from_one, p.to_last));
+        claimed = λ f t e. absurd (let c : get_or no_claims f None ≡ None = no_claim 16 f in cc);
+        apart = λ f h t a b. absurd (let c : get_or no_claims f None ≡ None = no_claim 16 f in cc);
+      };
+      machine = sym many;
+      packets = (begins_truly g logs n number moment draw).packets;
+    }
+
+-- ---- what is published
+
+grows_from : (logs later : Logs) → GrowInto logs later → length later ≡ length logs → Grows logs later
+grows_from logs later grows wide = record {
+  width = wide;
+  last = λ p. grown_last logs later p grows;
+  counts = λ pair there. ap (λ (o : NamedContents). length o.contents) (grown_object logs later pair grows there);
+}
+
+pub logs_have_grown : LogsHaveGrown
+logs_have_grown logs j object inside = published_grows logs j (get_or logs j []) object inside refl
+
+pub publishes_true : PublishesTrue
+publishes_true g object moment draw logs a t =
+    let later : Logs = set logs a.number (a.log ++ object ∷ []) in
+    let grows : GrowInto logs later = published_grows logs a.number a.log object t.there t.log in
+    let wide : length later ≡ length logs = length-set logs a.number (a.log ++ object ∷ []) in
+    let own : get_or later a.number [] ≡ a.log ++ object ∷ [] = get_or-set_same logs a.number (a.log ++ object ∷ []) [] t.there in
+    let last : last_of logs a.number ≡ length a.log = ap length t.log in
+    let one : last_of later a.number ≡ length a.log + 1 = ap length own ∙ length_push a.log object in
+    let next : last_of logs a.number + 1 ≡ length a.log + 1 = omega (arith, last) in
+    let publishes : Publishes logs later a.number object = record {
+      grows = grows_from logs later grows wide;
+      one_more = omega (arith, one, last);
+      counts = ap (λ (s : ℕ). length (get_or (get_or later a.number []) (s - 1) (let o : NamedContents = record { name = []; contents = [] } in o)).contents) next
+          ∙ ap (λ (o : NamedContents). length o.contents) (object_next logs a.number a.log object t.there t.log);
+    } in
+    record {
+      there = omega (arith, t.there, wide);
+      log = own;
+      sound = subst (IsSoundMember later a.number) (sym (publishes_alike g object moment draw a t.sound.in_order.held))
+          (sound_publishes draw moment logs later a.number object (in_group a) t.there (sym last) publishes t.sound);
+      machine = t.machine ∙ sym wide;
+      packets = (publishes_truly g object moment draw logs a t.there t.log (true_stores g logs a t)).packets;
+    }
+
+pub others_publish : OthersPublish
+others_publish g logs later a grows wide last t =
+    record {
+      there = omega (arith, t.there, wide);
+      log = sym (take_all (last_of logs a.number) (get_or later a.number []) (omega (arith, last))) ∙ grows a.number ∙ t.log;
+      sound = grown logs later a.number (in_group a) (grows_from logs later grows wide) last t.sound;
+      machine = t.machine ∙ sym wide;
+      packets = (grows_truly g logs later a grows (true_stores g logs a t)).packets;
+    }
+
+-- ---- what is told
+
+pub learns_true : LearnsTrue
+learns_true g logs told a v t = record {
+  there = t.there;
+  log = t.log;
+  sound = with_machine logs a.number (group.learns 0 0 told (in_group a)) a.machine [] 1 (sound_learns 0 0 logs a.number told (in_group a) v t.sound) t.sound.heard;
+  machine = t.machine;
+  packets = t.packets;
+}
+
+pub hears_true : HearsTrue
+hears_true g logs told moment draw a v t = record {
+  there = t.there;
+  log = t.log;
+  sound = sound_learns draw moment logs a.number told (in_group a) v t.sound;
+  machine = still_wide moment told a.known draw a.machine (hears_kept moment told a.known draw a.machine a.machine.heard) refl ∙ t.machine;
+  packets = t.packets;
+}
+
+-- only the machine changes
+machine_true : (g : GroupKeys) (logs : Logs) (a : Alone) (machine : Keeper) → machine.members ≡ a.machine.members → HeardTruly logs machine.heard → IsTrueMember g logs a → IsTrueMember g logs (record a { machine = machine })
+machine_true g logs a machine wide heard t = record {
+  there = t.there;
+  log = t.log;
+  sound = with_machine logs a.number (in_group a) machine [] 1 t.sound heard;
+  machine = wide ∙ t.machine;
+  packets = t.packets;
+}
+
+pub fires_true : FiresTrue
+fires_true g logs moment draw a t = machine_true g logs a (fired_kept moment draw a.machine) (fired_wide moment draw a.machine) (go (nat_lt moment a.machine.deadline)) t where
+  go : (b : Bool) → HeardTruly logs (cond b a.machine (steady_kept moment draw a.machine)).heard
+  go true = t.sound.heard
+  go false = tt
+
+pub resets_true : ResetsTrue
+resets_true g logs moment draw a t = machine_true g logs a (steady_kept moment draw a.machine) refl tt t
+
+-- ---- claims
+
+pub ends_claims_true : EndsClaimsTrue
+ends_claims_true g logs a t = record {
+  there = t.there;
+  log = t.log;
+  sound = record {
+    width = t.sound.width;
+    fetchers = refl;
+    in_order = record { held = t.sound.in_order.held; hidden = t.sound.in_order.hidden; attempts = t.sound.in_order.attempts; tried = t.sound.in_order.tried };
+    known = t.sound.known;
+    own = t.sound.own;
+    heard = t.sound.heard;
+    held = t.sound.held;
+    hidden = λ pair h. record { known = (t.sound.hidden pair h).known; none_held = (t.sound.hidden pair h).none_held };
+    own_held = t.sound.own_held;
+    claimed = λ f u e. absurd (let n : get_or no_claims f None ≡ None = no_claim 16 f in cc);
+    apart = λ f h u x y. absurd (let n : get_or no_claims f None ≡ None = no_claim 16 f in cc);
+  };
+  machine = t.machine;
+  packets = t.packets;
+}
+
+pub loses_true : LosesTrue
+loses_true g logs f a t = record {
+  there = t.there;
+  log = t.log;
+  sound = sound_loses logs a.number f (in_group a) t.sound;
+  machine = t.machine;
+  packets = t.packets;
+}
+
+-- the first of a list stands in it
+first_in : (ts : List Part) (t : Part) → first ts ≡ Some t → In t ts
+first_in [] t h = absurd cc
+first_in (u ∷ us) t h = let same : t ≡ u = cc in inl same
+
+pub claims_true : ClaimsTrue
+claims_true g logs f a are t = go (first (unclaimed (alone_plan a))) refl where
+  go : (claim : Option Part) → first (unclaimed (alone_plan a)) ≡ claim → IsTrueMember g logs (alone_claims f claim a)
+  go None e = loses_true g logs f a t
+  go (Some u) e =
+      let free : is_unclaimed (alone_plan a) u ≡ true = sym (contains-unclaimed (alone_plan a) u) ∙ contains_in exact_parts (unclaimed (alone_plan a)) u (first_in (unclaimed (alone_plan a)) u e) in
+      let both = and_parts (is_wanted (alone_plan a) u) (not (is_claimed (alone_plan a) u)) free in
+      let plans = plans_alike g logs a are (true_stores g logs a t) in
+      record {
+        there = t.there;
+        log = t.log;
+        sound = sound_claims logs a.number f u (in_group a)
+            (subst (λ (p : Holdings). is_wanted p u ≡ true) plans both.0)
+            (subst (λ (p : Holdings). is_claimed p u ≡ false) plans (not-true (is_claimed (alone_plan a) u) both.1)) t.sound;
+        machine = t.machine;
+        packets = t.packets;
+      }
+
+-- ---- what comes
+
+pub accepts_true : AcceptsTrue
+accepts_true g logs f t octets a are claim its truly = record {
+  there = truly.there;
+  log = truly.log;
+  sound = subst (IsSoundMember logs a.number) (sym (accepts_alike f t octets a truly.sound.in_order.held)) (sound_takes logs a.number f t (in_group a) claim truly.sound);
+  machine = truly.machine;
+  packets = (accepts_truly g logs f t octets a (record {
+    published = (wanted_published g logs a are truly t (claimed_wanted g logs a are truly f t claim)).there;
+    packet = its;
+  }) (true_stores g logs a truly)).packets;
+}
+
+rises_all_tried : (xs : List Fetched) (tried : List (Part × ℕ)) → Rises part_cmp (keys tried) → Rises part_cmp (keys (with_all_tries xs tried))
+rises_all_tried [] tried r = r
+rises_all_tried (x ∷ xs) tried r = rises_all_tried xs (with_tries x.part x.attempts tried) (rises_tried x.part x.attempts tried r)
+
+all_tried : (xs : List Fetched) (tried : List (Part × ℕ)) → AreTried tried → AreTried (with_all_tries xs tried)
+all_tried [] tried h = h
+all_tried (x ∷ xs) tried h = all_tried xs (with_tries x.part x.attempts tried) (tried_once_more x.part x.attempts tried h)
+
+-- a part that came
+came_from : (xs : List Fetched) (P : Part → Type 0) → All (λ (x : Fetched). IfSome x.packet (λ octets. P x.part)) xs → (t : Part) → In t (that_came xs) → P t
+came_from [] P all t i = absurd i
+came_from (x ∷ xs) P all t i =
+    go x.packet (All-head (λ (y : Fetched). IfSome y.packet (λ octets. P y.part)) x xs all) i (came_from xs P (All-tail (λ (y : Fetched). IfSome y.packet (λ octets. P y.part)) x xs all) t) where
+      go : (o : Option (List ℕ)) → IfSome o (λ octets. P x.part) → In t (asked_for (cond (is_some o) (x ∷ filter (λ (y : Fetched). is_some y.packet) xs) (filter (λ (y : Fetched). is_some y.packet) xs))) → (In t (that_came xs) → P t) → P t
+      go None h j rest = rest j
+      go (Some octets) h (inl same) rest = subst P (sym same) h
+      go (Some octets) h (inr j) rest = rest j
+
+module _ (g : GroupKeys) (logs : Logs) (xs : List Fetched) (a : Alone) (are : AreLogs g logs) (truly : IsTrueMember g logs a) (came : All (λ (x : Fetched). IfSome x.packet (IsTrueArrival g logs a x.part)) xs) where
+  plans : alone_plan a ≡ plan_of logs (in_group a)
+  plans = plans_alike g logs a are (true_stores g logs a truly)
+
+  is_free : (o : Option (List ℕ)) (t : Part) → IfSome o (IsTrueArrival g logs a t) → IfSome o (λ octets. is_unclaimed (alone_plan a) t ≡ true)
+  is_free None t h = h
+  is_free (Some octets) t h = h.unclaimed
+
+  open_parts : (t : Part) → In t (that_came xs) → (is_wanted (alone_plan a) t ≡ true) × (is_claimed (alone_plan a) t ≡ false)
+  open_parts t i =
+      let free : is_unclaimed (alone_plan a) t ≡ true = came_from xs (λ (u : Part). is_unclaimed (alone_plan a) u ≡ true)
+      (All-weaker (λ (x : Fetched). IfSome x.packet (IsTrueArrival g logs a x.part)) (λ (x : Fetched). IfSome x.packet (λ octets. is_unclaimed (alone_plan a) x.part ≡ true)) (λ x h. is_free x.packet x.part h) xs came) t i in
+      let both = and_parts (is_wanted (alone_plan a) t) (not (is_claimed (alone_plan a) t)) free in
+      (both.0, not-true (is_claimed (alone_plan a) t) both.1)
+
+  is_its : (o : Option (List ℕ)) (t : Part) → IfSome o (IsTrueArrival g logs a t) → CameTruly g logs t o
+  is_its None t h = tt
+  is_its (Some octets) t h = record {
+    published = (wanted_published g logs a are truly t (and_parts (is_wanted (alone_plan a) t) (not (is_claimed (alone_plan a) t)) h.unclaimed).0).there;
+    packet = h.packet;
+  }
+
+  pub taken_true : IsTrueMember g logs (alone_takes xs a)
+  taken_true = subst (IsTrueMember g logs) (sym (takes_all xs a)) (record {
+    there = truly.there;
+    log = truly.log;
+    sound = subst (IsSoundMember logs a.number) (sym (sym (ap in_group (takes_all xs a)) ∙ takes_in_group xs a truly.sound.in_order.held))
+        (sound_gains logs a.number (that_came xs) (with_all_tries xs a.attempts) (in_group a)
+        (λ t i. subst (λ (p : Holdings). is_wanted p t ≡ true) plans (open_parts t i).0)
+        (λ t i. subst (λ (p : Holdings). is_claimed p t ≡ false) plans (open_parts t i).1)
+        (rises_all_tried xs a.attempts truly.sound.in_order.attempts) (all_tried xs a.attempts truly.sound.in_order.tried) truly.sound);
+    machine = truly.machine;
+    packets = subst (AreItsPackets g logs) (takes_all xs a) (takes_truly g logs xs a
+        (All-weaker (λ (x : Fetched). IfSome x.packet (IsTrueArrival g logs a x.part)) (λ (x : Fetched). CameTruly g logs x.part x.packet) (λ x h. is_its x.packet x.part h) xs came) (true_stores g logs a truly)).packets;
+  })
+
+pub takes_true : TakesTrue
+takes_true g logs xs a are came t = taken_true g logs xs a are t came

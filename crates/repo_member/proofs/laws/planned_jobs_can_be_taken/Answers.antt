@@ -1,0 +1,8 @@
+use Rattle.repo_member.proofs.OutcomeLemmas.{jobs_are_planned, planned_jobs_are_outcomes}
+use Rattle.repo_member.proofs.laws.planned_jobs_can_be_taken.Goals as goal
+
+pub returns-clause-planned : goal.returns-clause-planned
+returns-clause-planned c = jobs_are_planned
+
+pub returns-clause-outcomes : goal.returns-clause-outcomes
+returns-clause-outcomes c = planned_jobs_are_outcomes

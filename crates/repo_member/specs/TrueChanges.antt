@@ -1,0 +1,81 @@
+-- Which changes leave a member one whose stored packets are those of their parts, as each is in a sound group.
+use Rattle.std.specs.Prelude.{◌≡◌, ℕ, ◌<◌, true, List, [], ◌∷◌, ◌++◌, length, replicate, Some, None, IfSome, slice_index_or, slice_set}
+use Rattle.std.specs.List.{All}
+use Rattle.repo_plan.specs.declared.part.Part.{Part}
+use Rattle.repo_plan.specs.Plan.{claim_of, unclaimed, is_unclaimed, first}
+use Rattle.repo_object.specs.Objects.{NamedContents}
+use Rattle.group_model.specs.Publications.{Logs, last_of}
+use Rattle.group_model.specs.Sound.{IsTrueVector}
+use Rattle.repo_member.specs.Groups.{GroupKeys}
+use Rattle.repo_member.specs.Alone.{Alone, Fetched, alone_plan, alone_opening, alone_publishes, alone_learns, alone_hears, alone_fires, alone_claims, alone_accepts, alone_takes, alone_ends_claims, alone_resets}
+use Rattle.repo_member.specs.InGroup.{AreLogs, GrowInto, true_packet}
+use Rattle.repo_member.specs.TrueMembers.{IsTrueMember}
+
+-- A member begins so in a group in which nothing has been published.
+abbrev pub BeginsTrue : Type 0
+BeginsTrue = (g : GroupKeys) (n number moment draw : ℕ) → number < n
+    → IsTrueMember g (replicate n []) (alone_opening n number moment draw)
+
+-- It publishes an object, and its log has it from now on.
+abbrev pub PublishesTrue : Type 0
+PublishesTrue = (g : GroupKeys) (object : NamedContents) (moment draw : ℕ) (logs : Logs) (a : Alone)
+    → IsTrueMember g logs a →
+    let published = alone_publishes g object moment draw a in
+    IsTrueMember g (slice_set logs a.number published.log) published
+
+-- Other members publish.
+abbrev pub OthersPublish : Type 0
+OthersPublish = (g : GroupKeys) (logs later : Logs) (a : Alone) → GrowInto logs later → length later ≡ length logs
+    → last_of later a.number ≡ last_of logs a.number → IsTrueMember g logs a → IsTrueMember g later a
+
+-- Logs grow where a member publishes an object more.
+abbrev pub LogsHaveGrown : Type 0
+LogsHaveGrown = (logs : Logs) (j : ℕ) (object : NamedContents) → j < length logs
+    → GrowInto logs (slice_set logs j (slice_index_or logs j [] ++ object ∷ []))
+
+-- It is told of a vector that tells of no publication that there isn't.
+abbrev pub LearnsTrue : Type 0
+LearnsTrue = (g : GroupKeys) (logs : Logs) (told : List ℕ) (a : Alone) → IsTrueVector logs told → IsTrueMember g logs a
+    → IsTrueMember g logs (alone_learns told a)
+
+abbrev pub HearsTrue : Type 0
+HearsTrue = (g : GroupKeys) (logs : Logs) (told : List ℕ) (moment draw : ℕ) (a : Alone) → IsTrueVector logs told
+    → IsTrueMember g logs a → IsTrueMember g logs (alone_hears told moment draw a)
+
+abbrev pub FiresTrue : Type 0
+FiresTrue = (g : GroupKeys) (logs : Logs) (moment draw : ℕ) (a : Alone) → IsTrueMember g logs a
+    → IsTrueMember g logs (alone_fires moment draw a)
+
+abbrev pub ResetsTrue : Type 0
+ResetsTrue = (g : GroupKeys) (logs : Logs) (moment draw : ℕ) (a : Alone) → IsTrueMember g logs a
+    → IsTrueMember g logs (alone_resets moment draw a)
+
+abbrev pub EndsClaimsTrue : Type 0
+EndsClaimsTrue = (g : GroupKeys) (logs : Logs) (a : Alone) → IsTrueMember g logs a
+    → IsTrueMember g logs (alone_ends_claims a)
+
+-- A fetcher claims the first part that is wanted and that nobody claims, if there is one.
+abbrev pub ClaimsTrue : Type 0
+ClaimsTrue = (g : GroupKeys) (logs : Logs) (f : ℕ) (a : Alone) → AreLogs g logs → IsTrueMember g logs a
+    → IsTrueMember g logs (alone_claims f (first (unclaimed (alone_plan a))) a)
+
+abbrev pub LosesTrue : Type 0
+LosesTrue = (g : GroupKeys) (logs : Logs) (f : ℕ) (a : Alone) → IsTrueMember g logs a
+    → IsTrueMember g logs (alone_claims f None a)
+
+-- The packet of the part that a fetcher claims is accepted.
+abbrev pub AcceptsTrue : Type 0
+AcceptsTrue = (g : GroupKeys) (logs : Logs) (f : ℕ) (t : Part) (octets : List ℕ) (a : Alone) → AreLogs g logs
+    → claim_of (alone_plan a) f ≡ Some t → true_packet g logs t ≡ Some octets → IsTrueMember g logs a
+    → IsTrueMember g logs (alone_accepts f t octets a)
+
+-- What came is the packet of its part, which is wanted and which nobody claims.
+pub record IsTrueArrival (g : GroupKeys) (logs : Logs) (a : Alone) (t : Part) (octets : List ℕ) : Type 0 where
+  pub unclaimed : is_unclaimed (alone_plan a) t ≡ true
+  pub packet : true_packet g logs t ≡ Some octets
+
+-- The outcome of a fetch is taken, which brought such packets.
+abbrev pub TakesTrue : Type 0
+TakesTrue = (g : GroupKeys) (logs : Logs) (xs : List Fetched) (a : Alone) → AreLogs g logs
+    → All (λ x. IfSome x.packet (IsTrueArrival g logs a x.part)) xs → IsTrueMember g logs a
+    → IsTrueMember g logs (alone_takes xs a)

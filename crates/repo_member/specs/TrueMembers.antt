@@ -1,0 +1,97 @@
+-- Members as each is in a sound group, whose stored packets are those of their parts: what the group's publications say
+-- of them.
+use Rattle.std.specs.Prelude.{◌≡◌, ℕ, ◌<◌, ◌≤◌, true, List, [], map, length, Some, unwrap_or, slice_index_or, IsOk, IsSomeAnd, Ok, ◌==◌, if◌then◌else◌}
+use Rattle.repo_plan.specs.declared.part.Part.{Part}
+use Rattle.repo_plan.specs.Parts.{pair_of}
+use Rattle.repo_plan.specs.SortedList.{keys}
+use Rattle.repo_plan.specs.Plan.{is_wanted, claim_of}
+use Rattle.repo_object.specs.Publication.{published_listing}
+use Rattle.repo_object.specs.Wants.{WantedPart, want_record, want_segment}
+use Rattle.repo_object.specs.Verdict.{ring_verdict}
+use Rattle.group_model.specs.Publications.{Logs, object_at}
+use Rattle.group_model.specs.Sound.{IsPublished, IsPublishedPart, IsSoundMember}
+use Rattle.repo_member.specs.Groups.{GroupKeys, node_at, publisher_at}
+use Rattle.repo_member.specs.Records.{Packet}
+use Rattle.repo_member.specs.Alone.{Alone, IsAlone, IsOf, alone_plan, want_of, logged}
+use Rattle.repo_member.specs.Verdicts.{accept_verdict}
+use Rattle.repo_member.specs.InGroup.{in_group, AreLogs, true_packet, AreItsPackets, StoresTruly}
+
+-- The member's log is the group's of its number, it is as each in a sound group, its machine has a place for each member,
+-- and each stored packet is that of its part.
+pub record IsTrueMember (g : GroupKeys) (logs : Logs) (a : Alone) : Type 0 where
+  pub there : a.number < length logs
+  pub log : slice_index_or logs a.number [] ≡ a.log
+  pub sound : IsSoundMember logs a.number (in_group a)
+  pub machine : a.machine.members ≡ length logs
+  pub packets : AreItsPackets g logs a
+
+-- The want of a published part.
+abbrev pub true_want : GroupKeys → Logs → Part → WantedPart
+true_want g logs t =
+    if t.part == 0 then want_record t (node_at g t.publisher) g.name
+    else want_segment t (published_listing (publisher_at g t.publisher) (object_at logs (pair_of t)))
+
+-- Parts with their packets.
+abbrev pub true_packets : GroupKeys → Logs → List Part → List Packet
+true_packets g logs ts = map (λ t. (t, unwrap_or (true_packet g logs t) [])) ts
+
+-- ---- what follows
+
+-- What holds of every member by itself.
+abbrev pub TrueIsAlone : Type 0
+TrueIsAlone = (g : GroupKeys) (logs : Logs) (a : Alone) → IsTrueMember g logs a → IsAlone a
+
+abbrev pub TrueIsOf : Type 0
+TrueIsOf = (g : GroupKeys) (logs : Logs) (a : Alone) → AreLogs g logs → IsTrueMember g logs a → IsOf g a
+
+abbrev pub TrueStores : Type 0
+TrueStores = (g : GroupKeys) (logs : Logs) (a : Alone) → IsTrueMember g logs a → StoresTruly g logs a
+
+-- What it stores are the packets of the parts that it stores.
+abbrev pub StoresThose : Type 0
+StoresThose = (g : GroupKeys) (logs : Logs) (a : Alone) → IsTrueMember g logs a → a.store ≡ true_packets g logs (keys a.store)
+
+-- What its log gives of an own publication are the packets of its parts.
+abbrev pub LogsThose : Type 0
+LogsThose = (g : GroupKeys) (logs : Logs) (a : Alone) (t : Part) → IsTrueMember g logs a → t.publisher ≡ a.number
+    → IsPublished logs (pair_of t) → logged g a t ≡ true_packet g logs t
+
+-- ---- what is wanted
+
+-- A wanted part is there.
+abbrev pub WantsPublished : Type 0
+WantsPublished = (g : GroupKeys) (logs : Logs) (a : Alone) (t : Part) → AreLogs g logs → IsTrueMember g logs a
+    → is_wanted (alone_plan a) t ≡ true → IsPublishedPart logs t
+
+-- The want that the member has of it is that of the published part.
+abbrev pub WantsThose : Type 0
+WantsThose = (g : GroupKeys) (logs : Logs) (a : Alone) (t : Part) → AreLogs g logs → IsTrueMember g logs a
+    → is_wanted (alone_plan a) t ≡ true → want_of g a.store t ≡ true_want g logs t
+
+-- A part that is there has a packet, of at most 8,800 octets.
+abbrev pub PacketsAreThere : Type 0
+PacketsAreThere = (g : GroupKeys) (logs : Logs) (t : Part) → AreLogs g logs → IsPublishedPart logs t
+    → IsSomeAnd (true_packet g logs t) (λ octets. length octets ≤ 8800)
+
+-- It passes for the want of the part, and so for a member's.
+abbrev pub PacketsPass : Type 0
+PacketsPass = (g : GroupKeys) (logs : Logs) (t : Part) (octets : List ℕ) → AreLogs g logs → IsPublishedPart logs t
+    → true_packet g logs t ≡ Some octets → IsOk (ring_verdict (true_want g logs t) g.members.ring octets)
+
+abbrev pub PacketsPassForMembers : Type 0
+PacketsPassForMembers = (g : GroupKeys) (logs : Logs) (a : Alone) (t : Part) (octets : List ℕ) → AreLogs g logs
+    → IsTrueMember g logs a → is_wanted (alone_plan a) t ≡ true → true_packet g logs t ≡ Some octets
+    → IsOk (ring_verdict (want_of g a.store t) g.members.ring octets)
+
+-- ---- what is accepted
+
+-- Octets are taken for the part that the fetcher claims.
+abbrev pub AcceptsTheClaimed : Type 0
+AcceptsTheClaimed = (g : GroupKeys) (a : Alone) (f : ℕ) (octets : List ℕ) (t : Part) → accept_verdict g a f octets ≡ Ok t
+    → claim_of (alone_plan a) f ≡ Some t
+
+-- A true member takes the packet of the part for a claim of it.
+abbrev pub TakesTheTrue : Type 0
+TakesTheTrue = (g : GroupKeys) (logs : Logs) (a : Alone) (f : ℕ) (t : Part) (octets : List ℕ) → AreLogs g logs
+    → IsTrueMember g logs a → claim_of (alone_plan a) f ≡ Some t → true_packet g logs t ≡ Some octets
+    → accept_verdict g a f octets ≡ Ok t

@@ -1,0 +1,59 @@
+ghost use Rattle.std.specs.Prelude.{◌≡◌, ◌≤◌, ◌<◌, ◌+◌, ◌||◌, ◌&&◌, true};
+ghost use Rattle.std.specs.Ordering.{nat_cmp, eq_by_cmp};
+ghost use Rattle.std.specs.HashMap.{spare};
+ghost use Rattle.repo_plan.specs.SortedList.{in_order};
+ghost use Rattle.repo_plan.specs.Plan.{with_shape};
+ghost use Rattle.repo_plan.specs.Parts.{Pair, pair_cmp};
+ghost use Rattle.repo_plan.specs.Runs.{Number, IsRuns, has_number, number_cmp, runs_of, room_of};
+ghost use Rattle.repo_plan.specs.PlanFields.{is_noted, are_noted};
+
+use crate::runs::Runs;
+use crate::table;
+use std::collections::HashMap;
+
+// Notes what a record tells, if the part that is held now is one.
+pub(super) fn note_shape(
+    shapes: &mut HashMap<(u32, u16), u8>,
+    publication: (u32, u16),
+    segments: Option<u8>,
+)
+    requires { 0 < spare shapes.old }
+    ensures entries { in_order pair_cmp shapes.new.entries ≡ with_shape publication segments (in_order pair_cmp shapes.old.entries) }
+    ensures room { spare shapes.old ≤ spare shapes.new + 1 }
+{
+    if let Some(segments) = segments {
+        table::set_value(shapes, publication, segments);
+    }
+}
+
+// Notes that a part is held, by its number in its publication, which has so many parts besides its record.
+//
+// Of a publication that is held whole its own number alone is kept.
+pub(super) fn note_held(
+    done: &mut Runs<u32>,
+    held: &mut Runs<(u32, u16)>,
+    number: ((u32, u16), u16),
+    told: u8,
+)
+    requires done { IsRuns nat_cmp done.old }
+    requires held { IsRuns pair_cmp held.old }
+    requires room_of_done { 0 < room_of done.old }
+    requires room_of_held { 0 < room_of held.old }
+    ensures done { IsRuns nat_cmp done.new }
+    ensures held { IsRuns pair_cmp held.new }
+    ensures noted { (q : Number Pair) → (q.0 ≡ number.0 → q.1 ≤ told) → is_noted (runs_of done.new) (runs_of held.new) q
+        ≡ (eq_by_cmp (number_cmp pair_cmp) q number || is_noted (runs_of done.old) (runs_of held.old) q) }
+    ensures whole { (q : Pair) → has_number nat_cmp done.new q
+        ≡ ((eq_by_cmp pair_cmp q number.0 && are_noted (runs_of done.new) (runs_of held.new) number.0 told) || has_number nat_cmp done.old q) }
+    ensures kept { (q : Number Pair) → has_number pair_cmp held.new q ≡ true
+        → (eq_by_cmp (number_cmp pair_cmp) q number || has_number pair_cmp held.old q) ≡ true }
+    ensures room_of_done { room_of done.old ≤ room_of done.new + 1 }
+    ensures room_of_held { room_of held.old ≤ room_of held.new + 1 }
+{
+    held.insert(number);
+    let publication = number.0;
+    if held.gap_from((publication, 0)) > u32::from(told) {
+        held.remove_all(publication);
+        done.insert(publication);
+    }
+}

@@ -1,0 +1,53 @@
+-- Things under numbers from one on, as a map.
+use Rattle.std.proofs.Common.{◌≡◌, ℕ, zero, suc, ◌+◌, ◌<◌, List, [], ◌∷◌, ◌++◌, length, slice_get, None, refl, ap, ◌∙◌, arith}
+use Rattle.std.specs.Prelude.{slice_set}
+use Rattle.std.specs.Option.{option_map}
+use Rattle.std.specs.Ordering.{nat_cmp}
+use Rattle.std.specs.declared.cmp.Ordering.{Ordering}
+use Rattle.repo_plan.specs.SortedList.{by_order, value_of, with_value}
+use Rattle.repo_plan.proofs.Orders.{nat_itself}
+use Rattle.repo_process.specs.Fields.{numbered}
+use Rattle.repo_process.proofs.Numbers.{nat_greater, same_key, key_below, key_above}
+
+next : (first i : ℕ) → first + suc i ≡ (first + 1) + i
+next first i = omega arith
+
+here : (first : ℕ) → first + 0 ≡ first
+here first = omega arith
+
+module _ {A : Type 0} where
+  pub value_of-below : (n first : ℕ) (xs : List A) → n < first → value_of nat_cmp (numbered first xs) n ≡ None
+  value_of-below n first [] below = refl
+  value_of-below n first (x ∷ xs) below = rw (key_below n first below) (value_of-below n (first + 1) xs (omega arith))
+
+  pub value_of-numbered : (first i : ℕ) (xs : List A) → value_of nat_cmp (numbered first xs) (first + i) ≡ slice_get xs i
+  value_of-numbered first i [] = refl
+  value_of-numbered first zero (x ∷ xs) = rw (here first, same_key first) refl
+  value_of-numbered first (suc i) (x ∷ xs) =
+      rw (key_above (first + suc i) first (omega arith), next first i) (value_of-numbered (first + 1) i xs)
+
+  -- a key behind the first
+  pub later : (k first : ℕ) (y x : A) (rest : List (ℕ × A)) → first < k → with_value nat_cmp k y ((first, x) ∷ rest) ≡ (first, x) ∷ with_value nat_cmp k y rest
+  later k first y x rest more =
+      ap (λ (o : Ordering). by_order o ((k, y) ∷ (first, x) ∷ rest) ((k, y) ∷ rest) ((first, x) ∷ with_value nat_cmp k y rest)) (nat_greater k first more)
+
+  pub with_value-numbered : (first i : ℕ) (y : A) (xs : List A) → i < length xs
+      → with_value nat_cmp (first + i) y (numbered first xs) ≡ numbered first (slice_set xs i y)
+  with_value-numbered first i y [] within = absurd (omega arith)
+  with_value-numbered first zero y (x ∷ xs) within = rw (here first, nat_itself first) refl
+  with_value-numbered first (suc i) y (x ∷ xs) within =
+      let rest = numbered (first + 1) xs in
+      later (first + suc i) first y x rest (omega arith)
+      ∙ ap (λ (es : List (ℕ × A)). (first, x) ∷ es) (ap (λ (n : ℕ). with_value nat_cmp n y rest) (next first i) ∙ with_value-numbered (first + 1) i y xs (omega arith))
+
+  pub with_value-push : (first : ℕ) (y : A) (xs : List A) → with_value nat_cmp (first + length xs) y (numbered first xs) ≡ numbered first (xs ++ y ∷ [])
+  with_value-push first y [] = rw (here first) refl
+  with_value-push first y (x ∷ xs) =
+      let rest = numbered (first + 1) xs in
+      later (first + suc (length xs)) first y x rest (omega arith)
+      ∙ ap (λ (es : List (ℕ × A)). (first, x) ∷ es) (ap (λ (n : ℕ). with_value nat_cmp n y rest) (next first (length xs)) ∙ with_value-push (first + 1) y xs)
+
+  pub slice_get-numbered : (first i : ℕ) (xs : List A) → slice_get (numbered first xs) i ≡ option_map (λ (x : A). (first + i, x)) (slice_get xs i)
+  slice_get-numbered first i [] = refl
+  slice_get-numbered first zero (x ∷ xs) = rw (here first) refl
+  slice_get-numbered first (suc i) (x ∷ xs) = rw (next first i) (slice_get-numbered (first + 1) i xs)

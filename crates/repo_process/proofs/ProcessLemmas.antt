@@ -1,0 +1,82 @@
+-- A process whose blocks stand in places, one for each index.
+use Rattle.std.proofs.Common.{◌≡◌, ℕ, zero, suc, ◌+◌, ◌-◌, ◌<◌, true, false, eqb, List, [], ◌∷◌, length, get_or, replicate, Option, Some, refl, sym, ap, ◌∙◌, arith}
+use Rattle.std.specs.Prelude.{slice_set, is_some, unwrap_or}
+use Rattle.std.specs.Ordering.{nat_cmp}
+use Rattle.ndn_name.specs.Names.{Component}
+use Rattle.repo_plan.specs.SortedList.{value_of}
+use Rattle.repo_plan.specs.Parts.{numbers_from}
+use Rattle.repo_object.specs.Objects.{NamedContents}
+use Rattle.repo_process.specs.Processes.{Process, starting, indexes, has_block, present, missing, is_whole, with_block, without_block, object_of}
+use Rattle.repo_process.specs.Arrivals.{whole_object}
+use Rattle.repo_process.specs.Fields.{blocks_from}
+use Rattle.repo_process.proofs.BlockLemmas.{come, missing_in, block_at, with_block_at, without_block_at, come_or_missing, all_come, come_again, contents_again, no_blocks}
+
+pub length-numbers : (first n : ℕ) → length (numbers_from first n) ≡ n
+length-numbers first zero = refl
+length-numbers first (suc n) = ap suc (length-numbers (first + 1) n)
+
+-- a process of these contents that was not published
+abbrev pub of_contents : List Component → (first last : ℕ) → List (List ℕ) → Process
+of_contents name first last cs = record { name = name; first = first; last = last; blocks = blocks_from first cs; published = false }
+
+module _ (name : List Component) (first last : ℕ) (cs : List (List ℕ)) (long : length cs ≡ last + 1 - first) where
+  abbrev p : Process
+  p = of_contents name first last cs
+
+  indexes-p : indexes p ≡ numbers_from first (length cs)
+  indexes-p = ap (numbers_from first) (sym long)
+
+  tells : (j : ℕ) → j < length cs → has_block p (first + j) ≡ is_some (come (get_or cs j []))
+  tells j within = ap is_some (block_at first j cs)
+
+  pub present-counted : present p + missing_in cs ≡ length cs
+  present-counted = rw indexes-p (come_or_missing (has_block p) first cs tells)
+
+  pub missing-counted : missing p ≡ missing_in cs
+  missing-counted = omega (arith, present-counted, length-numbers first (last + 1 - first))
+
+  pub whole-counted : is_whole p ≡ eqb (missing_in cs) 0
+  whole-counted = rw indexes-p (all_come (has_block p) first cs tells)
+
+  pub object-contents : (object_of p).contents ≡ cs
+  object-contents =
+      rw indexes-p (contents_again (λ index. unwrap_or (value_of nat_cmp (blocks_from first cs) index) []) first cs
+      (λ j within. ap (λ (o : Option (List ℕ)). unwrap_or o []) (block_at first j cs) ∙ come_again (get_or cs j [])))
+
+  -- ---- changes
+
+  pub no_block_at : (j : ℕ) → j < length cs → length (get_or cs j []) ≡ 0 → has_block p (first + j) ≡ false
+  no_block_at j within none = tells j within ∙ ap (λ (c : List ℕ). is_some (come c)) (empty (get_or cs j []) none) where
+    empty : (c : List ℕ) → length c ≡ 0 → c ≡ []
+    empty [] h = refl
+    empty (x ∷ xs) h = absurd (omega (arith, h))
+
+  pub block_there : (j : ℕ) → j < length cs → 0 < length (get_or cs j []) → has_block p (first + j) ≡ true
+  block_there j within some = tells j within ∙ there (get_or cs j []) some where
+    there : (c : List ℕ) → 0 < length c → is_some (come c) ≡ true
+    there [] h = absurd (omega (arith, h))
+    there (x ∷ xs) h = refl
+
+  pub with_block-there : (j : ℕ) (content : List ℕ) → j < length cs → 0 < length (get_or cs j []) → with_block (first + j) content p ≡ p
+  with_block-there j content within some = rw (block_there j within some) refl
+
+  pub with_block-new : (j : ℕ) (content : List ℕ) → 0 < length content → j < length cs → length (get_or cs j []) ≡ 0
+      → with_block (first + j) content p ≡ of_contents name first last (slice_set cs j content)
+  with_block-new j [] some within none = absurd (omega arith)
+  with_block-new j (y ∷ ys) some within none =
+      rw (no_block_at j within none) (ap (λ (bs : List (ℕ × List ℕ)). record p { blocks = bs }) (with_block_at first j y ys cs within))
+
+  pub without_block-at : (j : ℕ) → j < length cs → without_block (first + j) p ≡ of_contents name first last (slice_set cs j [])
+  without_block-at j within = ap (λ (bs : List (ℕ × List ℕ)). record p { blocks = bs }) (sym (without_block_at first j cs within))
+
+-- a new process
+pub starting-contents : (name : List Component) (first last n : ℕ) → starting name first last ≡ of_contents name first last (replicate n [])
+starting-contents name first last n = ap (λ (bs : List (ℕ × List ℕ)). record (starting name first last) { blocks = bs }) (sym (no_blocks first n))
+
+-- a published one
+pub present-published : (p : Process) → p.published ≡ true → present p ≡ p.last + 1 - p.first
+present-published p closed = rw closed (length-numbers p.first (p.last + 1 - p.first))
+
+-- the object that is lent
+pub whole_is : (p : Process) (object : NamedContents) → p.published ≡ false → is_whole p ≡ true → object_of p ≡ object → whole_object (Some p) ≡ Some object
+whole_is p object unpublished whole same = rw (unpublished, whole, same) refl

@@ -1,0 +1,32 @@
+-- What a block makes of a process, what is told of it, and the object that a whole process is.
+use Rattle.std.specs.Prelude.{ℕ, not, ◌&&◌, List, Vec, map, Option, Some, None, if◌then◌else◌}
+use Rattle.std.specs.Borrow.{Bor}
+use Rattle.ndn_name.specs.Names.{Component}
+use Rattle.repo_object.specs.Objects.{NamedContents}
+use Rattle.repo_process.specs.declared.block_state.BlockState as declared_state
+use Rattle.repo_process.specs.declared.block_state.BlockState.TheVariants as state
+use Rattle.repo_process.specs.Processes.{Process, BlockState, missing, is_whole, object_of}
+use Rattle.repo_process.specs.Processes.BlockState.{Unknown, Already, Waiting, Whole}
+
+-- What is told of a block.
+abbrev pub told : BlockState → declared_state.BlockState
+told Unknown = state.Unknown
+told Already = state.Complete
+told (Waiting p) = state.Kept (missing p)
+told (Whole p) = state.Complete
+
+-- The process afterwards.
+abbrev pub arrived : Process → BlockState → Process
+arrived p Unknown = p
+arrived p Already = p
+arrived p (Waiting q) = q
+arrived p (Whole q) = q
+
+-- The object of a process, where all of its blocks have come and it was not published.
+abbrev pub whole_object : Option Process → Option NamedContents
+whole_object None = None
+whole_object (Some p) = if not p.published && is_whole p then Some (object_of p) else None
+
+-- An object whose name and contents are lent, without where they lie in memory.
+abbrev pub lent_object : {A : Type 0} → Bor (List Component) × Bor (List (Vec ℕ A)) → NamedContents
+lent_object lent = record { name = lent.0.now; contents = map (λ c. c.items) lent.1.now }

@@ -1,0 +1,10 @@
+/// How an insertion stands after a block.
+#[derive(Clone, Copy, Debug, PartialEq, Eq)]
+pub enum BlockState {
+    /// There is no such process, or none of its blocks has that index.
+    Unknown,
+    /// So many blocks are still missing.
+    Kept { missing: u64 },
+    /// None is missing, or the object is published already.
+    Complete,
+}

@@ -1,0 +1,178 @@
+ghost use Rattle.std.specs.Prelude.{◌≡◌, ◌==◌, ◌-◌, ◌≤◌, ◌<◌, ◌↔◌, [], false, length, map, count_by, replicate, vec_len, IfOk, OnOk, OnErr, IsTrue, MatchOption, IfSome, None, Some};
+ghost use Rattle.repo_object.specs.Objects.{is_object_name, IsContent, IsObject};
+ghost use Rattle.repo_process.specs.Processes.{Process, starting, has_index, has_block, present, missing, is_whole, with_block, without_block, object_of, closed, block_in};
+ghost use Rattle.repo_process.specs.Arrivals.{told, arrived, whole_object, lent_object};
+
+use crate::block_state::BlockState;
+use crate::blocks::Blocks;
+use ndn_name::Name;
+use std::alloc::{AllocError, Global};
+use std::marker::Model;
+use std::mem;
+
+/// An object whose blocks come one by one.
+#[derive(Debug, Drop)]
+pub(crate) struct Insertion {
+    name: Name,
+    first: u64,
+    last: u64,
+    // The blocks in order of index. One that has not come is empty, as no block is. There are none once the object is
+    // published.
+    contents: Vec<Vec<u8>>,
+    is_published: bool,
+}
+
+impl Model for Insertion {
+    ghost use Rattle.repo_process.specs.Processes.{Process};
+
+    ghost Value = { Process };
+
+    ghost use Rattle.repo_process.specs.Fields.{process_of, IsInsertion};
+
+    ghost view = { process_of };
+
+    ghost invariant = { IsInsertion };
+}
+
+impl Insertion {
+    pub(crate) fn new(
+        alloc: Global,
+        name: &Name,
+        first: u64,
+        last: u64,
+    ) -> Result<Insertion, AllocError>
+        requires name { IsTrue (is_object_name name.now) }
+        requires order { first ≤ last }
+        requires few { last - first < 200 }
+        ensures { IfOk result (λ insertion. insertion ≡ starting name.now first last) }
+    {
+        // Its clause says that the components are a name's.
+        let _octets = name.octets();
+        Ok(Insertion {
+            name: name.clone()?,
+            first,
+            last,
+            contents: no_blocks(alloc, (last - first) as usize + 1)?,
+            is_published: false,
+        })
+    }
+
+    /// Takes a block, unless it is there.
+    pub(crate) fn block(&mut self, index: u64, content: &[u8]) -> Result<BlockState, AllocError>
+        requires { IsContent content.now }
+        ensures state { IfOk result (λ state. state ≡ told (block_in index content.now (Some self.old))) }
+        ensures ok { OnOk result
+            (self.new ≡ arrived self.old (block_in index content.now (Some self.old))) }
+        ensures err { OnErr result (self.new ≡ self.old) }
+    {
+        if !self.has_index(index) {
+            return Ok(BlockState::Unknown);
+        }
+        if self.is_published {
+            return Ok(BlockState::Complete);
+        }
+        self.keep(index, content)?;
+        Ok(match self.missing() {
+            0 => BlockState::Complete,
+            missing => BlockState::Kept { missing },
+        })
+    }
+
+    /// Drops a block.
+    pub(crate) fn take_back(&mut self, index: u64)
+        requires open { self.old.published ≡ false }
+        requires block { IsTrue (has_block self.old index) }
+        ensures { self.new ≡ without_block index self.old }
+    {
+        let alloc = *self.contents.allocator();
+        self.contents[(index - self.first) as usize] = Vec::new(alloc);
+    }
+
+    /// How many blocks have come, and whether the object was published.
+    pub(crate) fn status(&self) -> (u64, bool)
+        ensures present { result.0 ≡ present self.now }
+        ensures published { result.1 ≡ self.now.published }
+    {
+        let blocks = self.last - self.first + 1;
+        if self.is_published {
+            return (blocks, true);
+        }
+        (blocks - self.missing(), false)
+    }
+
+    /// The object's name and its blocks, where all have come and it was not published.
+    pub(crate) fn whole(&self) -> Option<(&Name, &[Vec<u8>])>
+        ensures object { MatchOption result
+            (whole_object (Some self.now) ≡ None)
+            (λ lent. whole_object (Some self.now) ≡ Some (lent_object lent)) }
+        ensures within { IfSome result (λ lent. IsObject (lent_object lent)) }
+    {
+        if self.is_published || self.missing() != 0 {
+            return None;
+        }
+        Some((&self.name, &self.contents))
+    }
+
+    /// The object counts as published, and its blocks are handed over.
+    pub(crate) fn close(&mut self) -> Vec<Vec<u8>>
+        requires open { self.old.published ≡ false }
+        requires whole { IsTrue (is_whole self.old) }
+        ensures blocks { map (λ c. c.items) result.items ≡ (object_of self.old).contents }
+        ensures closed { self.new ≡ closed self.old }
+    {
+        let alloc = *self.contents.allocator();
+        self.is_published = true;
+        mem::replace(&mut self.contents, Vec::new(alloc))
+    }
+
+    // Whether one of the blocks has this index.
+    fn has_index(&self, index: u64) -> bool
+        ensures { result ≡ has_index self.now index }
+    {
+        self.first <= index && index <= self.last
+    }
+
+    // How many blocks have not come.
+    fn missing(&self) -> u64
+        requires { self.now.published ≡ false }
+        ensures count { result ≡ missing self.now }
+        ensures whole { IsTrue (is_whole self.now) ↔ (result ≡ 0) }
+    {
+        count_empty(&self.contents) as u64
+    }
+
+    // Keeps a block, unless it is there.
+    fn keep(&mut self, index: u64, content: &[u8]) -> Result<(), AllocError>
+        requires content { IsContent content.now }
+        requires open { self.old.published ≡ false }
+        requires index { IsTrue (has_index self.old index) }
+        ensures ok { OnOk result (self.new ≡ with_block index content.now self.old) }
+        ensures err { OnErr result (self.new ≡ self.old) }
+    {
+        let place = (index - self.first) as usize;
+        if !self.contents[place].is_empty() {
+            return Ok(());
+        }
+        let alloc = *self.contents.allocator();
+        self.contents[place] = Vec::from_slice(alloc, content)?;
+        Ok(())
+    }
+}
+
+// How many contents are empty.
+fn count_empty(contents: &[Vec<u8>]) -> usize
+    ensures { result ≡ count_by (λ c. vec_len c == 0) contents.now }
+{
+    contents.iter().filter(|content| content.is_empty()).count()
+}
+
+// So many blocks that have not come.
+fn no_blocks(alloc: Global, count: usize) -> Result<Vec<Vec<u8>>, AllocError>
+    ensures { IfOk result (λ blocks. map (λ c. c.items) blocks.items ≡ replicate count []) }
+{
+    let mut blocks = Vec::with_capacity(alloc, count)?;
+    while blocks.len() < count {
+        blocks.push(Vec::new(alloc))?;
+    }
+    Ok(blocks)
+}

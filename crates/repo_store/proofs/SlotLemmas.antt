@@ -1,0 +1,223 @@
+-- Slots: what is kept once, what is still used, and what is dropped.
+use Rattle.std.proofs.Common.{◌≡◌, ◌≢◌, ℕ, zero, suc, ◌+◌, ◌<◌, ◌≤◌, Bool, true, false, cond, not, ◌⊎◌, inl, inr, List, [], ◌∷◌, map, length, get_or, take, drop, Option, Some, None, refl, sym, ap, subst, ◌∙◌, arith}
+use Rattle.std.specs.Prelude.{IsSome, is_some, OnSome, IfNone}
+use Rattle.std.specs.List.{filter}
+use Rattle.std.proofs.lemmas.Bool.{true≢false, cases_eq}
+use Rattle.slab.specs.Slab.{Slab, get, slab_len, ContainsKey, HasRoomFor, Updates}
+use Rattle.repo_plan.specs.declared.part.Part.{Part}
+use Rattle.repo_plan.specs.SortedList.{IsBefore, Rises}
+use Rattle.repo_plan.specs.Parts.{Pair}
+use Rattle.repo_plan.specs.Plan.{is_in}
+use Rattle.repo_plan.proofs.Sets.{In, in_filter}
+use Rattle.repo_store.specs.declared.index.Held.{Held}
+use Rattle.repo_store.specs.declared.index.Order.{Order}
+use Rattle.repo_store.specs.declared.index.Order.TheVariants.{Names, FullNames}
+use Rattle.repo_store.specs.Indexes.{FullName, key_cmp, key_of, key_in, keys_in, IsData, IsIndexOf, IsSlotOf, GainsOne}
+use Rattle.repo_store.specs.Places.{IsPacket}
+use Rattle.repo_store.specs.Slots.{IsHeldIn, AreSlots, KeepsOne, IsUsed, held_outside}
+use Rattle.repo_store.proofs.SearchLemmas.{in_one_more}
+
+some_or_none : (o : Option (List ℕ)) → IsSome o → o ≡ None → ⊥
+some_or_none None h e = true≢false (sym h)
+some_or_none (Some x) h e = absurd cc
+
+some_as : (o p : Option (List ℕ)) → o ≡ p → IsSome p → IsSome o
+some_as o p e h = subst IsSome (sym e) h
+
+-- keys of slots that keep their packets
+pub keys_same : (order : Order) (old new : Slab (List ℕ)) (held : List Held) → ((h : Held) → In h held → get new h.slot ≡ get old h.slot) → keys_in order new held ≡ keys_in order old held
+keys_same order old new [] same = refl
+keys_same order old new (h ∷ held) same =
+    ap (λ (o : Option (List ℕ)). (key_of order o, h.part) ∷ keys_in order new held) (same h (inl refl))
+    ∙ ap (λ (ks : List (FullName × Part)). key_in order old h ∷ ks) (keys_same order old new held (λ o i. same o (inr i)))
+
+-- ---- one more
+
+pub keep_found : (held : List Held) (packets : Slab (List ℕ)) (octets : List ℕ) (slot : ℕ) → IsSlotOf held packets octets (Some slot) → KeepsOne held octets packets packets slot
+keep_found held packets octets slot at = record { there = at.3; others = λ s h. refl; only = λ s h. inr h; once = inl at.3 }
+
+pub keep_new : (held : List Held) (old new : Slab (List ℕ)) (octets : List ℕ) (slot : ℕ) → IsSlotOf held old octets None → get old slot ≡ None → Updates old new slot (Some octets) → KeepsOne held octets old new slot
+keep_new held old new octets slot none vacant updates = record {
+  there = updates.changed;
+  others = λ s h. updates.others s (λ e. some_or_none (get old s) h (ap (get old) e ∙ vacant));
+  only = λ s h. elim (cases_eq s slot) [ inl e ↦ inl e | inr n ↦ inr (some_as (get old s) (get new s) (sym (updates.others s n)) h) ];
+  once = inr none;
+}
+
+pub slots_more : (old new : Slab (List ℕ)) (octets : List ℕ) (held more index : List Held) (h : Held) → IsPacket octets → AreSlots old held → IsIndexOf FullNames old held index → KeepsOne index octets old new h.slot → GainsOne h held more → AreSlots new more
+slots_more old new octets held more index h packet slots indexed keeps gains = record {
+  kept = λ o i. elim (gains.only o i) [
+    | inl e ↦ subst (λ (x : Held). IsSome (get new x.slot)) (sym e) new_there
+    | inr j ↦ some_as (get new o.slot) (get old o.slot) (keeps.others o.slot (slots.kept o j)) (slots.kept o j)
+  ];
+  named = λ s k. elim (keeps.only s k) [
+    | inl e ↦ subst IsData (sym (ap (get new) e ∙ keeps.there)) packet
+    | inr j ↦ subst IsData (sym (keeps.others s j)) (slots.named s j)
+  ];
+  used = λ s k. elim (keeps.only s k) [
+    | inl e ↦ record { by = h; there = gains.there; at = sym e }
+    | inr j ↦ let by : IsHeldIn held s = slots.used s j in record { by = by.by; there = gains.kept by.by by.there; at = by.at }
+  ];
+  different = λ a b p q e. elim (keeps.only a p) [
+    | inl x ↦ elim (keeps.only b q) [ inl y ↦ x ∙ sym y | inr y ↦ x ∙ sym (same b y (sym e ∙ ap (get new) x)) ]
+    | inr x ↦ elim (keeps.only b q) [ inl y ↦ same a x (e ∙ ap (get new) y) ∙ sym y | inr y ↦ slots.different a b x y (sym (keeps.others a x) ∙ e ∙ keeps.others b y) ]
+  ];
+}
+  where
+    new_there : IsSome (get new h.slot)
+    new_there = subst IsSome (sym keeps.there) refl
+
+    -- a slot that was there has the octets only where it is theirs
+    same : (s : ℕ) → ContainsKey old s → get new s ≡ get new h.slot → s ≡ h.slot
+    same s there e =
+        let was : get old s ≡ Some octets = sym (keeps.others s there) ∙ e ∙ keeps.there in
+        elim keeps.once [
+          | inl once ↦ slots.different s h.slot there (subst IsSome (sym once) refl) (was ∙ sym once)
+          | inr none ↦ let by : IsHeldIn held s = slots.used s there in absurd (none by.by (indexed.all_held by.by by.there) (ap (get old) by.at ∙ was))
+        ]
+
+pub index_more : (order : Order) (packets : Slab (List ℕ)) (held more index indexed : List Held) (h : Held) → Rises key_cmp (keys_in order packets indexed) → ((o : Held) → In o index → In o held) → ((o : Held) → In o held → In o index) → GainsOne h held more → GainsOne h index indexed → IsIndexOf order packets more indexed
+index_more order packets held more index indexed h rises only all gains gained = record {
+  in_order = rises;
+  held_only = λ o i. elim (gained.only o i) [ inl e ↦ subst (λ (x : Held). In x more) (sym e) gains.there | inr j ↦ gains.kept o (only o j) ];
+  all_held = λ o i. elim (gains.only o i) [ inl e ↦ subst (λ (x : Held). In x indexed) (sym e) gained.there | inr j ↦ gained.kept o (all o j) ];
+}
+
+-- ---- use
+
+pub used_by : (held : List Held) (packets : Slab (List ℕ)) (octets : List ℕ) (slot : ℕ) (r : Option ℕ) → get packets slot ≡ Some octets → IsSlotOf held packets octets r → IsUsed packets held slot (is_some r)
+used_by held packets octets slot None there none = λ k h i e. none h i (e ∙ there)
+used_by held packets octets slot (Some s) there at = (at.0, at.1, ap (get packets) at.2 ∙ at.3 ∙ sym there)
+
+pub unused_empty : (held : List Held) (packets : Slab (List ℕ)) (slot : ℕ) → get packets slot ≡ None → IsUsed packets held slot false
+unused_empty held packets slot none = λ k. absurd (some_or_none (get packets slot) k none)
+
+-- ---- dropping
+
+in_filtered : (p : Held → Bool) (xs : List Held) (x : Held) → In x (filter p xs) → In x xs × (p x ≡ true)
+in_filtered p [] x i = absurd i
+in_filtered p (y ∷ ys) x i = go (in_filtered p ys x) (p y) refl i where
+  go : (In x (filter p ys) → In x ys × (p x ≡ true)) → (b : Bool) → p y ≡ b → In x (cond b (y ∷ filter p ys) (filter p ys)) → In x (y ∷ ys) × (p x ≡ true)
+  go rest true e (inl same) = (inl same, ap p same ∙ e)
+  go rest true e (inr j) = let r = rest j in (inr r.0, r.1)
+  go rest false e j = let r = rest j in (inr r.0, r.1)
+
+pub in_outside : (pair : Pair) (held : List Held) (h : Held) → In h held → is_in pair h.part ≡ false → In h (held_outside pair held)
+in_outside pair held h i out = in_filter (λ (x : Held). not (is_in pair x.part)) held h i (ap not out)
+
+pub from_outside : (pair : Pair) (held : List Held) (h : Held) → In h (held_outside pair held) → In h held
+from_outside pair held h i = (in_filtered (λ (x : Held). not (is_in pair x.part)) held h i).0
+
+-- how far a publication's packets that nothing else uses are dropped
+pub record Dropping (old now : Slab (List ℕ)) (held : List Held) (pair : Pair) (i : ℕ) : Type 0 where
+  pub kept : (h : Held) → In h (held_outside pair held) → get now h.slot ≡ get old h.slot
+  pub only : (s : ℕ) → ContainsKey now s → get now s ≡ get old s
+  pub gone : (h : Held) → In h (take i held) → is_in pair h.part ≡ true → ContainsKey now h.slot → IsHeldIn (held_outside pair held) h.slot
+  pub room : (n : ℕ) → HasRoomFor old n → HasRoomFor now n
+
+pub dropping_none : (old : Slab (List ℕ)) (held : List Held) (pair : Pair) → Dropping old old held pair 0
+dropping_none old held pair = record { kept = λ h i. refl; only = λ s k. refl; gone = λ h i. absurd i; room = λ n h. h }
+
+module _ (old now : Slab (List ℕ)) (held index : List Held) (pair : Pair) (i : ℕ) (d : Held) (within : i < length held) (slots : AreSlots old held) (indexed : IsIndexOf FullNames old (held_outside pair held) index) (dropping : Dropping old now held pair i) where
+  -- one that stays
+  pub dropping_stays : (is_in pair (get_or held i d).part ≡ true → ContainsKey now (get_or held i d).slot → IsHeldIn (held_outside pair held) (get_or held i d).slot) → Dropping old now held pair (i + 1)
+  dropping_stays stays = record {
+    kept = dropping.kept;
+    only = dropping.only;
+    gone = λ h j inside k. elim (in_one_more held i d within h j) [
+      | inl a ↦ dropping.gone h a inside k
+      | inr e ↦ subst (λ (x : Held). IsHeldIn (held_outside pair held) x.slot) (sym e) (stays (ap (λ (x : Held). is_in pair x.part) (sym e) ∙ inside) (subst (λ (x : Held). IsSome (get now x.slot)) e k))
+    ];
+    room = dropping.room;
+  }
+
+  -- a part of another publication stays
+  pub other_stays : is_in pair (get_or held i d).part ≡ false → Dropping old now held pair (i + 1)
+  other_stays out = dropping_stays (λ inside k. absurd (true≢false (sym inside ∙ out)))
+
+  -- what is used stays
+  pub used_stays : IsUsed now index (get_or held i d).slot true → Dropping old now held pair (i + 1)
+  used_stays used = dropping_stays (λ inside k.
+      let o = used.0 in
+      let there = indexed.held_only o used.1 in
+      let was : get old o.slot ≡ get old (get_or held i d).slot = sym (dropping.kept o there) ∙ used.2 ∙ dropping.only (get_or held i d).slot k in
+      let some = slots.kept o (from_outside pair held o there) in
+      let same = slots.different o.slot (get_or held i d).slot some (subst IsSome was some) was in
+      record { by = o; there = there; at = same })
+
+  -- what nothing uses is dropped
+  pub unused_dropped : (new : Slab (List ℕ)) → IsUsed now index (get_or held i d).slot false → Updates now new (get_or held i d).slot None → ((n : ℕ) → HasRoomFor now n → HasRoomFor new n) → Dropping old new held pair (i + 1)
+  unused_dropped new unused updates room = record {
+    kept = λ h j. updates.others h.slot (λ e.
+        let some = some_as (get now h.slot) (get old h.slot) (dropping.kept h j) (slots.kept h (from_outside pair held h j)) in
+        unused (subst (λ (s : ℕ). IsSome (get now s)) e some) h (indexed.all_held h j) (ap (get now) e)) ∙ dropping.kept h j;
+    only = λ s k. updates.others s (apart s k) ∙ dropping.only s (was s k);
+    gone = λ h j inside k. elim (in_one_more held i d within h j) [
+      | inl a ↦ dropping.gone h a inside (was h.slot k)
+      | inr e ↦ absurd (apart h.slot k (ap (λ (x : Held). x.slot) e))
+    ];
+    room = λ n h. room n (dropping.room n h);
+  }
+    where
+      apart : (s : ℕ) → ContainsKey new s → s ≢ (get_or held i d).slot
+      apart s k e = some_or_none (get new s) k (ap (get new) e ∙ updates.changed)
+
+      was : (s : ℕ) → ContainsKey new s → ContainsKey now s
+      was s k = some_as (get now s) (get new s) (sym (updates.others s (apart s k))) k
+
+-- a removal takes no room
+pub room_kept : (old new : Slab (List ℕ)) (r : Option (List ℕ)) → OnSome r (slab_len new + 1 ≡ slab_len old) → IfNone r (new ≡ old) → new.capacity ≡ old.capacity → (n : ℕ) → HasRoomFor old n → HasRoomFor new n
+room_kept old new None some none capacity n h = omega (arith, ap (λ (s : Slab (List ℕ)). slab_len s) none)
+room_kept old new (Some o) some none capacity n h = omega arith
+
+take_whole : {A : Type 0} (xs : List A) (n : ℕ) → length xs ≤ n → (x : A) → In x xs → In x (take n xs)
+take_whole [] n l x i = absurd i
+take_whole (y ∷ ys) zero l x i = absurd (omega arith)
+take_whole (y ∷ ys) (suc n) l x (inl e) = inl e
+take_whole (y ∷ ys) (suc n) l x (inr i) = inr (take_whole ys n (omega arith) x i)
+
+pub dropped_all : (old now : Slab (List ℕ)) (held : List Held) (pair : Pair) (i : ℕ) → length held ≤ i → AreSlots old held → Dropping old now held pair i → AreSlots now (held_outside pair held)
+dropped_all old now held pair i all slots dropping = record {
+  kept = λ h j. some_as (get now h.slot) (get old h.slot) (dropping.kept h j) (slots.kept h (from_outside pair held h j));
+  named = λ s k. subst IsData (sym (dropping.only s k)) (slots.named s (some_as (get old s) (get now s) (sym (dropping.only s k)) k));
+  used = λ s k. still s k (slots.used s (some_as (get old s) (get now s) (sym (dropping.only s k)) k));
+  different = λ a b p q e. slots.different a b (some_as (get old a) (get now a) (sym (dropping.only a p)) p) (some_as (get old b) (get now b) (sym (dropping.only b q)) q) (sym (dropping.only a p) ∙ e ∙ dropping.only b q);
+}
+  where
+    still : (s : ℕ) → ContainsKey now s → IsHeldIn held s → IsHeldIn (held_outside pair held) s
+    still s k by = go (is_in pair by.by.part) refl where
+      go : (b : Bool) → is_in pair by.by.part ≡ b → IsHeldIn (held_outside pair held) s
+      go true inside = subst (IsHeldIn (held_outside pair held)) by.at (dropping.gone by.by (take_whole held i all by.by by.there) inside (subst (λ (n : ℕ). IsSome (get now n)) (sym by.at) k))
+      go false out = record { by = by.by; there = in_outside pair held by.by by.there out; at = by.at }
+
+before_outside : (order : Order) (packets : Slab (List ℕ)) (pair : Pair) (k : FullName × Part) (xs : List Held) → IsBefore key_cmp k (keys_in order packets xs) → IsBefore key_cmp k (keys_in order packets (held_outside pair xs))
+before_outside order packets pair k [] b = tt
+before_outside order packets pair k (x ∷ xs) b = go (before_outside order packets pair k xs b.1) (not (is_in pair x.part)) where
+  go : IsBefore key_cmp k (keys_in order packets (held_outside pair xs)) → (t : Bool) → IsBefore key_cmp k (keys_in order packets (cond t (x ∷ held_outside pair xs) (held_outside pair xs)))
+  go r true = (b.0, r)
+  go r false = r
+
+rises_outside : (order : Order) (packets : Slab (List ℕ)) (pair : Pair) (xs : List Held) → Rises key_cmp (keys_in order packets xs) → Rises key_cmp (keys_in order packets (held_outside pair xs))
+rises_outside order packets pair [] r = tt
+rises_outside order packets pair (x ∷ xs) r = go (rises_outside order packets pair xs r.1) (not (is_in pair x.part)) where
+  go : Rises key_cmp (keys_in order packets (held_outside pair xs)) → (t : Bool) → Rises key_cmp (keys_in order packets (cond t (x ∷ held_outside pair xs) (held_outside pair xs)))
+  go s true = (before_outside order packets pair (key_in order packets x) xs r.0, s)
+  go s false = s
+
+-- an index without a publication's parts
+pub index_outside : (order : Order) (packets : Slab (List ℕ)) (pair : Pair) (held index : List Held) → IsIndexOf order packets held index → IsIndexOf order packets (held_outside pair held) (held_outside pair index)
+index_outside order packets pair held index indexed = record {
+  in_order = rises_outside order packets pair index indexed.in_order;
+  held_only = λ h i. let both = in_filtered out index h i in in_filter out held h (indexed.held_only h both.0) both.1;
+  all_held = λ h i. let both = in_filtered out held h i in in_filter out index h (indexed.all_held h both.0) both.1;
+}
+  where
+    out : Held → Bool
+    out = λ h. not (is_in pair h.part)
+
+pub index_same : (order : Order) (old new : Slab (List ℕ)) (held index : List Held) → ((h : Held) → In h held → get new h.slot ≡ get old h.slot) → IsIndexOf order old held index → IsIndexOf order new held index
+index_same order old new held index same indexed = record {
+  in_order = subst (Rises key_cmp) (sym (keys_same order old new index (λ h i. same h (indexed.held_only h i)))) indexed.in_order;
+  held_only = indexed.held_only;
+  all_held = indexed.all_held;
+}

@@ -1,0 +1,76 @@
+use Rattle.std.proofs.Common.{ℕ, List, refl, ap, arith}
+use Rattle.slab.specs.Slab.{Slab, get}
+use Rattle.repo_store.proofs.StoredLemmas.{stored_same}
+use Rattle.repo_store.proofs.store.Store.reserve.Goals as goal
+
+pub invariant_of-self-in_err-reserve-2 : goal.invariant_of-self-in_err-reserve-2
+invariant_of-self-in_err-reserve-2 c =
+    stored_same c.self.inside _ (
+    record {
+      packets = λ slot. ap (λ (p : Slab (List ℕ)). get p slot) c.reserve.ensures.rest_kept;
+      parts = c.reserve-then-self-n.ensures.items;
+      names = refl;
+      full_names = refl;
+    }
+    ) (
+    record {
+      parts = omega (arith, c.self.invariant.room, c.reserve-then-self-n.ensures.len, c.reserve-then-self-n.ensures.capacity);
+      names = c.self.invariant.room_of_names;
+      full_names = c.self.invariant.room_of_full_names;
+      packets = rw c.reserve.ensures.rest_kept (omega (arith, c.self.invariant.room_of_packets, c.reserve.ensures.capacity));
+    }
+    ) c.self.invariant
+
+pub invariant_of-self-in_err-reserve-3 : goal.invariant_of-self-in_err-reserve-3
+invariant_of-self-in_err-reserve-3 c =
+    stored_same c.self.inside _ (
+    record {
+      packets = λ slot. ap (λ (p : Slab (List ℕ)). get p slot) c.reserve.ensures.rest_kept;
+      parts = c.reserve-then-self-n.ensures.items;
+      names = c.reserve-then-self-n-2.ensures.items;
+      full_names = refl;
+    }
+    ) (
+    record {
+      parts = omega (arith, c.self.invariant.room, c.reserve-then-self-n.ensures.len, c.reserve-then-self-n.ensures.capacity);
+      names = omega (arith, c.self.invariant.room_of_names, c.reserve-then-self-n-2.ensures.len, c.reserve-then-self-n-2.ensures.capacity);
+      full_names = c.self.invariant.room_of_full_names;
+      packets = rw c.reserve.ensures.rest_kept (omega (arith, c.self.invariant.room_of_packets, c.reserve.ensures.capacity));
+    }
+    ) c.self.invariant
+
+pub invariant_of-self-in_err-reserve-4 : goal.invariant_of-self-in_err-reserve-4
+invariant_of-self-in_err-reserve-4 c =
+    stored_same c.self.inside _ (
+    record {
+      packets = λ slot. ap (λ (p : Slab (List ℕ)). get p slot) c.reserve.ensures.rest_kept;
+      parts = c.reserve-then-self-n.ensures.items;
+      names = c.reserve-then-self-n-2.ensures.items;
+      full_names = c.reserve-then-self-n-3.ensures.items;
+    }
+    ) (
+    record {
+      parts = omega (arith, c.self.invariant.room, c.reserve-then-self-n.ensures.len, c.reserve-then-self-n.ensures.capacity);
+      names = omega (arith, c.self.invariant.room_of_names, c.reserve-then-self-n-2.ensures.len, c.reserve-then-self-n-2.ensures.capacity);
+      full_names = omega (arith, c.self.invariant.room_of_full_names, c.reserve-then-self-n-3.ensures.len, c.reserve-then-self-n-3.ensures.capacity);
+      packets = rw c.reserve.ensures.rest_kept (omega (arith, c.self.invariant.room_of_packets, c.reserve.ensures.capacity));
+    }
+    ) c.self.invariant
+
+pub invariant_of-self-then-self-n : goal.invariant_of-self-then-self-n
+invariant_of-self-then-self-n c =
+    stored_same c.self.inside _ (
+    record {
+      packets = λ slot. ap (λ (p : Slab (List ℕ)). get p slot) c.reserve.ensures.rest_kept;
+      parts = c.reserve-then-self-n.ensures.items;
+      names = c.reserve-then-self-n-2.ensures.items;
+      full_names = c.reserve-then-self-n-3.ensures.items;
+    }
+    ) (
+    record {
+      parts = omega (arith, c.reserve-then-self-n.ensures.len, c.in_ok-reserve-2.ensures.ok);
+      names = omega (arith, c.reserve-then-self-n-2.ensures.len, c.in_ok-reserve-3.ensures.ok);
+      full_names = omega (arith, c.reserve-then-self-n-3.ensures.len, c.in_ok-reserve-4.ensures.ok);
+      packets = c.in_ok-reserve.ensures.room;
+    }
+    ) c.self.invariant

@@ -1,0 +1,25 @@
+-- How packets are kept, each different one once, in slots.
+use Rattle.std.specs.Prelude.{◌≡◌, ℕ, List, [], map, unwrap_or, Result, Ok, Err}
+use Rattle.slab.specs.Slab.{Slab, get}
+use Rattle.ndn_name.specs.declared.fault.PacketFault.{PacketFault}
+use Rattle.ndn_name.specs.Names.{encoding}
+use Rattle.ndn_data.specs.Data.{Data, data_of}
+use Rattle.repo_plan.specs.declared.part.Part.{Part}
+use Rattle.repo_store.specs.declared.index.Held.{Held}
+
+-- The value of the name of what was read as Data.
+abbrev pub name_octets : Result Data PacketFault → List ℕ
+name_octets (Ok d) = encoding d.name
+name_octets (Err fault) = []
+
+-- The value of a packet's name.
+unfoldable pub name_of : List ℕ → List ℕ
+name_of octets = name_octets (data_of octets)
+
+-- The octets in a slot.
+abbrev pub octets_at : Slab (List ℕ) → ℕ → List ℕ
+octets_at packets slot = unwrap_or (get packets slot) []
+
+-- The parts that are held, each with its packet.
+abbrev pub entries_of : Slab (List ℕ) → List Held → List (Part × List ℕ)
+entries_of packets held = map (λ (h : Held). (h.part, octets_at packets h.slot)) held

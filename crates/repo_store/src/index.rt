@@ -1,0 +1,270 @@
+ghost use Rattle.std.specs.Prelude.{◌≡◌, ◌↔◌, ◌+◌, ◌<◌, ◌≤◌, [], Some, IsTrue, IfSome, slice_get, vec_len, vec_capacity};
+ghost use Rattle.repo_store.specs.declared.index.Order.TheVariants.{Names, FullNames};
+ghost use Rattle.slab.specs.Slab.{get};
+ghost use Rattle.repo_plan.specs.SortedList.{Rises};
+ghost use Rattle.repo_store.specs.Kept.{name_of};
+ghost use Rattle.repo_store.specs.Indexes.{digest_in, key_of, names_cmp, key_cmp, key_in, keys_in, keys_of, as_full_name, has_key, has_full_name, begins_with, lesser, IsInOrder, IsPlace, IsFrom, IsBehind, IsFirstOf, IsSlotOf, GainsOne, LacksPart};
+
+use crate::packet::{Packet, Packets};
+use repo_plan::Part;
+use std::cmp::Ordering;
+
+// A part, and the slot of its packet.
+#[derive(Clone, Copy)]
+pub(crate) struct Held {
+    pub(crate) part: Part,
+    pub(crate) slot: usize,
+}
+
+// What comes before the parts in the order of an index: the names of the packets alone, or the names
+// and the digests behind them.
+#[derive(Clone, Copy)]
+pub(crate) enum Order {
+    Names,
+    FullNames,
+}
+
+// A name and the digest behind it, which is empty in an order of names alone.
+#[derive(Clone, Copy)]
+pub(crate) struct Key<'k> {
+    name: &'k [u8],
+    digest: &'k [u8],
+}
+
+// What is held, in order of the names or full names of the packets, and then of the parts.
+#[derive(Clone, Copy)]
+pub(crate) struct Index<'i> {
+    pub(crate) order: Order,
+    pub(crate) held: &'i [Held],
+    pub(crate) packets: &'i Packets,
+}
+
+// No part comes before it.
+const FIRST: Part = Part {
+    publisher: 0,
+    seq: 0,
+    part: 0,
+};
+
+impl Order {
+    fn key(self, packet: &Packet) -> Key<'_>
+        ensures name { result.name.now ≡ name_of packet.now }
+        ensures digest { result.digest.now ≡ digest_in self packet.now }
+    {
+        let digest: &[u8] = match self {
+            Order::Names => &[],
+            Order::FullNames => packet.digest(),
+        };
+        Key {
+            name: packet.name(),
+            digest,
+        }
+    }
+}
+
+impl Key<'_> {
+    // By name, then by digest.
+    fn cmp(&self, other: &Key<'_>) -> Ordering
+        ensures { result ≡ names_cmp (as_full_name self.now) (as_full_name other.now) }
+    {
+        self.name
+            .cmp(&other.name)
+            .then(self.digest.cmp(&other.digest))
+    }
+}
+
+impl Index<'_> {
+    fn key(&self, held: &Held) -> Key<'_>
+        ensures name { result.name.now
+            ≡ (key_of self.now.order (get self.now.packets.now held.now.slot)).0 }
+        ensures digest { result.digest.now
+            ≡ (key_of self.now.order (get self.now.packets.now held.now.slot)).1 }
+    {
+        match self.packets.get(held.slot) {
+            Some(packet) => self.order.key(packet),
+            None => Key {
+                name: &[],
+                digest: &[],
+            },
+        }
+    }
+
+    fn has(&self, held: &Held, key: &Key<'_>) -> bool
+        ensures { result
+            ≡ has_key self.now.order self.now.packets.now (as_full_name key.now) held.now }
+    {
+        self.key(held).cmp(key).is_eq()
+    }
+
+    fn cmp(&self, held: &Held, key: &Key<'_>, part: Part) -> Ordering
+        ensures { result ≡ key_cmp (key_in self.now.order self.now.packets.now held.now)
+            (as_full_name key.now, part) }
+    {
+        self.key(held).cmp(key).then(held.part.cmp(&part))
+    }
+
+    // How much of what is held comes before this key and part.
+    fn place(&self, key: &Key<'_>, part: Part) -> usize
+        requires { IsInOrder self.now }
+        ensures { IsPlace (keys_of self.now) (as_full_name key.now, part) result }
+    {
+        self.held
+            .partition_point(|held| self.cmp(held, key, part).is_lt())
+    }
+
+    // How much of what is held comes before this.
+    fn place_of(&self, held: &Held) -> usize
+        requires { IsInOrder self.now }
+        ensures { IsPlace (keys_of self.now)
+            (key_in self.now.order self.now.packets.now held.now) result }
+    {
+        self.place(&self.key(held), held.part)
+    }
+
+    // What is held from this key on.
+    fn from(&self, key: &Key<'_>) -> &[Held]
+        requires { IsInOrder self.now }
+        ensures { IsFrom self.now.order self.now.packets.now self.now.held.now
+            (as_full_name key.now) result.now }
+    {
+        let (_, rest) = self.held.split_at(self.place(key, FIRST));
+        rest
+    }
+
+    // What is held of this key, of the least part.
+    fn first(&self, key: &Key<'_>) -> Option<Held>
+        requires { IsInOrder self.now }
+        ensures { IsFirstOf self.now.held.now
+            (has_key self.now.order self.now.packets.now (as_full_name key.now)) result }
+    {
+        let first = self.from(key).first()?;
+        if self.has(first, key) {
+            Some(*first)
+        } else {
+            None
+        }
+    }
+
+    // What has this name, of the least part.
+    pub(crate) fn first_named(&self, asked: &[u8]) -> Option<Held>
+        requires { IsInOrder self.now }
+        ensures { IsFirstOf self.now.held.now
+            (has_key self.now.order self.now.packets.now (asked.now, [])) result }
+    {
+        self.first(&Key {
+            name: asked,
+            digest: &[],
+        })
+    }
+
+    // What has this full name, of the least part. The octets of a full name end with a component of
+    // 34 octets.
+    pub(crate) fn first_with_full_name(&self, asked: &[u8]) -> Option<Held>
+        requires in_order { IsInOrder self.now }
+        requires order { self.now.order ≡ FullNames }
+        ensures { IsFirstOf self.now.held.now
+            (has_full_name self.now.packets.now asked.now) result }
+    {
+        let (name, last) = asked.split_last_chunk::<34>()?;
+        let digest = last.as_slice().strip_prefix(&[0x01, 0x20])?;
+        self.first(&Key { name, digest })
+    }
+
+    // What has a name that begins with these octets, of the least part. Of each name the first is
+    // looked at.
+    pub(crate) fn first_below(&self, front: &[u8]) -> Option<Held>
+        requires in_order { IsInOrder self.now }
+        requires order { self.now.order ≡ Names }
+        ensures { IsFirstOf self.now.held.now
+            (begins_with self.now.packets.now front.now) result }
+    {
+        let key = Key {
+            name: front,
+            digest: &[],
+        };
+        let mut rest = self.from(&key);
+        let mut least = None;
+        while let Some(first) = rest.first() {
+            let name = self.key(first).name;
+            if !name.starts_with(front) {
+                return least;
+            }
+            least = lesser(least, Some(*first));
+            rest = self.behind(rest, name);
+        }
+        least
+    }
+
+    // What is held behind this name, of what begins with it.
+    fn behind<'h>(&self, held: &'h [Held], name: &[u8]) -> &'h [Held]
+        requires in_order { Rises key_cmp (keys_in self.now.order self.now.packets.now held.now) }
+        requires order { self.now.order ≡ Names }
+        requires first { IfSome (slice_get held.now 0)
+            (λ h. (key_of Names (get self.now.packets.now h.slot)).0 ≡ name.now) }
+        ensures { IsBehind self.now.packets.now held.now name.now result.now }
+    {
+        let place = held.partition_point(|held| self.key(held).name == name);
+        let (_, rest) = held.split_at(place);
+        rest
+    }
+
+    // The slot of the packet that has these octets. Only packets of one digest are looked at.
+    pub(crate) fn slot_of(&self, packet: &Packet) -> Option<usize>
+        requires { IsInOrder self.now }
+        ensures { IsSlotOf self.now.held.now self.now.packets.now packet.now result }
+    {
+        let key = self.order.key(packet);
+        for held in self.from(&key) {
+            if !self.has(held, &key) {
+                return None;
+            }
+            if self.is_of(held, packet) {
+                return Some(held.slot);
+            }
+        }
+        None
+    }
+
+    fn is_of(&self, held: &Held, packet: &Packet) -> bool
+        ensures { IsTrue result
+            ↔ (get self.now.packets.now held.now.slot ≡ Some packet.now) }
+    {
+        match self.packets.get(held.slot) {
+            Some(kept) => kept.octets() == packet.octets(),
+            None => false,
+        }
+    }
+}
+
+// The one of the lesser part.
+pub(crate) fn lesser(a: Option<Held>, b: Option<Held>) -> Option<Held>
+    ensures { result ≡ lesser a b }
+{
+    match (a, b) {
+        (Some(first), Some(second)) => match first.part.cmp(&second.part) {
+            Ordering::Greater => b,
+            _ => a,
+        },
+        (None, _) => b,
+        _ => a,
+    }
+}
+
+// An index gains what is held too, in its place.
+pub(crate) fn add(index: &mut Vec<Held>, order: Order, packets: &Packets, held: Held)
+    requires in_order { Rises key_cmp (keys_in order packets.now index.old.items) }
+    requires fresh { LacksPart held.part index.old.items }
+    requires room { vec_len index.old < vec_capacity index.old }
+    ensures in_order { Rises key_cmp (keys_in order packets.now index.new.items) }
+    ensures gains { GainsOne held index.old.items index.new.items }
+    ensures len { vec_len index.new ≡ vec_len index.old + 1 }
+    ensures capacity { vec_capacity index.old ≤ vec_capacity index.new }
+{
+    let place = Index {
+        order,
+        held: index.as_slice(),
+        packets,
+    }
+    .place_of(&held);
+    index.insert(place, held).unwrap();
+}

@@ -1,0 +1,118 @@
+-- The first words of lines.
+use Rattle.std.proofs.Common.{◌≡◌, ℕ, Bool, true, false, ◌&&◌, List, [], ◌∷◌, ◌++◌, map, length, Option, Some, None, if◌then◌else◌, refl, sym, ap, ◌∙◌, arith, inl, inr}
+use Rattle.std.specs.Str.{bytes_eq}
+use Rattle.std.proofs.lemmas.Slice.Eq.{bytes_eq-Decides}
+use Rattle.script_lang.specs.declared.verb.Verb.{Verb}
+use Rattle.script_lang.specs.declared.verb.Verb.TheVariants.{Group, Member, Client, Publish, Deliver, Sync, Advance, Fire, Restart, Vector, Catalogue, Claim, Lose, Answer, Fetch, Settle, Dump, Hear, Order, Ask, Feed, Insert, Block, Status, Delete, Summary, Traffic}
+use Rattle.script_lang.specs.Forms.{form}
+use Rattle.script_lang.specs.Lines.{named, verb_of, verbs, says_nothing}
+use Rattle.script_lang.specs.Texts.{IsWord}
+
+pub verb_back : (verb : Verb) → verb_of (form verb).word ≡ Some verb
+unfolding named
+verb_back Group = refl
+verb_back Member = refl
+verb_back Client = refl
+verb_back Publish = refl
+verb_back Deliver = refl
+verb_back Sync = refl
+verb_back Advance = refl
+verb_back Fire = refl
+verb_back Restart = refl
+verb_back Vector = refl
+verb_back Catalogue = refl
+verb_back Claim = refl
+verb_back Lose = refl
+verb_back Answer = refl
+verb_back Fetch = refl
+verb_back Settle = refl
+verb_back Dump = refl
+verb_back Hear = refl
+verb_back Order = refl
+verb_back Ask = refl
+verb_back Feed = refl
+verb_back Insert = refl
+verb_back Block = refl
+verb_back Status = refl
+verb_back Delete = refl
+verb_back Summary = refl
+verb_back Traffic = refl
+
+pub verb_is_word : (verb : Verb) → IsWord (form verb).word
+verb_is_word Group = record { some = omega arith; graphic = refl }
+verb_is_word Member = record { some = omega arith; graphic = refl }
+verb_is_word Client = record { some = omega arith; graphic = refl }
+verb_is_word Publish = record { some = omega arith; graphic = refl }
+verb_is_word Deliver = record { some = omega arith; graphic = refl }
+verb_is_word Sync = record { some = omega arith; graphic = refl }
+verb_is_word Advance = record { some = omega arith; graphic = refl }
+verb_is_word Fire = record { some = omega arith; graphic = refl }
+verb_is_word Restart = record { some = omega arith; graphic = refl }
+verb_is_word Vector = record { some = omega arith; graphic = refl }
+verb_is_word Catalogue = record { some = omega arith; graphic = refl }
+verb_is_word Claim = record { some = omega arith; graphic = refl }
+verb_is_word Lose = record { some = omega arith; graphic = refl }
+verb_is_word Answer = record { some = omega arith; graphic = refl }
+verb_is_word Fetch = record { some = omega arith; graphic = refl }
+verb_is_word Settle = record { some = omega arith; graphic = refl }
+verb_is_word Dump = record { some = omega arith; graphic = refl }
+verb_is_word Hear = record { some = omega arith; graphic = refl }
+verb_is_word Order = record { some = omega arith; graphic = refl }
+verb_is_word Ask = record { some = omega arith; graphic = refl }
+verb_is_word Feed = record { some = omega arith; graphic = refl }
+verb_is_word Insert = record { some = omega arith; graphic = refl }
+verb_is_word Block = record { some = omega arith; graphic = refl }
+verb_is_word Status = record { some = omega arith; graphic = refl }
+verb_is_word Delete = record { some = omega arith; graphic = refl }
+verb_is_word Summary = record { some = omega arith; graphic = refl }
+verb_is_word Traffic = record { some = omega arith; graphic = refl }
+
+pub speaks : (verb : Verb) (rest : List ℕ) → says_nothing ((form verb).word ++ rest) ≡ false
+speaks Group rest = refl
+speaks Member rest = refl
+speaks Client rest = refl
+speaks Publish rest = refl
+speaks Deliver rest = refl
+speaks Sync rest = refl
+speaks Advance rest = refl
+speaks Fire rest = refl
+speaks Restart rest = refl
+speaks Vector rest = refl
+speaks Catalogue rest = refl
+speaks Claim rest = refl
+speaks Lose rest = refl
+speaks Answer rest = refl
+speaks Fetch rest = refl
+speaks Settle rest = refl
+speaks Dump rest = refl
+speaks Hear rest = refl
+speaks Order rest = refl
+speaks Ask rest = refl
+speaks Feed rest = refl
+speaks Insert rest = refl
+speaks Block rest = refl
+speaks Status rest = refl
+speaks Delete rest = refl
+speaks Summary rest = refl
+speaks Traffic rest = refl
+
+-- ---- a word that has a verb is that verb's
+
+same_word : (a b : List ℕ) → bytes_eq a b ≡ true → a ≡ b
+same_word a b h = (bytes_eq-Decides a b).0 h
+
+one_of : (vs : List Verb) (word : List ℕ) (verb : Verb) → named
+    (map (λ v. ((form v).word, v)) vs) word ≡ Some verb
+    → word ≡ (form verb).word
+unfolding named
+one_of [] word verb h = cc
+one_of (v ∷ vs) word verb h = go (bytes_eq (form v).word word) refl h (one_of vs word verb) where
+  go : (b : Bool) → bytes_eq (form v).word word ≡ b
+      → (if b then Some v else named (map (λ x. ((form x).word, x)) vs) word) ≡ Some verb
+      → (named (map (λ x. ((form x).word, x)) vs) word ≡ Some verb → word ≡ (form verb).word)
+      → word ≡ (form verb).word
+  go true e k others = (let s : v ≡ verb = cc in sym (same_word (form v).word word e) ∙ ap (λ x. (form x).word) s)
+  go false e k others = others k
+
+pub verb_word : (word : List ℕ) (verb : Verb) → verb_of word ≡ Some verb → word ≡ (form verb).word
+verb_word word verb h = one_of verbs word verb h

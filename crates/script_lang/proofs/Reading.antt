@@ -1,0 +1,83 @@
+-- Words that are read one after another.
+use Rattle.std.proofs.Common.{◌≡◌, ℕ, Bool, true, false, List, [], ◌∷◌, Result, Ok, Err, refl, sym, if◌then◌else◌}
+use Rattle.script_lang.specs.declared.line_fault.LineFault.{LineFault}
+use Rattle.script_lang.specs.declared.line_fault.LineFault.TheVariants.{Syntax, Limit, NoMemory}
+use Rattle.script_lang.specs.Kinds.{Kind, Value, word_of, mapped}
+use Rattle.script_lang.specs.Lines.{with_value, without_value, values_of, stated_of}
+use Rattle.script_lang.specs.Reading.{Gives, Tells, Unread, left_of, Keeps, Reads, with_all}
+use Rattle.script_lang.specs.declared.verb.Verb.{Verb}
+
+-- words as they are left
+abbrev pub at : Bool → List (List ℕ) → Unread
+at over words = record { over = over; words = words }
+
+pub took_value : (over : Bool) (kind : Kind) (kinds : List Kind) (word : List ℕ) (words : List (List ℕ))
+    (value : Value) → word_of kind word ≡ Ok value → left_of (kind ∷ kinds)
+    (at over (word ∷ words)) ≡ with_value value (left_of kinds (at over words))
+unfolding values_of
+took_value true kind kinds word words value h = rw h (go (values_of kinds words)) where
+  go : (others : Result (List Value) LineFault)
+      → without_value (with_value value others) ≡ with_value value (without_value others)
+  go (Ok values) = refl
+  go (Err fault) = refl
+took_value false kind kinds word words value h = rw h refl
+
+pub took_limit : (over : Bool) (kind : Kind) (kinds : List Kind) (word : List ℕ) (words : List (List ℕ))
+    (value : Value) → word_of kind word ≡ Err Limit → left_of (kind ∷ kinds)
+    (at over (word ∷ words)) ≡ with_value value (left_of kinds (at true words))
+unfolding values_of
+took_limit over kind kinds word words value h = rw h (go over (values_of kinds words)) where
+  go : (over : Bool) (others : Result (List Value) LineFault)
+      → (if over then without_value (without_value others) else without_value others) ≡ with_value value
+          (without_value others)
+  go true (Ok values) = refl
+  go true (Err fault) = refl
+  go false (Ok values) = refl
+  go false (Err fault) = refl
+
+pub took_syntax : (over : Bool) (kind : Kind) (kinds : List Kind) (word : List ℕ) (words : List (List ℕ))
+    → word_of kind word ≡ Err Syntax → left_of (kind ∷ kinds) (at over (word ∷ words)) ≡ Err Syntax
+unfolding values_of
+took_syntax true kind kinds word words h = rw h refl
+took_syntax false kind kinds word words h = rw h refl
+
+pub took_none : (over : Bool) (kind : Kind) (kinds : List Kind) → left_of (kind ∷ kinds) (at over []) ≡ Err Syntax
+unfolding values_of
+took_none true kind kinds = refl
+took_none false kind kinds = refl
+
+-- a word is read, and kept as it is or something in its place
+pub reads : {X : Type 0} (view : X → Value) (kind : Kind) (word : List ℕ)
+    (before between behind : Unread) (instead : X)
+    (read result : Result X LineFault) → before ≡ at between.over
+    (word ∷ between.words) → Gives view read (word_of kind word) → Keeps instead read between behind
+    result → Reads view kind before behind result
+reads view kind word before between behind instead (Ok x) result at_word gives keeps =
+    rw (keeps.0, keeps.1, at_word) (λ kinds. took_value between.over kind kinds word between.words (view x) gives)
+reads view kind word before between behind instead (Err Limit) result at_word gives keeps =
+    rw (keeps.0, keeps.1, at_word) (λ kinds. took_limit between.over kind kinds word between.words
+        (view instead) gives)
+reads view kind word before between behind instead (Err Syntax) result at_word gives keeps =
+    rw (keeps, at_word) (λ kinds. took_syntax between.over kind kinds word between.words gives)
+reads view kind word before between behind instead (Err NoMemory) result at_word gives keeps =
+    rw keeps (λ kinds. tt)
+
+-- a value of a type as a value of any
+pub gives_mapped : {X A B : Type 0} (view : X → A) (f : A → B) (read : Result X LineFault)
+    (found : Result A LineFault) → Gives view read found → Gives (λ x. f (view x)) read (mapped f found)
+gives_mapped view f (Ok x) found gives = rw gives refl
+gives_mapped view f (Err Limit) found gives = rw gives refl
+gives_mapped view f (Err Syntax) found gives = rw gives refl
+gives_mapped view f (Err NoMemory) found gives = tt
+
+all_fault : (values : List Value) (fault : LineFault) → with_all values (Err fault) ≡ Err fault
+all_fault [] fault = refl
+all_fault (value ∷ values) fault = rw (all_fault values fault) refl
+
+-- the fault behind the last word is the line's
+pub told_at_end : (fault : LineFault) (verb : Verb) (values : List Value)
+    (read behind : Result (List Value) LineFault) → read ≡ with_all values behind → Tells fault behind →
+    Tells fault (stated_of verb read)
+told_at_end Syntax verb values read behind h tells = rw (h, tells, all_fault values Syntax) refl
+told_at_end Limit verb values read behind h tells = rw (h, tells, all_fault values Limit) refl
+told_at_end NoMemory verb values read behind h tells = tt

@@ -1,0 +1,8 @@
+use Rattle.script_lang.specs.Kinds.{HEX, Octets}
+use Rattle.script_lang.proofs.Reading.{reads}
+use Rattle.script_lang.proofs.cursor.Cursor.hex.Goals as goal
+
+pub returns : goal.returns
+returns c = reads (λ value. Octets value.items)
+    (HEX c.args.most) c.in_ok-word.word.now c.args.self.now c.next.new.self c.kept.new.self _ _
+    c.kept.result c.in_ok-word.ensures.ok c.hex_in.ensures c.kept.ensures

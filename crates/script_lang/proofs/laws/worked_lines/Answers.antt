@@ -1,0 +1,21 @@
+use Rattle.ndn_name.specs.Names.{encoding}
+use Rattle.ndn_tlv.specs.Spelling.{number}
+use Rattle.script_lang.specs.Kinds.{label_of, number_of, hex_of, content_of, filled_of, name_of}
+use Rattle.ndn_name.specs.UriText.{behind, cut_at, component_of_text, components_of_texts, name_of_text, octets_of_digits, unescaped}
+use Rattle.script_lang.specs.Lines.{values_of, named}
+use Rattle.std.proofs.Common.{refl}
+use Rattle.script_lang.proofs.laws.worked_lines.Goals as goal
+
+pub returns : goal.returns
+unfolding label_of number_of hex_of content_of filled_of behind cut_at component_of_text
+    components_of_texts name_of_text octets_of_digits unescaped name_of values_of named encoding number
+returns c = record {
+  group = refl;
+  claim = refl;
+  over = refl;
+  syntax_first = refl;
+  long_number = refl;
+  filled = refl;
+  blocks = refl;
+  comment = refl;
+}

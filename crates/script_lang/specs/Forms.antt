@@ -1,0 +1,115 @@
+-- The forms of line: the table of their words, and the lines as values of it.
+use Rattle.std.specs.Prelude.{ℕ, List, [], ◌∷◌, codes}
+use Rattle.std.specs.String.{string_bytes}
+use Rattle.script_lang.specs.declared.line.Line.{Line}
+use Rattle.script_lang.specs.declared.line.Line.TheVariants as line
+use Rattle.script_lang.specs.declared.verb.Verb.{Verb}
+use Rattle.script_lang.specs.declared.verb.Verb.TheVariants.{Group, Member, Client, Publish, Deliver, Sync, Advance, Fire, Restart, Vector, Catalogue, Claim, Lose, Answer, Fetch, Settle, Dump, Hear, Order, Ask, Feed, Insert, Block, Status, Delete, Summary, Traffic}
+use Rattle.script_lang.specs.Kinds.{Kind, LABEL, N, URI, HEX, CONTENT, Value, Text, Number, Named, Octets}
+
+-- A form of line: its first word, and the kinds of the others.
+pub record Form : Type 0 where
+  pub word : List ℕ
+  pub kinds : List Kind
+
+abbrev pub row : List ℕ → List Kind → Form
+row word kinds = record { word = word; kinds = kinds }
+
+-- The table of the forms. A number has no other range than 18 digits in `block`'s index and in
+-- `insert`'s first and last block; `publish` and `insert` have limits across words too (`are_within`).
+abbrev pub any : Kind
+any = N 0 999999999999999999
+
+abbrev pub form : Verb → Form
+form Group = row (codes "group") (URI 200 ∷ [])
+form Member = row (codes "member") (LABEL ∷ URI 200 ∷ HEX 128 ∷ [])
+form Client = row (codes "client") (LABEL ∷ URI 200 ∷ HEX 128 ∷ [])
+form Publish = row (codes "publish") (LABEL ∷ URI 400 ∷ N 1 8000 ∷ CONTENT 0 1600000 ∷ [])
+form Deliver = row (codes "deliver") (N 1 4294967295 ∷ LABEL ∷ [])
+form Sync = row (codes "sync") (N 1 4294967295 ∷ [])
+form Advance = row (codes "advance") (N 0 1000000000 ∷ [])
+form Fire = row (codes "fire") (LABEL ∷ [])
+form Restart = row (codes "restart") (LABEL ∷ [])
+form Vector = row (codes "vector") (LABEL ∷ [])
+form Catalogue = row (codes "catalogue") (LABEL ∷ [])
+form Claim = row (codes "claim") (LABEL ∷ N 1 16 ∷ [])
+form Lose = row (codes "lose") (LABEL ∷ N 1 16 ∷ [])
+form Answer = row (codes "answer") (LABEL ∷ N 1 16 ∷ LABEL ∷ [])
+form Fetch = row (codes "fetch") (LABEL ∷ N 1 16 ∷ N 1 16 ∷ N 0 1000 ∷ [])
+form Settle = row (codes "settle") (N 1 16 ∷ [])
+form Dump = row (codes "dump") (LABEL ∷ LABEL ∷ N 1 65535 ∷ N 0 200 ∷ [])
+form Hear = row (codes "hear") (LABEL ∷ HEX 9000 ∷ [])
+form Order = row (codes "order") (LABEL ∷ HEX 9000 ∷ [])
+form Ask = row (codes "ask") (LABEL ∷ HEX 9000 ∷ [])
+form Feed = row (codes "feed") (LABEL ∷ N 1 16 ∷ HEX 9000 ∷ [])
+form Insert = row (codes "insert")
+    (LABEL ∷ LABEL ∷ URI 400 ∷ any ∷ any ∷ [])
+form Block = row (codes "block")
+    (LABEL ∷ N 1 4294967295 ∷ any ∷ CONTENT 1 8000 ∷ [])
+form Status = row (codes "status") (LABEL ∷ LABEL ∷ N 1 4294967295 ∷ [])
+form Delete = row (codes "delete") (LABEL ∷ LABEL ∷ URI 400 ∷ [])
+form Summary = row (codes "summary") []
+form Traffic = row (codes "traffic") []
+
+-- A line as its verb and the values of its words.
+pub record Stated : Type 0 where
+  pub verb : Verb
+  pub values : List Value
+
+abbrev pub said : Verb → List Value → Stated
+said verb values = record { verb = verb; values = values }
+
+abbrev pub stated : Line → Stated
+stated (line.Group name) =
+    said Group (Named name ∷ [])
+stated (line.Member label name key) =
+    said Member (Text (string_bytes label) ∷ Named name ∷ Octets key.items ∷ [])
+stated (line.Client label name key) =
+    said Client (Text (string_bytes label) ∷ Named name ∷ Octets key.items ∷ [])
+stated (line.Publish m name size content) =
+    said Publish (Text (string_bytes m) ∷ Named name ∷ Number size ∷ Octets content.items ∷ [])
+stated (line.Deliver k m) =
+    said Deliver (Number k ∷ Text (string_bytes m) ∷ [])
+stated (line.Sync k) =
+    said Sync (Number k ∷ [])
+stated (line.Advance ms) =
+    said Advance (Number ms ∷ [])
+stated (line.Fire m) =
+    said Fire (Text (string_bytes m) ∷ [])
+stated (line.Restart m) =
+    said Restart (Text (string_bytes m) ∷ [])
+stated (line.Vector m) =
+    said Vector (Text (string_bytes m) ∷ [])
+stated (line.Catalogue m) =
+    said Catalogue (Text (string_bytes m) ∷ [])
+stated (line.Claim m f) =
+    said Claim (Text (string_bytes m) ∷ Number f ∷ [])
+stated (line.Lose m f) =
+    said Lose (Text (string_bytes m) ∷ Number f ∷ [])
+stated (line.Answer m f q) =
+    said Answer (Text (string_bytes m) ∷ Number f ∷ Text (string_bytes q) ∷ [])
+stated (line.Fetch m workers tries loss) =
+    said Fetch (Text (string_bytes m) ∷ Number workers ∷ Number tries ∷ Number loss ∷ [])
+stated (line.Settle workers) =
+    said Settle (Number workers ∷ [])
+stated (line.Dump m p s x) =
+    said Dump (Text (string_bytes m) ∷ Text (string_bytes p) ∷ Number s ∷ Number x ∷ [])
+stated (line.Hear m octets) =
+    said Hear (Text (string_bytes m) ∷ Octets octets.items ∷ [])
+stated (line.Order m octets) =
+    said Order (Text (string_bytes m) ∷ Octets octets.items ∷ [])
+stated (line.Ask m octets) =
+    said Ask (Text (string_bytes m) ∷ Octets octets.items ∷ [])
+stated (line.Feed m f octets) =
+    said Feed (Text (string_bytes m) ∷ Number f ∷ Octets octets.items ∷ [])
+stated (line.Insert m client name first last) =
+    said Insert
+    (Text (string_bytes m) ∷ Text (string_bytes client) ∷ Named name ∷ Number first ∷ Number last ∷ [])
+stated (line.Block m process index content) =
+    said Block (Text (string_bytes m) ∷ Number process ∷ Number index ∷ Octets content.items ∷ [])
+stated (line.Status m client process) =
+    said Status (Text (string_bytes m) ∷ Text (string_bytes client) ∷ Number process ∷ [])
+stated (line.Delete m client name) =
+    said Delete (Text (string_bytes m) ∷ Text (string_bytes client) ∷ Named name ∷ [])
+stated line.Summary = said Summary []
+stated line.Traffic = said Traffic []

@@ -1,0 +1,117 @@
+-- The kinds of word of a line, and what a word is as one of a kind: its value, or why it has none.
+use Rattle.std.specs.Prelude.{ℕ, ◌+◌, ◌*◌, Bool, true, false, not, ◌&&◌, ◌||◌, List, [], ◌∷◌, length, Option, Some, None, Result, Ok, Err, nat_le, ◌==◌, codes, if◌then◌else◌, ◌≡◌, replicate}
+use Rattle.std.specs.Char.{is_ascii_digit, is_ascii_lowercase, is_ascii_alphanumeric}
+use Rattle.std.specs.List.{list_all}
+use Rattle.std.specs.Str.{bytes_eq}
+use Rattle.std.specs.Str.Parse.{digits_value}
+use Rattle.hex.specs.Hex.{decode_of}
+use Rattle.hex.specs.declared.error.FromHexError.{FromHexError}
+use Rattle.ndn_name.specs.Names.{Component, encoding}
+use Rattle.ndn_name.specs.UriText.{behind, cut_at, plain_name_of_text}
+use Rattle.script_lang.specs.declared.line_fault.LineFault.{LineFault}
+use Rattle.script_lang.specs.declared.line_fault.LineFault.TheVariants.{Syntax, Limit, NoMemory}
+
+-- The kinds of word, each with its range: a number's least and most, the most octets of a name's
+-- value and of hexadecimal text, the least and the most octets of a content.
+pub data Kind : Type 0 where
+  LABEL : Kind
+  N : (least most : ℕ) → Kind
+  URI : (most : ℕ) → Kind
+  HEX : (most : ℕ) → Kind
+  CONTENT : (least most : ℕ) → Kind
+
+-- What a word stands for.
+pub data Value : Type 0 where
+  Text : List ℕ → Value
+  Number : ℕ → Value
+  Named : List Component → Value
+  Octets : List ℕ → Value
+
+-- A label is a lower-case letter and up to 15 lower-case letters or digits.
+abbrev pub is_label_octet : ℕ → Bool
+is_label_octet octet = is_ascii_lowercase octet || is_ascii_digit octet
+
+abbrev pub is_label : List ℕ → Bool
+is_label [] = false
+is_label (first ∷ others) =
+    is_ascii_lowercase first && nat_le (length others) 15 && list_all is_label_octet others
+
+unfoldable pub label_of : List ℕ → Result (List ℕ) LineFault
+label_of word = if is_label word then Ok word else Err Syntax
+
+-- A number is at most 18 decimal digits, without a zero in front of others.
+abbrev pub is_numeral : List ℕ → Bool
+is_numeral [] = false
+is_numeral (first ∷ others) =
+    nat_le (length others) 17 && (not (first == 48) || length others == 0)
+    && list_all is_ascii_digit (first ∷ others)
+
+unfoldable pub number_of : ℕ → ℕ → List ℕ → Result ℕ LineFault
+number_of least most word =
+    if is_numeral word
+    then if nat_le least (digits_value 10 word) && nat_le (digits_value 10 word) most
+    then Ok (digits_value 10 word) else Err Limit else Err Syntax
+
+-- Octets, where they are so many.
+abbrev pub octets_within : ℕ → ℕ → List ℕ → Result (List ℕ) LineFault
+octets_within least most octets =
+    if nat_le least (length octets) && nat_le (length octets) most then Ok octets else Err Limit
+
+abbrev pub decoded_within : ℕ → ℕ → Result (List ℕ) FromHexError → Result (List ℕ) LineFault
+decoded_within least most (Ok octets) = octets_within least most octets
+decoded_within least most (Err _) = Err Syntax
+
+-- Octets in hexadecimal text are pairs of digits, of either case.
+unfoldable pub hex_of : ℕ → ℕ → List ℕ → Result (List ℕ) LineFault
+hex_of least most word = decoded_within least most (decode_of word)
+
+-- `N:N`, a count of octets and the octet
+abbrev pub filled : ℕ → ℕ → Option (List ℕ × List ℕ) → Result (List ℕ) LineFault
+filled least most None = Err Syntax
+filled least most (Some parts) =
+    if is_numeral parts.0 && is_numeral parts.1
+    then if nat_le least (digits_value 10 parts.0) && nat_le (digits_value 10 parts.0) most
+    && nat_le (digits_value 10 parts.1) 255
+    then Ok (replicate (digits_value 10 parts.0) (digits_value 10 parts.1)) else Err Limit
+    else Err Syntax
+
+unfoldable pub filled_of : ℕ → ℕ → List ℕ → Result (List ℕ) LineFault
+filled_of least most counts = filled least most (cut_at 58 counts)
+
+-- A content is `text:` and octets, or `hex:` and hexadecimal text or nothing, or `fill:N:N`.
+abbrev pub content_by : ℕ → ℕ → Option (List ℕ) → Option (List ℕ) → Option (List ℕ)
+    → Result (List ℕ) LineFault
+content_by least most (Some text) digits counts = octets_within least most text
+content_by least most None (Some digits) counts = hex_of least most digits
+content_by least most None None (Some counts) = filled_of least most counts
+content_by least most None None None = Err Syntax
+
+unfoldable pub content_of : ℕ → ℕ → List ℕ → Result (List ℕ) LineFault
+content_of least most word =
+    content_by least most (behind (codes "text:") word) (behind (codes "hex:") word)
+    (behind (codes "fill:") word)
+
+-- A URI is the text of a name without components of type 1 or 2 (`plain_name_of_text`), whose value has
+-- 1 to so many octets.
+abbrev pub name_within : ℕ → Option (List Component) → Result (List Component) LineFault
+name_within most None = Err Syntax
+name_within most (Some name) =
+    if nat_le 1 (length (encoding name)) && nat_le (length (encoding name)) most
+    then Ok name else Err Limit
+
+unfoldable pub name_of : ℕ → List ℕ → Result (List Component) LineFault
+name_of most word = name_within most (plain_name_of_text word)
+
+-- ---- a word
+
+abbrev pub mapped : {A B : Type 0} → (A → B) → Result A LineFault → Result B LineFault
+mapped f (Ok x) = Ok (f x)
+mapped f (Err fault) = Err fault
+
+-- What a word is as one of this kind.
+abbrev pub word_of : Kind → List ℕ → Result Value LineFault
+word_of LABEL word = mapped Text (label_of word)
+word_of (N least most) word = mapped Number (number_of least most word)
+word_of (URI most) word = mapped Named (name_of most word)
+word_of (HEX most) word = mapped Octets (hex_of 1 most word)
+word_of (CONTENT least most) word = mapped Octets (content_of least most word)

@@ -1,0 +1,30 @@
+-- The limits of a script.
+use Rattle.std.specs.Prelude.{ℕ}
+
+-- Octets of a script.
+abbrev pub script_octets : ℕ
+script_octets = 16777216
+
+-- Lines of a script, those that say nothing among them.
+abbrev pub script_lines : ℕ
+script_lines = 100000
+
+-- Octets of a line, its carriage return among them, its line feed not.
+abbrev pub line_octets : ℕ
+line_octets = 32768
+
+-- Members of a group, and clients.
+abbrev pub members_limit : ℕ
+members_limit = 16
+
+-- Octets of the contents of all `publish` and `block` lines.
+abbrev pub contents_limit : ℕ
+contents_limit = 67108864
+
+-- Parts: one and the segments for each `publish` line, one for each `insert`, `order` and `block` line.
+abbrev pub parts_limit : ℕ
+parts_limit = 100000
+
+-- `settle` lines.
+abbrev pub settles_limit : ℕ
+settles_limit = 1000

@@ -1,0 +1,125 @@
+-- What octets are as a line: its verb and the values of its words; nothing; or why they are no line. A line that is
+-- too long is told first, then what isn't in the grammar, then what leaves a range.
+use Rattle.std.specs.Prelude.{◌≡◌, ℕ, ◌-◌, ◌*◌, Bool, true, false, not, ◌&&◌, List, [], ◌∷◌, length, take, map, Option, Some, None, Result, Ok, Err, nat_le, nat_lt, ◌==◌, if◌then◌else◌, filter, slice_index}
+use Rattle.std.specs.List.{list_all, slice_split, find}
+use Rattle.std.specs.Str.{bytes_eq}
+use Rattle.script_lang.specs.declared.verb.Verb.{Verb}
+use Rattle.script_lang.specs.declared.verb.Verb.TheVariants.{Group, Member, Client, Publish, Deliver, Sync, Advance, Fire, Restart, Vector, Catalogue, Claim, Lose, Answer, Fetch, Settle, Dump, Hear, Order, Ask, Feed, Insert, Block, Status, Delete, Summary, Traffic}
+use Rattle.script_lang.specs.declared.line_fault.LineFault.{LineFault}
+use Rattle.script_lang.specs.declared.line_fault.LineFault.TheVariants.{Syntax, Limit, NoMemory}
+use Rattle.script_lang.specs.Limits.{line_octets}
+use Rattle.script_lang.specs.Kinds.{Kind, Value, Number, Octets, word_of}
+use Rattle.script_lang.specs.Forms.{Stated, form, said}
+
+-- ---- the words by their kinds
+
+-- A value in front of what is read of the words behind it.
+abbrev pub with_value : Value → Result (List Value) LineFault → Result (List Value) LineFault
+with_value value (Ok values) = Ok (value ∷ values)
+with_value value (Err fault) = Err fault
+
+-- A word left its range: the line is no line, and Syntax behind it is told first.
+abbrev pub without_value : Result (List Value) LineFault → Result (List Value) LineFault
+without_value (Ok values) = Err Limit
+without_value (Err fault) = Err fault
+
+abbrev pub word_then : Result Value LineFault → Result (List Value) LineFault
+    → Result (List Value) LineFault
+word_then (Ok value) others = with_value value others
+word_then (Err Limit) others = without_value others
+word_then (Err Syntax) others = Err Syntax
+word_then (Err NoMemory) others = Err NoMemory
+
+unfoldable pub values_of : List Kind → List (List ℕ) → Result (List Value) LineFault
+values_of [] [] = Ok []
+values_of [] (word ∷ words) = Err Syntax
+values_of (kind ∷ kinds) [] = Err Syntax
+values_of (kind ∷ kinds) (word ∷ words) = word_then (word_of kind word) (values_of kinds words)
+
+-- ---- the line
+
+-- What is asked of the values together: a publication has at most 200 segments, an insertion at most
+-- 200 blocks.
+abbrev pub are_within : Verb → List Value → Bool
+are_within Publish (m ∷ name ∷ Number size ∷ Octets content ∷ []) =
+    nat_le (length content) (200 * size)
+are_within Insert (m ∷ client ∷ name ∷ Number first ∷ Number last ∷ []) =
+    nat_le first last && nat_lt (last - first) 200
+are_within _ _ = true
+
+abbrev pub stated_of : Verb → Result (List Value) LineFault → Result Stated LineFault
+stated_of verb (Ok values) =
+    if are_within verb values then Ok (said verb values) else Err Limit
+stated_of verb (Err fault) = Err fault
+
+-- The verb that a word is.
+unfoldable pub named : List (List ℕ × Verb) → List ℕ → Option Verb
+named [] word = None
+named (first ∷ others) word = if bytes_eq first.0 word then Some first.1 else named others word
+
+abbrev pub verbs : List Verb
+verbs =
+    Group ∷ Member ∷ Client ∷ Publish ∷ Deliver ∷ Sync ∷ Advance ∷ Fire ∷ Restart ∷ Vector
+    ∷ Catalogue ∷ Claim ∷ Lose ∷ Answer ∷ Fetch ∷ Settle ∷ Dump ∷ Hear ∷ Order ∷ Ask ∷ Feed
+    ∷ Insert ∷ Block ∷ Status ∷ Delete ∷ Summary ∷ Traffic ∷ []
+
+abbrev pub first_words : List (List ℕ × Verb)
+first_words = map (λ verb. ((form verb).word, verb)) verbs
+
+abbrev pub verb_of : List ℕ → Option Verb
+verb_of word = named first_words word
+
+abbrev pub line_by : List (List ℕ) → Option Verb → Result Stated LineFault
+line_by words None = Err Syntax
+line_by words (Some verb) = stated_of verb (values_of (form verb).kinds words)
+
+abbrev pub line_in_words : List (List ℕ) → Result Stated LineFault
+line_in_words [] = Err Syntax
+line_in_words (verb ∷ words) = line_by words (verb_of verb)
+
+-- Words are separated by one or more spaces.
+abbrev pub spaced : List ℕ → List (List ℕ)
+spaced octets =
+    filter (λ word. not (length word == 0)) (slice_split (λ octet. octet == 32) octets)
+
+-- Spaces alone, or a comment.
+abbrev pub is_mark : Option ℕ → Bool
+is_mark None = true
+is_mark (Some octet) = octet == 35
+
+abbrev pub says_nothing : List ℕ → Bool
+says_nothing octets = is_mark (find (λ octet. not (octet == 32)) octets)
+
+abbrev pub is_printable : ℕ → Bool
+is_printable octet = nat_le 32 octet && nat_le octet 126
+
+abbrev pub mapped_line : Result Stated LineFault → Result (Option Stated) LineFault
+mapped_line (Ok s) = Ok (Some s)
+mapped_line (Err fault) = Err fault
+
+abbrev pub line_in : List ℕ → Result (Option Stated) LineFault
+line_in octets =
+    if says_nothing octets then Ok None
+    else if list_all is_printable octets then mapped_line (line_in_words (spaced octets))
+    else Err Syntax
+
+-- A line is too long beyond 32,768 octets, its carriage return among them.
+abbrev pub line_within : List ℕ → List ℕ → Result (Option Stated) LineFault
+line_within octets body = if nat_le (length octets) line_octets then line_in body else Err Limit
+
+abbrev pub ends_with : ℕ → List ℕ → Bool
+ends_with octet octets =
+    not (length octets == 0) && slice_index octets (length octets - 1) == octet
+
+abbrev pub without_last : List ℕ → List ℕ
+without_last octets = take (length octets - 1) octets
+
+abbrev pub without_return : List ℕ → List ℕ
+without_return octets = if ends_with 13 octets then without_last octets else octets
+
+-- The line that octets are, which end with their line feed or with the input. One carriage return
+-- right before the line feed is dropped.
+abbrev pub line_of : List ℕ → Result (Option Stated) LineFault
+line_of octets =
+    if ends_with 10 octets then line_within (without_last octets) (without_return (without_last octets))
+    else line_within octets octets

@@ -1,0 +1,191 @@
+ghost use Rattle.std.specs.Prelude.{◌≡◌};
+ghost use Rattle.script_lang.specs.Reading.{Gives, ReadsForm, left_of};
+ghost use Rattle.script_lang.specs.declared.verb.Verb.TheVariants.{Block, Dump, Fetch, Insert, Publish};
+ghost use Rattle.script_lang.specs.Forms.{form, stated};
+ghost use Rattle.script_lang.specs.Lines.{are_within, stated_of};
+
+use crate::cursor::Cursor;
+use crate::limits::{ANY, BLOCK, CONTENT, INJECTION, KEY, NODE_NAME, OBJECT_NAME};
+use crate::line::Line;
+use crate::line_fault::LineFault;
+use crate::verb::Verb;
+use std::alloc::Global;
+
+// The line of this form that the words are.
+pub(crate) fn line_of(alloc: Global, verb: Verb, words: Cursor<'_>) -> Result<Line, LineFault>
+    ensures { Gives stated result (stated_of verb (left_of (form verb).kinds words.entry)) }
+{
+    let mut words = words;
+    let line = values_in(alloc, verb, &mut words)?;
+    words.end()?;
+    if are_within(&line) {
+        Ok(line)
+    } else {
+        Err(LineFault::Limit)
+    }
+}
+
+// The words by the form's kinds, one after another.
+fn values_in(alloc: Global, verb: Verb, words: &mut Cursor<'_>) -> Result<Line, LineFault>
+    ensures { ReadsForm verb words.old words.new result }
+{
+    match verb {
+        Verb::Group => Ok(Line::Group {
+            name: words.name(alloc, NODE_NAME)?,
+        }),
+        Verb::Member => Ok(Line::Member {
+            label: words.label(alloc)?,
+            name: words.name(alloc, NODE_NAME)?,
+            key: words.hex(alloc, KEY)?,
+        }),
+        Verb::Client => Ok(Line::Client {
+            label: words.label(alloc)?,
+            name: words.name(alloc, NODE_NAME)?,
+            key: words.hex(alloc, KEY)?,
+        }),
+        Verb::Publish => publication(alloc, words),
+        Verb::Deliver => Ok(Line::Deliver {
+            k: words.small(1, u32::MAX)?,
+            m: words.label(alloc)?,
+        }),
+        Verb::Sync => Ok(Line::Sync {
+            k: words.small(1, u32::MAX)?,
+        }),
+        Verb::Advance => Ok(Line::Advance {
+            ms: words.number(0, 1_000_000_000)?,
+        }),
+        Verb::Fire => Ok(Line::Fire {
+            m: words.label(alloc)?,
+        }),
+        Verb::Restart => Ok(Line::Restart {
+            m: words.label(alloc)?,
+        }),
+        Verb::Vector => Ok(Line::Vector {
+            m: words.label(alloc)?,
+        }),
+        Verb::Catalogue => Ok(Line::Catalogue {
+            m: words.label(alloc)?,
+        }),
+        Verb::Claim => Ok(Line::Claim {
+            m: words.label(alloc)?,
+            f: words.small(1, 16)?,
+        }),
+        Verb::Lose => Ok(Line::Lose {
+            m: words.label(alloc)?,
+            f: words.small(1, 16)?,
+        }),
+        Verb::Answer => Ok(Line::Answer {
+            m: words.label(alloc)?,
+            f: words.small(1, 16)?,
+            q: words.label(alloc)?,
+        }),
+        Verb::Fetch => fetch(alloc, words),
+        Verb::Settle => Ok(Line::Settle {
+            workers: words.small(1, 16)?,
+        }),
+        Verb::Dump => dump(alloc, words),
+        Verb::Hear => Ok(Line::Hear {
+            m: words.label(alloc)?,
+            octets: words.hex(alloc, INJECTION)?,
+        }),
+        Verb::Order => Ok(Line::Order {
+            m: words.label(alloc)?,
+            octets: words.hex(alloc, INJECTION)?,
+        }),
+        Verb::Ask => Ok(Line::Ask {
+            m: words.label(alloc)?,
+            octets: words.hex(alloc, INJECTION)?,
+        }),
+        Verb::Feed => Ok(Line::Feed {
+            m: words.label(alloc)?,
+            f: words.small(1, 16)?,
+            octets: words.hex(alloc, INJECTION)?,
+        }),
+        Verb::Insert => insertion(alloc, words),
+        Verb::Block => block(alloc, words),
+        Verb::Status => Ok(Line::Status {
+            m: words.label(alloc)?,
+            client: words.label(alloc)?,
+            process: words.small(1, u32::MAX)?,
+        }),
+        Verb::Delete => Ok(Line::Delete {
+            m: words.label(alloc)?,
+            client: words.label(alloc)?,
+            name: words.name(alloc, OBJECT_NAME)?,
+        }),
+        Verb::Summary => Ok(Line::Summary),
+        Verb::Traffic => Ok(Line::Traffic),
+    }
+}
+
+// A publication.
+fn publication(alloc: Global, words: &mut Cursor<'_>) -> Result<Line, LineFault>
+    ensures { ReadsForm Publish words.old words.new result }
+{
+    Ok(Line::Publish {
+        m: words.label(alloc)?,
+        name: words.name(alloc, OBJECT_NAME)?,
+        size: words.small(1, BLOCK as u32)?,
+        content: words.content(alloc, 0, CONTENT)?,
+    })
+}
+
+// A fetch.
+fn fetch(alloc: Global, words: &mut Cursor<'_>) -> Result<Line, LineFault>
+    ensures { ReadsForm Fetch words.old words.new result }
+{
+    Ok(Line::Fetch {
+        m: words.label(alloc)?,
+        workers: words.small(1, 16)?,
+        tries: words.small(1, 16)?,
+        loss: words.small(0, 1_000)?,
+    })
+}
+
+// A dump of a part.
+fn dump(alloc: Global, words: &mut Cursor<'_>) -> Result<Line, LineFault>
+    ensures { ReadsForm Dump words.old words.new result }
+{
+    Ok(Line::Dump {
+        m: words.label(alloc)?,
+        p: words.label(alloc)?,
+        s: words.small(1, 65_535)?,
+        x: words.small(0, 200)?,
+    })
+}
+
+// An insertion.
+fn insertion(alloc: Global, words: &mut Cursor<'_>) -> Result<Line, LineFault>
+    ensures { ReadsForm Insert words.old words.new result }
+{
+    Ok(Line::Insert {
+        m: words.label(alloc)?,
+        client: words.label(alloc)?,
+        name: words.name(alloc, OBJECT_NAME)?,
+        first: words.number(0, ANY)?,
+        last: words.number(0, ANY)?,
+    })
+}
+
+// A block of an insertion.
+fn block(alloc: Global, words: &mut Cursor<'_>) -> Result<Line, LineFault>
+    ensures { ReadsForm Block words.old words.new result }
+{
+    Ok(Line::Block {
+        m: words.label(alloc)?,
+        process: words.small(1, u32::MAX)?,
+        index: words.number(0, ANY)?,
+        content: words.content(alloc, 1, BLOCK)?,
+    })
+}
+
+// A publication has at most 200 segments, an insertion at most 200 blocks.
+fn are_within(line: &Line) -> bool
+    ensures { result ≡ are_within (stated line.now).verb (stated line.now).values }
+{
+    match line {
+        Line::Publish { size, content, .. } => content.len() as u64 <= 200 * u64::from(*size),
+        Line::Insert { first, last, .. } => first <= last && *last - *first < 200,
+        _ => true,
+    }
+}

@@ -1,0 +1,68 @@
+ghost use Rattle.std.specs.Prelude.{◌≡◌, ◌≢◌, ◌≤◌, ◌↔◌, [], ◌∷◌, ℕ, codes, length, true, List, None, Some, Ok, Err};
+ghost use Rattle.script_lang.specs.declared.line_fault.LineFault.TheVariants.{Limit, Syntax};
+ghost use Rattle.script_lang.specs.declared.check_fault.CheckFault.TheVariants.{TooLarge};
+ghost use Rattle.script_lang.specs.declared.verb.Verb.{Verb};
+ghost use Rattle.script_lang.specs.declared.verb.Verb.TheVariants.{Claim, Group, Publish};
+ghost use Rattle.script_lang.specs.Limits.{contents_limit, line_octets, members_limit, parts_limit, script_lines, script_octets, settles_limit};
+ghost use Rattle.script_lang.specs.Kinds.{Kind, Named, Number, Octets, Text, Value, word_of};
+ghost use Rattle.script_lang.specs.Forms.{Stated, form, said};
+ghost use Rattle.script_lang.specs.Lines.{are_within, line_of};
+ghost use Rattle.script_lang.specs.Checking.{Declared, after_line, are_within_limits, names_packet_or_fetcher};
+ghost use Rattle.script_lang.specs.Texts.{AreOf, ArePlainValues, IsLineText, IsOf, IsWordText, printed};
+
+use crate::limits::{
+    CONTENTS_LIMIT, LINE_LIMIT, LINES_LIMIT, MEMBERS_LIMIT, PARTS_LIMIT, SCRIPT_LIMIT,
+    SETTLES_LIMIT,
+};
+
+/// The limits of a script.
+pub fn limits_are_these()
+    ensures octets { SCRIPT_LIMIT ≡ script_octets }
+    ensures lines { LINES_LIMIT ≡ script_lines }
+    ensures line { LINE_LIMIT ≡ line_octets }
+    ensures members { MEMBERS_LIMIT ≡ members_limit }
+    ensures contents { CONTENTS_LIMIT ≡ contents_limit }
+    ensures parts { PARTS_LIMIT ≡ parts_limit }
+    ensures settles { SETTLES_LIMIT ≡ settles_limit }
+{}
+
+/// A word is read as a value just where the value is in its range and the word is a text of it.
+pub fn words_are_their_texts()
+    ensures { (kind : Kind) (value : Value) (word : List ℕ)
+        → (word_of kind word ≡ Ok value) ↔ (IsOf kind value × IsWordText kind value word) }
+{}
+
+/// Octets are read as a line just where they are a text of it: one has its values but for spaces, the
+/// case of digits, and the forms that a name or a content may be written in.
+pub fn lines_are_their_texts()
+    ensures { (s : Stated) (octets : List ℕ) → (line_of octets ≡ Ok (Some s)) ↔ IsLineText s octets }
+{}
+
+/// A line that is printed from its values is read back.
+pub fn printed_lines_are_read()
+    ensures { (s : Stated) → ArePlainValues s.values → AreOf (form s.verb).kinds s.values
+        → are_within s.verb s.values ≡ true → length (printed s) ≤ line_octets
+        → line_of (printed s) ≡ Ok (Some s) }
+{}
+
+/// A line that names a packet's number or a fetcher passes no total, so it is all the same whether a
+/// total is tested before the world is asked for the packet or the fetcher, or after that.
+pub fn packets_and_fetchers_add_nothing()
+    ensures { (d : Declared) (s : Stated) → are_within_limits d.totals ≡ true
+        → names_packet_or_fetcher s.verb ≡ true → after_line d s ≢ Err TooLarge }
+{}
+
+/// Worked lines, as the definition computes them.
+pub fn worked_lines()
+    ensures group { line_of (codes "group /g") ≡ Ok (Some (said Group (Named ((8, codes "g") ∷ []) ∷ []))) }
+    ensures claim { line_of (codes " claim  bob 16 ")
+        ≡ Ok (Some (said Claim (Text (codes "bob") ∷ Number 16 ∷ []))) }
+    ensures over { line_of (codes "claim bob 17") ≡ Err Limit }
+    ensures syntax_first { line_of (codes "answer bob 17 Bob") ≡ Err Syntax }
+    ensures long_number { line_of (codes "claim bob 9999999999999999999") ≡ Err Syntax }
+    ensures filled { line_of (codes "publish a /x 4 fill:3:65")
+        ≡ Ok (Some (said Publish (Text (codes "a") ∷ Named ((8, codes "x") ∷ []) ∷ Number 4
+        ∷ Octets (codes "AAA") ∷ []))) }
+    ensures blocks { line_of (codes "insert a c /in 5 205") ≡ Err Limit }
+    ensures comment { line_of (codes " # g") ≡ Ok None }
+{}

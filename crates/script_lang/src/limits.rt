@@ -1,0 +1,33 @@
+/// How many octets a script may have.
+pub const SCRIPT_LIMIT: usize = 16_777_216;
+
+/// How many lines a script may have, those that say nothing among them.
+pub const LINES_LIMIT: u32 = 100_000;
+
+/// How many octets a line may have, its carriage return among them, its line feed not.
+pub const LINE_LIMIT: usize = 32_768;
+
+/// How many members there may be, and how many clients.
+pub const MEMBERS_LIMIT: usize = 16;
+
+/// How many octets the contents of all `publish` and `block` lines may have together.
+pub const CONTENTS_LIMIT: u64 = 67_108_864;
+
+/// How many parts may be counted over a script: one and its segments for each `publish` line, one for
+/// each `insert`, `order` and `block` line.
+pub const PARTS_LIMIT: u64 = 100_000;
+
+/// How many `settle` lines a script may have.
+pub const SETTLES_LIMIT: u64 = 1_000;
+
+// The ranges of words, in octets: the value of a node's or the group's name, of an object's name, a key,
+// octets that are handed in, the content of a block and of a publication.
+pub(crate) const NODE_NAME: u64 = 200;
+pub(crate) const OBJECT_NAME: u64 = 400;
+pub(crate) const KEY: u64 = 128;
+pub(crate) const INJECTION: u64 = 9_000;
+pub(crate) const BLOCK: u64 = 8_000;
+pub(crate) const CONTENT: u64 = 1_600_000;
+
+// The greatest number that a word is.
+pub(crate) const ANY: u64 = 999_999_999_999_999_999;

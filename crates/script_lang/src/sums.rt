@@ -1,0 +1,99 @@
+ghost use Rattle.std.specs.Prelude.{◌≡◌, ◌≤◌, IfNone, IfSome, true, false};
+ghost use Rattle.script_lang.specs.Forms.{stated};
+ghost use Rattle.script_lang.specs.Checking.{adds, are_within_limits, segments, totals_of, with_totals};
+
+use crate::limits::{CONTENTS_LIMIT, PARTS_LIMIT, SETTLES_LIMIT};
+use crate::line::Line;
+
+// Totals over lines: octets of contents, parts, settles.
+#[derive(Clone, Copy, Debug)]
+pub(crate) struct Sums {
+    contents: u64,
+    parts: u64,
+    settles: u64,
+}
+
+impl Sums {
+    pub(crate) fn none() -> Sums
+        ensures { totals_of result ≡ record { contents = 0; parts = 0; settles = 0 } }
+    {
+        Sums {
+            contents: 0,
+            parts: 0,
+            settles: 0,
+        }
+    }
+
+    // What a line adds.
+    pub(crate) fn of_line(line: &Line) -> Sums
+        ensures adds { totals_of result ≡ adds (stated line.now).verb (stated line.now).values }
+        ensures contents { result.contents ≤ 9223372036854775807 }
+        ensures parts { result.parts ≤ 9223372036854775808 }
+        ensures settles { result.settles ≤ 1 }
+    {
+        match line {
+            Line::Publish { size, content, .. } => Sums {
+                contents: content.len() as u64,
+                parts: 1 + segments(content.len() as u64, *size),
+                settles: 0,
+            },
+            Line::Block { content, .. } => Sums {
+                contents: content.len() as u64,
+                parts: 1,
+                settles: 0,
+            },
+            Line::Insert { .. } | Line::Order { .. } => Sums {
+                parts: 1,
+                ..Sums::none()
+            },
+            Line::Settle { .. } => Sums {
+                settles: 1,
+                ..Sums::none()
+            },
+            _ => Sums::none(),
+        }
+    }
+
+    // These and those of one more line, where no limit is passed.
+    pub(crate) fn with(self, added: Sums) -> Option<Sums>
+        requires within { are_within_limits (totals_of self) ≡ true }
+        requires contents { added.contents ≤ 9223372036854775807 }
+        requires parts { added.parts ≤ 9223372036854775808 }
+        requires settles { added.settles ≤ 1 }
+        ensures some { IfSome result (λ sums. totals_of sums ≡ with_totals (totals_of self) (totals_of added)) }
+        ensures within { IfSome result (λ sums. are_within_limits (totals_of sums) ≡ true) }
+        ensures none { IfNone result (are_within_limits (with_totals (totals_of self) (totals_of added)) ≡ false) }
+    {
+        let sums = Sums {
+            contents: self.contents + added.contents,
+            parts: self.parts + added.parts,
+            settles: self.settles + added.settles,
+        };
+        if sums.are_within_limits() {
+            Some(sums)
+        } else {
+            None
+        }
+    }
+
+    fn are_within_limits(&self) -> bool
+        ensures { result ≡ are_within_limits (totals_of self.now) }
+    {
+        self.contents <= CONTENTS_LIMIT
+            && self.parts <= PARTS_LIMIT
+            && self.settles <= SETTLES_LIMIT
+    }
+}
+
+// How many segments of this size a content has.
+fn segments(len: u64, size: u32) -> u64
+    requires { len ≤ 9223372036854775807 }
+    ensures count { result ≡ segments len size }
+    ensures small { result ≤ 9223372036854775807 }
+{
+    if size == 0 {
+        return 0;
+    }
+    let size = u64::from(size);
+    (len + size - 1) / size
+}

@@ -1,0 +1,184 @@
+ghost use Rattle.std.specs.Prelude.{◌≡◌, ◌≤◌, ◌&&◌, nat_le, IfOk};
+ghost use Rattle.std.specs.List.{list_all, slice_split};
+ghost use Rattle.std.specs.Option.{option_copied, option_map};
+ghost use Rattle.std.specs.Char.{is_ascii_digit};
+ghost use Rattle.std.specs.String.{string_bytes};
+ghost use Rattle.ndn_name.specs.UriText.{behind, cut_at};
+ghost use Rattle.script_lang.specs.Kinds.{CONTENT, LABEL, N, Named, Number, Octets, Text, URI, filled_of, hex_of, is_label, is_label_octet, is_numeral, mapped, octets_within, word_of};
+ghost use Rattle.script_lang.specs.Reading.{Gives};
+
+use crate::line_fault::LineFault;
+use ndn_name::{Name, plain_uri_len};
+use std::alloc::Global;
+
+fn is_label(word: &str) -> bool
+    ensures { result ≡ is_label word.now }
+{
+    let [first, others @ ..] = word.as_bytes() else {
+        return false;
+    };
+    first.is_ascii_lowercase() && others.len() <= 15 && are_label_octets(others)
+}
+
+fn are_label_octets(octets: &[u8]) -> bool
+    ensures { result ≡ list_all is_label_octet octets.now }
+{
+    octets.iter().all(|octet| octet.is_ascii_lowercase() || octet.is_ascii_digit())
+}
+
+// The label that a word is.
+#[tactic(auto, unfolding(crate::specs::Kinds::label_of))]
+pub(crate) fn label_in(alloc: Global, word: &str) -> Result<String, LineFault>
+    ensures { Gives (λ label. Text (string_bytes label)) result (word_of LABEL word.now) }
+{
+    if !is_label(word) {
+        return Err(LineFault::Syntax);
+    }
+    Ok(String::from_str(alloc, word)?)
+}
+
+fn is_numeral(word: &str) -> bool
+    ensures { result ≡ is_numeral word.now }
+{
+    let [first, others @ ..] = word.as_bytes() else {
+        return false;
+    };
+    others.len() <= 17 && (*first != b'0' || others.is_empty()) && are_digits(word.as_bytes())
+}
+
+fn are_digits(octets: &[u8]) -> bool
+    ensures { result ≡ list_all is_ascii_digit octets.now }
+{
+    octets.iter().all(|octet| octet.is_ascii_digit())
+}
+
+// The number that a word is, within this range.
+#[tactic(auto, unfolding(crate::specs::Kinds::number_of))]
+pub(crate) fn number_in(least: u64, most: u64, word: &str) -> Result<u64, LineFault>
+    ensures gives { Gives (λ number. Number number) result (word_of (N least most) word.now) }
+    ensures within { IfOk result (λ number. number ≤ most) }
+{
+    if !is_numeral(word) {
+        return Err(LineFault::Syntax);
+    }
+    match word.parse() {
+        Ok(number) if least <= number && number <= most => Ok(number),
+        Ok(_) => Err(LineFault::Limit),
+        Err(_) => Err(LineFault::Syntax),
+    }
+}
+
+// The same of a number below 2 ^ 32.
+pub(crate) fn small_in(least: u32, most: u32, word: &str) -> Result<u32, LineFault>
+    ensures { Gives (λ number. Number number) result (word_of (N least most) word.now) }
+{
+    Ok(number_in(u64::from(least), u64::from(most), word)? as u32)
+}
+
+fn is_within(least: u64, most: u64, len: usize) -> bool
+    ensures { result ≡ (nat_le least len && nat_le len most) }
+{
+    (least..=most).contains(&(len as u64))
+}
+
+// Octets, where they are so many.
+fn within(least: u64, most: u64, octets: Vec<u8>) -> Result<Vec<u8>, LineFault>
+    ensures { Gives (λ octets. octets.items) result (octets_within least most octets.items) }
+{
+    if is_within(least, most, octets.len()) {
+        Ok(octets)
+    } else {
+        Err(LineFault::Limit)
+    }
+}
+
+// The octets that a hexadecimal text stands for.
+#[tactic(auto, unfolding(crate::specs::Kinds::hex_of))]
+pub(crate) fn hex_in(alloc: Global, least: u64, most: u64, word: &str) -> Result<Vec<u8>, LineFault>
+    ensures { Gives (λ octets. Octets octets.items) result (mapped Octets (hex_of least most word.now)) }
+{
+    match hex::decode(alloc, word) {
+        Ok(octets) => within(least, most, octets),
+        Err(hex::FromHexError::OutOfMemory) => Err(LineFault::NoMemory),
+        Err(_) => Err(LineFault::Syntax),
+    }
+}
+
+// What stands behind a front, where the text has it.
+fn behind<'a>(front: &str, text: &'a str) -> Option<&'a str>
+    ensures { option_copied result ≡ behind front.now text.now }
+{
+    text.strip_prefix(front)
+}
+
+// What stands before the first colon and behind it, where there is one.
+fn cut_at_colon(text: &str) -> Option<(&str, &str)>
+    ensures { option_map (λ parts. (parts.0.now, parts.1.now)) result ≡ cut_at 58 text.now }
+{
+    text.split_once(':')
+}
+
+// The octets that `N:N` stands for: so many times the second.
+#[tactic(auto, unfolding(crate::specs::Kinds::filled_of, crate::specs::Kinds::number_of))]
+fn filled_in(alloc: Global, least: u64, most: u64, counts: &str) -> Result<Vec<u8>, LineFault>
+    ensures { Gives (λ octets. octets.items) result (filled_of least most counts.now) }
+{
+    let Some((size, octet)) = cut_at_colon(counts) else {
+        return Err(LineFault::Syntax);
+    };
+    if !is_numeral(size) {
+        return Err(LineFault::Syntax);
+    }
+    let octet = number_in(0, 255, octet)?;
+    let size = number_in(least, most, size)?;
+    Ok(vec![in alloc; octet as u8; size as usize]?)
+}
+
+// The octets of a text, where they are so many.
+fn text_in(alloc: Global, least: u64, most: u64, text: &str) -> Result<Vec<u8>, LineFault>
+    ensures { Gives (λ octets. octets.items) result (octets_within least most text.now) }
+{
+    if !is_within(least, most, text.len()) {
+        return Err(LineFault::Limit);
+    }
+    Ok(Vec::from_slice(alloc, text.as_bytes())?)
+}
+
+// The octets that a content stands for.
+#[tactic(auto, unfolding(crate::specs::Kinds::content_of))]
+pub(crate) fn content_in(
+    alloc: Global,
+    least: u64,
+    most: u64,
+    word: &str,
+) -> Result<Vec<u8>, LineFault>
+    ensures { Gives (λ octets. Octets octets.items) result (word_of (CONTENT least most) word.now) }
+{
+    if let Some(text) = behind("text:", word) {
+        text_in(alloc, least, most, text)
+    } else if let Some(digits) = behind("hex:", word) {
+        hex_in(alloc, least, most, digits)
+    } else if let Some(counts) = behind("fill:", word) {
+        filled_in(alloc, least, most, counts)
+    } else {
+        Err(LineFault::Syntax)
+    }
+}
+
+// The name whose URI a word is, of 1 to so many octets of value.
+#[tactic(auto, unfolding(crate::specs::Kinds::name_of))]
+pub(crate) fn name_in(alloc: Global, most: u64, word: &str) -> Result<Name, LineFault>
+    requires { most ≤ 1000 }
+    ensures { Gives (λ name. Named name) result (word_of (URI most) word.now) }
+{
+    let Some(len) = plain_uri_len(word) else {
+        return Err(LineFault::Syntax);
+    };
+    if len == 0 || most < len as u64 {
+        return Err(LineFault::Limit);
+    }
+    match Name::from_uri(alloc, word) {
+        Ok(name) => Ok(name),
+        Err(_) => Err(LineFault::NoMemory),
+    }
+}

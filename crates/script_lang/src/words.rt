@@ -1,0 +1,154 @@
+ghost use Rattle.std.specs.Prelude.{◌≡◌, ◌<◌, ◌⊎◌, map, length, slice_get, IfErr, IfSome, OnOk, OnErr, Ok, Err, Some};
+ghost use Rattle.script_lang.specs.Forms.{stated};
+ghost use Rattle.script_lang.specs.Checking.{Declared, after_event, after_line, label_of, may_declare, nothing_declared, party, place_of};
+
+use crate::check_fault::CheckFault;
+use crate::declaration::{Declaration, is_among, place_of};
+use crate::known::are_known;
+use crate::limits::MEMBERS_LIMIT;
+use crate::line::Line;
+use crate::sums::Sums;
+use ndn_name::Name;
+use std::alloc::Global;
+use std::marker::Model;
+
+/// What the lines of a script have declared: its members and clients by their labels and node names, and
+/// the totals over its lines.
+#[derive(Debug, Drop)]
+pub struct Words {
+    group: bool,
+    members: Vec<Declaration>,
+    clients: Vec<Declaration>,
+    // Whether a line was an event.
+    events: bool,
+    sums: Sums,
+}
+
+// It is seen as what is declared.
+impl Model for Words {
+    ghost use Rattle.std.specs.Prelude.{◌≡◌, ◌≤◌, length, true};
+    ghost use Rattle.script_lang.specs.Checking.{Declared, are_within_limits, parties_of, totals_of};
+
+    ghost Value = { Declared };
+
+    ghost view = { λ w. record {
+      group = w.group;
+      members = parties_of w.members.items;
+      clients = parties_of w.clients.items;
+      events = w.events;
+      totals = totals_of w.sums;
+    } };
+
+    ghost invariant = { λ w. (are_within_limits (totals_of w.sums) ≡ true)
+      × (length w.members.items ≤ 16) × (length w.clients.items ≤ 16) };
+}
+
+impl Words {
+    /// Nothing is declared.
+    pub fn new(alloc: Global) -> Words
+        ensures { result ≡ nothing_declared }
+    {
+        Words {
+            group: false,
+            members: Vec::new(alloc),
+            clients: Vec::new(alloc),
+            events: false,
+            sums: Sums::none(),
+        }
+    }
+
+    /// Takes a line, or refuses it for what came before it.
+    ///
+    /// What it declares counts for the lines behind it, whatever else refuses it.
+    pub fn check(&mut self, line: &Line) -> Result<(), CheckFault>
+        ensures ok { OnOk result (after_line self.old (stated line.now) ≡ Ok self.new) }
+        ensures refused { IfErr result (λ fault. (fault ≡ CheckFault.NoMemory)
+            ⊎ (after_line self.old (stated line.now) ≡ Err fault)) }
+        ensures err { OnErr result (self.new ≡ self.old) }
+    {
+        match line {
+            Line::Group { .. } => {
+                if self.group {
+                    return Err(CheckFault::Duplicate);
+                }
+                self.group = true;
+                Ok(())
+            }
+            Line::Member { label, name, .. } => {
+                self.may_declare(label, name, self.members.len())?;
+                self.members.push(Declaration::new(label, name)?)?;
+                Ok(())
+            }
+            Line::Client { label, name, .. } => {
+                self.may_declare(label, name, self.clients.len())?;
+                self.clients.push(Declaration::new(label, name)?)?;
+                Ok(())
+            }
+            _ => self.event(line),
+        }
+    }
+
+    // Whether a member or client may be declared, where so many of its kind are there.
+    fn may_declare(&self, label: &str, node: &Name, count: usize) -> Result<(), CheckFault>
+        ensures ok { OnOk result (may_declare self.now (party label.now node.now) count ≡ Ok tt) }
+        ensures err { IfErr result (λ fault. may_declare self.now (party label.now node.now) count ≡ Err fault) }
+    {
+        if !self.group {
+            return Err(CheckFault::NoGroup);
+        }
+        if self.events {
+            return Err(CheckFault::Late);
+        }
+        if is_among(label, node, &self.members) || is_among(label, node, &self.clients) {
+            return Err(CheckFault::Duplicate);
+        }
+        if count >= MEMBERS_LIMIT {
+            return Err(CheckFault::Limit);
+        }
+        Ok(())
+    }
+
+    // Takes an event line.
+    fn event(&mut self, line: &Line) -> Result<(), CheckFault>
+        ensures ok { OnOk result (after_event self.old (stated line.now) ≡ Ok self.new) }
+        ensures refused { IfErr result (λ fault. after_event self.old (stated line.now) ≡ Err fault) }
+        ensures err { OnErr result (self.new ≡ self.old) }
+    {
+        if !self.group {
+            return Err(CheckFault::NoGroup);
+        }
+        if !are_known(&self.members, &self.clients, line) {
+            return Err(CheckFault::UnknownLabel);
+        }
+        let Some(sums) = self.sums.with(Sums::of_line(line)) else {
+            return Err(CheckFault::TooLarge);
+        };
+        self.events = true;
+        self.sums = sums;
+        Ok(())
+    }
+
+    /// The number of the member with this label, in the order of their declarations from 0.
+    pub fn member(&self, label: &str) -> Option<u32>
+        ensures value { result ≡ place_of label.now self.now.members }
+        ensures named { IfSome result (λ n. slice_get (map label_of self.now.members) n ≡ Some label.now) }
+    {
+        place_of(label, &self.members).map(|place| place as u32)
+    }
+
+    /// The number of the client with this label, in the order of their declarations from 0.
+    pub fn client(&self, label: &str) -> Option<u32>
+        ensures value { result ≡ place_of label.now self.now.clients }
+        ensures named { IfSome result (λ n. slice_get (map label_of self.now.clients) n ≡ Some label.now) }
+    {
+        place_of(label, &self.clients).map(|place| place as u32)
+    }
+
+    /// The label of a member.
+    pub fn label(&self, member: u32) -> &str
+        requires { member < length self.now.members }
+        ensures { slice_get (map label_of self.now.members) member ≡ Some result.now }
+    {
+        self.members[member as usize].label.as_str()
+    }
+}

@@ -1,0 +1,184 @@
+-- The lines of a report, form by form: what each says of its values, in the order in which they are printed.
+use Rattle.std.specs.Prelude.{◌≡◌, ℕ, List, [], ◌∷◌, ◌++◌, codes, Option, Some, None, Result, Ok, Err}
+use Rattle.std.specs.Fmt.{decimal}
+use Rattle.std.specs.List.{flat_map}
+use Rattle.hex.specs.Hex.{encode_lower}
+use Rattle.ndn_name.specs.Names.{Component}
+use Rattle.ndn_name.specs.Uri.{uri}
+use Rattle.repo_catalog.specs.declared.entry.Entry.{Entry}
+
+-- ---- a line
+
+-- Words, each behind a space.
+abbrev pub spaced : List (List ℕ) → List ℕ
+spaced words = flat_map (λ word. 32 ∷ word) words
+
+-- A line is its first word, the others, and a line feed.
+unfoldable pub line : List ℕ → List (List ℕ) → List ℕ
+line first words = first ++ (spaced words ++ 10 ∷ [])
+
+-- ---- events
+
+abbrev pub publish_text : List ℕ → ℕ → ℕ → ℕ → List ℕ
+publish_text m seq segments sync = line (codes "publish")
+    (m ∷ decimal seq ∷ codes "segments" ∷ decimal segments ∷ codes "sync" ∷ decimal sync ∷ [])
+
+abbrev pub deliver_steady_text : ℕ → List ℕ → List ℕ
+deliver_steady_text k m = line (codes "deliver") (decimal k ∷ m ∷ codes "steady" ∷ [])
+
+abbrev pub deliver_suppressed_text : ℕ → List ℕ → List ℕ
+deliver_suppressed_text k m = line (codes "deliver") (decimal k ∷ m ∷ codes "suppressed" ∷ [])
+
+abbrev pub sync_text : ℕ → List ℕ → List ℕ
+sync_text k octets = line (codes "sync") (decimal k ∷ encode_lower octets ∷ [])
+
+abbrev pub advance_text : ℕ → List ℕ
+advance_text now = line (codes "advance") (codes "now" ∷ decimal now ∷ [])
+
+abbrev pub fire_early_text : List ℕ → List ℕ
+fire_early_text m = line (codes "fire") (m ∷ codes "early" ∷ [])
+
+abbrev pub fire_quiet_text : List ℕ → List ℕ
+fire_quiet_text m = line (codes "fire") (m ∷ codes "quiet" ∷ [])
+
+abbrev pub fire_sent_text : List ℕ → ℕ → List ℕ
+fire_sent_text m k = line (codes "fire") (m ∷ codes "sent" ∷ decimal k ∷ [])
+
+abbrev pub restart_text : List ℕ → List ℕ
+restart_text m = line (codes "restart") (m ∷ [])
+
+-- ---- parts
+
+-- A fetcher of a member, and the part that it claimed or gave back: its publisher's label, the number, the place.
+abbrev pub part_text : List ℕ → List ℕ → ℕ → List ℕ → ℕ → ℕ → List ℕ
+part_text verb m f label seq x = line verb
+    (m ∷ decimal f ∷ codes "part" ∷ label ∷ decimal seq ∷ decimal x ∷ [])
+
+abbrev pub claim_none_text : List ℕ → ℕ → List ℕ
+claim_none_text m f = line (codes "claim") (m ∷ decimal f ∷ codes "none" ∷ [])
+
+abbrev pub answer_kept_text : List ℕ → ℕ → List ℕ
+answer_kept_text m f = line (codes "answer") (m ∷ decimal f ∷ codes "kept" ∷ [])
+
+abbrev pub answer_none_text : List ℕ → ℕ → List ℕ
+answer_none_text m f = line (codes "answer") (m ∷ decimal f ∷ codes "none" ∷ [])
+
+abbrev pub fetch_text : List ℕ → ℕ → ℕ → ℕ → List ℕ
+fetch_text m planned kept attempts = line (codes "fetch")
+    (m ∷ codes "planned" ∷ decimal planned ∷ codes "kept" ∷ decimal kept
+    ∷ codes "attempts" ∷ decimal attempts ∷ [])
+
+abbrev pub settle_text : ℕ → ℕ → List ℕ
+settle_text syncs kept = line (codes "settle")
+    (codes "syncs" ∷ decimal syncs ∷ codes "kept" ∷ decimal kept ∷ [])
+
+abbrev pub feed_kept_text : List ℕ → ℕ → List ℕ
+feed_kept_text m f = line (codes "feed") (m ∷ decimal f ∷ codes "kept" ∷ [])
+
+abbrev pub feed_refused_text : List ℕ → ℕ → List ℕ → List ℕ
+feed_refused_text m f refusal = line (codes "feed") (m ∷ decimal f ∷ codes "refused" ∷ refusal ∷ [])
+
+-- ---- octets handed in and out
+
+abbrev pub dump_hex_text : List ℕ → List ℕ → List ℕ
+dump_hex_text m octets = line (codes "dump") (m ∷ encode_lower octets ∷ [])
+
+abbrev pub dump_none_text : List ℕ → List ℕ
+dump_none_text m = line (codes "dump") (m ∷ codes "none" ∷ [])
+
+abbrev pub hear_steady_text : List ℕ → List ℕ
+hear_steady_text m = line (codes "hear") (m ∷ codes "steady" ∷ [])
+
+abbrev pub hear_suppressed_text : List ℕ → List ℕ
+hear_suppressed_text m = line (codes "hear") (m ∷ codes "suppressed" ∷ [])
+
+abbrev pub hear_refused_text : List ℕ → List ℕ → List ℕ
+hear_refused_text m refusal = line (codes "hear") (m ∷ codes "refused" ∷ refusal ∷ [])
+
+abbrev pub ask_found_text : List ℕ → List ℕ → List ℕ
+ask_found_text m octets = line (codes "ask") (m ∷ codes "found" ∷ encode_lower octets ∷ [])
+
+abbrev pub ask_none_text : List ℕ → List ℕ
+ask_none_text m = line (codes "ask") (m ∷ codes "none" ∷ [])
+
+abbrev pub ask_refused_text : List ℕ → List ℕ → List ℕ
+ask_refused_text m refusal = line (codes "ask") (m ∷ codes "refused" ∷ refusal ∷ [])
+
+-- ---- commands
+
+-- A word and a number, where there is one.
+abbrev pub field : List ℕ → Option ℕ → List (List ℕ)
+field word None = []
+field word (Some n) = word ∷ decimal n ∷ []
+
+-- What a command was answered.
+abbrev pub command_text : List ℕ → List ℕ → ℕ → Option ℕ → Option ℕ → Option ℕ → List ℕ
+command_text verb m code process inserted deleted = line verb
+    (m ∷ decimal code ∷ field (codes "process") process ++ field (codes "inserted") inserted
+    ++ field (codes "packets") deleted)
+
+abbrev pub block_300_text : List ℕ → List ℕ
+block_300_text m = line (codes "block") (m ∷ codes "300" ∷ [])
+
+abbrev pub block_404_text : List ℕ → List ℕ
+block_404_text m = line (codes "block") (m ∷ codes "404" ∷ [])
+
+abbrev pub block_200_text : List ℕ → List ℕ
+block_200_text m = line (codes "block") (m ∷ codes "200" ∷ [])
+
+abbrev pub block_published_text : List ℕ → ℕ → ℕ → List ℕ
+block_published_text m seq sync = line (codes "block")
+    (m ∷ codes "200" ∷ codes "published" ∷ decimal seq ∷ codes "sync" ∷ decimal sync ∷ [])
+
+-- ---- readings
+
+-- `LABEL=N` for each member
+unfoldable pub numbered : List (List ℕ) → List ℕ → List (List ℕ)
+numbered [] numbers = []
+numbered (label ∷ labels) [] = []
+numbered (label ∷ labels) (n ∷ numbers) = (label ++ codes "=" ++ decimal n) ∷ numbered labels numbers
+
+abbrev pub vector_text : List ℕ → List (List ℕ) → List ℕ → List ℕ
+vector_text m labels numbers = line (codes "vector") (m ∷ numbered labels numbers)
+
+-- An entry of a catalogue, under its publisher's label.
+abbrev pub entry_text : List ℕ → Entry → List ℕ
+entry_text label e = line (codes "entry")
+    (label ∷ decimal e.seq ∷ uri e.name ∷ codes "segments" ∷ decimal e.segments
+    ∷ codes "octets" ∷ decimal e.octets ∷ codes "sha256" ∷ encode_lower e.digest ∷ [])
+
+unfoldable pub entries_text : List (List ℕ) → List Entry → List ℕ
+entries_text [] entries = []
+entries_text (label ∷ labels) [] = []
+entries_text (label ∷ labels) (e ∷ entries) = entry_text label e ++ entries_text labels entries
+
+abbrev pub catalogue_text : List ℕ → ℕ → List (List ℕ) → List Entry → List ℕ
+catalogue_text m count labels entries =
+    line (codes "catalogue") (m ∷ decimal count ∷ []) ++ entries_text labels entries
+
+-- What a member holds.
+abbrev pub totals_text : List ℕ → ℕ → ℕ → ℕ → List ℕ
+totals_text label entries segments octets = line (codes "summary")
+    (label ∷ codes "entries" ∷ decimal entries ∷ codes "segments" ∷ decimal segments
+    ∷ codes "octets" ∷ decimal octets ∷ [])
+
+unfoldable pub summary_text : List (List ℕ) → List ℕ → List ℕ → List ℕ → List ℕ
+summary_text [] entries segments octets = []
+summary_text (label ∷ labels) [] segments octets = []
+summary_text (label ∷ labels) (e ∷ entries) [] octets = []
+summary_text (label ∷ labels) (e ∷ entries) (s ∷ segments) [] = []
+summary_text (label ∷ labels) (e ∷ entries) (s ∷ segments) (o ∷ octets) =
+    totals_text label e s o ++ summary_text labels entries segments octets
+
+abbrev pub traffic_text : ℕ → ℕ → ℕ → ℕ → ℕ → List ℕ
+traffic_text syncs delivered attempts parts octets = line (codes "traffic")
+    (codes "syncs" ∷ decimal syncs ∷ codes "delivered" ∷ decimal delivered
+    ∷ codes "attempts" ∷ decimal attempts ∷ codes "parts" ∷ decimal parts ∷ codes "octets" ∷ decimal octets ∷ [])
+
+-- ---- the end
+
+abbrev pub refused_text : ℕ → ℕ → List ℕ → List ℕ
+refused_text number refusal word = line (codes "refused") (decimal number ∷ decimal refusal ∷ word ∷ [])
+
+abbrev pub foreign_text : ℕ → List ℕ
+foreign_text number = line (codes "foreign") (decimal number ∷ [])

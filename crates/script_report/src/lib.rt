@@ -1,0 +1,36 @@
+//! The lines of a report: one call for each form of line, which appends exactly its octets or changes
+//! nothing.
+#![tactic(auto)]
+
+mod commands;
+mod ending;
+mod events;
+mod laws;
+mod line;
+mod parts;
+mod piece;
+mod readings;
+mod telling;
+
+pub use commands::{
+    put_block_200, put_block_300, put_block_404, put_block_published, put_delete, put_insert,
+    put_order, put_status,
+};
+pub use ending::{REPORT_LIMIT, put_foreign, put_refused};
+pub use events::{
+    put_advance, put_deliver_steady, put_deliver_suppressed, put_fire_early, put_fire_quiet,
+    put_fire_sent, put_publish, put_restart, put_sync,
+};
+pub use laws::limits_are_these;
+pub use parts::{
+    put_answer_kept, put_answer_none, put_claim_none, put_claim_part, put_feed_kept,
+    put_feed_refused, put_fetch, put_lose, put_settle,
+};
+pub use readings::{put_catalogue, put_summary, put_traffic, put_vector};
+pub use telling::{
+    put_ask_found, put_ask_none, put_ask_refused, put_dump_hex, put_dump_none, put_hear_refused,
+    put_hear_steady, put_hear_suppressed,
+};
+
+#[cfg(test)]
+mod tests;
