@@ -26,7 +26,7 @@ writes_none F xs ys old = record { written = refl; kept = keeps_same old }
 
 together_more : {A B : Type 0} (F : List A → List B → List ℕ) (f : A → B → List ℕ) → IsText F f
     → (xs : List A) (ys : List B) (n : ℕ) (x : A)
-        (y : B) → n < length xs → n < length ys → x ≡ get_or xs n x
+    (y : B) → n < length xs → n < length ys → x ≡ get_or xs n x
     → y ≡ get_or ys n y → F (drop n xs) (drop n ys) ≡ f x y ++ F (drop (n + 1) xs) (drop (n + 1) ys)
 together_more F f text xs ys n x y lt lu p q =
     ap (λ s. F s (drop n ys)) (drop_more xs n x lt ∙ ap (λ z. z ∷ drop (n + 1) xs) (sym p))
@@ -41,14 +41,14 @@ one_more whole mid new piece here behind w h more =
 
 pub writes_more : {A B : Type 0} (F : List A → List B → List ℕ) (f : A → B → List ℕ) → IsText F f
     → (xs : List A) (ys : List B) (n m : ℕ) (x : A) (y : B)
-        (old mid new : List ℕ) → n < length xs → n < length ys
+    (old mid new : List ℕ) → n < length xs → n < length ys
     → x ≡ get_or xs n x → y ≡ get_or ys n y → m ≡ n + 1 → Writes F xs ys n old mid → new ≡ mid ++ f x
-        y
+    y
     → Keeps mid new → Writes F xs ys m old new
 writes_more F f text xs ys n m x y old mid new lt lu p q next w more kept = rw next (record {
   written =
       one_more (old ++ F xs ys) mid new (f x y) (F (drop n xs) (drop n ys))
-          (F (drop (n + 1) xs) (drop (n + 1) ys)) w.written (together_more F f text xs ys n x y lt lu p q) more;
+      (F (drop (n + 1) xs) (drop (n + 1) ys)) w.written (together_more F f text xs ys n x y lt lu p q) more;
   kept = keeps_then old mid new w.kept kept;
 })
 
@@ -109,11 +109,11 @@ entries_are_text = record {
 
 pub totals_more : (labels : List (String Global)) (es ss os : List ℕ) (i : ℕ) (label : String Global)
     → i < length labels → length labels ≡ length es → length labels ≡ length ss → length labels ≡ length
-        os
+    os
     → label ≡ get_or labels i label
     → summary_text (map string_bytes (drop i labels)) (drop i es) (drop i ss) (drop i os) ≡ totals_text
-        (string_bytes label) (get_or es i 0) (get_or ss i 0) (get_or os i 0) ++ summary_text
-        (map string_bytes (drop (i + 1) labels)) (drop (i + 1) es) (drop (i + 1) ss) (drop (i + 1) os)
+    (string_bytes label) (get_or es i 0) (get_or ss i 0) (get_or os i 0) ++ summary_text
+    (map string_bytes (drop (i + 1) labels)) (drop (i + 1) es) (drop (i + 1) ss) (drop (i + 1) os)
 unfolding summary_text
 totals_more labels es ss os i label lt a b c e =
     let le : i < length es = omega arith in

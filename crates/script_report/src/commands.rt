@@ -3,7 +3,7 @@ ghost use Rattle.script_report.specs.Texts.{command_text, block_300_text, block_
 ghost use Rattle.script_report.specs.Pieces.{Appends};
 
 use crate::line::put_line;
-use crate::piece::Piece::{Number, Word, Field};
+use crate::piece::Piece::{Field, Number, Word};
 use std::alloc::AllocError;
 
 /// The answer to a command that came as octets. `deleted` is printed as packets.
@@ -115,8 +115,24 @@ pub fn put_block_200(out: &mut Vec<u8>, m: &str) -> Result<(), AllocError>
 
 /// The block was the last: the object is published under `seq`, and told by the `sync`th sync
 /// Interest.
-pub fn put_block_published(out: &mut Vec<u8>, m: &str, seq: u64, sync: u64) -> Result<(), AllocError>
+pub fn put_block_published(
+    out: &mut Vec<u8>,
+    m: &str,
+    seq: u64,
+    sync: u64,
+) -> Result<(), AllocError>
     ensures { Appends (block_published_text m.now seq sync) out.old.items out.new.items result }
 {
-    put_line(out, "block", &[Word(m), Word("200"), Word("published"), Number(seq), Word("sync"), Number(sync)])
+    put_line(
+        out,
+        "block",
+        &[
+            Word(m),
+            Word("200"),
+            Word("published"),
+            Number(seq),
+            Word("sync"),
+            Number(sync),
+        ],
+    )
 }

@@ -2,14 +2,31 @@ ghost use Rattle.script_report.specs.Texts.{publish_text, deliver_steady_text, d
 ghost use Rattle.script_report.specs.Pieces.{Appends};
 
 use crate::line::put_line;
-use crate::piece::Piece::{Number, Word, Hex};
+use crate::piece::Piece::{Hex, Number, Word};
 use std::alloc::AllocError;
 
 /// A member published under its number `seq`, and its sync Interest is the `sync`th that was sent.
-pub fn put_publish(out: &mut Vec<u8>, m: &str, seq: u64, segments: u64, sync: u64) -> Result<(), AllocError>
+pub fn put_publish(
+    out: &mut Vec<u8>,
+    m: &str,
+    seq: u64,
+    segments: u64,
+    sync: u64,
+) -> Result<(), AllocError>
     ensures { Appends (publish_text m.now seq segments sync) out.old.items out.new.items result }
 {
-    put_line(out, "publish", &[Word(m), Number(seq), Word("segments"), Number(segments), Word("sync"), Number(sync)])
+    put_line(
+        out,
+        "publish",
+        &[
+            Word(m),
+            Number(seq),
+            Word("segments"),
+            Number(segments),
+            Word("sync"),
+            Number(sync),
+        ],
+    )
 }
 
 /// A member that heard the `k`th sync Interest is steady.

@@ -85,17 +85,39 @@ pub fn put_answer_none(out: &mut Vec<u8>, m: &str, f: u64) -> Result<(), AllocEr
 }
 
 /// So many parts were planned, so many of them came, in so many attempts.
-pub fn put_fetch(out: &mut Vec<u8>, m: &str, planned: u64, kept: u64, attempts: u64) -> Result<(), AllocError>
+pub fn put_fetch(
+    out: &mut Vec<u8>,
+    m: &str,
+    planned: u64,
+    kept: u64,
+    attempts: u64,
+) -> Result<(), AllocError>
     ensures { Appends (fetch_text m.now planned kept attempts) out.old.items out.new.items result }
 {
-    put_line(out, "fetch", &[Word(m), Word("planned"), Number(planned), Word("kept"), Number(kept), Word("attempts"), Number(attempts)])
+    put_line(
+        out,
+        "fetch",
+        &[
+            Word(m),
+            Word("planned"),
+            Number(planned),
+            Word("kept"),
+            Number(kept),
+            Word("attempts"),
+            Number(attempts),
+        ],
+    )
 }
 
 /// So many sync Interests were sent, and so many parts are newly held.
 pub fn put_settle(out: &mut Vec<u8>, syncs: u64, kept: u64) -> Result<(), AllocError>
     ensures { Appends (settle_text syncs kept) out.old.items out.new.items result }
 {
-    put_line(out, "settle", &[Word("syncs"), Number(syncs), Word("kept"), Number(kept)])
+    put_line(
+        out,
+        "settle",
+        &[Word("syncs"), Number(syncs), Word("kept"), Number(kept)],
+    )
 }
 
 /// Octets that were handed to a fetcher passed for its claim.
@@ -106,8 +128,17 @@ pub fn put_feed_kept(out: &mut Vec<u8>, m: &str, f: u64) -> Result<(), AllocErro
 }
 
 /// Octets that were handed to a fetcher were refused for its claim.
-pub fn put_feed_refused<'a>(out: &mut Vec<u8>, m: &'a str, f: u64, refusal: &'a str) -> Result<(), AllocError>
+pub fn put_feed_refused<'a>(
+    out: &mut Vec<u8>,
+    m: &'a str,
+    f: u64,
+    refusal: &'a str,
+) -> Result<(), AllocError>
     ensures { Appends (feed_refused_text m.now f refusal.now) out.old.items out.new.items result }
 {
-    put_line(out, "feed", &[Word(m), Number(f), Word("refused"), Word(refusal)])
+    put_line(
+        out,
+        "feed",
+        &[Word(m), Number(f), Word("refused"), Word(refusal)],
+    )
 }

@@ -53,11 +53,7 @@ fn write_catalogue(
     write_entries(out, labels, entries)
 }
 
-fn write_entries(
-    out: &mut Vec<u8>,
-    labels: &[String],
-    entries: &[Entry],
-) -> Result<(), AllocError>
+fn write_entries(out: &mut Vec<u8>, labels: &[String], entries: &[Entry]) -> Result<(), AllocError>
     ensures ok { OnOk result (out.new.items ≡ out.old.items
         ++ entries_text (map string_bytes labels.now) entries.now) }
     ensures kept { Keeps out.old.items out.new.items }

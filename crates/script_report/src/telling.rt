@@ -34,7 +34,11 @@ pub fn put_hear_suppressed(out: &mut Vec<u8>, m: &str) -> Result<(), AllocError>
 }
 
 /// Octets were refused as a sync Interest.
-pub fn put_hear_refused<'a>(out: &mut Vec<u8>, m: &'a str, refusal: &'a str) -> Result<(), AllocError>
+pub fn put_hear_refused<'a>(
+    out: &mut Vec<u8>,
+    m: &'a str,
+    refusal: &'a str,
+) -> Result<(), AllocError>
     ensures { Appends (hear_refused_text m.now refusal.now) out.old.items out.new.items result }
 {
     put_line(out, "hear", &[Word(m), Word("refused"), Word(refusal)])
@@ -55,7 +59,11 @@ pub fn put_ask_none(out: &mut Vec<u8>, m: &str) -> Result<(), AllocError>
 }
 
 /// Octets were refused as an Interest.
-pub fn put_ask_refused<'a>(out: &mut Vec<u8>, m: &'a str, refusal: &'a str) -> Result<(), AllocError>
+pub fn put_ask_refused<'a>(
+    out: &mut Vec<u8>,
+    m: &'a str,
+    refusal: &'a str,
+) -> Result<(), AllocError>
     ensures { Appends (ask_refused_text m.now refusal.now) out.old.items out.new.items result }
 {
     put_line(out, "ask", &[Word(m), Word("refused"), Word(refusal)])

@@ -118,10 +118,27 @@ fn put_commands(out: &mut Vec<u8>) -> Result<(), AllocError> {
 }
 
 fn put_readings(alloc: Global, out: &mut Vec<u8>) -> Result<(), Fail> {
-    let labels = [String::from_str(alloc, "alice")?, String::from_str(alloc, "bob")?];
+    let labels = [
+        String::from_str(alloc, "alice")?,
+        String::from_str(alloc, "bob")?,
+    ];
     let entries = [
-        entry(alloc, 1, b"doc", 1, 3, "ba7816bf8f01cfea414140de5dae2223b00361a396177a9cb410ff61f20015ad")?,
-        entry(alloc, 65_535, b"", 0, 0, "e3b0c44298fc1c149afbf4c8996fb92427ae41e4649b934ca495991b7852b855")?,
+        entry(
+            alloc,
+            1,
+            b"doc",
+            1,
+            3,
+            "ba7816bf8f01cfea414140de5dae2223b00361a396177a9cb410ff61f20015ad",
+        )?,
+        entry(
+            alloc,
+            65_535,
+            b"",
+            0,
+            0,
+            "e3b0c44298fc1c149afbf4c8996fb92427ae41e4649b934ca495991b7852b855",
+        )?,
     ];
     put_vector(out, "bob", &[], &[])?;
     put_vector(out, "bob", &labels, &[2, 0])?;

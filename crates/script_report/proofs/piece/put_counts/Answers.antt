@@ -17,18 +17,18 @@ loop-label-preserved c =
     let first : iter_rest (zip_first c.into_iter-label-iterator.result) ≡ c.args.labels.now = search rules in
     let second : iter_rest (zip_second c.into_iter-label-iterator.result) ≡ c.args.numbers.now = search rules in
     let turn = zip_turn c.args.labels.now c.args.numbers.now c.loop-label.yielded _ _ c.next.new.self c.next.result
-        first second c.loop-label.yielded_by (c.in-Some.label, c.in-Some.number) c.in-Some.is c.next.ensures.steps in
+    first second c.loop-label.yielded_by (c.in-Some.label, c.in-Some.number) c.in-Some.is c.next.ensures.steps in
     writes_more counts count counts_text _ _ _ _ _ _ _ _ _ turn.0 turn.1 (turn.2 _) (turn.3 _)
-        (length-append c.loop-label.yielded _) c.loop-label.invariant
-        (rw c.deref.ensures at c.in_ok-put_count.ensures.ok) c.put_count.ensures.kept
+    (length-append c.loop-label.yielded _) c.loop-label.invariant
+    (rw c.deref.ensures at c.in_ok-put_count.ensures.ok) c.put_count.ensures.kept
 
 pub returns-clause-ok : goal.returns-clause-ok
 returns-clause-ok c =
     let first : iter_rest (zip_first c.into_iter-label-iterator.result) ≡ c.args.labels.now = search rules in
     let second : iter_rest (zip_second c.into_iter-label-iterator.result) ≡ c.args.numbers.now = search rules in
     writes_all counts count counts_text _ _ _ _ _ (zip_end c.args.labels.now c.args.numbers.now c.loop-label.yielded _
-        _ c.next.new.self c.next.result first second c.loop-label.yielded_by c.in-None.is c.next.ensures.steps)
-        c.loop-label.invariant
+    _ c.next.new.self c.next.result first second c.loop-label.yielded_by c.in-None.is c.next.ensures.steps)
+    c.loop-label.invariant
 
 pub returns-clause-kept : goal.returns-clause-kept
 returns-clause-kept c = c.loop-label.invariant.kept

@@ -10,9 +10,9 @@ pub loop-i-preserved : goal.loop-i-preserved
 loop-i-preserved c = record {
   written =
       one_more _ _ _ _ _ _ c.loop-i.invariant.written (totals_more c.args.labels.now c.args.entries.now
-          c.args.segments.now c.args.octets.now c.loop-i.i c.index-labels-i.result c.loop-i-test.true
-          c.requires.entries c.requires.segments c.requires.octets c.index-labels-i.is)
-          (rw c.deref.ensures at c.in_ok-write_totals.ensures.ok);
+      c.args.segments.now c.args.octets.now c.loop-i.i c.index-labels-i.result c.loop-i-test.true
+      c.requires.entries c.requires.segments c.requires.octets c.index-labels-i.is)
+      (rw c.deref.ensures at c.in_ok-write_totals.ensures.ok);
   kept = keeps_then _ _ _ c.loop-i.invariant.kept c.write_totals.ensures.kept;
 }
 
@@ -20,5 +20,5 @@ pub returns-clause-ok : goal.returns-clause-ok
 returns-clause-ok c =
     sym (append-nil c.loop-i.out.items)
     ∙ ap (λ s. c.loop-i.out.items ++ s) (sym (totals_end c.args.labels.now c.args.entries.now c.args.segments.now
-        c.args.octets.now c.loop-i.i c.loop-i-test.false))
+    c.args.octets.now c.loop-i.i c.loop-i-test.false))
     ∙ c.loop-i.invariant.written
