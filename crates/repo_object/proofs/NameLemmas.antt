@@ -42,7 +42,7 @@ number_octets n lt =
 
 pub IsName-number : (name : List Component) (typ n : ℕ) → IsName name → 2 < typ → typ < 2 ^ 16 → n < 2 ^ 16 → IsName (name ++ (typ, number_field n) ∷ [])
 IsName-number name typ n valid above below low =
-    let component : IsComponent (typ, number_field n) = record { above = omega arith; below = below; digest = λ two. absurd (omega arith); long = omega (arith, number_field-two n low); octets = number_octets n low } in
+    let component : IsComponent (typ, number_field n) = record { above = omega arith; below = omega (arith, below); digest = λ two. absurd (omega arith); long = omega (arith, number_field-two n low); octets = number_octets n low } in
     IsName-append name ((typ, number_field n) ∷ []) valid (component, tt)
 
 key_octets : IsOctets (75 ∷ 69 ∷ 89 ∷ [])
