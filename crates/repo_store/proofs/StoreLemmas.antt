@@ -16,7 +16,8 @@ use Rattle.repo_plan.specs.SortedList.{by_order, keys, Rises, contains, value_of
 use Rattle.repo_plan.specs.Parts.{Pair, part_cmp, pair_of}
 use Rattle.repo_plan.specs.Plan.{is_in}
 use Rattle.repo_plan.proofs.Orders.{exact_pairs, exact_parts, nat_itself, then_second}
-use Rattle.repo_plan.proofs.Search.{Found, at_key, at_gap, found, contains_found, value_at, no_value_between, with_value_between}
+use Rattle.repo_plan.proofs.Search.{Found, at_key, at_gap, found, with_value_between}
+use Rattle.repo_store.proofs.Lookups.{contains_found, value_at, no_value_between}
 use Rattle.repo_plan.proofs.Sets.{In, eq_same, rises_with_value, rises_keys_filter}
 use Rattle.ndn_data.specs.Data.{data_of}
 use Rattle.repo_store.specs.declared.index.Held.{Held}
