@@ -15,3 +15,4 @@ pub mod Tries
 pub mod SortedSets
 pub mod Gathering
 pub mod Limits
+pub mod PublicLaws

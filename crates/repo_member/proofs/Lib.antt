@@ -30,4 +30,4 @@ mod CallPackets
 mod TrueMembers
 mod TrueChanges
 mod TrueSyncs
-pub mod Laws
+pub mod PublicLaws

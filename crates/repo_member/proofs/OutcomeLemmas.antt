@@ -186,13 +186,18 @@ module _ (g : GroupKeys) (a : Alone) (job : Job) (part : Option CheckedPart) (n 
       is : came x ≡ record { part = job.want.part; packet = option_map (λ (c : CheckedPart). c.octets) part; attempts = n }
       is = λ i. record { part = same i; packet = packet i; attempts = tried i }
 
+  pub fetched_asked : (t : Part) → IsFetched g a job part n → t ≡ job.want.part → is_asked (alone_plan a) t ≡ true
+  fetched_asked t is same =
+      let free = and_parts (is_wanted (alone_plan a) job.want.part) (not (is_claimed (alone_plan a) job.want.part)) is.unclaimed in
+      ap (is_asked (alone_plan a)) same ∙ (wanted_parts (alone_plan a) job.want.part free.0).asked
+
   pub can_be_taken : (x : Tried) → IsFetched g a job part n → x.part ≡ job.want.part → x.attempts ≡ n
       → IfSome x.arrival (λ y. IsArrival a.store x.part y.octets.items y.segments y.name) → CanBeTaken (alone_plan a) a.store x
   can_be_taken x is same tried arrived =
       let free = and_parts (is_wanted (alone_plan a) job.want.part) (not (is_claimed (alone_plan a) job.want.part)) is.unclaimed in
       let wanted = wanted_parts (alone_plan a) job.want.part free.0 in
       record {
-        asked = ap (is_asked (alone_plan a)) same ∙ wanted.asked;
+        asked = fetched_asked x.part is same;
         not_held = ap (holds (alone_plan a)) same ∙ wanted.not_held;
         not_hidden = ap (λ (t : Part). hides (alone_plan a) (pair_of t)) same ∙ wanted.not_hidden;
         not_claimed = ap (is_claimed (alone_plan a)) same ∙ not-true (is_claimed (alone_plan a) job.want.part) free.1;

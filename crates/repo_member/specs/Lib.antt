@@ -32,7 +32,6 @@ pub mod Verdicts
 pub mod Fires
 pub mod Gaining
 pub mod Publishing
-pub mod Listings
 pub mod Outcomes
 pub mod Members
 pub mod InGroup

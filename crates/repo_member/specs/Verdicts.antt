@@ -32,9 +32,13 @@ abbrev pub told_verdict : Alone → Result (ℕ × List ℕ) SyncRefusal → Res
 told_verdict a (Err refusal) = Err (Sync refusal)
 told_verdict a (Ok told) = vector_verdict a told.1
 
+-- who signed the sync Interest of the group that octets are, and the vector that it tells; or why they are refused
+abbrev pub group_verdict : GroupKeys → List ℕ → Result (ℕ × List ℕ) SyncRefusal
+group_verdict g octets = sync_verdict g.name g.members.names g.members.ring octets
+
 -- the vector that octets tell the member, or why they are refused
 abbrev pub hear_verdict : GroupKeys → Alone → List ℕ → Result (List ℕ) HearRefusal
-hear_verdict g a octets = told_verdict a (sync_verdict g.name g.members.names g.members.ring octets)
+hear_verdict g a octets = told_verdict a (group_verdict g octets)
 
 -- a part, where a packet passes for it
 abbrev pub passed : Part → Result Data PartRefusal → Result Part AcceptRefusal

@@ -1,5 +1,6 @@
-ghost use Rattle.std.specs.Prelude.{◌≡◌, ◌≤◌, ◌↔◌, true, false, length, IfOk, OnOk, OnErr, Err};
+ghost use Rattle.std.specs.Prelude.{◌≡◌, ◌≤◌, ◌↔◌, ◌⊎◌, true, false, length, MatchResult, IfOk, OnOk, OnErr, Ok, Err};
 ghost use Rattle.repo_member.specs.Groups.{IsPlainNodeName, IsKey, IsGroup, HaveKeys, is_name_taken, node_limit, no_nodes, with_node};
+ghost use Rattle.repo_member.specs.Verdicts.{group_verdict};
 
 use crate::group_fault::GroupFault;
 use crate::nodes::Nodes;
@@ -7,7 +8,8 @@ use ndn_name::Name;
 use ndn_sign::KeyRing;
 use std::alloc::{AllocError, Global};
 use std::marker::Model;
-use svs_vector::{MEMBER_LIMIT, Roster};
+use svs_sync::{SyncRefusal, check_sync};
+use svs_vector::{MEMBER_LIMIT, Roster, Vector};
 
 /// How many clients a group may have.
 const CLIENT_LIMIT: usize = MEMBER_LIMIT;
@@ -131,6 +133,17 @@ impl Group {
         ensures { result.now ≡ self.now.name }
     {
         &self.name
+    }
+
+    /// The number of the member that signed a sync Interest of the group, and the vector that it tells.
+    pub fn check_sync(&self, alloc: Global, octets: &[u8]) -> Result<(u32, Vector), SyncRefusal>
+        ensures verdict { MatchResult result
+            (λ told. group_verdict self.now octets.now ≡ Ok (told.0, told.1))
+            (λ refusal. (group_verdict self.now octets.now ≡ Err refusal) ⊎ (refusal ≡ SyncRefusal.NoMemory)) }
+        ensures width { IfOk result (λ told. length told.1 ≡ length self.now.members.names) }
+        ensures members { IfOk result (λ told. length told.1 ≤ node_limit) }
+    {
+        check_sync(alloc, octets, &self.name, self.roster(), self.members())
     }
 
     // Whether a member or a client has the name.

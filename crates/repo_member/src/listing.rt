@@ -1,33 +1,28 @@
 // What stored packets list, and the entries of publications that are stored wholly.
-ghost use Rattle.std.specs.Prelude.{◌≡◌, ◌+◌, ◌-◌, ◌<◌, ◌≤◌, Some, IsSome, option_map, IfOk, length};
+ghost use Rattle.std.specs.Prelude.{◌≡◌, ◌+◌, ◌-◌, ◌<◌, ◌≤◌, Some, option_map, IfOk, length};
 ghost use Rattle.sha2.specs.Sha256.{sha256};
-ghost use Rattle.repo_object.specs.Verdict.{listing_in};
-ghost use Rattle.repo_object.specs.Records.{IsListing};
+ghost use Rattle.ndn_name.specs.Names.{encoding};
+ghost use Rattle.repo_object.specs.Limits.{object_name_limit};
 ghost use Rattle.repo_member.specs.Listed.{listing_at, entry_at, packet_content, contents_joined};
 ghost use Rattle.repo_member.specs.Gaining.{AreTied, with_listed};
 
 use ndn_data::DataView;
-use ndn_name::Name;
+use ndn_name::{Name, NameFault, NameView};
 use repo_catalog::{Catalogue, Entry};
-use repo_object::{Listing, RecordFault, read_record};
 use repo_plan::{Part, Plan};
 use repo_store::Store;
 use sha2::{Digest, Sha256};
 use std::alloc::{AllocError, Global};
 
-// What a record's packet lists.
-pub(crate) fn read_listing(alloc: Global, record: &[u8]) -> Result<Listing, AllocError>
-    requires { IsSome (listing_in record.now) }
-    ensures listed { IfOk result (λ listing. listing_in record.now ≡ Some listing) }
-    ensures within { IfOk result (λ listing. IsListing listing) }
+// A name with octets of its own.
+pub(crate) fn owned_name(alloc: Global, view: &NameView<'_>) -> Result<Name, AllocError>
+    requires { length (encoding view.now) ≤ object_name_limit }
+    ensures { IfOk result (λ name. name ≡ view.now) }
 {
-    let Ok(data) = DataView::read(record) else {
-        unreachable!()
-    };
-    match read_record(alloc, data.content) {
-        Ok(listing) => Ok(listing),
-        Err(RecordFault::NoMemory) => Err(AllocError),
-        Err(RecordFault::BadRecord) => unreachable!(),
+    match Name::from_view(alloc, view) {
+        Ok(name) => Ok(name),
+        Err(NameFault::NameTooLong) => unreachable!(),
+        Err(_) => Err(AllocError),
     }
 }
 

@@ -1,6 +1,6 @@
 ghost use Rattle.std.specs.Prelude.{◌≡◌, ◌+◌, ◌^◌, ◌<◌, None, length, IfOk};
 ghost use Rattle.svs_sync.specs.Suppression.{mode_of, periodic, suppression};
-ghost use Rattle.svs_sync.specs.KeptVector.{steady_kept, hears_kept, due_kept, fires_kept, fired_kept};
+ghost use Rattle.svs_sync.specs.KeptVector.{steady_kept, hears_kept, fires_kept, fired_kept};
 
 use crate::fired::Fired;
 use crate::mode::Mode;
@@ -101,12 +101,25 @@ impl Machine {
         ensures fired { result ≡ fires_kept now known.now self.old }
         ensures kept { self.new ≡ fired_kept now draw self.old }
     {
+        let fired = self.fires(now, known);
+        if now >= self.deadline {
+            self.settle(now, draw);
+        }
+        fired
+    }
+
+    /// What the member would do now, as `fired` tells. Nothing is done.
+    pub fn fires(&self, now: u64, known: &Vector) -> Fired
+        requires { length known.now ≡ self.now.members }
+        ensures { result ≡ fires_kept now known.now self.now }
+    {
         if now < self.deadline {
             return Fired::Early;
         }
-        let fired = self.due(known);
-        self.settle(now, draw);
-        fired
+        match self.mode {
+            Mode::Suppressed if self.heard.covers(known) => Fired::Quiet,
+            _ => Fired::Send,
+        }
     }
 
     /// Whether the member is Steady or Suppressed.
@@ -139,17 +152,6 @@ impl Machine {
         self.mode = Mode::Steady;
         self.deadline = now + periodic(draw);
         self.draws += 1;
-    }
-
-    // What the member does that is due.
-    fn due(&self, known: &Vector) -> Fired
-        requires { length known.now ≡ self.now.members }
-        ensures { result ≡ due_kept known.now self.now.heard }
-    {
-        match self.mode {
-            Mode::Suppressed if self.heard.covers(known) => Fired::Quiet,
-            _ => Fired::Send,
-        }
     }
 }
 

@@ -1,30 +1,24 @@
-ghost use Rattle.std.specs.Prelude.{◌≡◌, ◌⊎◌, ◌↔◌, Ok, Err, Some, None, IsSome, IsOk, IsErr, IsSomeAnd, IfSome, IfOk, IfErr, OnOk, OnErr, true, map, take};
+ghost use Rattle.std.specs.Prelude.{◌≡◌, ◌<◌, ◌≤◌, ◌⊎◌, ◌↔◌, Ok, Err, Some, None, IsSome, IsOk, IsErr, IsSomeAnd, IfSome, IfOk, IfErr, OnOk, OnErr, true, length, map, take};
 ghost use Rattle.std.specs.List.{All, filter};
 ghost use Rattle.repo_plan.specs.Plan.{claim_of, unclaimed, first, is_after, is_asked, is_wanted};
+ghost use Rattle.repo_plan.specs.Parts.{pair_of};
 ghost use Rattle.repo_plan.specs.Calls.{IsFetcher};
 ghost use Rattle.ndn_data.specs.Data.{data_of};
 ghost use Rattle.repo_object.specs.Verdict.{listing_in, ring_verdict};
 ghost use Rattle.repo_member.specs.Alone.{IsOf, alone_plan, alone_claims, want_of, alone_accepts};
 ghost use Rattle.repo_member.specs.Verdicts.{passed, accept_verdict};
 ghost use Rattle.repo_member.specs.Gaining.{IsArrival};
-ghost use Rattle.repo_member.specs.Listings.{IsStored, IsListingFor};
+ghost use Rattle.repo_member.specs.Listed.{listing_at};
 ghost use Rattle.repo_member.specs.Outcomes.{job_for, IsCheckedFor};
 
 use super::Member;
 use crate::group::Group;
 use crate::gaining::{Arrival, gain_listed, make_room};
-use crate::listing::read_listing;
+use crate::listing::owned_name;
 use crate::refusals::{AcceptRefusal, WantFault};
-use repo_object::{Checked, Job, Listing, Want, check_part, want_record, want_segment};
+use repo_object::{Checked, Expected, Job, RecordView, Want, expect_record, expect_segment};
 use repo_plan::{FetcherBusy, FetcherIdle, Part};
 use std::alloc::{AllocError, Global};
-
-// What the stored record of a publication lists.
-#[derive(Drop)]
-pub(super) struct StoredListing {
-    pair: (u32, u16),
-    listing: Listing,
-}
 
 impl Member {
     /// The fetcher claims the least part that is wanted and that no fetcher claims, or none where there is none. It takes
@@ -62,8 +56,7 @@ impl Member {
         let Some(part) = self.claimed(f) else {
             return Err(WantFault::FetcherIdle);
         };
-        let listing = self.listing_for(alloc, part, None)?;
-        Ok(self.want_of(alloc, g, part, &listing)?)
+        Ok(self.want_of(alloc, g, part)?)
     }
 
     /// The octets are taken for the part that the fetcher claims, if they pass for it: the part is held from now on, the
@@ -107,8 +100,7 @@ impl Member {
         let Some(part) = self.claimed(f) else {
             return Err(AcceptRefusal::FetcherIdle);
         };
-        let listing = self.listing_for(*self.log.allocator(), part, None)?;
-        let arrival = self.arrived(part, checked.octets(), &listing)?;
+        let arrival = self.arrived(part, checked.octets())?;
         self.gain_claimed(f, part, arrival)?;
         Ok(part)
     }
@@ -163,74 +155,57 @@ impl Member {
         Some(part)
     }
 
-    // The jobs of these parts. The listing of a record is read once for segments in a row.
+    // The jobs of these parts.
     fn jobs(&self, alloc: Global, g: &Group, parts: &[Part]) -> Result<Vec<Job>, AllocError>
         requires group { IsOf g.now self.now }
         requires asked { All (λ part. is_asked (alone_plan self.now) part ≡ true) parts.now }
         ensures { IfOk result (λ jobs. jobs.items ≡ map (job_for g.now self.now) parts.now) }
     {
         let mut jobs = Vec::with_capacity(alloc, parts.len())?;
-        let mut listing = None;
         for part in parts {
-            listing = self.listing_for(alloc, *part, listing)?;
-            let want = self.want_of(alloc, g, *part, &listing)?;
+            let want = self.want_of(alloc, g, *part)?;
             let base = self.plan.attempts(*part);
             jobs.push(Job { want, base })?;
         }
         Ok(jobs)
     }
 
-    // What the stored record of a segment's publication lists, which may have been read last. A record needs none.
-    pub(super) fn listing_for(
-        &self,
-        alloc: Global,
-        part: Part,
-        last: Option<StoredListing>,
-    ) -> Result<Option<StoredListing>, AllocError>
+    // The want of a part that is asked for.
+    fn want_of(&self, alloc: Global, g: &Group, part: Part) -> Result<Want, AllocError>
+        requires group { IsOf g.now self.now }
         requires asked { is_asked (alone_plan self.now) part ≡ true }
-        requires last { IsStored self.now.store last }
-        ensures stored { IfOk result (IsStored self.now.store) }
-        ensures own { IfOk result (IsListingFor part) }
+        ensures { IfOk result (λ want. want ≡ want_of g.now self.now.store part) }
     {
-        let store = &self.store;
+        Want::new(alloc, self.expected(alloc, g, part)?)
+    }
+
+    // What is expected for a part that is asked for: of a segment the stored record tells it.
+    fn expected(&self, alloc: Global, g: &Group, part: Part) -> Result<Expected, AllocError>
+        requires group { IsOf g.now self.now }
+        requires asked { is_asked (alone_plan self.now) part ≡ true }
+        ensures { IfOk result (λ expected. expected ≡ want_of g.now self.now.store part) }
+    {
         if part.part == 0 {
-            return Ok(last);
+            return expect_record(part, g.roster().name(part.publisher), g.name());
         }
-        let pair = (part.publisher, part.seq);
-        if let Some(stored) = &last {
-            if stored.pair == pair {
-                return Ok(last);
-            }
-        }
-        let record = Part { part: 0, ..part };
-        match store.get(record) {
-            Some(octets) => {
-                let listing = read_listing(alloc, octets)?;
-                Ok(Some(StoredListing { pair, listing }))
-            }
+        let record = self.record_of(part);
+        match record.digest(usize::from(part.part - 1)) {
+            Some(digest) => expect_segment(alloc, part, record.name(), digest),
             None => unreachable!(),
         }
     }
 
-    // The want of a part that is asked for.
-    fn want_of(
-        &self,
-        alloc: Global,
-        g: &Group,
-        part: Part,
-        listing: &Option<StoredListing>,
-    ) -> Result<Want, AllocError>
-        requires group { IsOf g.now self.now }
-        requires asked { is_asked (alone_plan self.now) part ≡ true }
-        requires stored { IsStored self.now.store listing.now }
-        requires own { IsListingFor part listing.now }
-        ensures { IfOk result (λ want. want ≡ want_of g.now self.now.store part) }
+    // The stored record of the publication of a segment that is asked for.
+    fn record_of(&self, segment: Part) -> RecordView<'_>
+        requires asked { is_asked (alone_plan self.now) segment ≡ true }
+        requires segment { 0 < segment.part }
+        ensures listed { listing_at self.now.store (pair_of segment) ≡ Some result }
+        ensures counted { segment.part ≤ length result.digests }
     {
-        if part.part == 0 {
-            return want_record(alloc, part, g.roster().name(part.publisher), g.name());
-        }
-        match listing {
-            Some(stored) => want_segment(alloc, part, &stored.listing),
+        let store = &self.store;
+        let record = Part { part: 0, ..segment };
+        match store.get(record) {
+            Some(octets) => RecordView::in_packet(octets),
             None => unreachable!(),
         }
     }
@@ -248,24 +223,16 @@ impl Member {
             ⊎ (passed part (ring_verdict (want_of g.now self.now.store part)
             g.now.members.ring octets.now) ≡ Err refusal)) }
     {
-        let alloc = *self.log.allocator();
-        let listing = self.listing_for(alloc, part, None)?;
-        let want = self.want_of(alloc, g, part, &listing)?;
-        check_part(&want, octets, g.members())?;
-        Ok(self.arrived(part, octets, &listing)?)
+        let expected = self.expected(*self.log.allocator(), g, part)?;
+        expected.check(octets, g.members())?;
+        Ok(self.arrived(part, octets)?)
     }
 
     // The packet that came for a part and passed for it.
-    pub(super) fn arrived(
-        &self,
-        part: Part,
-        octets: &[u8],
-        listing: &Option<StoredListing>,
-    ) -> Result<Arrival, AllocError>
+    pub(super) fn arrived(&self, part: Part, octets: &[u8]) -> Result<Arrival, AllocError>
         requires data { IsOk (data_of octets.now) }
         requires record_part { part.part ≡ 0 → IsSome (listing_in octets.now) }
-        requires stored { IsStored self.now.store listing.now }
-        requires own { IsListingFor part listing.now }
+        requires asked { is_asked (alone_plan self.now) part ≡ true }
         ensures octets { IfOk result (λ arrival. arrival.octets.items ≡ octets.now) }
         ensures arrival { IfOk result (λ arrival.
             IsArrival self.now.store part arrival.octets.items arrival.segments arrival.name) }
@@ -273,20 +240,18 @@ impl Member {
         let alloc = *self.log.allocator();
         let copy = octets.to_vec(alloc)?;
         if part.part == 0 {
-            let listing = read_listing(alloc, octets)?;
+            let record = RecordView::in_packet(octets);
             return Ok(Arrival {
                 octets: copy,
-                segments: Some(listing.digests.len() as u8),
-                name: listing.name,
+                segments: Some(record.segments()),
+                name: owned_name(alloc, record.name())?,
             });
         }
-        match listing {
-            Some(stored) => Ok(Arrival {
-                octets: copy,
-                segments: None,
-                name: stored.listing.name.clone()?,
-            }),
-            None => unreachable!(),
-        }
+        let record = self.record_of(part);
+        Ok(Arrival {
+            octets: copy,
+            segments: None,
+            name: owned_name(alloc, record.name())?,
+        })
     }
 }

@@ -75,14 +75,10 @@ impl Member {
         prove!(members <= MEMBER_LIMIT);
         let alloc = *self.log.allocator();
         let mut all = Vec::with_capacity(alloc, jobs.len())?;
-        let mut listing = None;
         for ((job, checked), tries) in jobs.iter().zip(parts).zip(attempts) {
             let part = job.want.part();
             let arrival = match checked {
-                Some(checked) => {
-                    listing = self.listing_for(alloc, part, listing)?;
-                    Some(self.arrived(part, checked.octets(), &listing)?)
-                }
+                Some(checked) => Some(self.arrived(part, checked.octets())?),
                 None => None,
             };
             all.push(Tried {

@@ -2,6 +2,7 @@ ghost use Rattle.std.specs.Prelude.{◌≡◌, ◌<◌, ◌≤◌, ◌^◌, ◌�
 ghost use Rattle.svs_vector.specs.Vectors.{join};
 ghost use Rattle.svs_sync.specs.Suppression.{mode_of};
 ghost use Rattle.svs_sync.specs.KeptVector.{fires_kept};
+ghost use Rattle.repo_member.specs.Groups.{node_limit};
 ghost use Rattle.repo_member.specs.Alone.{IsOf, alone_learns, alone_hears, alone_fires};
 ghost use Rattle.repo_member.specs.Verdicts.{sync_of, vector_verdict, hear_verdict};
 ghost use Rattle.repo_member.specs.Fires.{TellsFire};
@@ -12,7 +13,7 @@ use crate::refusals::HearRefusal;
 use repo_object::key_name;
 use repo_plan::Plan;
 use std::alloc::{AllocError, Global};
-use svs_sync::{Fired, Mode, SyncRefusal, check_sync, make_sync};
+use svs_sync::{Fired, Mode, SyncRefusal, make_sync};
 use svs_vector::Vector;
 
 /// What a member does when its timer fires.
@@ -58,7 +59,7 @@ impl Member {
         draw: u32,
     ) -> Result<Mode, HearRefusal>
         requires width { length told.now ≡ length self.old.known }
-        requires members { length told.now ≤ 16 }
+        requires members { length told.now ≤ node_limit }
         requires early { now < 2 ^ 62 }
         requires few { self.old.machine.draws < 2 ^ 62 }
         ensures ok { OnOk result (IsOkAnd (vector_verdict self.old told.now)
@@ -93,7 +94,7 @@ impl Member {
     /// memory.
     pub fn join_vector(&mut self, told: &Vector) -> Result<bool, HearRefusal>
         requires width { length told.now ≡ length self.old.known }
-        requires members { length told.now ≤ 16 }
+        requires members { length told.now ≤ node_limit }
         ensures ok { OnOk result (IsOkAnd (vector_verdict self.old told.now)
             (λ told. self.new ≡ alone_learns told self.old)) }
         ensures changed { IfOk result (λ changed. IsFalse changed ↔ (self.new.known ≡ self.old.known)) }
@@ -114,15 +115,13 @@ impl Member {
         ensures ok { OnOk result (self.new ≡ alone_fires now draw self.old) }
         ensures err { OnErr result (self.new ≡ self.old) }
     {
-        if self.machine.deadline() > now {
-            return Ok(Fire::Early);
-        }
-        let sync = self.sync(*self.log.allocator(), g)?;
-        match self.machine.fired(now, &self.vector, draw) {
-            Fired::Early => Ok(Fire::Early),
-            Fired::Quiet => Ok(Fire::Quiet),
-            Fired::Send => Ok(Fire::Sent(sync)),
-        }
+        let fire = match self.machine.fires(now, &self.vector) {
+            Fired::Early => Fire::Early,
+            Fired::Quiet => Fire::Quiet,
+            Fired::Send => Fire::Sent(self.sync(*self.log.allocator(), g)?),
+        };
+        self.machine.fired(now, &self.vector, draw);
+        Ok(fire)
     }
 
     /// The sync Interest that tells what the member knows now.
@@ -139,12 +138,11 @@ impl Member {
         ensures told { IfOk result (λ told.
             hear_verdict g.now self.now octets.now ≡ vector_verdict self.now told) }
         ensures width { IfOk result (λ told. length told ≡ length self.now.known) }
-        ensures members { IfOk result (λ told. length told ≤ 16) }
+        ensures members { IfOk result (λ told. length told ≤ node_limit) }
         ensures refused { IfErr result (λ refusal. (refusal ≡ HearRefusal.NoMemory)
             ⊎ (hear_verdict g.now self.now octets.now ≡ Err refusal)) }
     {
-        let alloc = *self.log.allocator();
-        match check_sync(alloc, octets, g.name(), g.roster(), g.members()) {
+        match g.check_sync(*self.log.allocator(), octets) {
             Ok((_, told)) => Ok(told),
             Err(SyncRefusal::NoMemory) => Err(HearRefusal::NoMemory),
             Err(refusal) => Err(HearRefusal::Sync(refusal)),
@@ -173,7 +171,7 @@ impl Member {
 // What is told is known from now on. The answer is whether more is known than before.
 fn learn(vector: &mut Vector, plan: &mut Plan, told: &Vector) -> bool
     requires width { length told.now ≡ length vector.old }
-    requires few { length told.now ≤ 16 }
+    requires few { length told.now ≤ node_limit }
     requires known { plan.old.known ≡ vector.old }
     ensures vector { vector.new ≡ join vector.old told.now }
     ensures plan { plan.new ≡ record plan.old { known = join vector.old told.now } }

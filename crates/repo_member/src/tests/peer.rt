@@ -2,6 +2,7 @@ ghost use Rattle.std.specs.Prelude.{◌≡◌, ◌+◌, ◌<◌, ◌≤◌, leng
 ghost use Rattle.std.specs.List.{All};
 ghost use Rattle.repo_object.specs.Objects.{IsContent};
 ghost use Rattle.repo_plan.specs.Calls.{IsFetcher};
+ghost use Rattle.repo_member.specs.Groups.{HaveKeys};
 ghost use Rattle.repo_member.specs.Alone.{IsOf};
 ghost use Rattle.repo_member.specs.Outcomes.{IsCheckedFor};
 
@@ -63,6 +64,20 @@ impl<'g> Peer<'g> {
         self.member.hear(self.g, octets, u64::from(now), DRAW)
     }
 
+    // Hears what another member knows.
+    pub(super) fn hear_vector(
+        &mut self,
+        rt: &impl Abort,
+        other: &Peer<'_>,
+        now: u32,
+    ) -> Result<Mode, HearRefusal> {
+        self.ready(rt);
+        let told = other.member.vector();
+        assert!(rt; told.members() == self.g.roster().len());
+        self.member
+            .hear_vector(told, u64::from(now), DRAW)
+    }
+
     pub(super) fn join_from(
         &mut self,
         rt: &impl Abort,
@@ -101,6 +116,22 @@ impl<'g> Peer<'g> {
         self.member.accept(self.g, f, octets)
     }
 
+    // Accepts a packet that passes for the want.
+    pub(super) fn accept_passing(
+        &mut self,
+        rt: &(impl Abort + AllocGlobal),
+        f: u8,
+        octets: &[u8],
+    ) -> Result<Part, Fail>
+        requires { IsFetcher f }
+    {
+        self.ready(rt);
+        let want = self.member.want(rt.alloc(), self.g, f)?;
+        assert!(rt; (want.part().publisher as usize) < self.g.roster().len());
+        let checked = check_part(&want, octets, self.g.members())?;
+        Ok(self.member.accept_checked(self.g, f, &checked)?)
+    }
+
     pub(super) fn plan(
         &self,
         rt: &(impl Abort + AllocGlobal),
@@ -118,13 +149,12 @@ impl<'g> Peer<'g> {
         rt: &(impl Abort + AllocGlobal),
         came: (Option<&'p [u8]>, u32),
         next: (Option<&'p [u8]>, u32),
-    ) -> Result<u32, Fail> {
+    ) -> Result<Kept, Fail> {
         self.ready(rt);
         let jobs = self.member.plan(rt.alloc(), self.g, None, 2)?;
         let [first, second] = jobs.as_slice() else {
             return Err("two are planned".into());
         };
-        assert!(rt; first.want.part() != second.want.part());
         let parts = [
             checked(rt, self.g, first, came.0, came.1)?,
             checked(rt, self.g, second, next.0, next.1)?,
@@ -156,6 +186,7 @@ impl<'g> Peer<'g> {
     // What calls ask for: the group is the member's, and few draws were used.
     fn ready(&self, rt: &impl Abort)
         ensures group { IsOf self.now.g.now self.now.member }
+        ensures keys { HaveKeys self.now.g.now.members }
         ensures draws { self.now.member.machine.draws < 100000 }
     {
         assert!(rt; self.member.vector().members() == self.g.roster().len());

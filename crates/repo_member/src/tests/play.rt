@@ -66,7 +66,7 @@ fn play(
 ) -> Result<(), Fail> {
     publish_and_tell(rt, alice, bob)?;
     log_own_packets(rt, alice, bob)?;
-    hold_back(rt, carol)?;
+    hold_back(rt, carol, bob)?;
     fetch_the_record(rt, bob, alice)?;
     fetch_as_planned(rt, bob, alice)?;
     fetch_all(rt, carol, bob)?;
@@ -106,27 +106,43 @@ fn published_one(rt: &impl Abort, peer: &Peer<'_>) {
     assert_eq!(rt; (peer.numbers(rt), peer.member.log_len()), ((1, 1, 0), 1));
 }
 
-// Carol hears what she knows and less, and so holds back, and then nothing.
-fn hold_back(rt: &(impl Abort + AllocGlobal), carol: &mut Peer<'_>) -> Result<(), Fail> {
+// Carol hears less than she knows, and so holds back: after what she knows nobody needs her, after nothing else she tells
+// what she knows, and not what she heard.
+fn hold_back(
+    rt: &(impl Abort + AllocGlobal),
+    carol: &mut Peer<'_>,
+    bob: &Peer<'_>,
+) -> Result<(), Fail> {
     assert!(rt; carol.join_from(rt, &FROM_BOB)?);
     assert_eq!(rt; carol.hear(rt, &FROM_ALICE, 40)?, Mode::Suppressed);
-    assert_eq!(rt; carol.hear(rt, &FROM_BOB, 50)?, Mode::Suppressed);
+    assert_eq!(rt; carol.hear_vector(rt, bob, 50)?, Mode::Suppressed);
     assert!(rt; matches!(carol.fire(rt, 139)?, Fire::Early));
     assert_eq!(rt;
         (carol.member.mode(), carol.member.next_draw()),
         (Mode::Suppressed, 2)
     );
     assert!(rt; matches!(carol.fire(rt, 140)?, Fire::Quiet));
-    assert!(rt; matches!(carol.fire(rt, 27_239)?, Fire::Early));
-    let Fire::Sent(sync) = carol.fire(rt, 27_240)? else {
-        return Err("carol is due".into());
-    };
-    assert_eq!(rt; sync.as_slice(), FROM_CAROL.as_slice());
+    assert_eq!(rt; carol.hear(rt, &FROM_ALICE, 150)?, Mode::Suppressed);
+    tells_what_it_knows(rt, carol, 250)?;
+    assert!(rt; matches!(carol.fire(rt, 27_349)?, Fire::Early));
+    tells_what_it_knows(rt, carol, 27_350)?;
     assert_eq!(rt; carol.sync(rt)?.as_slice(), FROM_CAROL.as_slice());
     assert_eq!(rt;
         (carol.member.mode(), carol.member.next_draw()),
-        (Mode::Steady, 4)
+        (Mode::Steady, 6)
     );
+    Ok(())
+}
+
+fn tells_what_it_knows(
+    rt: &(impl Abort + AllocGlobal),
+    carol: &mut Peer<'_>,
+    now: u32,
+) -> Result<(), Fail> {
+    let Fire::Sent(sync) = carol.fire(rt, now)? else {
+        return Err("carol is due".into());
+    };
+    assert_eq!(rt; sync.as_slice(), FROM_CAROL.as_slice());
     Ok(())
 }
 
@@ -187,12 +203,15 @@ fn fetch_as_planned(
     plans(rt, bob, Some(first), &[(second, 0), (third, 0)])?;
     assert_eq!(rt;
         bob.take_two(rt, (None, 3), (alice.member.packet(second), 1))?,
-        1
+        Kept { parts: 1, octets: 77 }
     );
     lists(rt, bob, &[OF_BOB]);
     plans(rt, bob, None, &[(first, 3), (third, 0)])?;
     let packets = (alice.member.packet(first), alice.member.packet(third));
-    assert_eq!(rt; bob.take_two(rt, (packets.0, 1), (packets.1, 2))?, 2);
+    assert_eq!(rt;
+        bob.take_two(rt, (packets.0, 1), (packets.1, 2))?,
+        Kept { parts: 2, octets: 154 }
+    );
     plans(rt, bob, None, &[])
 }
 
@@ -208,7 +227,7 @@ fn fetch_all(
         };
         let want = peer.want(rt, 1)?;
         let packet = other.member.serve(want.interest())?.ok_or("no packet")?;
-        assert_eq!(rt; peer.accept(rt, 1, packet)?, part);
+        assert_eq!(rt; peer.accept_passing(rt, 1, packet)?, part);
     }
     Err("something is wanted still".into())
 }

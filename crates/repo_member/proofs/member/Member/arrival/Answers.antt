@@ -5,9 +5,9 @@ use Rattle.repo_object.specs.Wants.{WantedPart}
 use Rattle.repo_member.proofs.MemberLemmas.{want_part, publisher_in_ring}
 use Rattle.repo_member.proofs.member.Member.arrival.Goals as goal
 
-pub check_part-requires : goal.check_part-requires
-check_part-requires c =
+pub check-requires : goal.check-requires
+check-requires c =
     let inside = publisher_in_ring c.args.g.now c.self.inside c.args.self.now c.args.part c.self.invariant c.self.view_is c.requires.group c.members.ensures.keys c.requires.asked in
-    let part = ap (λ (w : WantedPart). w.part.publisher) c.in_ok-want.ensures ∙ ap (λ (t : Part). t.publisher) (want_part c.args.g.now c.args.self.now.store c.args.part) in
+    let part = ap (λ (w : WantedPart). w.part.publisher) c.in_ok-expected.ensures ∙ ap (λ (t : Part). t.publisher) (want_part c.args.g.now c.args.self.now.store c.args.part) in
     let ring = ap (λ (r : List Pair). length r) c.members.ensures.ring in
     omega (arith, inside, part, ring)

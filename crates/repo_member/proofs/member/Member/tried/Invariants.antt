@@ -4,7 +4,6 @@ use Rattle.std.specs.Slice.Iter.{iter_rest}
 use Rattle.std.specs.Iterator.Adapters.{zip_first, zip_second}
 use Rattle.repo_member.specs.declared.member.outcome.Tried.{Tried}
 use Rattle.repo_member.specs.Alone.{alone_plan}
-use Rattle.repo_member.specs.Listings.{IsStored}
 use Rattle.repo_member.specs.Outcomes.{AreFetched, outcome_of, came, CanBeTaken}
 use Rattle.repo_member.proofs.OutcomeLemmas.{IsSmallPart}
 use Rattle.repo_member.proofs.member.Member.tried.Given as goal
@@ -17,6 +16,5 @@ invariant-loop-job l =
       came : map came l.all.items ++ outcome_of jobs parts attempts ≡ outcome_of l.jobs l.parts l.attempts;
       can : All (CanBeTaken (alone_plan l.self) l.self.store) l.all.items;
       small : All (λ (x : Tried). IsSmallPart x.part) l.all.items;
-      stored : IsStored l.self.store l.listing;
       rest : AreFetched l.g l.self jobs parts attempts;
     }
