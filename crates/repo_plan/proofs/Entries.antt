@@ -85,6 +85,6 @@ module _ {K V : Type 0} {R : K → K → Ordering} (e : Exact R) where
           ∙ (λ i. cond (ties k q i) None (sym (value_in_order es q) i))
           ∙ flipped (eq_by_cmp R k q) (value_of R (in_order R es) q)
           ∙ sym (value_of-filter e (λ z. not (eq_by_cmp R k z)) (in_order R es) q)) where
-        flipped : (b : Bool) (o : Option V) → cond b None o ≡ cond (not b) o None
-        flipped true o = refl
-        flipped false o = refl
+            flipped : (b : Bool) (o : Option V) → cond b None o ≡ cond (not b) o None
+            flipped true o = refl
+            flipped false o = refl

@@ -20,9 +20,6 @@ use Rattle.repo_plan.proofs.MapChanges.{none_value}
 use Rattle.repo_plan.proofs.RunOrder.{both_ways, has_from, IsIn, lt_trans, lt_le_trans, le_lt_trans}
 use Rattle.repo_plan.proofs.Numbers.{follow, thing_le, squeezed, size_le, le_size}
 
-pub exact_of_pairs : IsExact pair_cmp
-exact_of_pairs = exact_pairs.same
-
 -- a part as a number of its publication
 abbrev pub number_of : Part → Number Pair
 number_of t = (pair_of t, t.part)
@@ -70,15 +67,15 @@ told_has (x ∷ xs) r t =
     contains_append part_cmp (parts_of x.0 (parts_behind x.1)) (told_parts xs) t
     ∙ ap (λ (b : Bool). b || contains part_cmp (told_parts xs) t) (parts_has x.0 (parts_behind x.1) t)
     ∙ go (eq_by_cmp pair_cmp (pair_of t) x.0) refl (told_has xs r.1 t) where
-  or_none : (b : Bool) → (b || false) ≡ b
-  or_none true = refl
-  or_none false = refl
+      or_none : (b : Bool) → (b || false) ≡ b
+      or_none true = refl
+      or_none false = refl
 
-  go : (b : Bool) → eq_by_cmp pair_cmp (pair_of t) x.0 ≡ b → contains part_cmp (told_parts xs) t ≡ tells (value_of pair_cmp xs (pair_of t)) t → ((b && nat_le t.part (parts_behind x.1)) || contains part_cmp (told_parts xs) t) ≡ tells (cond b (Some x.1) (value_of pair_cmp xs (pair_of t))) t
-  go true e h =
-      let none : value_of pair_cmp xs (pair_of t) ≡ None = ap (value_of pair_cmp xs) (eq_same exact_pairs (pair_of t) x.0 e) ∙ none_value exact_pairs.total x.0 xs r.0 in
-      ap (λ (b : Bool). nat_le t.part (parts_behind x.1) || b) (h ∙ ap (λ (o : Option Shape). tells o t) none) ∙ or_none (nat_le t.part (parts_behind x.1))
-  go false e h = h
+      go : (b : Bool) → eq_by_cmp pair_cmp (pair_of t) x.0 ≡ b → contains part_cmp (told_parts xs) t ≡ tells (value_of pair_cmp xs (pair_of t)) t → ((b && nat_le t.part (parts_behind x.1)) || contains part_cmp (told_parts xs) t) ≡ tells (cond b (Some x.1) (value_of pair_cmp xs (pair_of t))) t
+      go true e h =
+          let none : value_of pair_cmp xs (pair_of t) ≡ None = ap (value_of pair_cmp xs) (eq_same exact_pairs (pair_of t) x.0 e) ∙ none_value exact_pairs.total x.0 xs r.0 in
+          ap (λ (b : Bool). nat_le t.part (parts_behind x.1) || b) (h ∙ ap (λ (o : Option Shape). tells o t) none) ∙ or_none (nat_le t.part (parts_behind x.1))
+      go false e h = h
 
 pub told_rise : (shapes : List (Pair × Shape)) → Rises pair_cmp (keys shapes) → Rises part_cmp (told_parts shapes)
 told_rise [] r = tt

@@ -39,8 +39,8 @@ module _ (p : Holdings) where
   found (x ∷ xs) e t h =
       let same : x ≡ t = some_same x t h in
       sym (contains-unclaimed p t) ∙ ap (λ (ys : List Part). contains part_cmp ys t) e ∙ contains_in exact_parts (x ∷ xs) t (inl (sym same)) where
-    some_same : (a b : Part) → Some a ≡ Some b → a ≡ b
-    some_same a b g = cc
+        some_same : (a b : Part) → Some a ≡ Some b → a ≡ b
+        some_same a b g = cc
 
   least_first : (xs : List Part) → unclaimed p ≡ xs → (t u : Part) → first xs ≡ Some t → is_unclaimed p u ≡ true → part_cmp u t ≢ Less
   least_first [] e t u h g l = absurd cc
@@ -51,8 +51,8 @@ module _ (p : Holdings) where
         | inl s ↦ lt_irrefl exact_parts u (subst (λ (w : Part). part_cmp u w ≡ Less) (sym same ∙ s) l)
         | inr before ↦ lt_irrefl exact_parts u (lt_trans exact_parts u t u l (subst (λ (w : Part). part_cmp w u ≡ Less) same before))
       ] where
-    some_same : (a b : Part) → Some a ≡ Some b → a ≡ b
-    some_same a b g = cc
+        some_same : (a b : Part) → Some a ≡ Some b → a ≡ b
+        some_same a b g = cc
 
   all_claimed : (xs : List Part) → unclaimed p ≡ xs → first xs ≡ None → (t : Part) → is_wanted p t ≡ true → is_claimed p t ≡ true
   all_claimed [] e h t w = claimed (is_claimed p t) refl where

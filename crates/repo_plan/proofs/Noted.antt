@@ -10,7 +10,6 @@ use Rattle.repo_plan.proofs.Sets.{In, eq_same, eq_itself}
 use Rattle.repo_plan.proofs.Known.{in_numbers}
 use Rattle.repo_plan.proofs.Whole.{all_in, each_all}
 use Rattle.repo_plan.proofs.Numbers.{exact_numbers}
-use Rattle.repo_plan.proofs.Held.{exact_of_pairs}
 
 or_swap : (a b c : Bool) → (a || (b || c)) ≡ (b || (a || c))
 or_swap true true c = refl
@@ -53,10 +52,6 @@ module _ (number : Number Pair) (told gap : ℕ) (done : Pair → Bool) (held mo
     pub kept_whole : (q : Number Pair) → rest q ≡ true → (eq_by_cmp (number_cmp pair_cmp) q number || held q) ≡ true
     kept_whole q h = sym (with_number q) ∙ (and_parts (not (eq_by_cmp pair_cmp number.0 q.0)) (more q) (sym (others q) ∙ h)).1
 
-  -- it is not
-  pub noted_apart : (q : Number Pair) → (done q.0 || more q) ≡ (eq_by_cmp (number_cmp pair_cmp) q number || (done q.0 || held q))
-  noted_apart q = ap (λ (b : Bool). done q.0 || b) (with_number q) ∙ or_swap (done q.0) (eq_by_cmp (number_cmp pair_cmp) q number) (held q)
-
   pub not_whole : more (number.0, gap) ≡ false → gap ≤ told → (q : Pair) → done q ≡ ((eq_by_cmp pair_cmp q number.0 && list_all (λ x. done number.0 || more (number.0, x)) (numbers_from 0 (told + 1))) || done q)
   not_whole lacks l q = go (done q) refl (eq_by_cmp pair_cmp q number.0) refl where
     or_true : (a : Bool) → true ≡ (a || true)
@@ -69,5 +64,5 @@ module _ (number : Number Pair) (told gap : ℕ) (done : Pair → Bool) (held mo
     go false d true e =
         let undone : done number.0 ≡ false = ap done (sym (eq_same exact_pairs q number.0 e)) ∙ d in
         sym (ap (λ (b : Bool). b || false) (false_from_ne_true (list_all (λ x. done number.0 || more (number.0, x)) (numbers_from 0 (told + 1))) (λ h.
-            let there = each_all (λ x. done number.0 || more (number.0, x)) (numbers_from 0 (told + 1)) h gap (in_numbers 0 (told + 1) gap (omega arith) (omega (arith, l))) in
-            true≢false (sym there ∙ (λ i. undone i || lacks i)))))
+        let there = each_all (λ x. done number.0 || more (number.0, x)) (numbers_from 0 (told + 1)) h gap (in_numbers 0 (told + 1) gap (omega arith) (omega (arith, l))) in
+        true≢false (sym there ∙ (λ i. undone i || lacks i)))))

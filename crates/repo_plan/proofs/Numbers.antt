@@ -24,14 +24,6 @@ nat_le_cmp m n h = grind (arith, nat_tests)
 cmp_nat_le : (m n : ℕ) → is_le (nat_cmp m n) ≡ true → m ≤ n
 cmp_nat_le m n h = grind (arith, nat_tests)
 
-pub is_eq_then : (x y : Ordering) → is_eq (ordering_then x y) ≡ (is_eq x && is_eq y)
-is_eq_then Less y = refl
-is_eq_then Equal y = refl
-is_eq_then Greater y = refl
-
-pub nat_is_eq : (m n : ℕ) → is_eq (nat_cmp m n) ≡ (m == n)
-nat_is_eq m n = grind (arith, nat_tests)
-
 module _ {P : Type 0} {R : P → P → Ordering} (o : IsTotalOrder R) (exact : IsExact R) where
   same_number : (a b : Number P) → number_cmp R a b ≡ Equal → a ≡ b
   same_number a b h = go (R a.0 b.0) refl h where
@@ -155,20 +147,20 @@ module _ {P : Type 0} {R : P → P → Ordering} (o : IsTotalOrder R) (exact : I
     fewer_runs y i =
         let u : Rises (number_cmp R) (keys es) = runs_rise follow es a in
         are_runs follow (without_key (number_cmp R) y.0 es) (rises_without exact_numbers.total y.0 es u)
-          (λ r j. not_empty follow es a r (in_without exact_numbers y.0 es u r j).0)
-          (λ r t j k. apart follow es a r t (in_without exact_numbers y.0 es u r j).0 (in_without exact_numbers y.0 es u t k).0)
+        (λ r j. not_empty follow es a r (in_without exact_numbers y.0 es u r j).0)
+        (λ r t j k. apart follow es a r t (in_without exact_numbers y.0 es u r j).0 (in_without exact_numbers y.0 es u t k).0)
 
     pub fewer_has : (y : Run P) → In y es → (q : Number P) → (y.0.0 ≡ q.0 → ⊥) → has (number_cmp R) (without_key (number_cmp R) y.0 es) q ≡ has (number_cmp R) es q
     fewer_has y i q n =
         both_ways (has (number_cmp R) (without_key (number_cmp R) y.0 es) q) (has (number_cmp R) es q) (λ h. there (has_from exact_numbers (without_key (number_cmp R) y.0 es) q h)) (λ h. back (has_from exact_numbers es q h)) where
-      u : Rises (number_cmp R) (keys es)
-      u = runs_rise follow es a
+          u : Rises (number_cmp R) (keys es)
+          u = runs_rise follow es a
 
-      there : IsIn exact_numbers (without_key (number_cmp R) y.0 es) q → has (number_cmp R) es q ≡ true
-      there m = has_in exact_numbers es q m.run (in_without exact_numbers y.0 es u m.run m.is_in).0 m.above m.within
+          there : IsIn exact_numbers (without_key (number_cmp R) y.0 es) q → has (number_cmp R) es q ≡ true
+          there m = has_in exact_numbers es q m.run (in_without exact_numbers y.0 es u m.run m.is_in).0 m.above m.within
 
-      back : IsIn exact_numbers es q → has (number_cmp R) (without_key (number_cmp R) y.0 es) q ≡ true
-      back m = has_in exact_numbers (without_key (number_cmp R) y.0 es) q m.run (without_in exact_numbers y.0 es m.run m.is_in (λ s. n (ap (λ (w : Number P). w.0) (sym s) ∙ within_thing m.run q m.is_in m.above m.within))) m.above m.within
+          back : IsIn exact_numbers es q → has (number_cmp R) (without_key (number_cmp R) y.0 es) q ≡ true
+          back m = has_in exact_numbers (without_key (number_cmp R) y.0 es) q m.run (without_in exact_numbers y.0 es m.run m.is_in (λ s. n (ap (λ (w : Number P). w.0) (sym s) ∙ within_thing m.run q m.is_in m.above m.within))) m.above m.within
 
     -- nothing stands from the thing's number 0 on, or only another thing's
     pub none_left : (p : P) → first_from (number_cmp R) (p, 0) es ≡ None → (q : Number P) → p ≡ q.0 → has (number_cmp R) es q ≡ false

@@ -21,7 +21,7 @@ use Rattle.repo_plan.proofs.Whole.{no_shape}
 use Rattle.repo_plan.proofs.Changes.{with_part, sound_as, sound_part, keeps_part}
 use Rattle.repo_plan.proofs.Done.{done_same, other_shape}
 use Rattle.repo_plan.proofs.Numbers.{exact_numbers}
-use Rattle.repo_plan.proofs.Held.{exact_of_pairs, number_of, same_part, tells, held_has, held_rise, hidden_has, hidden_rise}
+use Rattle.repo_plan.proofs.Held.{number_of, same_part, tells, held_has, held_rise, hidden_has, hidden_rise}
 
 -- the lists of the records that are held
 abbrev pub shapes_of : Inside → List (Pair × Shape)
@@ -101,30 +101,30 @@ module _ (p : Inside) (i : IsPlan p) where
             and_one (is_noted (runs_of done) (runs_of held) (number_of u))
             ∙ noted (number_of u) (λ _. leb-true u.part n l)
             ∙ (λ j. sym (same_part u t) j || known (is_noted (runs_of p.done) (runs_of p.held) (number_of u)) refl j) where
-          and_one : (b : Bool) → (b && true) ≡ b
-          and_one true = refl
-          and_one false = refl
+              and_one : (b : Bool) → (b && true) ≡ b
+              and_one true = refl
+              and_one false = refl
 
-          counts : (o : Option Shape) → shape_of (holdings p) (pair_of u) ≡ o → is_some o ≡ true → tells o u ≡ true
-          counts None e h = absurd (true≢false (sym h))
-          counts (Some m) e h = ap (nat_le u.part) (told_before u s m e) ∙ l
+              counts : (o : Option Shape) → shape_of (holdings p) (pair_of u) ≡ o → is_some o ≡ true → tells o u ≡ true
+              counts None e h = absurd (true≢false (sym h))
+              counts (Some m) e h = ap (nat_le u.part) (told_before u s m e) ∙ l
 
-          known : (b : Bool) → is_noted (runs_of p.done) (runs_of p.held) (number_of u) ≡ b → b ≡ (b && tells (shape_of (holdings p) (pair_of u)) u)
-          known true h = sym (counts (shape_of (holdings p) (pair_of u)) refl (noted_told u (ap (hides (holdings p)) s ∙ can.not_hidden) h))
-          known false h = refl
+              known : (b : Bool) → is_noted (runs_of p.done) (runs_of p.held) (number_of u) ≡ b → b ≡ (b && tells (shape_of (holdings p) (pair_of u)) u)
+              known true h = sym (counts (shape_of (holdings p) (pair_of u)) refl (noted_told u (ap (hides (holdings p)) s ∙ can.not_hidden) h))
+              known false h = refl
         here s false l =
             and_none (is_noted (runs_of done) (runs_of held) (number_of u))
             ∙ sym ((λ j. apart j || (is_noted (runs_of p.done) (runs_of p.held) (number_of u) && past (shape_of (holdings p) (pair_of u)) refl j)) ∙ and_none (is_noted (runs_of p.done) (runs_of p.held) (number_of u))) where
-          and_none : (b : Bool) → (b && false) ≡ false
-          and_none true = refl
-          and_none false = refl
+              and_none : (b : Bool) → (b && false) ≡ false
+              and_none true = refl
+              and_none false = refl
 
-          apart : eq_by_cmp part_cmp u t ≡ false
-          apart = false_from_ne_true (eq_by_cmp part_cmp u t) (λ e. true≢false (sym (le-leb u.part n (subst (λ (w : Part). w.part ≤ n) (sym (eq_same exact_parts u t e)) counts_it)) ∙ l))
+              apart : eq_by_cmp part_cmp u t ≡ false
+              apart = false_from_ne_true (eq_by_cmp part_cmp u t) (λ e. true≢false (sym (le-leb u.part n (subst (λ (w : Part). w.part ≤ n) (sym (eq_same exact_parts u t e)) counts_it)) ∙ l))
 
-          past : (o : Option Shape) → shape_of (holdings p) (pair_of u) ≡ o → tells o u ≡ false
-          past None e = refl
-          past (Some m) e = ap (nat_le u.part) (told_before u s m e) ∙ l
+              past : (o : Option Shape) → shape_of (holdings p) (pair_of u) ≡ o → tells o u ≡ false
+              past None e = refl
+              past (Some m) e = ap (nat_le u.part) (told_before u s m e) ∙ l
 
         go : (b : Bool) → eq_by_cmp pair_cmp (pair_of u) (pair_of t) ≡ b → (is_noted (runs_of done) (runs_of held) (number_of u) && tells (shape_of (with_part t segments (holdings p)) (pair_of u)) u) ≡ (eq_by_cmp part_cmp u t || (is_noted (runs_of p.done) (runs_of p.held) (number_of u) && tells (shape_of (holdings p) (pair_of u)) u))
         go true e =
@@ -152,26 +152,26 @@ module _ (p : Inside) (i : IsPlan p) where
       pub complete_more : are_noted (runs_of done) (runs_of held) (pair_of t) n ≡ is_complete (with_part t segments (holdings p)) (pair_of t)
       complete_more =
           all_over (λ x. is_noted (runs_of done) (runs_of held) (pair_of t, x)) (holds (with_part t segments (holdings p))) (numbers_from 0 (n + 1)) (λ x k.
-              let within : x ≤ n = omega (arith, (from_numbers 0 (n + 1) x k).1) in
-              let u = part_of (pair_of t) x in
-              sym ((λ j. contains part_cmp (sym held_more j) u)
-              ∙ held_has (runs_of done) (runs_of held) (with_shape (pair_of t) segments (shapes_of p)) sound_more.in_order.shapes u
-              ∙ ap (λ (o : Option Shape). is_noted (runs_of done) (runs_of held) (pair_of t, x) && tells o u) shape
-              ∙ and_true (is_noted (runs_of done) (runs_of held) (pair_of t, x)) (nat_le x n) (le-leb x n within)))
+          let within : x ≤ n = omega (arith, (from_numbers 0 (n + 1) x k).1) in
+          let u = part_of (pair_of t) x in
+          sym ((λ j. contains part_cmp (sym held_more j) u)
+          ∙ held_has (runs_of done) (runs_of held) (with_shape (pair_of t) segments (shapes_of p)) sound_more.in_order.shapes u
+          ∙ ap (λ (o : Option Shape). is_noted (runs_of done) (runs_of held) (pair_of t, x) && tells o u) shape
+          ∙ and_true (is_noted (runs_of done) (runs_of held) (pair_of t, x)) (nat_le x n) (le-leb x n within)))
           ∙ ap (λ (o : Option Shape). list_all (holds (with_part t segments (holdings p))) (parts_of (pair_of t) (parts_told o))) (sym shape)
 
       -- no other publication is hidden
       pub hidden_as_before : IsRuns nat_cmp done → (whole : Bool) → ((q : Pair) → has_number nat_cmp done q ≡ ((eq_by_cmp pair_cmp q (pair_of t) && whole) || has_number nat_cmp p.done q)) → hidden_pairs (runs_of done) (with_shape (pair_of t) segments (shapes_of p)) ≡ (holdings p).hidden
       hidden_as_before r whole d = same_sets exact_pairs _ (holdings p).hidden (hidden_rise (runs_of done) (with_shape (pair_of t) segments (shapes_of p)) r.runs r.one) i.sound.in_order.hidden (λ q.
           hidden_has (runs_of done) (with_shape (pair_of t) segments (shapes_of p)) r.runs r.one q ∙ go q (eq_by_cmp pair_cmp q (pair_of t)) refl) where
-        go : (q : Pair) (b : Bool) → eq_by_cmp pair_cmp q (pair_of t) ≡ b → (not (is_some (shape_of (with_part t segments (holdings p)) q)) && has_number nat_cmp done q) ≡ hides (holdings p) q
-        go q true e =
-            let s : q ≡ pair_of t = eq_same exact_pairs q (pair_of t) e in
-            ap (λ (o : Option Shape). not (is_some o) && has_number nat_cmp done q) (ap (shape_of (with_part t segments (holdings p))) s ∙ shape)
-            ∙ sym (ap (hides (holdings p)) s ∙ can.not_hidden)
-        go q false e =
-            (λ j. not (is_some (other_shape (holdings p) (pair_of t) q segments e j)) && (d q ∙ ap (λ (b : Bool). (b && whole) || has_number nat_cmp p.done q) e) j)
-            ∙ sym (hides_is q)
+            go : (q : Pair) (b : Bool) → eq_by_cmp pair_cmp q (pair_of t) ≡ b → (not (is_some (shape_of (with_part t segments (holdings p)) q)) && has_number nat_cmp done q) ≡ hides (holdings p) q
+            go q true e =
+                let s : q ≡ pair_of t = eq_same exact_pairs q (pair_of t) e in
+                ap (λ (o : Option Shape). not (is_some o) && has_number nat_cmp done q) (ap (shape_of (with_part t segments (holdings p))) s ∙ shape)
+                ∙ sym (ap (hides (holdings p)) s ∙ can.not_hidden)
+            go q false e =
+                (λ j. not (is_some (other_shape (holdings p) (pair_of t) q segments e j)) && (d q ∙ ap (λ (b : Bool). (b && whole) || has_number nat_cmp p.done q) e) j)
+                ∙ sym (hides_is q)
 
     -- what stands in the runs is held
     pub runs_more : (held : Runs Pair) → ((q : Number Pair) → has_number pair_cmp held q ≡ true → (eq_by_cmp (number_cmp pair_cmp) q (number_of t) || has_number pair_cmp p.held q) ≡ true) → (q : Number Pair) → has_number pair_cmp held q ≡ true → holds (with_part t segments (holdings p)) (part_of q.0 q.1) ≡ true
@@ -199,18 +199,18 @@ module _ (p : Inside) (i : IsPlan p) where
         ∙ ap (λ (o : Option Shape). is_noted (runs_of done) (runs_of held) (number_of u) && tells o u) (rest_has (pair_of u))
         ∙ go u (eq_by_cmp pair_cmp pair (pair_of u)) refl
         ∙ sym (contains-filter exact_parts (λ t. not (is_in pair t)) (holdings p).held u)) where
-      and_none : (b : Bool) → (b && false) ≡ false
-      and_none true = refl
-      and_none false = refl
+          and_none : (b : Bool) → (b && false) ≡ false
+          and_none true = refl
+          and_none false = refl
 
-      go : (u : Part) (b : Bool) → eq_by_cmp pair_cmp pair (pair_of u) ≡ b → (is_noted (runs_of done) (runs_of held) (number_of u) && tells (cond (not (eq_by_cmp pair_cmp pair (pair_of u))) (shape_of (holdings p) (pair_of u)) None) u) ≡ (not (eq_by_cmp pair_cmp pair (pair_of u)) && holds (holdings p) u)
-      go u true e =
-          (λ j. is_noted (runs_of done) (runs_of held) (number_of u) && tells (cond (not (e j)) (shape_of (holdings p) (pair_of u)) None) u)
-          ∙ and_none (is_noted (runs_of done) (runs_of held) (number_of u))
-          ∙ sym (ap (λ (b : Bool). not b && holds (holdings p) u) e)
-      go u false e =
-          (λ j. ((d (pair_of u) ∙ ap (λ (b : Bool). b || has_number nat_cmp p.done (pair_of u)) (both (pair_of u) false e)) j || (l (number_of u) ∙ ap (λ (b : Bool). not b && has_number pair_cmp p.held (number_of u)) e) j) && tells (cond (not (e j)) (shape_of (holdings p) (pair_of u)) None) u)
-          ∙ sym (ap (λ (b : Bool). not b && holds (holdings p) u) e ∙ holds_is u)
+          go : (u : Part) (b : Bool) → eq_by_cmp pair_cmp pair (pair_of u) ≡ b → (is_noted (runs_of done) (runs_of held) (number_of u) && tells (cond (not (eq_by_cmp pair_cmp pair (pair_of u))) (shape_of (holdings p) (pair_of u)) None) u) ≡ (not (eq_by_cmp pair_cmp pair (pair_of u)) && holds (holdings p) u)
+          go u true e =
+              (λ j. is_noted (runs_of done) (runs_of held) (number_of u) && tells (cond (not (e j)) (shape_of (holdings p) (pair_of u)) None) u)
+              ∙ and_none (is_noted (runs_of done) (runs_of held) (number_of u))
+              ∙ sym (ap (λ (b : Bool). not b && holds (holdings p) u) e)
+          go u false e =
+              (λ j. ((d (pair_of u) ∙ ap (λ (b : Bool). b || has_number nat_cmp p.done (pair_of u)) (both (pair_of u) false e)) j || (l (number_of u) ∙ ap (λ (b : Bool). not b && has_number pair_cmp p.held (number_of u)) e) j) && tells (cond (not (e j)) (shape_of (holdings p) (pair_of u)) None) u)
+              ∙ sym (ap (λ (b : Bool). not b && holds (holdings p) u) e ∙ holds_is u)
 
     pub hidden_more : IsRuns nat_cmp done → hidden_pairs (runs_of done) (filter (λ e. not (eq_by_cmp pair_cmp pair e.0)) (shapes_of p)) ≡ insert_key pair_cmp pair (holdings p).hidden
     hidden_more r = same_sets exact_pairs _ (insert_key pair_cmp pair (holdings p).hidden) (hidden_rise (runs_of done) _ r.runs r.one) (rises_insert exact_pairs.total pair (holdings p).hidden i.sound.in_order.hidden) (λ q.
@@ -218,13 +218,13 @@ module _ (p : Inside) (i : IsPlan p) where
         ∙ ap (λ (o : Option Shape). not (is_some o) && has_number nat_cmp done q) (rest_has q)
         ∙ go q (eq_by_cmp pair_cmp pair q) refl
         ∙ sym (contains-insert_key exact_pairs pair (holdings p).hidden q)) where
-      go : (q : Pair) (b : Bool) → eq_by_cmp pair_cmp pair q ≡ b → (not (is_some (cond (not (eq_by_cmp pair_cmp pair q)) (shape_of (holdings p) q) None)) && has_number nat_cmp done q) ≡ (eq_by_cmp pair_cmp q pair || hides (holdings p) q)
-      go q true e =
-          (λ j. not (is_some (cond (not (e j)) (shape_of (holdings p) q) None)) && (d q ∙ ap (λ (b : Bool). b || has_number nat_cmp p.done q) (both q true e)) j)
-          ∙ sym (ap (λ (b : Bool). b || hides (holdings p) q) (both q true e))
-      go q false e =
-          (λ j. not (is_some (cond (not (e j)) (shape_of (holdings p) q) None)) && (d q ∙ ap (λ (b : Bool). b || has_number nat_cmp p.done q) (both q false e)) j)
-          ∙ sym (ap (λ (b : Bool). b || hides (holdings p) q) (both q false e) ∙ hides_is q)
+          go : (q : Pair) (b : Bool) → eq_by_cmp pair_cmp pair q ≡ b → (not (is_some (cond (not (eq_by_cmp pair_cmp pair q)) (shape_of (holdings p) q) None)) && has_number nat_cmp done q) ≡ (eq_by_cmp pair_cmp q pair || hides (holdings p) q)
+          go q true e =
+              (λ j. not (is_some (cond (not (e j)) (shape_of (holdings p) q) None)) && (d q ∙ ap (λ (b : Bool). b || has_number nat_cmp p.done q) (both q true e)) j)
+              ∙ sym (ap (λ (b : Bool). b || hides (holdings p) q) (both q true e))
+          go q false e =
+              (λ j. not (is_some (cond (not (e j)) (shape_of (holdings p) q) None)) && (d q ∙ ap (λ (b : Bool). b || has_number nat_cmp p.done q) (both q false e)) j)
+              ∙ sym (ap (λ (b : Bool). b || hides (holdings p) q) (both q false e) ∙ hides_is q)
 
     pub runs_hidden : (q : Number Pair) → has_number pair_cmp held q ≡ true → contains part_cmp (filter (λ t. not (is_in pair t)) (holdings p).held) (part_of q.0 q.1) ≡ true
     runs_hidden q h =

@@ -4,8 +4,7 @@ use Rattle.std.proofs.lemmas.Cmp.{tied_itself}
 use Rattle.std.specs.Ordering.{eq_by_cmp, is_eq, is_ne}
 use Rattle.std.specs.declared.cmp.Ordering.{Ordering}
 use Rattle.std.specs.declared.cmp.Ordering.TheVariants.{Less, Equal, Greater}
-use Rattle.repo_plan.specs.SortedList.{without_key}
-use Rattle.repo_plan.specs.Runs.{Number, Run, has, has_number, runs_of, number_cmp}
+use Rattle.repo_plan.specs.Runs.{Run, has, has_number, runs_of, number_cmp}
 use Rattle.repo_plan.proofs.Sets.{In}
 use Rattle.repo_plan.proofs.Orders.{equal_from_is_eq}
 use Rattle.repo_plan.proofs.RunOrder.{first_is}
@@ -35,9 +34,9 @@ returns-then-is_ne-clause-numbers g c =
     let es = runs_of c.loop-first.self in
     let other = sym c.is_ne.ensures ∙ c.if-is_ne.true in
     λ q. ended (has (number_cmp g.P.Ord.cmp) es q) (eq_by_cmp g.P.Ord.cmp c.args.thing q.0) (has_number g.P.Ord.cmp c.args.self.now q) (v.kept q) (λ h.
-        others_left o v.set.exact es v.set.runs v.set.one c.args.thing (c.in-Some.first, c.in-Some.field-0-1) (sym c.in-Some.ensures)
-            (λ s. differs c.cmp.result other (c.cmp.ensures ∙ subst (λ p. g.P.Ord.cmp c.args.thing p ≡ Equal) s (tied_itself o c.args.thing)))
-            q (v.set.exact c.args.thing q.0 (equal_from_is_eq (g.P.Ord.cmp c.args.thing q.0) h)))
+    others_left o v.set.exact es v.set.runs v.set.one c.args.thing (c.in-Some.first, c.in-Some.field-0-1) (sym c.in-Some.ensures)
+    (λ s. differs c.cmp.result other (c.cmp.ensures ∙ subst (λ p. g.P.Ord.cmp c.args.thing p ≡ Equal) s (tied_itself o c.args.thing)))
+    q (v.set.exact c.args.thing q.0 (equal_from_is_eq (g.P.Ord.cmp c.args.thing q.0) h)))
 
 pub loop-first-smaller : goal.loop-first-smaller
 loop-first-smaller g c =
@@ -65,7 +64,7 @@ loop-first-preserved g c =
       };
       kept = λ q h.
           rw c.remove.ensures.entries (fewer_has o v.set.exact es v.set.runs v.set.one y there q (λ s.
-              true≢false (sym (ap is_eq (subst (λ p. g.P.Ord.cmp c.args.thing p ≡ Equal) (same ∙ s) (tied_itself o c.args.thing))) ∙ h)))
+          true≢false (sym (ap is_eq (subst (λ p. g.P.Ord.cmp c.args.thing p ≡ Equal) (same ∙ s) (tied_itself o c.args.thing))) ∙ h)))
           ∙ v.kept q h;
       room = omega (arith, v.room, c.remove.ensures.room);
     }
@@ -76,4 +75,4 @@ returns-clause-numbers g c =
     let o = g.met.P.Ord.total in
     let es = runs_of c.loop-first.self in
     λ q. ended (has (number_cmp g.P.Ord.cmp) es q) (eq_by_cmp g.P.Ord.cmp c.args.thing q.0) (has_number g.P.Ord.cmp c.args.self.now q) (v.kept q) (λ h.
-        none_left o v.set.exact es v.set.runs v.set.one c.args.thing (sym c.first_from.ensures ∙ c.in_default.is) q (v.set.exact c.args.thing q.0 (equal_from_is_eq (g.P.Ord.cmp c.args.thing q.0) h)))
+    none_left o v.set.exact es v.set.runs v.set.one c.args.thing (sym c.first_from.ensures ∙ c.in_default.is) q (v.set.exact c.args.thing q.0 (equal_from_is_eq (g.P.Ord.cmp c.args.thing q.0) h)))

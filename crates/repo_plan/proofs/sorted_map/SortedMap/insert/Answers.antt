@@ -1,4 +1,4 @@
-use Rattle.std.proofs.Common.{◌≡◌, ◌∙◌, sym, refl, Ok, Err, rules}
+use Rattle.std.proofs.Common.{◌∙◌, sym, refl, Ok, Err, rules}
 use Rattle.std.proofs.lemmas.List.Sorted.{answers_always}
 use Rattle.repo_plan.specs.SortedMap.{entries}
 use Rattle.repo_plan.proofs.MapChanges.{rises_with}
