@@ -45,19 +45,18 @@ number_same m n low_m low_n e =
     some_number m n
     (sym (number_of-number_field m (omega arith)) ∙ ap number_of e ∙ number_of-number_field n (omega arith))
   where
-  found : ℕ → Option ℕ
-  found n = Some n
+    found : ℕ → Option ℕ
+    found n = Some n
 
-  some_number : (m n : ℕ) → found m ≡ found n → m ≡ n
-  some_number m n e = cc
+    some_number : (m n : ℕ) → found m ≡ found n → m ≡ n
+    some_number m n e = cc
 
 -- ---- names
 
 pub records_differ : (node other group : List Component) (seq second : ℕ) → seq < 2 ^ 16 → second < 2 ^ 16
     → record_name node group seq ≡ record_name other group second → (node ≡ other) × (seq ≡ second)
 records_differ node other group seq second low_seq low_second e =
-    let both = last_same (node ++ group) (other ++ group) (0x3a, number_field seq) (0x3a, number_field second) e in
-    (
+    let both = last_same (node ++ group) (other ++ group) (0x3a, number_field seq) (0x3a, number_field second) e in (
       append_cancel_right node other group both.0,
       number_same seq second low_seq low_second (ap (λ (c : Component). c.1) both.1),
     )
@@ -117,7 +116,7 @@ module _ (own other : Publisher) (theirs : NamedContents) (is_own : IsPublisher 
   pub records_pass : (part : Part) (x : ℕ) → own.group ≡ other.group → part.seq < 2 ^ 16
       → packet_at other seq theirs x ≡ Some octets
       → IsOk (part_verdict (want_record part own.node own.group) key_name key octets)
-          → (x ≡ 0) × (own.node ≡ other.node) × (part.seq ≡ seq)
+      → (x ≡ 0) × (own.node ≡ other.node) × (part.seq ≡ seq)
   records_pass part zero group low_part at ok =
       let named = record_named own theirs is_own is_theirs part.seq low_part in
       let name = record_name_is (want_record part own.node own.group) at ok named in

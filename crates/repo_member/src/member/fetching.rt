@@ -12,8 +12,8 @@ ghost use Rattle.repo_member.specs.Listed.{listing_at};
 ghost use Rattle.repo_member.specs.Outcomes.{job_for, IsCheckedFor};
 
 use super::Member;
-use crate::group::Group;
 use crate::gaining::{Arrival, gain_listed, make_room};
+use crate::group::Group;
 use crate::listing::owned_name;
 use crate::refusals::{AcceptRefusal, WantFault};
 use repo_object::{Checked, Expected, Job, RecordView, Want, expect_record, expect_segment};

@@ -6,8 +6,8 @@ ghost use Rattle.repo_member.specs.Outcomes.{IsOutcome, outcome_of, came, octets
 ghost use Rattle.repo_member.specs.Outcomes.{KeepsButTries, with_all_fetched, with_all_tries};
 
 use super::Member;
-use crate::group::Group;
 use crate::gaining::{Arrival, gain_listed, make_room};
+use crate::group::Group;
 use repo_catalog::Catalogue;
 use repo_object::{Checked, Job};
 use repo_plan::{Part, Plan};

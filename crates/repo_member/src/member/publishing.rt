@@ -9,8 +9,8 @@ ghost use Rattle.repo_member.specs.Publishing.{IsPrepared, ArePackets, IsNew};
 
 use super::Member;
 use super::syncing::sync_of;
-use crate::group::Group;
 use crate::gaining::{gain, make_room};
+use crate::group::Group;
 use crate::listing::list_if_whole;
 use crate::refusals::PublishRefusal;
 use ndn_name::Name;

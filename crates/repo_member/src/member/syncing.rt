@@ -52,12 +52,7 @@ impl Member {
     }
 
     /// The member hears the vector of a sync Interest that the caller has checked, as `hear` does. It takes no memory.
-    pub fn hear_vector(
-        &mut self,
-        told: &Vector,
-        now: u64,
-        draw: u32,
-    ) -> Result<Mode, HearRefusal>
+    pub fn hear_vector(&mut self, told: &Vector, now: u64, draw: u32) -> Result<Mode, HearRefusal>
         requires width { length told.now ≡ length self.old.known }
         requires members { length told.now ≤ node_limit }
         requires early { now < 2 ^ 62 }

@@ -74,8 +74,7 @@ impl<'g> Peer<'g> {
         self.ready(rt);
         let told = other.member.vector();
         assert!(rt; told.members() == self.g.roster().len());
-        self.member
-            .hear_vector(told, u64::from(now), DRAW)
+        self.member.hear_vector(told, u64::from(now), DRAW)
     }
 
     pub(super) fn join_from(

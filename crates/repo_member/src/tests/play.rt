@@ -203,14 +203,20 @@ fn fetch_as_planned(
     plans(rt, bob, Some(first), &[(second, 0), (third, 0)])?;
     assert_eq!(rt;
         bob.take_two(rt, (None, 3), (alice.member.packet(second), 1))?,
-        Kept { parts: 1, octets: 77 }
+        Kept {
+            parts: 1,
+            octets: 77
+        }
     );
     lists(rt, bob, &[OF_BOB]);
     plans(rt, bob, None, &[(first, 3), (third, 0)])?;
     let packets = (alice.member.packet(first), alice.member.packet(third));
     assert_eq!(rt;
         bob.take_two(rt, (packets.0, 1), (packets.1, 2))?,
-        Kept { parts: 2, octets: 154 }
+        Kept {
+            parts: 2,
+            octets: 154
+        }
     );
     plans(rt, bob, None, &[])
 }
