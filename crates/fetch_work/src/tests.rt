@@ -143,7 +143,7 @@ struct Published {
     ring: KeyRing,
 }
 
-fn published(rt: &impl Abort, alloc: Global, count: u16) -> Result<Published, Fail>
+fn publish(rt: &impl Abort, alloc: Global, count: u16) -> Result<Published, Fail>
     ensures jobs { IfOk result (λ p. All (λ job. CanBeTried 1 5 job) p.jobs.items) }
     ensures few { IfOk result (λ p. length p.jobs.items ≤ 4096) }
     ensures ring { IfOk result (λ p. 0 < length p.ring) }
@@ -251,7 +251,7 @@ fn work_is_expected(alloc: Global, published: &Published) -> Result<bool, Fail>
 #[test]
 fn outcomes_are_the_same_for_any_number_of_workers(rt: HostRuntime) -> Result<(), Fail> {
     let alloc: Global = rt.alloc();
-    let published = published(&rt, alloc, 500)?;
+    let published = publish(&rt, alloc, 500)?;
     assert_eq!(rt; published.jobs.len(), 500);
     assert!(rt; work_is_expected(alloc, &published)?);
     for workers in [1u32, 2, 4, 16] {
@@ -283,7 +283,7 @@ fn first_sees_all<R: Threads + Sync>(rt: &R, alloc: Global, published: &Publishe
 #[test]
 fn workers_go_on_beside_each_other(rt: HostRuntime) -> Result<(), Fail> {
     let alloc: Global = rt.alloc();
-    let published = published(&rt, alloc, 4)?;
+    let published = publish(&rt, alloc, 4)?;
     assert!(rt; first_sees_all(&rt, alloc, &published)?);
     Ok(())
 }
