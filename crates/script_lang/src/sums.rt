@@ -1,4 +1,4 @@
-ghost use Rattle.std.specs.Prelude.{◌≡◌, ◌≤◌, IfNone, IfSome, true, false};
+ghost use Rattle.std.specs.Prelude.{◌≡◌, ◌<◌, ◌≤◌, ◌^◌, IfNone, IfSome, true, false};
 ghost use Rattle.script_lang.specs.Forms.{stated};
 ghost use Rattle.script_lang.specs.Checking.{adds, are_within_limits, segments, totals_of, with_totals};
 
@@ -27,8 +27,8 @@ impl Sums {
     // What a line adds.
     pub(crate) fn of_line(line: &Line) -> Sums
         ensures adds { totals_of result ≡ adds (stated line.now).verb (stated line.now).values }
-        ensures contents { result.contents ≤ 9223372036854775807 }
-        ensures parts { result.parts ≤ 9223372036854775808 }
+        ensures contents { result.contents < 2 ^ 63 }
+        ensures parts { result.parts ≤ 2 ^ 63 }
         ensures settles { result.settles ≤ 1 }
     {
         match line {
@@ -57,12 +57,14 @@ impl Sums {
     // These and those of one more line, where no limit is passed.
     pub(crate) fn with(self, added: Sums) -> Option<Sums>
         requires within { are_within_limits (totals_of self) ≡ true }
-        requires contents { added.contents ≤ 9223372036854775807 }
-        requires parts { added.parts ≤ 9223372036854775808 }
+        requires contents { added.contents < 2 ^ 63 }
+        requires parts { added.parts ≤ 2 ^ 63 }
         requires settles { added.settles ≤ 1 }
-        ensures some { IfSome result (λ sums. totals_of sums ≡ with_totals (totals_of self) (totals_of added)) }
+        ensures some { IfSome result
+            (λ sums. totals_of sums ≡ with_totals (totals_of self) (totals_of added)) }
         ensures within { IfSome result (λ sums. are_within_limits (totals_of sums) ≡ true) }
-        ensures none { IfNone result (are_within_limits (with_totals (totals_of self) (totals_of added)) ≡ false) }
+        ensures none { IfNone result
+            (are_within_limits (with_totals (totals_of self) (totals_of added)) ≡ false) }
     {
         let sums = Sums {
             contents: self.contents + added.contents,
@@ -87,9 +89,9 @@ impl Sums {
 
 // How many segments of this size a content has.
 fn segments(len: u64, size: u32) -> u64
-    requires { len ≤ 9223372036854775807 }
+    requires { len < 2 ^ 63 }
     ensures count { result ≡ segments len size }
-    ensures small { result ≤ 9223372036854775807 }
+    ensures small { result < 2 ^ 63 }
 {
     if size == 0 {
         return 0;

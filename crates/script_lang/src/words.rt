@@ -58,8 +58,6 @@ impl Words {
     }
 
     /// Takes a line, or refuses it for what came before it.
-    ///
-    /// What it declares counts for the lines behind it, whatever else refuses it.
     pub fn check(&mut self, line: &Line) -> Result<(), CheckFault>
         ensures ok { OnOk result (after_line self.old (stated line.now) ≡ Ok self.new) }
         ensures refused { IfErr result (λ fault. (fault ≡ CheckFault.NoMemory)
@@ -131,7 +129,8 @@ impl Words {
     /// The number of the member with this label, in the order of their declarations from 0.
     pub fn member(&self, label: &str) -> Option<u32>
         ensures value { result ≡ place_of label.now self.now.members }
-        ensures named { IfSome result (λ n. slice_get (map label_of self.now.members) n ≡ Some label.now) }
+        ensures named { IfSome result
+            (λ n. slice_get (map label_of self.now.members) n ≡ Some label.now) }
     {
         place_of(label, &self.members).map(|place| place as u32)
     }
@@ -139,7 +138,8 @@ impl Words {
     /// The number of the client with this label, in the order of their declarations from 0.
     pub fn client(&self, label: &str) -> Option<u32>
         ensures value { result ≡ place_of label.now self.now.clients }
-        ensures named { IfSome result (λ n. slice_get (map label_of self.now.clients) n ≡ Some label.now) }
+        ensures named { IfSome result
+            (λ n. slice_get (map label_of self.now.clients) n ≡ Some label.now) }
     {
         place_of(label, &self.clients).map(|place| place as u32)
     }

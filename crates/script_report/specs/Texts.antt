@@ -1,9 +1,8 @@
 -- The lines of a report, form by form: what each says of its values, in the order in which they are printed.
-use Rattle.std.specs.Prelude.{◌≡◌, ℕ, List, [], ◌∷◌, ◌++◌, codes, Option, Some, None, Result, Ok, Err}
+use Rattle.std.specs.Prelude.{ℕ, List, [], ◌∷◌, ◌++◌, codes, Option, Some, None}
 use Rattle.std.specs.Fmt.{decimal}
 use Rattle.std.specs.List.{flat_map}
 use Rattle.hex.specs.Hex.{encode_lower}
-use Rattle.ndn_name.specs.Names.{Component}
 use Rattle.ndn_name.specs.Uri.{uri}
 use Rattle.repo_catalog.specs.declared.entry.Entry.{Entry}
 
