@@ -1,11 +1,11 @@
 -- Fronts of texts, and where a text is cut.
-use Rattle.std.proofs.Common.{◌≡◌, ◌≢◌, ℕ, ◌<◌, suc, zero, Bool, true, false, eqb, eq-eqb, List, [], ◌∷◌, ◌++◌, length, get_or, drop, Option, Some, None, MatchOption, Bor, refl, sym, ap, subst, ◌∙◌, arith, inl, inr}
+use Rattle.std.proofs.Common.{◌≡◌, ◌≢◌, ℕ, ◌<◌, suc, eq-eqb, List, [], ◌∷◌, ◌++◌, length, get_or, drop, Option, Some, None, MatchOption, Bor, refl, sym, ap, subst, ◌∙◌, arith, inl, inr}
 use Rattle.std.proofs.lemmas.Bool.Decides.{eqb_tells}
 use Rattle.std.specs.Option.{option_copied, option_map}
-use Rattle.std.specs.Str.Pattern.{FindsTextPrefix, StripsPrefix, LacksTextAt}
+use Rattle.std.specs.Str.Pattern.{FindsTextPrefix, StripsPrefix}
 use Rattle.std.proofs.lemmas.Str.Pattern.{split_parts, IsSplitOnceResult}
 use Rattle.ndn_name.specs.UriText.{behind, cut_at}
-use Rattle.script_lang.proofs.Conditions.{other_test, same_tested}
+use Rattle.script_lang.proofs.Conditions.{other_test}
 
 pub behind_front : (front text : List ℕ) → behind front (front ++ text) ≡ Some text
 unfolding behind
@@ -30,15 +30,21 @@ pub cut_found : (c : ℕ) (xs ys : List ℕ) → ((i : ℕ) → i < length xs �
     → cut_at c (xs ++ c ∷ ys) ≡ Some (xs, ys)
 unfolding cut_at
 cut_found c [] ys lacks = rw (eq-eqb c c refl) refl
-cut_found c (x ∷ xs) ys lacks = rw (other_test x c (lacks 0 (omega arith)), cut_found c xs ys
-    (λ i lt. lacks (suc i) (omega arith))) refl
+cut_found c (x ∷ xs) ys lacks = rw (
+  other_test x c (lacks 0 (omega arith)),
+  cut_found c xs ys
+      (λ i lt. lacks (suc i) (omega arith)),
+) refl
 
 pub cut_none : (c : ℕ) (xs : List ℕ) → ((i : ℕ) → i < length xs → get_or xs i 0 ≢ c) → cut_at c xs ≡
     None
 unfolding cut_at
 cut_none c [] lacks = refl
-cut_none c (x ∷ xs) lacks = rw (other_test x c (lacks 0 (omega arith)), cut_none c xs
-    (λ i lt. lacks (suc i) (omega arith))) refl
+cut_none c (x ∷ xs) lacks = rw (
+  other_test x c (lacks 0 (omega arith)),
+  cut_none c xs
+      (λ i lt. lacks (suc i) (omega arith)),
+) refl
 
 -- `strip_prefix` and `split_once`
 pub stripped : (front text : List ℕ) (r : Option (Bor (List ℕ)))
@@ -73,7 +79,7 @@ cut_behind c d text parts None behind k = cc
 cut_behind c d text parts (Some x) behind k =
     let y : Parts = (d ∷ x.0, x.1) in
     subst (λ (q : Parts). d ∷ text ≡ q.0 ++ c ∷ q.1) (same_parts y parts k)
-        (ap (λ (t : List ℕ). d ∷ t) (behind x refl))
+    (ap (λ (t : List ℕ). d ∷ t) (behind x refl))
 
 pub cut_is : (c : ℕ) (text : List ℕ) (parts : Parts) → cut_at c text ≡ Some parts → text ≡ parts.0 ++ c
     ∷ parts.1

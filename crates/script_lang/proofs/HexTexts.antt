@@ -1,8 +1,8 @@
 -- Hexadecimal text is decoded just where it is the digits of the octets.
-use Rattle.std.proofs.Common.{◌≡◌, ◌≢◌, ◌<◌, ◌≤◌, ◌+◌, ◌*◌, ◌%◌, ℕ, Bool, true, false, ◌&&◌, eqb, List, [], ◌∷◌, length, nat_le, Option, Some, None, Result, Ok, Err, if◌then◌else◌, refl, sym, ap, ◌∙◌, arith, cond}
+use Rattle.std.proofs.Common.{◌≡◌, ◌<◌, ◌+◌, ◌*◌, ◌%◌, ℕ, eqb, List, [], ◌∷◌, length, Option, Some, None, Result, Ok, Err, refl, sym, arith}
 use Rattle.std.specs.Char.{digit_value}
 use Rattle.std.proofs.lemmas.Bool.Decides.{nat_tests}
-use Rattle.hex.specs.Hex.{decode_of, decode_pairs, pair_value, value_at, digit_or_error, hex_digit_value, ◌>>=◌}
+use Rattle.hex.specs.Hex.{decode_of, decode_pairs, pair_value, hex_digit_value, ◌>>=◌}
 use Rattle.hex.specs.declared.error.FromHexError.{FromHexError}
 use Rattle.hex.specs.declared.error.FromHexError.TheVariants.{OddLength}
 use Rattle.ndn_name.specs.Uri.{IsDigits}
@@ -19,7 +19,7 @@ is_digit c v h = grind (arith, nat_tests)
 by_pair : {P : Type 0} (high low i : ℕ) (rest : Result (List ℕ) FromHexError) (octets : List ℕ)
     → (pair_value high low i >>= λ byte. rest >>= λ bytes. Ok (byte ∷ bytes)) ≡ Ok octets
     → ((h l : ℕ) (bytes : List ℕ) → hex_digit_value high ≡ Some h → hex_digit_value low ≡ Some l →
-        rest ≡ Ok bytes → octets ≡ (h * 16 + l) ∷ bytes → P) → P
+    rest ≡ Ok bytes → octets ≡ (h * 16 + l) ∷ bytes → P) → P
 by_pair {P} high low i rest octets e f = first (hex_digit_value high) refl (hex_digit_value low) refl rest refl e where
   first : (a : Option ℕ) → hex_digit_value high ≡ a → (b : Option ℕ) → hex_digit_value low ≡ b
       → (r : Result (List ℕ) FromHexError) → rest ≡ r
@@ -44,8 +44,14 @@ are_pairs i (high ∷ low ∷ rest) octets e = by_pair high low i (decode_pairs 
 pairs_are : (i : ℕ) (text octets : List ℕ) → IsDigits octets text → decode_pairs i text ≡ Ok octets
 unfolding decode_pairs
 pairs_are i text [] h = rw h refl
-pairs_are i text (octet ∷ octets) h = rw (h.3, digit_is h.0 h.4.0, digit_is h.1 h.4.1, pairs_are
-    (i + 2) h.2 octets h.5, h.4.2) refl
+pairs_are i text (octet ∷ octets) h = rw (
+  h.3,
+  digit_is h.0 h.4.0,
+  digit_is h.1 h.4.1,
+  pairs_are
+      (i + 2) h.2 octets h.5,
+  h.4.2,
+) refl
 
 even : (text octets : List ℕ) → IsDigits octets text → length text % 2 ≡ 0
 even text [] h = rw h refl

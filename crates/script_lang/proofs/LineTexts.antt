@@ -1,8 +1,8 @@
 -- Octets are read as a line just where they are a text of it.
-use Rattle.std.proofs.Common.{lit<, ◌≡◌, ◌≢◌, ◌+◌, ◌-◌, ◌<◌, ◌≤◌, ℕ, zero, suc, Bool, true, false, not, ◌&&◌, eqb, eq-eqb, List, [], ◌∷◌, ◌++◌, length, take, slice_index, get_or, nat_le, Option, Some, None, Result, Ok, Err, if◌then◌else◌, refl, sym, ap, subst, ◌∙◌, arith, inl, inr, length-append, add-one}
+use Rattle.std.proofs.Common.{lit<, ◌≡◌, ◌+◌, ◌-◌, ◌<◌, ◌≤◌, ℕ, zero, suc, Bool, true, false, not, eqb, eq-eqb, List, [], ◌∷◌, ◌++◌, length, take, slice_index, nat_le, Option, Some, None, Result, Ok, Err, if◌then◌else◌, refl, sym, ap, subst, ◌∙◌, arith, length-append}
 use Rattle.std.specs.Prelude.{◌↔◌, replicate}
-use Rattle.std.specs.List.{list_all, find}
-use Rattle.std.proofs.lemmas.Bool.Decides.{nat_tests, eqb_tells}
+use Rattle.std.specs.List.{list_all}
+use Rattle.std.proofs.lemmas.Bool.Decides.{nat_tests}
 use Rattle.std.proofs.Math.Seq.{get_or-append_seam, take-append_seam, take-suc, take-length}
 use Rattle.script_lang.specs.declared.line_fault.LineFault.{LineFault}
 use Rattle.script_lang.specs.declared.line_fault.LineFault.TheVariants.{Syntax, Limit, NoMemory}
@@ -10,9 +10,9 @@ use Rattle.script_lang.specs.declared.verb.Verb.{Verb}
 use Rattle.script_lang.specs.Limits.{line_octets}
 use Rattle.script_lang.specs.Kinds.{Kind, Value, word_of}
 use Rattle.script_lang.specs.Forms.{Stated, form, said}
-use Rattle.script_lang.specs.Lines.{word_then, with_value, without_value, values_of, are_within, stated_of, verb_of, line_by, line_in_words, spaced, says_nothing, is_printable, mapped_line, line_in, line_within, ends_with, without_last, without_return, line_of}
-use Rattle.script_lang.specs.Texts.{IsOf, IsWordText, AreOf, AreWordTexts, IsSpaced, IsWord, IsEnded, by_input, by_feed, by_return, IsLineText, is_graphic}
-use Rattle.script_lang.proofs.Conditions.{and_both, chosen, never, same_ok, and_left, and_right, le_test, le_tested, same_tested, some_test, other_test}
+use Rattle.script_lang.specs.Lines.{word_then, values_of, are_within, stated_of, verb_of, line_by, line_in_words, spaced, says_nothing, is_printable, mapped_line, line_in, line_within, ends_with, without_last, without_return, line_of}
+use Rattle.script_lang.specs.Texts.{AreOf, AreWordTexts, IsSpaced, IsEnded, by_input, by_feed, by_return, IsLineText}
+use Rattle.script_lang.proofs.Conditions.{and_both, chosen, never, same_ok, and_left, and_right, le_test, le_tested, same_tested, some_test}
 use Rattle.script_lang.proofs.Spaces.{spaced_is, spaced_printable, is_spaced}
 use Rattle.script_lang.proofs.FirstWords.{verb_back, verb_word, speaks}
 use Rattle.script_lang.proofs.WordTexts.{word_is_text, text_is_word}
@@ -27,19 +27,19 @@ values_ok [] (word ∷ words) values h = never Syntax values h
 values_ok (kind ∷ kinds) [] values h = never Syntax values h
 values_ok (kind ∷ kinds) (word ∷ words) values h = go (word_of kind word) refl
     (values_of kinds words) refl h (values_ok kinds words) where
-  go : (r : Result Value LineFault) → word_of kind word ≡ r → (others : Result (List Value) LineFault)
-      → values_of kinds words ≡ others → word_then r others ≡ Ok values
-      → ((vs : List Value) → values_of kinds words ≡ Ok vs → AreOf kinds vs × AreWordTexts kinds vs words)
-      → AreOf (kind ∷ kinds) values × AreWordTexts (kind ∷ kinds) values (word ∷ words)
-  go (Ok value) e (Ok vs) f k behind =
-      let v = word_is_text kind value word e in
-      let b = behind vs f in
-      rw (sym (same_ok (value ∷ vs) values k)) ((v.0, b.0), (v.1, b.1))
-  go (Ok value) e (Err fault) f k behind = never fault values k
-  go (Err Limit) e (Ok vs) f k behind = never Limit values k
-  go (Err Limit) e (Err fault) f k behind = never fault values k
-  go (Err Syntax) e others f k behind = never Syntax values k
-  go (Err NoMemory) e others f k behind = never NoMemory values k
+      go : (r : Result Value LineFault) → word_of kind word ≡ r → (others : Result (List Value) LineFault)
+          → values_of kinds words ≡ others → word_then r others ≡ Ok values
+          → ((vs : List Value) → values_of kinds words ≡ Ok vs → AreOf kinds vs × AreWordTexts kinds vs words)
+          → AreOf (kind ∷ kinds) values × AreWordTexts (kind ∷ kinds) values (word ∷ words)
+      go (Ok value) e (Ok vs) f k behind =
+          let v = word_is_text kind value word e in
+          let b = behind vs f in
+          rw (sym (same_ok (value ∷ vs) values k)) ((v.0, b.0), (v.1, b.1))
+      go (Ok value) e (Err fault) f k behind = never fault values k
+      go (Err Limit) e (Ok vs) f k behind = never Limit values k
+      go (Err Limit) e (Err fault) f k behind = never fault values k
+      go (Err Syntax) e others f k behind = never Syntax values k
+      go (Err NoMemory) e others f k behind = never NoMemory values k
 
 values_back : (kinds : List Kind) (values : List Value) (words : List (List ℕ)) → AreOf kinds values
     → AreWordTexts kinds values words → values_of kinds words ≡ Ok values
@@ -68,9 +68,14 @@ words_ok (word ∷ words) s h = by_verb (verb_of word) refl h where
   by_values verb e (Ok values) f k = chosen (are_within verb values) (Ok (said verb values)) (Err Limit) s k
       (λ w q. (let v = values_ok (form verb).kinds words values f in
       let same : said verb values ≡ s = same_ok (said verb values) s q in
-      let here : AreWordsOf (said verb values) (word ∷ words) = record
-          { others = words; are = ap (λ (x : List ℕ). x ∷ words)
-          (verb_word word verb e); texts = v.1; ranges = v.0; within = w } in
+      let here : AreWordsOf (said verb values) (word ∷ words) = record {
+        others = words;
+        are = ap (λ (x : List ℕ). x ∷ words)
+            (verb_word word verb e);
+        texts = v.1;
+        ranges = v.0;
+        within = w;
+      } in
       subst (λ (x : Stated). AreWordsOf x (word ∷ words)) same here))
       (λ w q. never Limit s q)
 
@@ -81,8 +86,12 @@ words_ok (word ∷ words) s h = by_verb (verb_of word) refl h where
 words_back : (s : Stated) (others : List (List ℕ)) → AreWordTexts (form s.verb).kinds s.values others
     → AreOf (form s.verb).kinds s.values → are_within s.verb s.values ≡ true
     → line_in_words ((form s.verb).word ∷ others) ≡ Ok s
-words_back s others texts ranges within = rw (verb_back s.verb, values_back
-    (form s.verb).kinds s.values others ranges texts, within) refl
+words_back s others texts ranges within = rw (
+  verb_back s.verb,
+  values_back
+      (form s.verb).kinds s.values others ranges texts,
+  within,
+) refl
 
 -- ---- the body of a line
 
@@ -102,11 +111,15 @@ body_ok : (octets body : List ℕ) (s : Stated) → line_within octets body ≡ 
 body_ok octets body s h =
     chosen (nat_le (length octets) line_octets) (line_in body) (Err Limit) (Some s) h
     (λ fits q. chosen (says_nothing body) (Ok None)
-        (if list_all is_printable body then mapped_line (line_in_words (spaced body)) else Err Syntax) (Some s) q
+    (if list_all is_printable body then mapped_line (line_in_words (spaced body)) else Err Syntax) (Some s) q
     (λ _ r. none_read s r)
     (λ _ r. chosen (list_all is_printable body) (mapped_line (line_in_words (spaced body))) (Err Syntax) (Some s) r
-    (λ p x. record { fits = le_tested (length octets) line_octets fits; printable = p; words = line_ok
-        (line_in_words (spaced body)) s x })
+    (λ p x. record {
+      fits = le_tested (length octets) line_octets fits;
+      printable = p;
+      words = line_ok
+          (line_in_words (spaced body)) s x;
+    })
     (λ _ x. never Syntax (Some s) x)))
     (λ _ q. never Limit (Some s) q)
 
@@ -133,33 +146,33 @@ ends_is : (c : ℕ) (octets : List ℕ) → ends_with c octets ≡ true → octe
 ends_is c octets h =
     let some = and_left (not (eqb (length octets) 0)) _ h in
     let last : slice_index octets (length octets - 1) ≡ c =
-        same_tested (slice_index octets (length octets - 1)) c (and_right _ _ h) in
+    same_tested (slice_index octets (length octets - 1)) c (and_right _ _ h) in
     let more : 0 < length octets = some_length (length octets) some in
     let inside : length octets - 1 < length octets = omega arith in
     let all : suc (length octets - 1) ≡ length octets = omega arith in
     sym (take-length octets) ∙ ap (λ n. take n octets) (sym all) ∙ take-suc octets (length octets - 1) 0 inside
-        ∙ ap (λ (x : ℕ). take (length octets - 1) octets ++ x ∷ []) last
+    ∙ ap (λ (x : ℕ). take (length octets - 1) octets ++ x ∷ []) last
 
 line_is_text : (s : Stated) (octets : List ℕ) → line_of octets ≡ Ok (Some s) → IsLineText s octets
 line_is_text s octets h =
     chosen (ends_with 10 octets) (line_within (without_last octets)
-        (without_return (without_last octets))) (line_within octets octets) (Some s) h
+    (without_return (without_last octets))) (line_within octets octets) (Some s) h
     (λ feed q. with_feed feed (ends_with 13 (without_last octets)) refl q)
     (λ _ q. (let r = body_ok octets octets s q in line_text s octets octets octets r (by_input refl r.fits)))
   where
-  with_feed : ends_with 10 octets ≡ true → (b : Bool) → ends_with 13 (without_last octets) ≡ b
-      → line_within (without_last octets) (if b then without_last
-          (without_last octets) else without_last octets) ≡ Ok (Some s) → IsLineText s octets
-  with_feed feed false e q =
-      let r = body_ok (without_last octets) (without_last octets) s q in
-      line_text s octets (without_last octets) (without_last octets) r (by_feed (ends_is 10 octets feed) r.fits)
-  with_feed feed true e q =
-      let r = body_ok (without_last octets) (without_last (without_last octets)) s q in
-      let is = ends_is 13 (without_last octets) e in
-      let long : length (without_last (without_last octets)) + 1 ≤ line_octets = omega
-          (arith, ap length is, length-append (without_last (without_last octets)) (13 ∷ []), r.fits) in
-      line_text s octets (without_last octets) (without_last (without_last octets)) r
-          (by_return (ends_is 10 octets feed ∙ ap (λ (t : List ℕ). t ++ 10 ∷ []) is) long)
+    with_feed : ends_with 10 octets ≡ true → (b : Bool) → ends_with 13 (without_last octets) ≡ b
+        → line_within (without_last octets) (if b then without_last
+        (without_last octets) else without_last octets) ≡ Ok (Some s) → IsLineText s octets
+    with_feed feed false e q =
+        let r = body_ok (without_last octets) (without_last octets) s q in
+        line_text s octets (without_last octets) (without_last octets) r (by_feed (ends_is 10 octets feed) r.fits)
+    with_feed feed true e q =
+        let r = body_ok (without_last octets) (without_last (without_last octets)) s q in
+        let is = ends_is 13 (without_last octets) e in
+        let long : length (without_last (without_last octets)) + 1 ≤ line_octets = omega
+        (arith, ap length is, length-append (without_last (without_last octets)) (13 ∷ []), r.fits) in
+        line_text s octets (without_last octets) (without_last (without_last octets)) r
+        (by_return (ends_is 10 octets feed ∙ ap (λ (t : List ℕ). t ++ 10 ∷ []) is) long)
 
 -- ---- and back
 
@@ -201,9 +214,9 @@ body_back s octets h =
     let quiet : says_nothing h.body ≡ false = ap says_nothing h.spaced.2 ∙ loud h.spaced.0 s.verb h.spaced.1 in
     let printable = spaced_printable ((form s.verb).word ∷ h.words) h.body h.spaced in
     let words : spaced h.body ≡ (form s.verb).word ∷ h.words = spaced_is
-        ((form s.verb).word ∷ h.words) h.body h.spaced in
+    ((form s.verb).word ∷ h.words) h.body h.spaced in
     let line : line_in_words ((form s.verb).word ∷ h.words) ≡ Ok s = words_back s h.words h.texts
-        h.ranges h.within in
+    h.ranges h.within in
     rw (quiet, printable, words, line) refl
 
 ended_back : (s : Stated) (body octets : List ℕ) → IsEnded body octets → list_all is_printable body ≡ true
@@ -211,12 +224,25 @@ ended_back : (s : Stated) (body octets : List ℕ) → IsEnded body octets → l
 ended_back s body octets (by_input e fits) printable line =
     rw (e, no_end 10 body (lit< tt) printable, le_test (length body) line_octets fits) line
 ended_back s body octets (by_feed e fits) printable line =
-    rw (e, at_end 10 body, gone 10 body, no_end 13 body (lit< tt) printable, le_test
-        (length body) line_octets fits) line
+    rw (
+      e,
+      at_end 10 body,
+      gone 10 body,
+      no_end 13 body (lit< tt) printable,
+      le_test
+          (length body) line_octets fits,
+    ) line
 ended_back s body octets (by_return e fits) printable line =
     let long : length (body ++ 13 ∷ []) ≤ line_octets = omega (arith, length-append body (13 ∷ [])) in
-    rw (e, at_end 10 (body ++ 13 ∷ []), gone 10 (body ++ 13 ∷ []), at_end 13 body, gone 13 body, le_test
-        (length (body ++ 13 ∷ [])) line_octets long) line
+    rw (
+      e,
+      at_end 10 (body ++ 13 ∷ []),
+      gone 10 (body ++ 13 ∷ []),
+      at_end 13 body,
+      gone 13 body,
+      le_test
+          (length (body ++ 13 ∷ [])) line_octets long,
+    ) line
 
 text_is_line : (s : Stated) (octets : List ℕ) → IsLineText s octets → line_of octets ≡ Ok (Some s)
 text_is_line s octets h = ended_back s h.body octets h.ended

@@ -1,5 +1,5 @@
 -- Numerals are read as numbers.
-use Rattle.std.proofs.Common.{rules, ◌∙◌, suc, zero, not, ◌||◌, ◌++◌, ◌/◌, ◌%◌, get_or, ap, sym, nat_le, ◌≡◌, ◌≢◌, ◌<◌, ◌≤◌, ◌^◌, ◌+◌, ℕ, Bool, true, false, ◌&&◌, List, [], ◌∷◌, length, drop, arith, refl, eqb, inl, inr}
+use Rattle.std.proofs.Common.{rules, ◌∙◌, suc, zero, not, ◌||◌, ◌%◌, get_or, ap, nat_le, ◌≡◌, ◌≢◌, ◌<◌, ◌≤◌, ◌^◌, ◌+◌, ℕ, Bool, true, false, List, [], ◌∷◌, length, arith, refl, eqb, inl, inr}
 use Rattle.std.specs.Char.{is_ascii_digit, digit_value}
 use Rattle.std.specs.List.{list_all}
 use Rattle.std.specs.Str.Parse.{digits_value, AllDigits, IsNumeral, without_leading_plus}
@@ -23,8 +23,11 @@ no_plus c h = grind (arith, nat_tests)
 
 all_digits : (word : List ℕ) → list_all is_ascii_digit word ≡ true → AllDigits 10 word
 all_digits [] h = tt
-all_digits (c ∷ cs) h = (digit_below c (and_left (is_ascii_digit c) _ h), all_digits cs
-    (and_right (is_ascii_digit c) _ h))
+all_digits (c ∷ cs) h = (
+  digit_below c (and_left (is_ascii_digit c) _ h),
+  all_digits cs
+      (and_right (is_ascii_digit c) _ h),
+)
 
 are_digits : (word : List ℕ) → is_numeral word ≡ true → list_all is_ascii_digit word ≡ true
 are_digits [] h = refl
@@ -55,7 +58,7 @@ is_parsed (c ∷ cs) h =
     let low = below_limit (c ∷ cs) h in
     let some : 0 < length (c ∷ cs) = omega arith in
     rw (plain c cs (no_plus c (and_left (is_ascii_digit c) _ digits)))
-        ((some, all_digits (c ∷ cs) digits), omega (arith, low))
+    ((some, all_digits (c ∷ cs) digits), omega (arith, low))
 
 -- ---- numbers as they are printed
 
@@ -69,8 +72,11 @@ decimal_digits n small = decimal_by_steps (λ _ ds. list_all is_ascii_digit ds �
     (and_both _ true (digit_of (n % 10) (omega arith)) refl)) n small
 
 zero_alone : (c n : ℕ) → (c ≡ 48 → n ≡ 0) → (not (eqb c 48) || eqb n 0) ≡ true
-zero_alone c n h = elim (eqb_tells c 48) [ inl p ↦ rw (h p.1)
-    (or_true (not (eqb c 48))) | inr p ↦ rw p.0 refl ] where
+zero_alone c n h = elim (eqb_tells c 48) [
+  | inl p ↦ rw (h p.1)
+      (or_true (not (eqb c 48)))
+  | inr p ↦ rw p.0 refl
+] where
   or_true : (b : Bool) → (b || true) ≡ true
   or_true true = refl
   or_true false = refl
@@ -80,8 +86,8 @@ numeral_from : (ds : List ℕ) → 0 < length ds → length ds ≤ 18 → list_a
 numeral_from [] some short digits first = absurd (omega arith)
 numeral_from (c ∷ cs) some short digits first =
     and_both _ (list_all is_ascii_digit (c ∷ cs))
-        (and_both (nat_le (length cs) 17) _ (le_test (length cs) 17 (omega arith))
-        (zero_alone c (length cs) (λ h. (let one = first h in omega arith)))) digits
+    (and_both (nat_le (length cs) 17) _ (le_test (length cs) 17 (omega arith))
+    (zero_alone c (length cs) (λ h. (let one = first h in omega arith)))) digits
 
 first_of_decimal : (n : ℕ) → n < 2 ^ 64 → get_or (decimal n) 0 0 ≡ 48 → length (decimal n) ≡ 1
 first_of_decimal zero small h = ap length (decimal_digit 0 (omega arith))
@@ -91,7 +97,7 @@ pub decimal_numeral : (n : ℕ) → n < 10 ^ 18 → is_numeral (decimal n) ≡ t
 decimal_numeral n small =
     let low : n < 2 ^ 64 = omega arith in
     numeral_from (decimal n) (decimal_nonempty n low) (length-decimal-le 18 n (omega arith) small low)
-        (decimal_digits n low) (first_of_decimal n low)
+    (decimal_digits n low) (first_of_decimal n low)
 
 pub decimal_value : (n : ℕ) → n < 10 ^ 18 → digits_value 10 (decimal n) ≡ n
 decimal_value n small = let low : n < 2 ^ 64 = omega arith in (decimal_is_IsNumeral n low).1
@@ -109,5 +115,5 @@ printed_again [] h = absurd (false≢true h)
 printed_again (c ∷ cs) h =
     let low = below_limit (c ∷ cs) h in
     decimal-digits_value own (c ∷ cs) (are_digits (c ∷ cs) h) (omega arith)
-        (λ e. (let none : length cs ≡ 0 = zero_first c (length cs)
-        (and_right _ _ (and_left _ _ h)) e in omega arith)) (omega (arith, low))
+    (λ e. (let none : length cs ≡ 0 = zero_first c (length cs)
+    (and_right _ _ (and_left _ _ h)) e in omega arith)) (omega (arith, low))

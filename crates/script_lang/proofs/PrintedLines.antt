@@ -1,5 +1,5 @@
 -- A line that is printed from its values is read back.
-use Rattle.std.proofs.Common.{◌≡◌, ◌+◌, ◌*◌, ◌/◌, ◌%◌, ◌<◌, ◌≤◌, ◌^◌, ℕ, zero, suc, Bool, true, false, ◌&&◌, ◌||◌, List, [], ◌∷◌, ◌++◌, length, slice_index, get_or, Option, Some, Result, Ok, codes, refl, sym, ap, ◌∙◌, arith, inl, inr, lit<, append-nil}
+use Rattle.std.proofs.Common.{◌≡◌, ◌/◌, ◌%◌, ◌<◌, ◌≤◌, ◌^◌, ℕ, zero, suc, Bool, true, List, [], ◌∷◌, ◌++◌, length, slice_index, Some, Ok, refl, arith, inl, inr}
 use Rattle.std.specs.Fmt.{decimal}
 use Rattle.std.specs.List.{list_all}
 use Rattle.std.specs.Char.{is_ascii_digit, is_ascii_lowercase, is_ascii_graphic}
@@ -63,7 +63,7 @@ hex_graphic [] bytes = refl
 hex_graphic (b ∷ bs) bytes =
     let low : b < 256 = bytes 0 in
     and_both _ _ (hex_digit (b / 16) (omega arith))
-        (and_both _ _ (hex_digit (b % 16) (omega arith)) (hex_graphic bs (λ i. bytes (suc i))))
+    (and_both _ _ (hex_digit (b % 16) (omega arith)) (hex_graphic bs (λ i. bytes (suc i))))
 
 printed_uri : (name : List Component) → IsName name → HasUri name (uri name)
 printed_uri name h = (parts_at 0 name, uri-is name h, parts-name 0 name)
@@ -73,12 +73,18 @@ printed_is_word : (kind : Kind) (value : Value) → IsPlainValue value → IsOf 
 printed_is_word LABEL (Text label) plain of = label_is_word label of
 printed_is_word (N least most) (Number n) plain of =
     let low : n < 2 ^ 64 = omega arith in
-    record { some = decimal_nonempty n low; graphic = weaker is_ascii_digit is_graphic digit_graphic
-        (decimal n) (decimal_digits n low) }
+    record {
+      some = decimal_nonempty n low;
+      graphic = weaker is_ascii_digit is_graphic digit_graphic
+          (decimal n) (decimal_digits n low);
+    }
 printed_is_word (URI most) (Named name) plain of =
     let u = printed_uri name plain in
-    record { some = uri-some u.0 (uri name) u.1; graphic = weaker is_ascii_graphic is_graphic
-        visible_graphic (uri name) (uri-visible u.0 (uri name) u.1) }
+    record {
+      some = uri-some u.0 (uri name) u.1;
+      graphic = weaker is_ascii_graphic is_graphic
+          visible_graphic (uri name) (uri-visible u.0 (uri name) u.1);
+    }
 printed_is_word (HEX most) (Octets octets) plain of =
     record { some = omega (arith, length-encode_with lower_digits octets); graphic = hex_graphic octets plain }
 printed_is_word (CONTENT least most) (Octets octets) plain of = record
@@ -115,16 +121,24 @@ texts_of (kind ∷ kinds) [] plain of = absurd of
 words_of : (word : List ℕ) (kinds : List Kind) (values : List Value) → IsWord word → ArePlainValues values
     → AreOf kinds values → IsSpaced (word ∷ each kinds values) (word ++ words_text kinds values)
 words_of word [] [] is plain of = (0, [], refl, is, inl (refl, refl))
-words_of word (kind ∷ kinds) (value ∷ values) is plain of =
-    (0, words_text (kind ∷ kinds) (value ∷ values), refl, is, inr
-        (word_text kind value ++ words_text kinds values, refl, words_of
-        (word_text kind value) kinds values (printed_is_word kind value plain.0 of.0) plain.1 of.1))
+words_of word (kind ∷ kinds) (value ∷ values) is plain of = (
+  0,
+  words_text (kind ∷ kinds) (value ∷ values),
+  refl,
+  is,
+  inr (
+    word_text kind value ++ words_text kinds values,
+    refl,
+    words_of
+        (word_text kind value) kinds values (printed_is_word kind value plain.0 of.0) plain.1 of.1,
+  ),
+)
 words_of word [] (value ∷ values) is plain of = absurd of
 words_of word (kind ∷ kinds) [] is plain of = absurd of
 
 pub printed_is_read : (s : Stated) → ArePlainValues s.values → AreOf (form s.verb).kinds s.values
     → are_within s.verb s.values ≡ true → length (printed s) ≤ line_octets → line_of (printed s) ≡ Ok
-        (Some s)
+    (Some s)
 printed_is_read s plain of within fits = (line_texts s (printed s)).1 (record {
   body = printed s;
   words = each (form s.verb).kinds s.values;

@@ -1,5 +1,5 @@
 -- Words that are read one after another.
-use Rattle.std.proofs.Common.{◌≡◌, ℕ, Bool, true, false, List, [], ◌∷◌, Result, Ok, Err, refl, sym, if◌then◌else◌}
+use Rattle.std.proofs.Common.{◌≡◌, ℕ, Bool, true, false, List, [], ◌∷◌, Result, Ok, Err, refl, if◌then◌else◌}
 use Rattle.script_lang.specs.declared.line_fault.LineFault.{LineFault}
 use Rattle.script_lang.specs.declared.line_fault.LineFault.TheVariants.{Syntax, Limit, NoMemory}
 use Rattle.script_lang.specs.Kinds.{Kind, Value, word_of, mapped}
@@ -29,7 +29,7 @@ unfolding values_of
 took_limit over kind kinds word words value h = rw h (go over (values_of kinds words)) where
   go : (over : Bool) (others : Result (List Value) LineFault)
       → (if over then without_value (without_value others) else without_value others) ≡ with_value value
-          (without_value others)
+      (without_value others)
   go true (Ok values) = refl
   go true (Err fault) = refl
   go false (Ok values) = refl
@@ -56,7 +56,7 @@ reads view kind word before between behind instead (Ok x) result at_word gives k
     rw (keeps.0, keeps.1, at_word) (λ kinds. took_value between.over kind kinds word between.words (view x) gives)
 reads view kind word before between behind instead (Err Limit) result at_word gives keeps =
     rw (keeps.0, keeps.1, at_word) (λ kinds. took_limit between.over kind kinds word between.words
-        (view instead) gives)
+    (view instead) gives)
 reads view kind word before between behind instead (Err Syntax) result at_word gives keeps =
     rw (keeps, at_word) (λ kinds. took_syntax between.over kind kinds word between.words gives)
 reads view kind word before between behind instead (Err NoMemory) result at_word gives keeps =

@@ -1,11 +1,11 @@
 -- Words and the spaces between them.
-use Rattle.std.proofs.Common.{◌≡◌, ◌≢◌, ◌+◌, ◌<◌, ◌≤◌, ◌⊎◌, ℕ, zero, suc, Bool, true, false, not, ◌&&◌, eqb, eq-eqb, List, [], ◌∷◌, ◌++◌, length, filter, refl, sym, ap, subst, ◌∙◌, arith, inl, inr, append-nil, append_assoc, add-one}
+use Rattle.std.proofs.Common.{◌≡◌, ◌⊎◌, ℕ, zero, suc, Bool, true, false, not, eqb, eq-eqb, List, [], ◌∷◌, ◌++◌, length, filter, refl, sym, ap, subst, ◌∙◌, arith, inl, inr, append-nil}
 use Rattle.std.specs.Prelude.{replicate}
-use Rattle.std.specs.List.{list_all, slice_split, onto_first}
+use Rattle.std.specs.List.{list_all, slice_split}
 use Rattle.std.proofs.lemmas.Bool.Decides.{nat_tests, eqb_tells}
 use Rattle.std.proofs.lemmas.List.Folds.{list_all-append}
 use Rattle.script_lang.specs.Lines.{spaced, is_printable}
-use Rattle.script_lang.specs.Texts.{is_graphic, IsWord, IsSpaced}
+use Rattle.script_lang.specs.Texts.{is_graphic, IsSpaced}
 use Rattle.script_lang.proofs.Conditions.{and_left, and_right, and_both, some_test, weaker}
 
 abbrev is_space : ℕ → Bool
@@ -29,13 +29,19 @@ graphic_or_space c h s = grind (arith, nat_tests)
 splits : (word rest : List ℕ) → list_all is_graphic word ≡ true
     → slice_split is_space (word ++ 32 ∷ rest) ≡ word ∷ slice_split is_space rest
 splits [] rest h = refl
-splits (c ∷ cs) rest h = rw (no_space c (and_left (is_graphic c) _ h), splits cs rest
-    (and_right (is_graphic c) _ h)) refl
+splits (c ∷ cs) rest h = rw (
+  no_space c (and_left (is_graphic c) _ h),
+  splits cs rest
+      (and_right (is_graphic c) _ h),
+) refl
 
 split_last : (word : List ℕ) → list_all is_graphic word ≡ true → slice_split is_space word ≡ word ∷ []
 split_last [] h = refl
-split_last (c ∷ cs) h = rw (no_space c (and_left (is_graphic c) _ h), split_last cs
-    (and_right (is_graphic c) _ h)) refl
+split_last (c ∷ cs) h = rw (
+  no_space c (and_left (is_graphic c) _ h),
+  split_last cs
+      (and_right (is_graphic c) _ h),
+) refl
 
 -- ---- words with spaces are split into the words
 
@@ -48,8 +54,14 @@ spaced_is [] text h = ap spaced (h.1 ∙ sym (append-nil (replicate h.0 32))) �
 spaced_is (word ∷ words) text h =
     ap spaced h.2 ∙ behind_spaces h.0 (word ++ h.1)
     ∙ elim h.4 [
-      | inl end ↦ rw (end.0, end.1, append-nil word, split_last word h.3.graphic, some_test
-          (length word) h.3.some) refl
+      | inl end ↦ rw (
+        end.0,
+        end.1,
+        append-nil word,
+        split_last word h.3.graphic,
+        some_test
+            (length word) h.3.some,
+      ) refl
       | inr more ↦ rw (more.1, splits word more.0 h.3.graphic, some_test (length word) h.3.some)
           (ap (λ (ws : List (List ℕ)). word ∷ ws) (spaced_is words more.0 more.2))
     ]
@@ -94,10 +106,16 @@ begun text [] parts b = elim b.behind [
   | inr more ↦ (let e : text ≡ 32 ∷ more.0 = b.is ∙ more.1 in rw e (one_space (some_words parts) more.0 more.2))
 ]
 begun text (c ∷ cs) parts b = let t : is_some_word (c ∷ cs) ≡ true = some_test (length (c ∷ cs))
-    (omega arith) in rw t (0, b.rest, b.is, record { some = omega arith; graphic = b.graphic }, elim b.behind [
-  | inl end ↦ inl (end.0, ap some_words end.1)
-  | inr more ↦ inr more
-])
+    (omega arith) in rw t (
+      0,
+      b.rest,
+      b.is,
+      record { some = omega arith; graphic = b.graphic },
+      elim b.behind [
+        | inl end ↦ inl (end.0, ap some_words end.1)
+        | inr more ↦ inr more
+      ],
+    )
 
 record Splits (text : List ℕ) : Type 0 where
   first : List ℕ
@@ -106,8 +124,13 @@ record Splits (text : List ℕ) : Type 0 where
   begins : Begins text first parts
 
 split_text : (text : List ℕ) → list_all is_printable text ≡ true → Splits text
-split_text [] h = record { first = []; parts = []; split = refl; begins = record
-    { rest = []; is = refl; graphic = refl; behind = inl (refl, refl) } }
+split_text [] h = record {
+  first = [];
+  parts = [];
+  split = refl;
+  begins = record
+      { rest = []; is = refl; graphic = refl; behind = inl (refl, refl) };
+}
 split_text (c ∷ cs) h = elim (eqb_tells c 32) [
   | inl p ↦ at_space p.1 (split_text cs (and_right (is_printable c) _ h))
   | inr p ↦ in_word (graphic_or_space c (and_left (is_printable c) _ h) p.0) p.0
@@ -118,8 +141,13 @@ split_text (c ∷ cs) h = elim (eqb_tells c 32) [
     first = [];
     parts = s.first ∷ s.parts;
     split = rw (eq-eqb c 32 e, s.split) refl;
-    begins = record { rest = c ∷ cs; is = refl; graphic = refl; behind = inr
-        (cs, ap (λ (x : ℕ). x ∷ cs) e, begun cs s.first s.parts s.begins) };
+    begins = record {
+      rest = c ∷ cs;
+      is = refl;
+      graphic = refl;
+      behind = inr
+          (cs, ap (λ (x : ℕ). x ∷ cs) e, begun cs s.first s.parts s.begins);
+    };
   }
 
   in_word : is_graphic c ≡ true → is_space c ≡ false → Splits cs → Splits (c ∷ cs)
@@ -127,8 +155,13 @@ split_text (c ∷ cs) h = elim (eqb_tells c 32) [
     first = c ∷ s.first;
     parts = s.parts;
     split = rw (other, s.split) refl;
-    begins = record { rest = s.begins.rest; is = ap
-        (λ (t : List ℕ). c ∷ t) s.begins.is; graphic = and_both _ _ g s.begins.graphic; behind = s.begins.behind };
+    begins = record {
+      rest = s.begins.rest;
+      is = ap
+          (λ (t : List ℕ). c ∷ t) s.begins.is;
+      graphic = and_both _ _ g s.begins.graphic;
+      behind = s.begins.behind;
+    };
   }
 
 pub is_spaced : (text : List ℕ) → list_all is_printable text ≡ true → IsSpaced (spaced text) text

@@ -1,5 +1,5 @@
 -- A word is read as a value just where it is a text of the value.
-use Rattle.std.proofs.Common.{zero, suc, ◌≡◌, ◌≢◌, ◌<◌, ◌≤◌, ◌+◌, ◌*◌, ◌^◌, ℕ, Bool, true, false, not, ◌&&◌, ◌||◌, eqb, List, [], ◌∷◌, ◌++◌, length, get_or, nat_le, Option, Some, None, Result, Ok, Err, codes, if◌then◌else◌, refl, sym, ap, subst, ◌∙◌, arith, rules}
+use Rattle.std.proofs.Common.{zero, suc, ◌≡◌, ◌≢◌, ◌<◌, ◌≤◌, ◌^◌, ℕ, Bool, true, false, ◌&&◌, List, [], ◌∷◌, ◌++◌, length, get_or, nat_le, Option, Some, None, Result, Ok, Err, codes, if◌then◌else◌, refl, sym, ap, subst, ◌∙◌, arith}
 use Rattle.std.specs.Prelude.{◌↔◌, replicate, option_and_then}
 use Rattle.std.specs.Fmt.{decimal}
 use Rattle.std.specs.Char.{is_ascii_digit}
@@ -12,7 +12,6 @@ use Rattle.hex.specs.declared.error.FromHexError.{FromHexError}
 use Rattle.ndn_name.specs.Names.{Component, encoding}
 use Rattle.ndn_name.specs.UriText.{behind, cut_at, is_digest, name_of_text, plain_name, plain_name_of_text}
 use Rattle.ndn_name.specs.Uri.{IsDigits}
-use Rattle.ndn_name.specs.UriVerdict.{HasUri}
 use Rattle.script_lang.specs.declared.line_fault.LineFault.{LineFault}
 use Rattle.script_lang.specs.declared.line_fault.LineFault.TheVariants.{Syntax, Limit}
 use Rattle.script_lang.specs.Kinds.{Kind, LABEL, N, URI, HEX, CONTENT, Value, Text, Number, Named, Octets, word_of, mapped, is_label, label_of, is_numeral, number_of, octets_within, decoded_within, hex_of, filled, filled_of, content_by, content_of, name_within, name_of}
@@ -46,15 +45,20 @@ read_label word value h =
 
 number_ok : (least most : ℕ) (word : List ℕ) (n : ℕ) → number_of least most word ≡ Ok n
     → (is_numeral word ≡ true) × (least ≤ digits_value 10 word) × (digits_value 10 word ≤ most) ×
-        (n ≡ digits_value 10 word)
+    (n ≡ digits_value 10 word)
 unfolding number_of
 number_ok least most word n h =
     chosen (is_numeral word) (if nat_le least (digits_value 10 word) && nat_le
-        (digits_value 10 word) most then Ok (digits_value 10 word) else Err Limit) (Err Syntax) n h
+    (digits_value 10 word) most then Ok (digits_value 10 word) else Err Limit) (Err Syntax) n h
     (λ p q. chosen (nat_le least (digits_value 10 word) && nat_le (digits_value 10 word) most)
-        (Ok (digits_value 10 word)) (Err Limit) n q
-    (λ r s. (p, le_tested least (digits_value 10 word) (and_left _ _ r), le_tested
-        (digits_value 10 word) most (and_right _ _ r), sym (same_ok _ _ s)))
+    (Ok (digits_value 10 word)) (Err Limit) n q
+    (λ r s. (
+      p,
+      le_tested least (digits_value 10 word) (and_left _ _ r),
+      le_tested
+          (digits_value 10 word) most (and_right _ _ r),
+      sym (same_ok _ _ s),
+    ))
     (λ r s. never Limit n s))
     (λ p q. never Syntax n q)
 
@@ -86,8 +90,12 @@ within_ok most None name h = never Syntax name h
 within_ok most (Some n) name h =
     chosen (nat_le 1 (length (encoding n)) && nat_le (length (encoding n)) most) (Ok n) (Err Limit) name h
     (λ r s. (let e : n ≡ name = same_ok n name s in
-    rw (← e) (refl, le_tested 1 (length (encoding n)) (and_left _ _ r), le_tested
-        (length (encoding n)) most (and_right _ _ r))))
+    rw (← e) (
+      refl,
+      le_tested 1 (length (encoding n)) (and_left _ _ r),
+      le_tested
+          (length (encoding n)) most (and_right _ _ r),
+    )))
     (λ r s. never Limit name s)
 
 read_name : (most : ℕ) (word : List ℕ) (value : Value) → word_of (URI most) word ≡ Ok value
@@ -106,13 +114,17 @@ many_ok : (least most : ℕ) (octets found : List ℕ) → octets_within least m
 many_ok least most octets found h =
     chosen (nat_le least (length octets) && nat_le (length octets) most) (Ok octets) (Err Limit) found h
     (λ r s. (let e : octets ≡ found = same_ok octets found s in
-    rw (← e) (refl, le_tested least (length octets) (and_left _ _ r), le_tested (length octets) most
-        (and_right _ _ r))))
+    rw (← e) (
+      refl,
+      le_tested least (length octets) (and_left _ _ r),
+      le_tested (length octets) most
+          (and_right _ _ r),
+    )))
     (λ r s. never Limit found s)
 
 decoded_ok : (least most : ℕ) (r : Result (List ℕ) FromHexError) (found : List ℕ)
     → decoded_within least most r ≡ Ok found → (r ≡ Ok found) × (least ≤ length found) ×
-        (length found ≤ most)
+    (length found ≤ most)
 decoded_ok least most (Ok octets) found h = let m = many_ok least most octets found h in rw m.0 (refl, m.1, m.2)
 decoded_ok least most (Err e) found h = never Syntax found h
 
@@ -134,27 +146,30 @@ read_hex most word value h =
 
 filled_ok : (least most : ℕ) (o : Option (List ℕ × List ℕ)) (octets counts : List ℕ)
     → ((x : List ℕ × List ℕ) → o ≡ Some x → counts ≡ x.0 ++ 58 ∷ x.1) → filled least most o ≡ Ok
-        octets
+    octets
     → IsContentText octets (codes "fill:" ++ counts) × (least ≤ length octets) × (length octets ≤ most)
 filled_ok least most None octets counts cut h = never Syntax octets h
 filled_ok least most (Some x) octets counts cut h =
     chosen (is_numeral x.0 && is_numeral x.1) (if nat_le least (digits_value 10 x.0) && nat_le
-        (digits_value 10 x.0) most && nat_le (digits_value 10 x.1) 255 then Ok
-        (replicate (digits_value 10 x.0) (digits_value 10 x.1)) else Err Limit) (Err Syntax) octets h
+    (digits_value 10 x.0) most && nat_le (digits_value 10 x.1) 255 then Ok
+    (replicate (digits_value 10 x.0) (digits_value 10 x.1)) else Err Limit) (Err Syntax) octets h
     (λ p q. chosen (nat_le least (digits_value 10 x.0) && nat_le (digits_value 10 x.0) most && nat_le
-        (digits_value 10 x.1) 255) (Ok (replicate (digits_value 10 x.0) (digits_value 10 x.1))) (Err Limit) octets q
+    (digits_value 10 x.1) 255) (Ok (replicate (digits_value 10 x.0) (digits_value 10 x.1))) (Err Limit) octets q
     (λ r s. (let a = and_left (is_numeral x.0) _ p in
     let b = and_right (is_numeral x.0) _ p in
     let e : octets ≡ replicate (digits_value 10 x.0) (digits_value 10 x.1) = sym (same_ok _ octets s) in
     let l : length octets ≡ digits_value 10 x.0 = ap length e
-        ∙ length-replicate (digits_value 10 x.0) (digits_value 10 x.1) in
+    ∙ length-replicate (digits_value 10 x.0) (digits_value 10 x.1) in
     let front = and_left (nat_le least (digits_value 10 x.0) && nat_le (digits_value 10 x.0) most) _ r in
     let low : least ≤ digits_value 10 x.0 = le_tested least (digits_value 10 x.0) (and_left _ _ front) in
-    let high : digits_value 10 x.0 ≤ most = le_tested (digits_value 10 x.0) most (and_right _ _ front) in
-    (fills (digits_value 10 x.0) (digits_value 10 x.1) (below_limit x.0 a)
-        (le_tested (digits_value 10 x.1) 255 (and_right _ _ r)) e
-        (ap (λ t. codes "fill:" ++ t) (cut x refl ∙ rw
-            (printed_again x.0 a, printed_again x.1 b) refl)), omega (arith, low, l), omega (arith, high, l))))
+    let high : digits_value 10 x.0 ≤ most = le_tested (digits_value 10 x.0) most (and_right _ _ front) in (
+      fills (digits_value 10 x.0) (digits_value 10 x.1) (below_limit x.0 a)
+          (le_tested (digits_value 10 x.1) 255 (and_right _ _ r)) e
+          (ap (λ t. codes "fill:" ++ t) (cut x refl ∙ rw
+          (printed_again x.0 a, printed_again x.1 b) refl)),
+      omega (arith, low, l),
+      omega (arith, high, l),
+    )))
     (λ r s. never Limit octets s))
     (λ p q. never Syntax octets q)
 
@@ -163,21 +178,21 @@ content_ok : (least most : ℕ) (word octets : List ℕ) → content_of least mo
 unfolding content_of filled_of
 content_ok least most word octets h = go (behind (codes "text:") word) refl
     (behind (codes "hex:") word) refl (behind (codes "fill:") word) refl h where
-  go : (a : Option (List ℕ)) → behind (codes "text:") word ≡ a → (b : Option (List ℕ))
-      → behind (codes "hex:") word ≡ b → (c : Option (List ℕ)) → behind (codes "fill:") word ≡ c
-      → content_by least most a b c ≡ Ok octets
-      → IsContentText octets word × (least ≤ length octets) × (length octets ≤ most)
-  go (Some text) p b q c r k =
-      let m = many_ok least most text octets k in
-      (plain (front_of (codes "text:") word text p ∙ ap (λ t. codes "text:" ++ t) m.0), m.1, m.2)
-  go None p (Some tail) q c r k =
-      let x = hex_ok least most tail octets k in
-      (digits tail (front_of (codes "hex:") word tail q) x.0, x.1, x.2)
-  go None p None q (Some counts) r k =
-      let f = filled_ok least most (cut_at 58 counts) octets counts (cut_is 58 counts) k in
-      subst (λ t. IsContentText octets t × (least ≤ length octets) × (length octets ≤ most))
+      go : (a : Option (List ℕ)) → behind (codes "text:") word ≡ a → (b : Option (List ℕ))
+          → behind (codes "hex:") word ≡ b → (c : Option (List ℕ)) → behind (codes "fill:") word ≡ c
+          → content_by least most a b c ≡ Ok octets
+          → IsContentText octets word × (least ≤ length octets) × (length octets ≤ most)
+      go (Some text) p b q c r k =
+          let m = many_ok least most text octets k in
+          (plain (front_of (codes "text:") word text p ∙ ap (λ t. codes "text:" ++ t) m.0), m.1, m.2)
+      go None p (Some tail) q c r k =
+          let x = hex_ok least most tail octets k in
+          (digits tail (front_of (codes "hex:") word tail q) x.0, x.1, x.2)
+      go None p None q (Some counts) r k =
+          let f = filled_ok least most (cut_at 58 counts) octets counts (cut_is 58 counts) k in
+          subst (λ t. IsContentText octets t × (least ≤ length octets) × (length octets ≤ most))
           (sym (front_of (codes "fill:") word counts r)) f
-  go None p None q None r k = never Syntax octets k
+      go None p None q None r k = never Syntax octets k
 
 read_content : (least most : ℕ) (word : List ℕ) (value : Value) → word_of (CONTENT least most) word ≡ Ok value
     → IsOf (CONTENT least most) value × IsWordText (CONTENT least most) value word
@@ -212,10 +227,18 @@ unfolding filled_of
 filled_text least most count octet small byte low high =
     let n : count < 2 ^ 64 = omega arith in
     let m : octet < 10 ^ 18 = omega arith in
-    rw (cut_found 58 (decimal count) (decimal octet)
-        (no_colon (decimal count) (decimal_digits count n)), decimal_numeral count small,
-        decimal_numeral octet m, decimal_value count small, decimal_value octet m, le_test least count
-        low, le_test count most high, le_test octet 255 byte) refl
+    rw (
+      cut_found 58 (decimal count) (decimal octet)
+          (no_colon (decimal count) (decimal_digits count n)),
+      decimal_numeral count small,
+      decimal_numeral octet m,
+      decimal_value count small,
+      decimal_value octet m,
+      le_test least count
+          low,
+      le_test count most high,
+      le_test octet 255 byte,
+    ) refl
 
 content_is : (least most : ℕ) (octets word : List ℕ) → IsContentText octets word → least ≤ length octets
     → length octets ≤ most → content_of least most word ≡ Ok octets
@@ -236,9 +259,13 @@ unfolding label_of number_of name_of hex_of
 text_is_word LABEL (Text label) word of text = rw (text, of) refl
 text_is_word (N least most) (Number n) word of text = rw
     (text.1, decimal_numeral n text.0, decimal_value n text.0, le_test least n of.0, le_test n most of.1) refl
-text_is_word (URI most) (Named name) word of text = rw
-    ((texts-computed word name).1 text, of.0, le_test 1 (length (encoding name)) of.1, le_test
-    (length (encoding name)) most of.2) refl
+text_is_word (URI most) (Named name) word of text = rw (
+  (texts-computed word name).1 text,
+  of.0,
+  le_test 1 (length (encoding name)) of.1,
+  le_test
+      (length (encoding name)) most of.2,
+) refl
 text_is_word (HEX most) (Octets octets) word of text = rw
     (digits_decoded word octets text, le_test 1 (length octets) of.0, le_test (length octets) most of.1) refl
 text_is_word (CONTENT least most) (Octets octets) word of text = ap (mapped Octets)

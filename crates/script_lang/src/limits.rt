@@ -23,10 +23,15 @@ pub const SETTLES_LIMIT: u64 = 1_000;
 // The ranges of words, in octets: the value of a node's or the group's name, of an object's name, a key,
 // octets that are handed in, the content of a block and of a publication.
 pub(crate) const NODE_NAME: u64 = 200;
+
 pub(crate) const OBJECT_NAME: u64 = 400;
+
 pub(crate) const KEY: u64 = 128;
+
 pub(crate) const INJECTION: u64 = 9_000;
+
 pub(crate) const BLOCK: u64 = 8_000;
+
 pub(crate) const CONTENT: u64 = 1_600_000;
 
 // The greatest number that a word is.

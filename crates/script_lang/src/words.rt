@@ -40,7 +40,7 @@ impl Model for Words {
     } };
 
     ghost invariant = { λ w. (are_within_limits (totals_of w.sums) ≡ true)
-      × (length w.members.items ≤ 16) × (length w.clients.items ≤ 16) };
+        × (length w.members.items ≤ 16) × (length w.clients.items ≤ 16) };
 }
 
 impl Words {

@@ -16,4 +16,4 @@ returns c = any_from_yields_List (λ (d : Declaration). bytes_eq
     _ c.any.result c.any.ensures.ran (YieldsList-from_slice c.args.parties.now c.iter.ensures.rest)
     (λ x b q k. search (rules, tests))
     ∙ any-map party_of (λ (p : Party). bytes_eq p.label c.args.label.now || bytes_eq (encoding p.node)
-        (encoding c.args.node.now)) c.args.parties.now
+    (encoding c.args.node.now)) c.args.parties.now

@@ -9,14 +9,14 @@ use Rattle.script_lang.proofs.words.Words.label.Goals as goal
 pub returns : goal.returns
 returns c =
     let seen : c.args.self.now.members ≡ parties_of c.self.inside.members.items = ap
-        (λ (d : Declared). d.members) (sym c.self.view_is) in
+    (λ (d : Declared). d.members) (sym c.self.view_is) in
     let count : length c.args.self.now.members ≡ length c.self.inside.members.items = ap length seen
-        ∙ length-map c.self.inside.members.items party_of in
+    ∙ length-map c.self.inside.members.items party_of in
     let within : c.args.member < length c.self.inside.members.items = omega arith in
     ap (λ m. slice_get (map label_of m) c.args.member) seen
     ∙ slice_get-map label_of (parties_of c.self.inside.members.items) c.args.member
     ∙ ap (option_map label_of) (slice_get-map party_of c.self.inside.members.items c.args.member)
     ∙ ap (λ o. option_map label_of (option_map party_of o))
-        (slice_get-get_or c.self.inside.members.items c.args.member c.index.result.now within ∙ ap Some
-        (sym c.index.ensures))
+    (slice_get-get_or c.self.inside.members.items c.args.member c.index.result.now within ∙ ap Some
+    (sym c.index.ensures))
     ∙ ap Some (sym c.as_str.ensures.value)
