@@ -1,8 +1,8 @@
 -- Octets are read as a line just where they are a text of it.
-use Rattle.std.proofs.Common.{lit<, ◌≡◌, ◌≢◌, ◌+◌, ◌-◌, ◌<◌, ◌≤◌, ℕ, zero, suc, Bool, true, false, not, ◌&&◌, eqb, eq-eqb, List, [], ◌∷◌, ◌++◌, length, take, slice_index, get_or, nat_le, Option, Some, None, Result, Ok, Err, if◌then◌else◌, refl, sym, ap, subst, ◌∙◌, arith, inl, inr, length-append, add-one}
+use Rattle.std.proofs.Common.{lit<, ◌≡◌, ◌+◌, ◌-◌, ◌<◌, ◌≤◌, ℕ, zero, suc, Bool, true, false, not, eqb, eq-eqb, List, [], ◌∷◌, ◌++◌, length, take, slice_index, nat_le, Option, Some, None, Result, Ok, Err, if◌then◌else◌, refl, sym, ap, subst, ◌∙◌, arith, length-append}
 use Rattle.std.specs.Prelude.{◌↔◌, replicate}
-use Rattle.std.specs.List.{list_all, find}
-use Rattle.std.proofs.lemmas.Bool.Decides.{nat_tests, eqb_tells}
+use Rattle.std.specs.List.{list_all}
+use Rattle.std.proofs.lemmas.Bool.Decides.{nat_tests}
 use Rattle.std.proofs.Math.Seq.{get_or-append_seam, take-append_seam, take-suc, take-length}
 use Rattle.script_lang.specs.declared.line_fault.LineFault.{LineFault}
 use Rattle.script_lang.specs.declared.line_fault.LineFault.TheVariants.{Syntax, Limit, NoMemory}
@@ -10,9 +10,9 @@ use Rattle.script_lang.specs.declared.verb.Verb.{Verb}
 use Rattle.script_lang.specs.Limits.{line_octets}
 use Rattle.script_lang.specs.Kinds.{Kind, Value, word_of}
 use Rattle.script_lang.specs.Forms.{Stated, form, said}
-use Rattle.script_lang.specs.Lines.{word_then, with_value, without_value, values_of, are_within, stated_of, verb_of, line_by, line_in_words, spaced, says_nothing, is_printable, mapped_line, line_in, line_within, ends_with, without_last, without_return, line_of}
-use Rattle.script_lang.specs.Texts.{IsOf, IsWordText, AreOf, AreWordTexts, IsSpaced, IsWord, IsEnded, by_input, by_feed, by_return, IsLineText, is_graphic}
-use Rattle.script_lang.proofs.Conditions.{and_both, chosen, never, same_ok, and_left, and_right, le_test, le_tested, same_tested, some_test, other_test}
+use Rattle.script_lang.specs.Lines.{word_then, values_of, are_within, stated_of, verb_of, line_by, line_in_words, spaced, says_nothing, is_printable, mapped_line, line_in, line_within, ends_with, without_last, without_return, line_of}
+use Rattle.script_lang.specs.Texts.{AreOf, AreWordTexts, IsSpaced, IsEnded, by_input, by_feed, by_return, IsLineText}
+use Rattle.script_lang.proofs.Conditions.{and_both, chosen, never, same_ok, and_left, and_right, le_test, le_tested, same_tested, some_test}
 use Rattle.script_lang.proofs.Spaces.{spaced_is, spaced_printable, is_spaced}
 use Rattle.script_lang.proofs.FirstWords.{verb_back, verb_word, speaks}
 use Rattle.script_lang.proofs.WordTexts.{word_is_text, text_is_word}

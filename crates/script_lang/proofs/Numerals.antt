@@ -1,5 +1,5 @@
 -- Numerals are read as numbers.
-use Rattle.std.proofs.Common.{rules, ◌∙◌, suc, zero, not, ◌||◌, ◌++◌, ◌/◌, ◌%◌, get_or, ap, sym, nat_le, ◌≡◌, ◌≢◌, ◌<◌, ◌≤◌, ◌^◌, ◌+◌, ℕ, Bool, true, false, ◌&&◌, List, [], ◌∷◌, length, drop, arith, refl, eqb, inl, inr}
+use Rattle.std.proofs.Common.{rules, ◌∙◌, suc, zero, not, ◌||◌, ◌%◌, get_or, ap, nat_le, ◌≡◌, ◌≢◌, ◌<◌, ◌≤◌, ◌^◌, ◌+◌, ℕ, Bool, true, false, List, [], ◌∷◌, length, arith, refl, eqb, inl, inr}
 use Rattle.std.specs.Char.{is_ascii_digit, digit_value}
 use Rattle.std.specs.List.{list_all}
 use Rattle.std.specs.Str.Parse.{digits_value, AllDigits, IsNumeral, without_leading_plus}

@@ -1,11 +1,11 @@
 -- Words and the spaces between them.
-use Rattle.std.proofs.Common.{◌≡◌, ◌≢◌, ◌+◌, ◌<◌, ◌≤◌, ◌⊎◌, ℕ, zero, suc, Bool, true, false, not, ◌&&◌, eqb, eq-eqb, List, [], ◌∷◌, ◌++◌, length, filter, refl, sym, ap, subst, ◌∙◌, arith, inl, inr, append-nil, append_assoc, add-one}
+use Rattle.std.proofs.Common.{◌≡◌, ◌⊎◌, ℕ, zero, suc, Bool, true, false, not, eqb, eq-eqb, List, [], ◌∷◌, ◌++◌, length, filter, refl, sym, ap, subst, ◌∙◌, arith, inl, inr, append-nil}
 use Rattle.std.specs.Prelude.{replicate}
-use Rattle.std.specs.List.{list_all, slice_split, onto_first}
+use Rattle.std.specs.List.{list_all, slice_split}
 use Rattle.std.proofs.lemmas.Bool.Decides.{nat_tests, eqb_tells}
 use Rattle.std.proofs.lemmas.List.Folds.{list_all-append}
 use Rattle.script_lang.specs.Lines.{spaced, is_printable}
-use Rattle.script_lang.specs.Texts.{is_graphic, IsWord, IsSpaced}
+use Rattle.script_lang.specs.Texts.{is_graphic, IsSpaced}
 use Rattle.script_lang.proofs.Conditions.{and_left, and_right, and_both, some_test, weaker}
 
 abbrev is_space : ℕ → Bool

@@ -1,15 +1,14 @@
 -- The kinds of word of a line, and what a word is as one of a kind: its value, or why it has none.
-use Rattle.std.specs.Prelude.{ℕ, ◌+◌, ◌*◌, Bool, true, false, not, ◌&&◌, ◌||◌, List, [], ◌∷◌, length, Option, Some, None, Result, Ok, Err, nat_le, ◌==◌, codes, if◌then◌else◌, ◌≡◌, replicate}
-use Rattle.std.specs.Char.{is_ascii_digit, is_ascii_lowercase, is_ascii_alphanumeric}
+use Rattle.std.specs.Prelude.{ℕ, Bool, false, not, ◌&&◌, ◌||◌, List, [], ◌∷◌, length, Option, Some, None, Result, Ok, Err, nat_le, ◌==◌, codes, if◌then◌else◌, replicate}
+use Rattle.std.specs.Char.{is_ascii_digit, is_ascii_lowercase}
 use Rattle.std.specs.List.{list_all}
-use Rattle.std.specs.Str.{bytes_eq}
 use Rattle.std.specs.Str.Parse.{digits_value}
 use Rattle.hex.specs.Hex.{decode_of}
 use Rattle.hex.specs.declared.error.FromHexError.{FromHexError}
 use Rattle.ndn_name.specs.Names.{Component, encoding}
 use Rattle.ndn_name.specs.UriText.{behind, cut_at, plain_name_of_text}
 use Rattle.script_lang.specs.declared.line_fault.LineFault.{LineFault}
-use Rattle.script_lang.specs.declared.line_fault.LineFault.TheVariants.{Syntax, Limit, NoMemory}
+use Rattle.script_lang.specs.declared.line_fault.LineFault.TheVariants.{Syntax, Limit}
 
 -- The kinds of word, each with its range: a number's least and most, the most octets of a name's
 -- value and of hexadecimal text, the least and the most octets of a content.

@@ -4,7 +4,7 @@ use Rattle.std.specs.Prelude.{◌≡◌, ℕ, ◌+◌, ◌^◌, ◌<◌, ◌≤�
 use Rattle.std.specs.Fmt.{decimal}
 use Rattle.std.specs.List.{list_all, list_any}
 use Rattle.hex.specs.Hex.{encode_lower, IsBytes}
-use Rattle.ndn_name.specs.Names.{Component, IsName, encoding}
+use Rattle.ndn_name.specs.Names.{IsName, encoding}
 use Rattle.ndn_name.specs.Uri.{IsDigits, uri}
 use Rattle.ndn_name.specs.UriText.{is_digest}
 use Rattle.ndn_name.specs.UriVerdict.{HasUri}
