@@ -6,7 +6,9 @@ use super::*;
 use fetch_board::Board;
 use ndn_name::{Name, NameFault};
 use ndn_sign::KeyRing;
-use repo_object::{Job, NODE_NAME_LIMIT, Object, Want, is_object_name, key_name, packets_of, want_record};
+use repo_object::{
+    Job, NODE_NAME_LIMIT, Object, Want, is_object_name, key_name, packets_of, want_record,
+};
 use repo_plan::Part;
 use std::alloc::{AllocError, Global};
 use std::process::Abort;
@@ -27,8 +29,8 @@ impl<'w> Link for OneAttempt<'w> {
     ghost use Rattle.std.specs.Prelude.{◌+◌, ◌-◌, ◌%◌, ◌==◌, if◌then◌else◌, option_map, slice_get, None};
 
     ghost answer = { λ l want attempt. if attempt == want.part.seq % 7 + 1
-      then option_map (λ packet. packet.items) (slice_get l.records.now (want.part.seq - 1))
-      else None };
+        then option_map (λ packet. packet.items) (slice_get l.records.now (want.part.seq - 1))
+        else None };
 
     fn ask<'a>(&'a self, want: &Want, attempt: u32) -> Reply<'a> {
         let seq = want.part().seq;
@@ -117,7 +119,12 @@ fn jobs(alloc: Global, count: u16, node: &Name) -> Result<Vec<Job>, AllocError>
 }
 
 // The records, each of an object without contents. In the place of every tenth lies the one before.
-fn records(alloc: Global, count: u16, object: &Object, node: &Name) -> Result<Vec<Vec<u8>>, AllocError>
+fn records(
+    alloc: Global,
+    count: u16,
+    object: &Object,
+    node: &Name,
+) -> Result<Vec<Vec<u8>>, AllocError>
     requires { length (encoding node.now) ≤ 200 }
 {
     let mut records = Vec::with_capacity(alloc, usize::from(count))?;
@@ -221,7 +228,15 @@ fn phase_is_expected<R: Threads + Sync>(
     let link = OneAttempt {
         records: &published.records,
     };
-    let outcome = fetch(rt, alloc, &link, &published.jobs, &published.ring, 5, workers)?;
+    let outcome = fetch(
+        rt,
+        alloc,
+        &link,
+        &published.jobs,
+        &published.ring,
+        5,
+        workers,
+    )?;
     Ok(is_expected(&outcome, published))
 }
 
@@ -255,13 +270,20 @@ fn outcomes_are_the_same_for_any_number_of_workers(rt: HostRuntime) -> Result<()
     assert_eq!(rt; published.jobs.len(), 500);
     assert!(rt; work_is_expected(alloc, &published)?);
     for workers in [1u32, 2, 4, 16] {
-        assert!(rt; phase_is_expected(&rt, alloc, &published, workers)?, "{workers}");
+        assert!(rt;
+            phase_is_expected(&rt, alloc, &published, workers)?,
+            "{workers}"
+        );
     }
     Ok(())
 }
 
 // Whether the first of two workers sees all four parts asked for before it gets its answer.
-fn first_sees_all<R: Threads + Sync>(rt: &R, alloc: Global, published: &Published) -> Result<bool, AllocError>
+fn first_sees_all<R: Threads + Sync>(
+    rt: &R,
+    alloc: Global,
+    published: &Published,
+) -> Result<bool, AllocError>
     requires jobs { All (λ job. CanBeTried 1 5 job) published.now.jobs.items }
     requires few { length published.now.jobs.items ≤ 4096 }
     requires ring { 0 < length published.now.ring }
