@@ -23,7 +23,7 @@ use Rattle.group_model.specs.Changes.{publishes, learns, starts}
 use Rattle.group_model.specs.Events.{SyncInterest, Came, Event}
 use Rattle.group_model.specs.Events.Came.{Nothing, Its, Another}
 use Rattle.group_model.specs.World.{Outside, World, no_member, member, with_member, logs, sent_at}
-use Rattle.group_model.specs.Steps.{drawn, claim_at, to_claim, passes_checks, timer_at, tells_too_much, came_from, came_as, fetched_parts, can_start, block_at, with_process_at, after_event, after_events, after_publish, after_deliver, after_hear, after_fire, after_claim, after_came, after_command, after_order, after_block}
+use Rattle.group_model.specs.Steps.{drawn, claim_at, to_claim, passes_checks, timer_at, tells_too_much, came_from, came_as, fetched_parts, can_start, block_at, with_process_at, after_event, after_events, after_publish, after_deliver, after_hear, after_fire, after_claiming, after_came, after_command, after_order, after_block}
 use Rattle.group_model.specs.Refusals.{IsTaken, AreTaken}
 use Rattle.group_model.specs.Sound.{IsSoundGroup, IsPublished}
 use Rattle.group_model.specs.Lasting.{Lasts, AllLast, NothingTakenBack, PublisherHolds, AnswersAreKept, PublisherCanAnswer}
@@ -127,9 +127,9 @@ lasts_publish out w j o l s =
       held = λ t h. inl (held_too (parts_of (j, length m.log + 1) (length o.contents)) m t h);
     })
 
-lasts_claim : (w : World) (j f : ℕ) (c : Option Part) → AllLast w (after_claim w j f c)
+lasts_claim : (w : World) (j f : ℕ) (c : Option Part) → AllLast w (after_claiming w j f c)
 lasts_claim w j f None = lasts_same w w refl
-lasts_claim w j f (Some t) = lasts_set w (after_claim w j f (Some t)) j _ refl (lasts_beside (member w j) _ refl refl refl refl)
+lasts_claim w j f (Some t) = lasts_set w (after_claiming w j f (Some t)) j _ refl (lasts_beside (member w j) _ refl refl refl refl)
 
 lasts_came : (out : Outside) (w v : World) (j f : ℕ) (c : Option Part) (came : Came) → v.members ≡ w.members → AllLast w (after_came out v j f c came)
 lasts_came out w v j f None came e = lasts_same w v e

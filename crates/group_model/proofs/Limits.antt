@@ -29,7 +29,7 @@ use Rattle.group_model.specs.Changes.{publishes, learns, resets, restarts, takes
 use Rattle.group_model.specs.Events.{SyncInterest, Came, Event}
 use Rattle.group_model.specs.Events.Came.{Nothing, Its, Another}
 use Rattle.group_model.specs.World.{Tally, Issued, World, Outside, no_member, member, with_member, logs, logs_of, sent_at, opening_world}
-use Rattle.group_model.specs.Steps.{drawn, claim_at, to_claim, open_at, timer_at, tells_too_much, came_from, came_as, comes_to, new_parts, settled_member, after_gathering, syncs_of, planned_parts, fetched_parts, attempts_for, attempts_made, fetches, can_start, block_at, with_process_at, after_event, after_events, after_publish, after_deliver, after_hear, after_fire, after_reset, after_claim, after_part, after_came, after_settle, after_fetch, after_command, after_order, after_block}
+use Rattle.group_model.specs.Steps.{drawn, claim_at, to_claim, open_at, timer_at, tells_too_much, came_from, came_as, comes_to, new_parts, settled_member, after_gathering, syncs_of, planned_parts, fetched_parts, attempts_for, attempts_made, fetches, can_start, block_at, with_process_at, after_event, after_events, after_publish, after_deliver, after_hear, after_fire, after_reset, after_claiming, after_part, after_came, after_settle, after_fetch, after_command, after_order, after_block}
 use Rattle.group_model.specs.Limits.{IsShortInsertion, IsInRange, IsMemberWithin, IsTallyWithin, IsWithin, HasSmallPackets, BeginsWithin, StaysWithin, GatheringStaysWithin, MoreIsWithin, RunsStayWithin, ReachedRunsStayWithin, PartsStayFew}
 use Rattle.group_model.proofs.Lists.{in_at}
 use Rattle.group_model.proofs.Parts.{in_published}
@@ -191,7 +191,7 @@ within_publish out s w j o few h =
       tally = more_tally s w h;
     }
 
-within_claim : (s : ℕ) (w : World) (j f : ℕ) (c : Option Part) → IsWithin s w → IsWithin (s + 1) (after_claim w j f c)
+within_claim : (s : ℕ) (w : World) (j f : ℕ) (c : Option Part) → IsWithin s w → IsWithin (s + 1) (after_claiming w j f c)
 within_claim s w j f None h = within_stays s w h
 within_claim s w j f (Some t) h = within_set s (s + 1) w j (member_with_claim f (Some t) (member w j)) w.sent w.issued w.tally (omega arith) refl (mem_beside s (s + 1) (member w j) _ refl refl refl (omega arith) (h.members j)) (same_sent s w h) (more_tally s w h) h
 

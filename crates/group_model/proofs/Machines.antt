@@ -25,7 +25,7 @@ use Rattle.group_model.specs.Publications.{pair_in}
 use Rattle.group_model.specs.Events.{SyncInterest, Came, Event}
 use Rattle.group_model.specs.Events.Came.{Nothing, Its, Another}
 use Rattle.group_model.specs.World.{Outside, World, no_member, member, with_member, logs, sent_at, opening_world}
-use Rattle.group_model.specs.Steps.{drawn, claim_at, to_claim, timer_at, tells_too_much, came_from, came_as, can_start, block_at, with_process_at, after_event, after_events, after_hear, after_fire, after_claim, after_came, after_settle, after_command, after_order, after_block, after_deliver, after_publish}
+use Rattle.group_model.specs.Steps.{drawn, claim_at, to_claim, timer_at, tells_too_much, came_from, came_as, can_start, block_at, with_process_at, after_event, after_events, after_hear, after_fire, after_claiming, after_came, after_settle, after_command, after_order, after_block, after_deliver, after_publish}
 use Rattle.group_model.specs.Refusals.{IsTaken, AreTaken}
 use Rattle.group_model.specs.Sound.{IsSoundGroup}
 use Rattle.group_model.specs.Reached.{InSoundGroups}
@@ -81,7 +81,7 @@ machine_hides (p ∷ ps) m = machine_hides ps (member_hides_too (pair_in p) m)
 
 -- ---- each event
 
-makes_claim : (w : World) (i f : ℕ) (c : Option Part) (j : ℕ) → Makes [] (member w j) (member (after_claim w i f c) j)
+makes_claim : (w : World) (i f : ℕ) (c : Option Part) (j : ℕ) → Makes [] (member w j) (member (after_claiming w i f c) j)
 makes_claim w i f None j = makes_none (member w j)
 makes_claim w i f (Some t) j = makes_beside w.members i _ j refl
 

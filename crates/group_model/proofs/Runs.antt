@@ -23,7 +23,7 @@ use Rattle.group_model.specs.Changes.{learns, starts}
 use Rattle.group_model.specs.Events.{SyncInterest, Came, Event}
 use Rattle.group_model.specs.Events.Came.{Nothing, Its, Another}
 use Rattle.group_model.specs.World.{Tally, Issued, World, Outside, no_member, member, with_member, logs, logs_of, sent_at, opening_world}
-use Rattle.group_model.specs.Steps.{drawn, claim_at, to_claim, timer_at, tells_too_much, came_from, came_as, can_start, block_at, after_event, after_events, after_deliver, after_hear, after_fire, after_claim, after_came, after_command, after_order, after_block}
+use Rattle.group_model.specs.Steps.{drawn, claim_at, to_claim, timer_at, tells_too_much, came_from, came_as, can_start, block_at, after_event, after_events, after_deliver, after_hear, after_fire, after_claiming, after_came, after_command, after_order, after_block}
 use Rattle.group_model.specs.Sound.{IsSoundGroup, IsSoundMember, IsKnown}
 use Rattle.group_model.specs.Reached.{InSoundGroups, InReachedGroups, BeginsSound}
 use Rattle.group_model.specs.Laws.{NothingHidden, NothingWanted, AllJoined, IsQuiet, AreQuiet, IsNotWhole, TellsInEvent, TellsInRun, JoinsWhereAllAreTold}
@@ -113,7 +113,7 @@ goes_same w sent now issued tally = record { width = refl; logs = refl; known = 
 stays : (w : World) → Goes w w
 stays w = goes_same w w.sent w.moment w.issued w.tally
 
-goes_claim : (w : World) (j f : ℕ) (c : Option Part) → Goes w (after_claim w j f c)
+goes_claim : (w : World) (j f : ℕ) (c : Option Part) → Goes w (after_claiming w j f c)
 goes_claim w j f None = stays w
 goes_claim w j f (Some t) = goes_set w j _ w.sent w.moment w.issued w.tally refl (λ p. omega arith)
 

@@ -25,7 +25,7 @@ use Rattle.group_model.specs.Changes.{publishes, learns, resets, restarts, takes
 use Rattle.group_model.specs.Events.{SyncInterest, Came, Event}
 use Rattle.group_model.specs.Events.Came.{Nothing, Its, Another}
 use Rattle.group_model.specs.World.{Tally, Issued, World, Outside, no_member, no_sync, member, with_member, logs, logs_of, sent_at}
-use Rattle.group_model.specs.Steps.{drawn, claim_at, open_at, to_claim, with_sync, timer_at, tells_too_much, came_from, came_as, planned_parts, fetched_parts, fetches, attempts_for, attempt, can_start, block_at, with_process_at, settled_member, syncs_of, after_event, after_events, after_publish, after_deliver, after_hear, after_fire, after_reset, after_restart, after_claim, after_part, after_came, after_settle, after_fetch, after_command, after_order, after_block, tried_once}
+use Rattle.group_model.specs.Steps.{drawn, claim_at, open_at, to_claim, with_sync, timer_at, tells_too_much, came_from, came_as, planned_parts, fetched_parts, fetches, attempts_for, attempt, can_start, block_at, with_process_at, settled_member, syncs_of, after_event, after_events, after_publish, after_deliver, after_hear, after_fire, after_reset, after_restart, after_claiming, after_part, after_came, after_settle, after_fetch, after_command, after_order, after_block, tried_once}
 use Rattle.group_model.specs.Refusals.{Refusal, IsTaken, AreTaken, has_sent, unless, if_unsent}
 use Rattle.group_model.specs.Sound.{IsSoundGroup, IsSoundMember, IsTrueVector}
 use Rattle.group_model.specs.Reached.{InSoundGroups}
@@ -162,7 +162,7 @@ open_wanted w j t i =
     let r : (is_wanted p t ≡ true) × (not (is_claimed p t) ≡ true) = and_parts (is_wanted p t) _ u in
     (r.0, not-true (is_claimed p t) r.1)
 
-sound_claim : (w : World) (j f : ℕ) (claim : Option Part) → to_claim w j ≡ claim → j < length w.members → IsSoundGroup w → IsSoundGroup (after_claim w j f claim)
+sound_claim : (w : World) (j f : ℕ) (claim : Option Part) → to_claim w j ≡ claim → j < length w.members → IsSoundGroup w → IsSoundGroup (after_claiming w j f claim)
 sound_claim w j f None e l s = s
 sound_claim w j f (Some t) e l s =
     let r = open_wanted w j t (in_first (open_at w j) t e) in

@@ -38,9 +38,9 @@ open_at w j = unclaimed (plan_of (logs w) (member w j))
 abbrev pub to_claim : World → ℕ → Option Part
 to_claim w j = first (open_at w j)
 
-abbrev pub after_claim : World → ℕ → ℕ → Option Part → World
-after_claim w j f None = w
-after_claim w j f (Some t) = with_member w j (member_with_claim f (Some t) (member w j))
+abbrev pub after_claiming : World → ℕ → ℕ → Option Part → World
+after_claiming w j f None = w
+after_claiming w j f (Some t) = with_member w j (member_with_claim f (Some t) (member w j))
 
 -- ---- sync
 
@@ -276,7 +276,7 @@ module _ (out : Outside) where
   after_event w (Event.Restart j) = after_restart w j
   after_event w (Event.Vector j) = w
   after_event w (Event.Catalogue j) = w
-  after_event w (Event.Claim j f) = after_claim w j f (to_claim w j)
+  after_event w (Event.Claim j f) = after_claiming w j f (to_claim w j)
   after_event w (Event.Lose j f) = with_member w j (member_with_claim f None (member w j))
   after_event w (Event.Answer j f q) = after_came out (tried_once w) j f (claim_at w j f) (came_from out w q (claim_at w j f))
   after_event w (Event.Fetch j tries loss) = after_fetch w j tries loss

@@ -9,7 +9,7 @@ use Rattle.repo_plan.specs.Parts.{Shape, pair_cmp, part_cmp, pair_of, parent}
 use Rattle.repo_plan.specs.Plan.{Holdings, can_be_asked, is_asked, knows, shape_of}
 use Rattle.repo_object.specs.Publication.{Listed}
 use Rattle.repo_member.specs.Records.{Packet}
-use Rattle.repo_member.specs.Listed.{listing_at, shape}
+use Rattle.repo_member.specs.Listed.{listing_at, listed_shape}
 use Rattle.repo_member.specs.Gaining.{AreTied}
 use Rattle.repo_member.proofs.CatalogueLemmas.{shapes_value}
 
@@ -17,11 +17,11 @@ use Rattle.repo_member.proofs.CatalogueLemmas.{shapes_value}
 pub record IsListedSegment (packets : List Packet) (t : Part) : Type 0 where
   pub listing : Listed
   pub listed : listing_at packets (pair_of t) ≡ Some listing
-  pub counted : t.part ≤ shape listing
+  pub counted : t.part ≤ listed_shape listing
 
 pub asked_segment : (plan : Holdings) (packets : List Packet) (t : Part) → AreTied plan packets → is_asked plan t ≡ true → (t.part == 0) ≡ false → IsListedSegment packets t
 asked_segment plan packets t tied asked segment = go (listing_at packets (pair_of t)) refl where
-  told : shape_of plan (pair_of t) ≡ option_map shape (listing_at packets (pair_of t))
+  told : shape_of plan (pair_of t) ≡ option_map listed_shape (listing_at packets (pair_of t))
   told = ap (λ es. value_of pair_cmp es (pair_of t)) tied.shapes ∙ shapes_value packets (pair_of t) tied.in_order
 
   can : can_be_asked plan.held (shape_of plan (pair_of t)) t ≡ true
@@ -29,13 +29,13 @@ asked_segment plan packets t tied asked segment = go (listing_at packets (pair_o
 
   go : (o : Option Listed) → listing_at packets (pair_of t) ≡ o → IsListedSegment packets t
   go None p =
-      let none : can_be_asked plan.held None t ≡ true = subst (λ (s : Option Shape). can_be_asked plan.held s t ≡ true) (told ∙ ap (option_map shape) p) can in
+      let none : can_be_asked plan.held None t ≡ true = subst (λ (s : Option Shape). can_be_asked plan.held s t ≡ true) (told ∙ ap (option_map listed_shape) p) can in
       absurd (true≢false (sym none ∙ segment))
   go (Some l) p =
-      let some : can_be_asked plan.held (Some (shape l)) t ≡ true = subst (λ (s : Option Shape). can_be_asked plan.held s t ≡ true) (told ∙ ap (option_map shape) p) can in
-      elim (or_cases (t.part == 0) (nat_le t.part (shape l) && contains part_cmp plan.held (parent (shape l) t)) some) [
+      let some : can_be_asked plan.held (Some (listed_shape l)) t ≡ true = subst (λ (s : Option Shape). can_be_asked plan.held s t ≡ true) (told ∙ ap (option_map listed_shape) p) can in
+      elim (or_cases (t.part == 0) (nat_le t.part (listed_shape l) && contains part_cmp plan.held (parent (listed_shape l) t)) some) [
         | inl zero ↦ absurd (true≢false (sym zero ∙ segment))
-        | inr both ↦ record { listing = l; listed = p; counted = leb-true t.part (shape l) (and_parts (nat_le t.part (shape l)) _ both).0 }
+        | inr both ↦ record { listing = l; listed = p; counted = leb-true t.part (listed_shape l) (and_parts (nat_le t.part (listed_shape l)) _ both).0 }
       ]
 
 -- the publisher of a part that is asked for is a member

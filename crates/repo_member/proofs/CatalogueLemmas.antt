@@ -16,7 +16,7 @@ use Rattle.repo_catalog.specs.declared.entry.Entry.{Entry}
 use Rattle.repo_catalog.specs.Entries.{publication_of, with_entry}
 use Rattle.repo_member.specs.KeptValues.{with_kept, kept_values}
 use Rattle.repo_member.specs.Records.{Packet, records_in}
-use Rattle.repo_member.specs.Listed.{listing_at, stored_at, shape, shapes_in, packet_content, entry_listed, entry_of_listing, entry_at, entries_in, alone_catalogue}
+use Rattle.repo_member.specs.Listed.{listing_at, stored_at, listed_shape, shapes_in, packet_content, entry_listed, entry_of_listing, entry_at, entries_in, alone_catalogue}
 use Rattle.repo_member.specs.Gaining.{with_listed}
 use Rattle.repo_member.proofs.SortedMaps.{same_map, rises_kept, value_of-kept}
 use Rattle.repo_member.proofs.RecordLemmas.{rises_records, value_of-records}
@@ -35,14 +35,14 @@ and_then_twice f g None = refl
 and_then_twice f g (Some x) = refl
 
 -- what a plan is told of a publication
-pub shapes_value : (packets : List Packet) (pair : Pair) → Rises part_cmp (keys packets) → value_of pair_cmp (shapes_in packets) pair ≡ option_map shape (listing_at packets pair)
+pub shapes_value : (packets : List Packet) (pair : Pair) → Rises part_cmp (keys packets) → value_of pair_cmp (shapes_in packets) pair ≡ option_map listed_shape (listing_at packets pair)
 shapes_value packets pair r =
-    value_of-kept exact_pairs (λ q octets. option_map shape (listing_in octets)) (records_in packets) pair (rises_records packets r)
-    ∙ ap (option_and_then (λ octets. option_map shape (listing_in octets))) (value_of-records packets pair)
-    ∙ and_then_map listing_in shape (stored_at packets pair 0)
+    value_of-kept exact_pairs (λ q octets. option_map listed_shape (listing_in octets)) (records_in packets) pair (rises_records packets r)
+    ∙ ap (option_and_then (λ octets. option_map listed_shape (listing_in octets))) (value_of-records packets pair)
+    ∙ and_then_map listing_in listed_shape (stored_at packets pair 0)
 
 pub shapes_rise : (packets : List Packet) → Rises part_cmp (keys packets) → Rises pair_cmp (keys (shapes_in packets))
-shapes_rise packets r = rises_kept exact_pairs (λ q octets. option_map shape (listing_in octets)) (records_in packets) (rises_records packets r)
+shapes_rise packets r = rises_kept exact_pairs (λ q octets. option_map listed_shape (listing_in octets)) (records_in packets) (rises_records packets r)
 
 abbrev listed_entry : List Packet → Pair → List ℕ → Option Entry
 listed_entry packets pair octets = option_and_then (entry_listed packets pair) (listing_in octets)
@@ -73,7 +73,7 @@ none_is_some : (e : Entry) → let n : Option Entry = None in n ≡ Some e → �
 none_is_some e h = cc
 
 entry_keyed : (packets : List Packet) (pair : Pair) (l : Listed) (e : Entry) → entry_listed packets pair l ≡ Some e → publication_of e ≡ pair
-entry_keyed packets pair l e h = go (list_all (λ x. is_some (stored_at packets pair x)) (numbers_from 1 (shape l))) h where
+entry_keyed packets pair l e h = go (list_all (λ x. is_some (stored_at packets pair x)) (numbers_from 1 (listed_shape l))) h where
   go : (b : Bool) → cond b (Some (entry_of_listing packets pair l)) None ≡ Some e → publication_of e ≡ pair
   go true p = let same : entry_of_listing packets pair l ≡ e = cc in ap publication_of (sym same)
   go false p = absurd (none_is_some e p)
@@ -109,12 +109,12 @@ with_entry-map e (x ∷ es) k none = go (λ p. with_entry-map e es k.1 p) (pair_
 
 abbrev stored_entry : (ℕ → Option (List ℕ)) → Pair → Listed → Option Entry
 stored_entry at pair l =
-    cond (list_all (λ x. is_some (at x)) (numbers_from 1 (shape l)))
-    (Some (let joined = flat_map (λ x. packet_content (unwrap_or (at x) [])) (numbers_from 1 (shape l)) in record {
+    cond (list_all (λ x. is_some (at x)) (numbers_from 1 (listed_shape l)))
+    (Some (let joined = flat_map (λ x. packet_content (unwrap_or (at x) [])) (numbers_from 1 (listed_shape l)) in record {
       publisher = pair.0;
       seq = pair.1;
       name = l.name;
-      segments = shape l;
+      segments = listed_shape l;
       octets = length joined;
       digest = sha256 joined;
     })) None

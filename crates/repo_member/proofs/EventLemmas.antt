@@ -19,7 +19,7 @@ use Rattle.group_model.specs.Changes as group
 use Rattle.group_model.specs.Events.{Came}
 use Rattle.group_model.specs.Events.Came.{Nothing, Its, Another}
 use Rattle.group_model.specs.World.{Outside, World, no_member, member, logs, sent_at}
-use Rattle.group_model.specs.Steps.{drawn, timer_at, claim_at, passes_checks, came_from, came_as, tried_once, planned_parts, attempts_for, fetches, settled_vector, settled_member, new_parts, after_deliver, after_fire, after_claim, after_came}
+use Rattle.group_model.specs.Steps.{drawn, timer_at, claim_at, passes_checks, came_from, came_as, tried_once, planned_parts, attempts_for, fetches, settled_vector, settled_member, new_parts, after_deliver, after_fire, after_claiming, after_came}
 use Rattle.group_model.proofs.Lists.{contains-insert_keys, rises_insert_keys}
 use Rattle.group_model.proofs.Settles.{member_settled, member_gathered}
 use Rattle.group_model.proofs.SortedSets.{same_members}
@@ -85,11 +85,11 @@ pub catalogues_alike : CataloguesAlike
 catalogues_alike w j g a is truly = ap (catalogue (logs w)) is.same ∙ sym (lists_alike g (logs w) a truly.published truly.stores)
 
 pub claim_is_event : ClaimIsEvent
-claim_is_event out w j f g a is truly idle = ap (λ (ts : List Part). member (after_claim w j f (first ts)) j) (open_parts_alike w j g a is truly) ∙ go (first (unclaimed (alone_plan a))) where
+claim_is_event out w j f g a is truly idle = ap (λ (ts : List Part). member (after_claiming w j f (first ts)) j) (open_parts_alike w j g a is truly) ∙ go (first (unclaimed (alone_plan a))) where
   with_claims : List (Option Part) → Member
   with_claims claims = record (in_group a) { claims = claims }
 
-  go : (x : Option Part) → member (after_claim w j f x) j ≡ in_group (alone_claims f x a)
+  go : (x : Option Part) → member (after_claiming w j f x) j ≡ in_group (alone_claims f x a)
   go None = is.same ∙ ap with_claims (sym (ap (set a.claims (f - 1)) (sym idle) ∙ set-get_or a.claims (f - 1) None))
   go (Some t) = changed w j a is (group.member_with_claim f (Some t))
 

@@ -18,7 +18,7 @@ use Rattle.repo_object.specs.Publication.{Listed}
 use Rattle.repo_object.specs.Wants.{WantedPart}
 use Rattle.repo_object.specs.Verdict.{CheckedPart, IsChecked, part_verdict, ring_verdict, publisher_key}
 use Rattle.repo_store.specs.StoreList.{with_packet}
-use Rattle.repo_member.specs.Listed.{listing_at, shape}
+use Rattle.repo_member.specs.Listed.{listing_at, listed_shape}
 use Rattle.repo_member.specs.Groups.{GroupKeys}
 use Rattle.group_model.specs.Member.{with_tries}
 use Rattle.repo_member.specs.Alone.{Alone, alone_plan, want_of, alone_takes}
@@ -109,11 +109,11 @@ module _ (g : GroupKeys) (a : Alone) (t : Part) (octets : List ℕ) (r : IsReach
         contains-value (with_packet t octets a.store) u ∙ ap is_some (stays.still u there.0 there.1);
     shapes = λ pair n h. go pair n (listing_at a.store pair) refl (sym (shape_told (alone_plan a) a.store pair (tied_alone a r.alone.in_order)) ∙ h);
   } where
-    go : (pair : Pair) (n : Shape) (o : Option Listed) → listing_at a.store pair ≡ o → option_map shape o ≡ Some n → shape_of (alone_plan (gains t octets a)) pair ≡ Some n
+    go : (pair : Pair) (n : Shape) (o : Option Listed) → listing_at a.store pair ≡ o → option_map listed_shape o ≡ Some n → shape_of (alone_plan (gains t octets a)) pair ≡ Some n
     go pair n None p q = absurd (no_shape n q)
     go pair n (Some l) p q =
         shape_told (alone_plan (gains t octets a)) (with_packet t octets a.store) pair (tied_alone (gains t octets a) next.alone.in_order)
-        ∙ ap (option_map shape) (listing_still a.store (with_packet t octets a.store) pair l stays p) ∙ q
+        ∙ ap (option_map listed_shape) (listing_still a.store (with_packet t octets a.store) pair l stays p) ∙ q
 
   -- another job can be taken still
   open_still : (job : Job) → eq_by_cmp part_cmp t job.want.part ≡ false → IsOpen g a job → IsOpen g (gains t octets a) job

@@ -14,7 +14,7 @@ use Rattle.repo_object.specs.Publication.{Listed}
 use Rattle.repo_object.specs.Verdict.{listing_in}
 use Rattle.repo_store.specs.StoreList.{with_packet}
 use Rattle.repo_member.specs.Records.{Packet}
-use Rattle.repo_member.specs.Listed.{listing_at, stored_at, shape, shapes_in, are_stored, entry_at, entry_listed}
+use Rattle.repo_member.specs.Listed.{listing_at, stored_at, listed_shape, shapes_in, are_stored, entry_at, entry_listed}
 use Rattle.repo_member.specs.Gaining.{AreTied, KeepsOthers, told_shape, listing_told}
 use Rattle.repo_member.proofs.SortedMaps.{same_map}
 use Rattle.repo_member.proofs.CatalogueLemmas.{shapes_value, shapes_rise}
@@ -98,20 +98,20 @@ module _ (plan : Holdings) (packets : List Packet) (t : Part) (octets : List ℕ
     order None = before
     order (Some n) = rises_with_value exact_pairs (pair_of t) n plan.shapes before
 
-    old_value : (q : Pair) → value_of pair_cmp plan.shapes q ≡ option_map shape (listing_at packets q)
+    old_value : (q : Pair) → value_of pair_cmp plan.shapes q ≡ option_map listed_shape (listing_at packets q)
     old_value q = ap (λ (es : List (Pair × Shape)). value_of pair_cmp es q) tied.shapes ∙ shapes_value packets q tied.in_order
 
-    new_value : (q : Pair) → value_of pair_cmp (shapes_in (with_packet t octets packets)) q ≡ option_map shape (listing_at (with_packet t octets packets) q)
+    new_value : (q : Pair) → value_of pair_cmp (shapes_in (with_packet t octets packets)) q ≡ option_map listed_shape (listing_at (with_packet t octets packets) q)
     new_value q = shapes_value (with_packet t octets packets) q rises
 
     other : (q : Pair) → eq_by_cmp pair_cmp q (pair_of t) ≡ false → listing_at (with_packet t octets packets) q ≡ listing_at packets q
     other q p = ap (option_and_then listing_in) (other_pairs packets t octets absent q p 0)
 
-    at : (q : Pair) (s : Option Shape) (b : Bool) → (t.part == 0) ≡ b → s ≡ cond b (option_map shape (listing_in octets)) None → is_some s ≡ b
+    at : (q : Pair) (s : Option Shape) (b : Bool) → (t.part == 0) ≡ b → s ≡ cond b (option_map listed_shape (listing_in octets)) None → is_some s ≡ b
         → value_of pair_cmp (with_shape (pair_of t) s plan.shapes) q ≡ value_of pair_cmp (shapes_in (with_packet t octets packets)) q
     at q None true p told is = absurd (true≢false (sym is))
     at q (Some n) false p told is = absurd (true≢false is)
-    at q None false p told is = old_value q ∙ ap (option_map shape) (go (eq_by_cmp pair_cmp q (pair_of t)) refl) ∙ sym (new_value q) where
+    at q None false p told is = old_value q ∙ ap (option_map listed_shape) (go (eq_by_cmp pair_cmp q (pair_of t)) refl) ∙ sym (new_value q) where
       go : (c : Bool) → eq_by_cmp pair_cmp q (pair_of t) ≡ c → listing_at packets q ≡ listing_at (with_packet t octets packets) q
       go true h =
           let same : q ≡ pair_of t = eq_same exact_pairs q (pair_of t) h in
@@ -121,9 +121,9 @@ module _ (plan : Holdings) (packets : List Packet) (t : Part) (octets : List ℕ
       go : (c : Bool) → eq_by_cmp pair_cmp q (pair_of t) ≡ c → cond c (Some n) (value_of pair_cmp plan.shapes q) ≡ value_of pair_cmp (shapes_in (with_packet t octets packets)) q
       go true h =
           let same : q ≡ pair_of t = eq_same exact_pairs q (pair_of t) h in
-          told ∙ ap (option_map shape) (sym (listing_put packets t octets absent ∙ ap (λ (c : Bool). cond c (listing_in octets) (listing_at packets (pair_of t))) p))
-          ∙ ap (λ (r : Pair). option_map shape (listing_at (with_packet t octets packets) r)) (sym same) ∙ sym (new_value q)
-      go false h = old_value q ∙ ap (option_map shape) (sym (other q h)) ∙ sym (new_value q)
+          told ∙ ap (option_map listed_shape) (sym (listing_put packets t octets absent ∙ ap (λ (c : Bool). cond c (listing_in octets) (listing_at packets (pair_of t))) p))
+          ∙ ap (λ (r : Pair). option_map listed_shape (listing_at (with_packet t octets packets) r)) (sym same) ∙ sym (new_value q)
+      go false h = old_value q ∙ ap (option_map listed_shape) (sym (other q h)) ∙ sym (new_value q)
 
   pub tied_too : (is_some segments ≡ (t.part == 0)) → segments ≡ told_shape t octets → AreTied (holds_too t segments plan) (with_packet t octets packets)
   tied_too is_record told = record {
@@ -139,7 +139,7 @@ list_all-map p f [] = refl
 list_all-map p f (x ∷ xs) = ap (λ (b : Bool). p (f x) && b) (list_all-map p f xs)
 
 module _ (plan : Holdings) (packets : List Packet) (pair : Pair) (tied : AreTied plan packets) where
-  pub shape_told : shape_of plan pair ≡ option_map shape (listing_at packets pair)
+  pub shape_told : shape_of plan pair ≡ option_map listed_shape (listing_at packets pair)
   shape_told = ap (λ (es : List (Pair × Shape)). value_of pair_cmp es pair) tied.shapes ∙ shapes_value packets pair tied.in_order
 
   pub held_value : (t : Part) → holds plan t ≡ is_some (value_of part_cmp packets t)
@@ -157,16 +157,16 @@ module _ (plan : Holdings) (packets : List Packet) (pair : Pair) (tied : AreTied
       none_is m q = cc
     go (Some octets) p = refl
 
-  pub complete_stored : (l : Listed) → listing_at packets pair ≡ Some l → is_complete plan pair ≡ are_stored packets pair (shape l)
+  pub complete_stored : (l : Listed) → listing_at packets pair ≡ Some l → is_complete plan pair ≡ are_stored packets pair (listed_shape l)
   complete_stored l h =
-      ap (λ (o : Option Shape). list_all (holds plan) (parts_of pair (parts_told o))) (shape_told ∙ ap (option_map shape) h)
-      ∙ rw add-one (all_held (0 ∷ numbers_from (0 + 1) (shape l)))
-      ∙ ap (λ (b : Bool). b && list_all (λ x. is_some (stored_at packets pair x)) (numbers_from 1 (shape l))) (record_there l h)
+      ap (λ (o : Option Shape). list_all (holds plan) (parts_of pair (parts_told o))) (shape_told ∙ ap (option_map listed_shape) h)
+      ∙ rw add-one (all_held (0 ∷ numbers_from (0 + 1) (listed_shape l)))
+      ∙ ap (λ (b : Bool). b && list_all (λ x. is_some (stored_at packets pair x)) (numbers_from 1 (listed_shape l))) (record_there l h)
 
   -- an object is catalogued exactly where it is complete
   pub complete_entry : (l : Listed) → listing_at packets pair ≡ Some l → is_some (entry_at packets pair) ≡ is_complete plan pair
-  complete_entry l h = ap (λ (o : Option Listed). is_some (option_and_then (entry_listed packets pair) o)) h ∙ go (are_stored packets pair (shape l)) refl ∙ sym (complete_stored l h) where
-    go : (b : Bool) → are_stored packets pair (shape l) ≡ b → is_some (entry_listed packets pair l) ≡ b
+  complete_entry l h = ap (λ (o : Option Listed). is_some (option_and_then (entry_listed packets pair) o)) h ∙ go (are_stored packets pair (listed_shape l)) refl ∙ sym (complete_stored l h) where
+    go : (b : Bool) → are_stored packets pair (listed_shape l) ≡ b → is_some (entry_listed packets pair l) ≡ b
     go true p = rw p refl
     go false p = rw p refl
 

@@ -24,7 +24,7 @@ use Rattle.group_model.proofs.Lists.{from_filter}
 use Rattle.group_model.proofs.Parts.{IsIn, in_published}
 use Rattle.group_model.proofs.Catalogues.{lists_in_order, at_pair, is_published}
 use Rattle.repo_member.specs.Records.{records_in}
-use Rattle.repo_member.specs.Listed.{listing_at, stored_at, shape, packet_content, stored_content, contents_joined, are_stored, entry_of_listing, entry_listed, entry_at, entries_in}
+use Rattle.repo_member.specs.Listed.{listing_at, stored_at, listed_shape, packet_content, stored_content, contents_joined, are_stored, entry_of_listing, entry_listed, entry_at, entries_in}
 use Rattle.repo_member.specs.Groups.{GroupKeys, publisher_at}
 use Rattle.repo_member.specs.Alone.{Alone, alone_plan}
 use Rattle.repo_member.specs.Gaining.{AreTied}
@@ -105,14 +105,14 @@ module _ (g : GroupKeys) (logs : Logs) (a : Alone) (are : AreLogs g logs) (truly
         ap (option_and_then listing_in) h
         ∙ record_lists (publisher_at g pair.0) pair.1 object (published_by g logs are pair there) (published_object g logs are pair there) octets (published_low g logs are pair there) (truly.packets (part_of pair 0) octets h)
 
-    counted : shape lists ≡ count logs pair
+    counted : listed_shape lists ≡ count logs pair
     counted = listing_counts (publisher_at g pair.0) pair.1 object
 
     -- whether it is wholly held
-    whole_stored : listing_at a.store pair ≡ Some lists → holds_all m (at_pair logs pair) ≡ are_stored a.store pair (shape lists)
+    whole_stored : listing_at a.store pair ≡ Some lists → holds_all m (at_pair logs pair) ≡ are_stored a.store pair (listed_shape lists)
     whole_stored listed =
         ap (λ (n : ℕ). list_all (member_holds m) (parts_of pair n)) (sym counted)
-        ∙ sym (ap (λ (o : Option Shape). list_all (member_holds m) (parts_of pair (parts_told o))) (shape_told (alone_plan a) a.store pair tied ∙ ap (option_map shape) listed))
+        ∙ sym (ap (λ (o : Option Shape). list_all (member_holds m) (parts_of pair (parts_told o))) (shape_told (alone_plan a) a.store pair tied ∙ ap (option_map listed_shape) listed))
         ∙ complete_stored (alone_plan a) a.store pair tied lists listed
 
     content_stored : holds_all m (at_pair logs pair) ≡ true → (k : ℕ) → k < length object.contents → stored_content a.store pair (1 + k) ≡ get_or object.contents k []
@@ -123,13 +123,13 @@ module _ (g : GroupKeys) (logs : Logs) (a : Alone) (are : AreLogs g logs) (truly
         ap (stored_content a.store pair) next ∙ ap (λ (o : Option (List ℕ)). packet_content (unwrap_or o [])) found.1
         ∙ segment_content (publisher_at g pair.0) pair.1 object k found.0 (published_by g logs are pair there) (published_object g logs are pair there) (truly.packets (part_of pair (suc k)) found.0 found.1)
 
-    contents_stored : holds_all m (at_pair logs pair) ≡ true → contents_joined a.store pair (shape lists) ≡ concat object.contents
+    contents_stored : holds_all m (at_pair logs pair) ≡ true → contents_joined a.store pair (listed_shape lists) ≡ concat object.contents
     contents_stored whole = ap (contents_joined a.store pair) counted ∙ joined (stored_content a.store pair) 1 object.contents (content_stored whole)
 
     same_entry : holds_all m (at_pair logs pair) ≡ true → entry_of_listing a.store pair lists ≡ published_entry (at_pair logs pair)
     same_entry whole =
         let made : ℕ → List ℕ → Entry = λ n contents. record { publisher = pair.0; seq = pair.1; name = object.name; segments = n; octets = length contents; digest = sha256 contents } in
-        ap (λ (contents : List ℕ). made (shape lists) contents) (contents_stored whole) ∙ ap (λ (n : ℕ). made n (concat object.contents)) counted
+        ap (λ (contents : List ℕ). made (listed_shape lists) contents) (contents_stored whole) ∙ ap (λ (n : ℕ). made n (concat object.contents)) counted
 
     no_record_whole : stored_at a.store pair 0 ≡ None → holds_all m (at_pair logs pair) ≡ true → ⊥
     no_record_whole none whole =
@@ -156,8 +156,8 @@ module _ (g : GroupKeys) (logs : Logs) (a : Alone) (are : AreLogs g logs) (truly
           absurd (let clash : (let o : Option Entry = None in o) ≡ Some e = sym none ∙ h in cc)
       go (Some octets) p =
           let listed = listing_stored octets p in
-          whole_stored listed ∙ stored (are_stored a.store pair (shape lists)) refl (sym (ap (option_and_then (entry_listed a.store pair)) listed) ∙ h) where
-            stored : (b : Bool) → are_stored a.store pair (shape lists) ≡ b → cond b (Some (entry_of_listing a.store pair lists)) None ≡ Some e → are_stored a.store pair (shape lists) ≡ true
+          whole_stored listed ∙ stored (are_stored a.store pair (listed_shape lists)) refl (sym (ap (option_and_then (entry_listed a.store pair)) listed) ∙ h) where
+            stored : (b : Bool) → are_stored a.store pair (listed_shape lists) ≡ b → cond b (Some (entry_of_listing a.store pair lists)) None ≡ Some e → are_stored a.store pair (listed_shape lists) ≡ true
             stored true q i = q
             stored false q i = absurd cc
 

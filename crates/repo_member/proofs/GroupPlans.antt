@@ -16,7 +16,7 @@ use Rattle.group_model.specs.Wanted.{IsWantedPart}
 use Rattle.group_model.proofs.Wants.{wants_those}
 use Rattle.repo_member.specs.KeptValues.{with_kept, kept_values}
 use Rattle.repo_member.specs.Records.{Packet, records_in}
-use Rattle.repo_member.specs.Listed.{shape, shapes_in}
+use Rattle.repo_member.specs.Listed.{listed_shape, shapes_in}
 use Rattle.repo_member.specs.Groups.{GroupKeys, publisher_at}
 use Rattle.repo_member.specs.Alone.{Alone, alone_plan}
 use Rattle.repo_member.specs.InGroup.{AreLogs, StoresTruly, true_packet, in_group, SoundStoresTruly, PlansAlike, WantsAlike}
@@ -34,12 +34,12 @@ sound_stores_truly g logs a s packets = record {
 -- ---- the plan
 
 -- records that list as many segments as were published
-shapes_alike : (logs : Logs) (es : List Packet) → ((e : Packet) → In e es → e.0.part ≡ 0 → option_map shape (listing_in e.1) ≡ Some (count logs (pair_of e.0)))
+shapes_alike : (logs : Logs) (es : List Packet) → ((e : Packet) → In e es → e.0.part ≡ 0 → option_map listed_shape (listing_in e.1) ≡ Some (count logs (pair_of e.0)))
     → shapes_in es ≡ told_by logs (keys es)
 shapes_alike logs [] h = refl
 shapes_alike logs (e ∷ es) h = go (e.0.part == 0) refl (shapes_alike logs es (λ x i. h x (inr i))) where
   go : (b : Bool) → (e.0.part == 0) ≡ b → shapes_in es ≡ told_by logs (keys es)
-      → kept_values (λ pair octets. option_map shape (listing_in octets)) (cond b ((pair_of e.0, e.1) ∷ records_in es) (records_in es))
+      → kept_values (λ pair octets. option_map listed_shape (listing_in octets)) (cond b ((pair_of e.0, e.1) ∷ records_in es) (records_in es))
       ≡ map (λ (t : Part). (pair_of t, count logs (pair_of t))) (cond b (e.0 ∷ filter (λ t. t.part == 0) (keys es)) (filter (λ t. t.part == 0) (keys es)))
   go true p rest =
       ap (λ (o : Option Shape). with_kept (pair_of e.0) o (shapes_in es)) (h e (inl refl) (eqb-true e.0.part 0 p))
@@ -57,7 +57,7 @@ module _ (g : GroupKeys) (logs : Logs) (a : Alone) (are : AreLogs g logs) (truly
       let object = object_at logs (pair_of e.0) in
       let made : true_packet g logs e.0 ≡ Some e.1 = truly.packets e.0 e.1 (value_in exact_parts a.store e truly.in_order i) in
       let made_first = rw first at made in
-      ap (option_map shape) (record_lists publisher e.0.seq object (published_by g logs are (pair_of e.0) there) (published_object g logs are (pair_of e.0) there) e.1 (published_low g logs are (pair_of e.0) there) made_first)
+      ap (option_map listed_shape) (record_lists publisher e.0.seq object (published_by g logs are (pair_of e.0) there) (published_object g logs are (pair_of e.0) there) e.1 (published_low g logs are (pair_of e.0) there) made_first)
       ∙ ap (λ (n : ℕ). Some n) (listing_counts publisher e.0.seq object))
 
 pub plans_alike : PlansAlike

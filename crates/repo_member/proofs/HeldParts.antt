@@ -29,7 +29,7 @@ use Rattle.repo_object.proofs.Passing.{passes}
 use Rattle.repo_object.proofs.Publications.{packets-length, record_listed}
 use Rattle.repo_store.specs.StoreList.{with_packet}
 use Rattle.repo_member.specs.Records.{Packet}
-use Rattle.repo_member.specs.Listed.{stored_at, listing_at, shape}
+use Rattle.repo_member.specs.Listed.{stored_at, listing_at, listed_shape}
 use Rattle.repo_member.specs.Groups.{GroupKeys, IsGroup, node_at, publisher_at}
 use Rattle.repo_member.specs.Alone.{Alone, IsAlone, IsOf, alone_plan, alone_opening, logged, packet_in, nothing_listed, want_of, alone_learns}
 use Rattle.repo_member.specs.Gaining.{told_shape}
@@ -179,7 +179,7 @@ module _ (g : GroupKeys) (a : Alone) (t : Part) (r : IsReached g a) (own : t.pub
     go false p =
         let segment = asked_segment (alone_plan a) a.store t (tied_alone a r.alone.in_order) asked p in
         let same : Some segment.listing ≡ Some (published_listing by object) = sym segment.listed ∙ listed in
-        let counts : shape segment.listing ≡ shape (published_listing by object) = ap (λ (o : Option Listed). unwrap_or (option_map shape o) 0) same in
+        let counts : listed_shape segment.listing ≡ listed_shape (published_listing by object) = ap (λ (o : Option Listed). unwrap_or (option_map listed_shape o) 0) same in
         omega (arith, segment.counted, counts, listing_counts by t.seq object, long)
 
   pub own_stored : (value_of part_cmp a.store t ≡ None) → ⊥
@@ -235,11 +235,11 @@ passed_told g stored t octets passed = go (t.part == 0) refl where
       let all = passes want (publisher_key g.members.ring want).name (publisher_key g.members.ring want).key octets ok.0 ok.1 in
       ap (λ v. is_some (listing_within v)) all.read ∙ all.listing (ap (λ (u : Part). u.part) (want_part g stored t) ∙ first)
 
-  mapped : (o : Option Listed) → is_some o ≡ true → is_some (option_map shape o) ≡ true
+  mapped : (o : Option Listed) → is_some o ≡ true → is_some (option_map listed_shape o) ≡ true
   mapped None h = h
   mapped (Some l) h = refl
 
-  go : (b : Bool) → (t.part == 0) ≡ b → is_some (cond b (option_map shape (listing_in octets)) None) ≡ b
+  go : (b : Bool) → (t.part == 0) ≡ b → is_some (cond b (option_map listed_shape (listing_in octets)) None) ≡ b
   go true p = mapped (listing_in octets) (listed (eqb-true t.part 0 p))
   go false p = refl
 

@@ -18,7 +18,7 @@ use Rattle.repo_object.specs.Verdict.{listing_in}
 use Rattle.repo_plan.specs.Plan.{Holdings}
 use Rattle.repo_plan.proofs.Changes.{same_holdings}
 use Rattle.repo_member.specs.declared.member.Member.TheInside.{Inside}
-use Rattle.repo_member.specs.Listed.{listing_at, shape}
+use Rattle.repo_member.specs.Listed.{listing_at, listed_shape}
 use Rattle.repo_object.specs.Wants.{want_record, want_segment}
 use Rattle.repo_member.specs.Records.{Packet}
 use Rattle.repo_member.specs.Groups.{GroupKeys, HaveKeys, node_at}
@@ -58,11 +58,11 @@ stored_somewhere m t segment missing = no_listing segment.listing (sym (ap (opti
   no_listing l h = cc
 
 -- it counts the segment, whichever way it was read
-pub counted_by : (m : Inside) (t : Part) (l : Listed) → IsListedSegment m.store.packets t → listing_at m.store.packets (pair_of t) ≡ Some l → t.part ≤ shape l
+pub counted_by : (m : Inside) (t : Part) (l : Listed) → IsListedSegment m.store.packets t → listing_at m.store.packets (pair_of t) ≡ Some l → t.part ≤ listed_shape l
 counted_by m t l segment listed =
     let both : Some segment.listing ≡ Some l = sym segment.listed ∙ listed in
     let same : segment.listing ≡ l = cc in
-    subst (λ (x : Listed). t.part ≤ shape x) same segment.counted
+    subst (λ (x : Listed). t.part ≤ listed_shape x) same segment.counted
 
 -- ---- what is learnt
 

@@ -33,7 +33,7 @@ use Rattle.repo_object.specs.Publication.{Listed}
 use Rattle.repo_object.specs.Verdict.{CheckedPart, listing_in}
 use Rattle.repo_member.specs.Groups.{GroupKeys, HaveKeys}
 use Rattle.repo_member.specs.Records.{Packet}
-use Rattle.repo_member.specs.Listed.{listing_at, stored_at, shape}
+use Rattle.repo_member.specs.Listed.{listing_at, stored_at, listed_shape}
 use Rattle.group_model.specs.Member.{with_tries}
 use Rattle.repo_member.specs.Alone.{Alone, Fetched, IsOf, alone_plan, want_of, with_fetched, alone_takes}
 use Rattle.repo_member.specs.Gaining.{AreTied, IsArrival}
@@ -113,8 +113,8 @@ module _ (old new : Holdings) (packets after : List Packet) (x : Tried) (was : A
     go false p =
         let segment = asked_segment old packets t was asked p in
         let listed = listed_still (pair_of t) segment.listing segment.listed in
-        ap (λ (s : Option Shape). can_be_asked new.held s t) (shape_told new after (pair_of t) tied ∙ ap (option_map shape) listed)
-        ∙ or_right (t.part == 0) _ (and_from (nat_le t.part (shape segment.listing)) _ (le-leb t.part (shape segment.listing) segment.counted) (record_held (pair_of t) segment.listing listed))
+        ap (λ (s : Option Shape). can_be_asked new.held s t) (shape_told new after (pair_of t) tied ∙ ap (option_map listed_shape) listed)
+        ∙ or_right (t.part == 0) _ (and_from (nat_le t.part (listed_shape segment.listing)) _ (le-leb t.part (listed_shape segment.listing) segment.counted) (record_held (pair_of t) segment.listing listed))
 
   -- another part that came
   arrival_still : (t : Part) (octets : List ℕ) (segments : Option Shape) (name : List Component) → IsArrival packets t octets segments name → IsArrival after t octets segments name

@@ -31,7 +31,7 @@ use Rattle.repo_member.specs.Groups.{GroupKeys, IsGroup, IsPlainNodeName, node_a
 use Rattle.repo_catalog.specs.declared.entry.Entry.{Entry}
 use Rattle.std.specs.Option.{option_and_then}
 use Rattle.repo_member.specs.Records.{Packet}
-use Rattle.repo_member.specs.Listed.{shape, listing_at, entry_at, alone_catalogue}
+use Rattle.repo_member.specs.Listed.{listed_shape, listing_at, entry_at, alone_catalogue}
 use Rattle.repo_member.specs.Alone.{alone_plan, as_parts, with_packets}
 use Rattle.repo_member.specs.Gaining.{AreTied, AreKept, with_listed}
 use Rattle.repo_member.specs.Publishing.{IsNew, ArePackets}
@@ -70,7 +70,7 @@ module _ (publisher : Publisher) (object : NamedContents) (seq : ℕ) (is_publis
   packets_are made is = subst ArePackets (sym is) (record {
     few = omega (arith, (listing_within_limits publisher object is_object).few, length-map (published_segments publisher object) sha256);
     read = λ k d inside. packet_read k _ (slice_get-get_or (packets publisher seq object) k d inside);
-    lists = ap (option_map shape) (record_listed publisher object is_publisher is_object seq low) ∙ ap (λ (n : ℕ). Some n) (length-map (published_segments publisher object) sha256);
+    lists = ap (option_map listed_shape) (record_listed publisher object is_publisher is_object seq low) ∙ ap (λ (n : ℕ). Some n) (length-map (published_segments publisher object) sha256);
   })
 
 -- ---- its number

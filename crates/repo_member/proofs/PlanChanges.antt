@@ -11,7 +11,7 @@ use Rattle.repo_plan.specs.Sound.{IsSound, CanBeHeld}
 use Rattle.repo_plan.proofs.Changes.{Keeps, IsWanted, wanted_parts, wanted_from, asked_kept, same_holdings, sound_room, sound_holds, sound_attempts}
 use Rattle.repo_object.specs.Verdict.{listing_in}
 use Rattle.repo_store.specs.StoreList.{with_packet}
-use Rattle.repo_member.specs.Listed.{shape}
+use Rattle.repo_member.specs.Listed.{listed_shape}
 use Rattle.group_model.specs.Member.{with_tries}
 use Rattle.repo_member.specs.Alone.{Alone, alone_plan, as_parts, with_packets}
 use Rattle.repo_member.specs.Gaining.{AreTied, told_shape}
@@ -83,9 +83,9 @@ sound_tried a t n s = subst IsSound (go (n == 0)) (sound_attempts t n (alone_pla
 
 -- ---- the parts of a new publication
 
-told_by_first : (pair : Pair) (x segments : ℕ) (octets : List ℕ) → (x ≡ 0 → option_map shape (listing_in octets) ≡ Some segments) → told_shape (part_of pair x) octets ≡ told_first segments x
+told_by_first : (pair : Pair) (x segments : ℕ) (octets : List ℕ) → (x ≡ 0 → option_map listed_shape (listing_in octets) ≡ Some segments) → told_shape (part_of pair x) octets ≡ told_first segments x
 told_by_first pair x segments octets h = go (x == 0) refl where
-  go : (b : Bool) → (x == 0) ≡ b → cond b (option_map shape (listing_in octets)) None ≡ cond b (Some segments) None
+  go : (b : Bool) → (x == 0) ≡ b → cond b (option_map listed_shape (listing_in octets)) None ≡ cond b (Some segments) None
   go true p = h (eqb-true x 0 p)
   go false p = refl
 

@@ -13,7 +13,7 @@ use Rattle.repo_plan.proofs.Sets.{eq_same, eq_itself, contains-insert_key, value
 use Rattle.repo_store.specs.StoreList.{with_packet}
 use Rattle.repo_member.specs.Records.{Packet}
 use Rattle.repo_object.specs.Verdict.{listing_in}
-use Rattle.repo_member.specs.Listed.{shape, stored_at, entry_at, entry_listed, alone_catalogue}
+use Rattle.repo_member.specs.Listed.{listed_shape, stored_at, entry_at, entry_listed, alone_catalogue}
 use Rattle.repo_member.specs.Alone.{as_parts, with_packets}
 use Rattle.repo_member.specs.Gaining.{KeepsOthers, with_listed}
 use Rattle.repo_member.specs.Publishing.{IsNew}
@@ -165,7 +165,7 @@ module _ (packets : List Packet) (pair : Pair) (octets : List ℕ) (segments : L
 -- the record, while it is still to come, lists so many segments
 abbrev pub TellsTheRest : ℕ → ℕ → List (List ℕ) → Type 0
 TellsTheRest segments x [] = Unit {0}
-TellsTheRest segments x (octets ∷ rest) = x ≡ 0 → option_map shape (listing_in octets) ≡ Some segments
+TellsTheRest segments x (octets ∷ rest) = x ≡ 0 → option_map listed_shape (listing_in octets) ≡ Some segments
 
 -- ---- room
 

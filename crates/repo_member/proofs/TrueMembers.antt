@@ -35,7 +35,7 @@ use Rattle.repo_member.specs.Listed.{listing_at}
 use Rattle.repo_member.specs.Alone.{Alone, alone_plan, want_of, nothing_listed}
 use Rattle.repo_member.specs.Verdicts.{passed, claim_verdict, accept_verdict}
 use Rattle.repo_member.specs.InGroup.{in_group, AreLogs, StoresTruly, true_packet}
-use Rattle.repo_member.specs.TrueMembers.{IsTrueMember, true_want, true_packets, TrueIsAlone, TrueIsOf, TrueStores, StoresThose, LogsThose, WantsPublished, WantsThose, PacketsAreThere, PacketsPass, PacketsPassForMembers, AcceptsTheClaimed, TakesTheTrue}
+use Rattle.repo_member.specs.TrueMembers.{IsTrueMember, true_want, true_packets, TrueIsAlone, TrueIsOf, TrueStores, StoresThose, LogsThose, WantsPublished, WantsAreTrue, PacketsAreThere, PacketsPass, PacketsPassForMembers, AcceptsTheClaimed, TakesTheTrue}
 use Rattle.repo_member.proofs.AskedLemmas.{asked_member}
 use Rattle.repo_member.proofs.CallReach.{accepted}
 use Rattle.repo_member.proofs.GainingLemmas.{contains-value}
@@ -181,8 +181,8 @@ module _ (g : GroupKeys) (logs : Logs) (a : Alone) (are : AreLogs g logs) (truly
 pub wants_published : WantsPublished
 wants_published g logs a t are truly w = wanted_published g logs a are truly t w
 
-pub wants_those : WantsThose
-wants_those g logs a t are truly w = wanted_so g logs a are truly t w
+pub wants_are_true : WantsAreTrue
+wants_are_true g logs a t are truly w = wanted_so g logs a are truly t w
 
 pub packets_pass_for_members : PacketsPassForMembers
 packets_pass_for_members g logs a t octets are truly w its = passes_for_it g logs a are truly t octets w its

@@ -24,7 +24,7 @@ use Rattle.repo_object.proofs.Packing.{segment_from}
 use Rattle.group_model.specs.Publications.{Logs, no_object, object_at, last_of}
 use Rattle.group_model.specs.Sound.{IsPublished}
 use Rattle.repo_member.specs.Groups.{GroupKeys, publisher_at}
-use Rattle.repo_member.specs.Listed.{shape, content_read, packet_content}
+use Rattle.repo_member.specs.Listed.{listed_shape, content_read, packet_content}
 use Rattle.repo_member.specs.InGroup.{AreLogs}
 use Rattle.repo_member.proofs.OwnLemmas.{is_publisher}
 
@@ -45,7 +45,7 @@ same_some : (a b : List ℕ) → (let o : Option (List ℕ) = Some a in o) ≡ S
 same_some a b h = cc
 
 module _ (publisher : Publisher) (seq : ℕ) (object : NamedContents) where
-  pub listing_counts : shape (published_listing publisher object) ≡ length object.contents
+  pub listing_counts : listed_shape (published_listing publisher object) ≡ length object.contents
   listing_counts = omega (arith, length-map (published_segments publisher object) sha256, packets-length publisher seq object)
 
   module _ (is_publisher : IsPublisher publisher) (is_object : IsObject object) where

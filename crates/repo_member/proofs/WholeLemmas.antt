@@ -13,7 +13,7 @@ use Rattle.repo_object.specs.Publication.{Listed}
 use Rattle.repo_object.specs.Verdict.{listing_in}
 use Rattle.repo_store.specs.StoreList.{with_packet}
 use Rattle.repo_member.specs.Records.{Packet}
-use Rattle.repo_member.specs.Listed.{listing_at, shape, contents_joined, entry_at, entry_listed, entry_of_listing, alone_catalogue}
+use Rattle.repo_member.specs.Listed.{listing_at, listed_shape, contents_joined, entry_at, entry_listed, entry_of_listing, alone_catalogue}
 use Rattle.repo_member.specs.Gaining.{AreTied, with_listed}
 use Rattle.repo_member.proofs.CatalogueLemmas.{relisted}
 use Rattle.repo_member.proofs.GainingLemmas.{contains-value, put_rises, other_pairs, absent, shape_told, complete_stored}
@@ -41,7 +41,7 @@ module _ (plan : Holdings) (packets : List Packet) (pair : Pair) (tied : AreTied
     go None p q = absurd (none_name name q)
     go (Some l) p q =
         let same : l.name ≡ name = cc in
-        let shapes : n ≡ shape l = count ∙ ap (λ (s : Option Shape). unwrap_or s 0) (shape_told plan packets pair tied ∙ ap (option_map shape) p) in
+        let shapes : n ≡ listed_shape l = count ∙ ap (λ (s : Option Shape). unwrap_or s 0) (shape_told plan packets pair tied ∙ ap (option_map listed_shape) p) in
         entry_of_listed l p ∙ ap (λ (b : Bool). cond b (Some (entry_of_listing packets pair l)) None) complete
         ∙ rw (long, hashed, shapes, ← same) refl
 
@@ -66,8 +66,8 @@ missing_unlisted plan packets t tied asked missing = go (t.part == 0) refl where
       ap (λ (o : Option (List ℕ)). option_and_then (entry_listed packets (pair_of t)) (option_and_then listing_in o)) (ap (value_of part_cmp packets) is ∙ nothing)
   go false p =
       let segment = asked_segment plan packets t tied asked p in
-      let told : shape_of plan (pair_of t) ≡ Some (shape segment.listing) = shape_told plan packets (pair_of t) tied ∙ ap (option_map shape) segment.listed in
-      listed_not plan packets (pair_of t) tied (not_complete plan (pair_of t) (shape segment.listing) told t.part segment.counted missing)
+      let told : shape_of plan (pair_of t) ≡ Some (listed_shape segment.listing) = shape_told plan packets (pair_of t) tied ∙ ap (option_map listed_shape) segment.listed in
+      listed_not plan packets (pair_of t) tied (not_complete plan (pair_of t) (listed_shape segment.listing) told t.part segment.counted missing)
 
 -- the catalogue after an asked part has come
 pub relisted_with : (plan : Holdings) (packets : List Packet) (t : Part) (octets : List ℕ) → AreTied plan packets → is_asked plan t ≡ true → holds plan t ≡ false

@@ -61,7 +61,8 @@ if_accepted f octets a (Err refusal) = a
 
 -- The member after a call.
 abbrev pub after_call : GroupKeys → MemberCall → Alone → Alone
-after_call g (Publish object moment draw) a = if nat_lt (length a.log) publication_limit then alone_publishes g object moment draw a else a
+after_call g (Publish object moment draw) a =
+    if nat_lt (length a.log) publication_limit then alone_publishes g object moment draw a else a
 after_call g (Hear octets moment draw) a = if_heard moment draw a (hear_verdict g a octets)
 after_call g (JoinFrom octets) a = if_joined a (hear_verdict g a octets)
 after_call g (Fire moment draw) a = alone_fires moment draw a

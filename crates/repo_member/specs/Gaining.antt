@@ -12,7 +12,7 @@ use Rattle.repo_store.specs.StoreList.{StoreList}
 use Rattle.repo_catalog.specs.declared.entry.Entry.{Entry}
 use Rattle.repo_catalog.specs.Entries.{EntryList, with_entry}
 use Rattle.repo_member.specs.Records.{Packet}
-use Rattle.repo_member.specs.Listed.{listing_at, shape, shapes_in, alone_catalogue}
+use Rattle.repo_member.specs.Listed.{listing_at, listed_shape, shapes_in, alone_catalogue}
 
 -- a plan holds what is stored, and knows what the stored records list
 pub record AreTied (plan : Holdings) (packets : List Packet) : Type 0 where
@@ -27,7 +27,7 @@ pub record AreKept (plan : Holdings) (packets : List Packet) (entries : List Ent
 
 -- how many segments a part's packet tells of, if the part is a record
 abbrev pub told_shape : Part → List ℕ → Option Shape
-told_shape t octets = if t.part == 0 then option_map shape (listing_in octets) else None
+told_shape t octets = if t.part == 0 then option_map listed_shape (listing_in octets) else None
 
 -- with one more entry, if there is one
 abbrev pub with_listed : Option Entry → List Entry → List Entry
@@ -45,7 +45,8 @@ abbrev pub listing_told : List Packet → Part → List ℕ → Option Listed
 listing_told packets t octets = if t.part == 0 then listing_in octets else listing_at packets (pair_of t)
 
 -- a packet that came for a part, with what it tells of its publication
-pub record IsArrival (packets : List Packet) (t : Part) (octets : List ℕ) (segments : Option Shape) (name : List Component) : Type 0 where
+pub record IsArrival (packets : List Packet) (t : Part) (octets : List ℕ) (segments : Option Shape)
+    (name : List Component) : Type 0 where
   pub reads : IsOk (data_of octets)
   pub record_part : is_some segments ≡ (t.part == 0)
   pub told : segments ≡ told_shape t octets

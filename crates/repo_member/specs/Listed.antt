@@ -22,12 +22,12 @@ abbrev pub listing_at : List Packet → Pair → Option Listed
 listing_at packets pair = option_and_then listing_in (stored_at packets pair 0)
 
 -- how many segments a listing has
-abbrev pub shape : Listed → Shape
-shape l = length l.digests
+abbrev pub listed_shape : Listed → Shape
+listed_shape l = length l.digests
 
 -- by publication, how many segments each stored record lists
 abbrev pub shapes_in : List Packet → List (Pair × Shape)
-shapes_in packets = kept_values (λ pair octets. option_map shape (listing_in octets)) (records_in packets)
+shapes_in packets = kept_values (λ pair octets. option_map listed_shape (listing_in octets)) (records_in packets)
 
 -- ---- contents
 
@@ -59,14 +59,14 @@ entry_of_listing packets pair l = record {
   publisher = pair.0;
   seq = pair.1;
   name = l.name;
-  segments = shape l;
-  octets = length (contents_joined packets pair (shape l));
-  digest = sha256 (contents_joined packets pair (shape l));
+  segments = listed_shape l;
+  octets = length (contents_joined packets pair (listed_shape l));
+  digest = sha256 (contents_joined packets pair (listed_shape l));
 }
 
 -- the same, where every segment is stored
 abbrev pub entry_listed : List Packet → Pair → Listed → Option Entry
-entry_listed packets pair l = if are_stored packets pair (shape l) then Some (entry_of_listing packets pair l) else None
+entry_listed packets pair l = if are_stored packets pair (listed_shape l) then Some (entry_of_listing packets pair l) else None
 
 -- the entry of a publication, where its record and every segment that it lists are stored
 abbrev pub entry_at : List Packet → Pair → Option Entry

@@ -55,7 +55,8 @@ AreFetched g a (job ∷ jobs) (part ∷ parts) (n ∷ ns) = IsFetched g a job pa
 AreFetched g a _ _ _ = ⊥
 
 -- the outcome of a fetch that the member planned, of different parts
-pub record IsOutcome (g : GroupKeys) (a : Alone) (jobs : List Job) (parts : List (Option CheckedPart)) (attempts : List ℕ) : Type 0 where
+pub record IsOutcome (g : GroupKeys) (a : Alone) (jobs : List Job) (parts : List (Option CheckedPart))
+    (attempts : List ℕ) : Type 0 where
   pub apart : AreApart (map (λ (job : Job). job.want.part) jobs)
   pub each : AreFetched g a jobs parts attempts
 

@@ -9,7 +9,7 @@ use Rattle.repo_object.specs.Objects.{NamedContents}
 use Rattle.repo_object.specs.Publication.{packets}
 use Rattle.repo_object.specs.Verdict.{listing_in}
 use Rattle.repo_member.specs.Groups.{GroupKeys, publisher_at}
-use Rattle.repo_member.specs.Listed.{shape}
+use Rattle.repo_member.specs.Listed.{listed_shape}
 use Rattle.repo_member.specs.Alone.{Alone, next_seq}
 use Rattle.repo_member.specs.Verdicts.{sync_of}
 
@@ -24,7 +24,7 @@ pub record IsPrepared (g : GroupKeys) (a : Alone) (object : NamedContents) (kept
 -- the first packet is a record that lists as many segments as there are packets behind it
 abbrev pub ListsTheOthers : List (List ℕ) → Type 0
 ListsTheOthers [] = ⊥
-ListsTheOthers (octets ∷ segments) = option_map shape (listing_in octets) ≡ Some (length segments)
+ListsTheOthers (octets ∷ segments) = option_map listed_shape (listing_in octets) ≡ Some (length segments)
 
 -- the packets of a publication, as far as its holding asks for
 pub record ArePackets (made : List (List ℕ)) : Type 0 where

@@ -64,8 +64,8 @@ WantsPublished = (g : GroupKeys) (logs : Logs) (a : Alone) (t : Part) → AreLog
     → is_wanted (alone_plan a) t ≡ true → IsPublishedPart logs t
 
 -- The want that the member has of it is that of the published part.
-abbrev pub WantsThose : Type 0
-WantsThose = (g : GroupKeys) (logs : Logs) (a : Alone) (t : Part) → AreLogs g logs → IsTrueMember g logs a
+abbrev pub WantsAreTrue : Type 0
+WantsAreTrue = (g : GroupKeys) (logs : Logs) (a : Alone) (t : Part) → AreLogs g logs → IsTrueMember g logs a
     → is_wanted (alone_plan a) t ≡ true → want_of g a.store t ≡ true_want g logs t
 
 -- A part that is there has a packet, of at most 8,800 octets.

@@ -4,7 +4,7 @@ ghost use Rattle.repo_member.specs.Alone.{IsAlone, IsOf, alone_plan};
 ghost use Rattle.repo_member.specs.InGroup.{BeginsAlike, PublishesAlike, HearsAlike, LearnsAlike, FiresAlike, ClaimsAlike, AcceptsAlike, TakesAlike, EndsClaimsAlike, ResetsAlike, RestartsAlike, SoundStoresTruly, PlansAlike, WantsAlike, ListsAlike, BeginsTruly, GrowsTruly, PublishesTruly, AcceptsTruly, TakesTruly, StaysTrue, LogsBegin, LogsGrow};
 ghost use Rattle.repo_member.specs.InEvents.{PublishIsEvent, DeliverIsEvent, HearIsEvent, FireIsEvent, RestartIsEvent, ClaimIsEvent, LoseIsEvent, AnswerIsEvent, FeedIsEvent, FetchIsEvent, LearnsAtOnce, LearnsWhatAllKnow, GatheringIsEvent, SettleIsEvent, OpenPartsAlike, CataloguesAlike};
 ghost use Rattle.repo_member.specs.Outcomes.{JobsArePlanned, PlannedJobsAreOutcomes};
-ghost use Rattle.repo_member.specs.TrueMembers.{TrueIsAlone, TrueIsOf, TrueStores, StoresThose, LogsThose, WantsPublished, WantsThose, PacketsAreThere, PacketsPass, PacketsPassForMembers, AcceptsTheClaimed, TakesTheTrue};
+ghost use Rattle.repo_member.specs.TrueMembers.{TrueIsAlone, TrueIsOf, TrueStores, StoresThose, LogsThose, WantsPublished, WantsAreTrue, PacketsAreThere, PacketsPass, PacketsPassForMembers, AcceptsTheClaimed, TakesTheTrue};
 ghost use Rattle.repo_member.specs.TrueChanges.{BeginsTrue, PublishesTrue, OthersPublish, LogsHaveGrown, LearnsTrue, HearsTrue, FiresTrue, ResetsTrue, EndsClaimsTrue, ClaimsTrue, LosesTrue, AcceptsTrue, TakesTrue};
 ghost use Rattle.repo_member.specs.TrueSyncs.{KeysAreFound, SyncsAreTold, SyncsAreTaken};
 ghost use Rattle.repo_member.specs.Calls.{LogsGoOn, PublicationsStay, LoggedPacketsStay, NumbersNeverFall, KnownIsTheJoin, InEveryMember, HeldPacketsStay, OthersPassed, OwnStored};
@@ -24,7 +24,8 @@ pub fn changes_are_the_groups()
     ensures restarts { RestartsAlike }
 {}
 
-/// Where each stored packet is that of its part, a member's plan is its group's plan of it, and so it wants the same parts.
+/// Where each stored packet is that of its part, a member's plan is its group's plan of it, and so it wants the same
+/// parts.
 pub fn members_want_what_the_group_says()
     ensures stores { SoundStoresTruly }
     ensures plans { PlansAlike }
@@ -36,8 +37,8 @@ pub fn members_list_what_the_group_says()
     ensures { ListsAlike }
 {}
 
-/// Stored packets are those of their parts from the start on, and stay so: where others publish, where the member publishes,
-/// and where packets come that are those of their parts.
+/// Stored packets are those of their parts from the start on, and stay so: where others publish, where the member
+/// publishes, and where packets come that are those of their parts.
 pub fn truly_stored_lasts()
     ensures begins { BeginsTruly }
     ensures grows { GrowsTruly }
@@ -49,8 +50,8 @@ pub fn truly_stored_lasts()
     ensures logs_grow { LogsGrow }
 {}
 
-/// Each change of a member by itself is what an event makes of it in any world in which it is a member, and what the world
-/// says of it there is what the member says. In a settle vectors and parts may come in any order.
+/// Each change of a member by itself is what an event makes of it in any world in which it is a member, and what the
+/// world says of it there is what the member says. In a settle vectors and parts may come in any order.
 pub fn calls_are_events()
     ensures publish { PublishIsEvent }
     ensures deliver { DeliverIsEvent }
@@ -70,16 +71,16 @@ pub fn calls_are_events()
     ensures catalogue { CataloguesAlike }
 {}
 
-/// Whatever is called afterwards, a member's log has what it had as its front, a publication keeps its number, which is
-/// one more than how many there were, and the packets of its parts stay what they are.
+/// Whatever is called afterwards, a member's log has what it had as its front, a publication keeps its number, which
+/// is one more than how many there were, and the packets of its parts stay what they are.
 pub fn publications_last()
     ensures log { LogsGoOn }
     ensures numbers { PublicationsStay }
     ensures packets { LoggedPacketsStay }
 {}
 
-/// No number that a member knows falls, whatever is called. What it knows is the join of what it knew and of the vectors
-/// that it was told and took; of itself it knows how many objects it published.
+/// No number that a member knows falls, whatever is called. What it knows is the join of what it knew and of the
+/// vectors that it was told and took; of itself it knows how many objects it published.
 pub fn vectors_only_rise()
     ensures rise { NumbersNeverFall }
     ensures join { KnownIsTheJoin }
@@ -90,9 +91,9 @@ pub fn claims_differ()
     ensures { InEveryMember (λ g a. ClaimsOnce (alone_plan a)) }
 {}
 
-/// In every member that calls reach, a stored packet of another publisher's part passes for the want that the member has of
-/// that part now, which for a segment is of what the stored record lists. Of its own parts it stores those that it
-/// published, as they were published. What is stored stays, whatever is called.
+/// In every member that calls reach, a stored packet of another publisher's part passes for the want that the member
+/// has of that part now, which for a segment is of what the stored record lists. Of its own parts it stores those
+/// that it published, as they were published. What is stored stays, whatever is called.
 pub fn held_parts_passed_their_checks()
     ensures others { InEveryMember OthersPassed }
     ensures own { InEveryMember OwnStored }
@@ -106,8 +107,8 @@ pub fn calls_keep_members_sound()
     ensures plan { InEveryMember (λ g a. IsSound (alone_plan a)) }
 {}
 
-/// A member as each is in a sound group, whose stored packets are those of their parts, is one by itself. It stores the
-/// packets of the parts that it holds, and its log gives those of its own.
+/// A member as each is in a sound group, whose stored packets are those of their parts, is one by itself. It stores
+/// the packets of the parts that it holds, and its log gives those of its own.
 pub fn true_members_store_what_was_published()
     ensures alone { TrueIsAlone }
     ensures group { TrueIsOf }
@@ -116,11 +117,11 @@ pub fn true_members_store_what_was_published()
     ensures logs { LogsThose }
 {}
 
-/// Such a member wants parts that were published, by the want of the published part. A published part has a packet of at most
-/// 8,800 octets, which passes for that want.
+/// Such a member wants parts that were published, by the want of the published part. A published part has a packet of
+/// at most 8,800 octets, which passes for that want.
 pub fn published_packets_pass()
     ensures published { WantsPublished }
-    ensures wants { WantsThose }
+    ensures wants { WantsAreTrue }
     ensures there { PacketsAreThere }
     ensures passes { PacketsPass }
     ensures for_members { PacketsPassForMembers }
@@ -132,7 +133,8 @@ pub fn claimed_parts_are_accepted()
     ensures taken { TakesTheTrue }
 {}
 
-/// A member begins so, and stays so whatever it does, as long as what it is told and what it takes is what was published.
+/// A member begins so, and stays so whatever it does, as long as what it is told and what it takes is what was
+/// published.
 pub fn true_members_stay_true()
     ensures begins { BeginsTrue }
     ensures publishes { PublishesTrue }
@@ -149,16 +151,16 @@ pub fn true_members_stay_true()
     ensures takes { TakesTrue }
 {}
 
-/// The key of each node is found under its number. A sync Interest of a member tells its number and the vector, and each member
-/// takes it.
+/// The key of each node is found under its number. A sync Interest of a member tells its number and the vector, and
+/// each member takes it.
 pub fn syncs_of_members_are_taken()
     ensures keys { KeysAreFound }
     ensures told { SyncsAreTold }
     ensures taken { SyncsAreTaken }
 {}
 
-/// Jobs that a member plans are of different parts, each wanted and claimed by nobody. Whatever comes of them, if it was
-/// checked for them, is an outcome that the member takes.
+/// Jobs that a member plans are of different parts, each wanted and claimed by nobody. Whatever comes of them, if it
+/// was checked for them, is an outcome that the member takes.
 pub fn planned_jobs_can_be_taken()
     ensures planned { JobsArePlanned }
     ensures outcomes { PlannedJobsAreOutcomes }

@@ -1,11 +1,11 @@
-use Rattle.repo_member.proofs.TrueMembers.{wants_published, wants_those, packets_are_there, packets_pass, packets_pass_for_members}
+use Rattle.repo_member.proofs.TrueMembers.{wants_published, wants_are_true, packets_are_there, packets_pass, packets_pass_for_members}
 use Rattle.repo_member.proofs.laws.published_packets_pass.Goals as goal
 
 pub returns-clause-published : goal.returns-clause-published
 returns-clause-published c = wants_published
 
 pub returns-clause-wants : goal.returns-clause-wants
-returns-clause-wants c = wants_those
+returns-clause-wants c = wants_are_true
 
 pub returns-clause-there : goal.returns-clause-there
 returns-clause-there c = packets_are_there
