@@ -1,5 +1,6 @@
--- The laws that crates above may cite: each is what its public function states.
-pub use Rattle.repo_member.proofs.ChangeLemmas.{begins_alike, publishes_alike, hears_alike, learns_alike, fires_alike, claims_alike, accepts_alike, takes_alike, ends_claims_alike, resets_alike, restarts_alike}
+-- The laws that crates above may cite: each is what its public function states. The changes that are missing here are the
+-- group's by computing.
+pub use Rattle.repo_member.proofs.ChangeLemmas.{begins_alike, publishes_alike, accepts_alike, takes_alike}
 pub use Rattle.repo_member.proofs.GroupPlans.{sound_stores_truly, plans_alike, wants_alike}
 pub use Rattle.repo_member.proofs.GroupCatalogues.{lists_alike}
 pub use Rattle.repo_member.proofs.LastingPackets.{begins_truly, grows_truly, publishes_truly, accepts_truly, takes_truly, stays_true, logs_begin, logs_grow}
