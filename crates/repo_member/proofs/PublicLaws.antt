@@ -1,4 +1,5 @@
--- The laws that crates above may cite: each is what its public function states.
+-- The laws that crates above may cite: each is what its public function states. The changes that are missing here are the
+-- group's by computing.
 pub use Rattle.repo_member.proofs.ChangeLemmas.{begins_alike, publishes_alike, accepts_alike, takes_alike}
 pub use Rattle.repo_member.proofs.GroupPlans.{sound_stores_truly, plans_alike, wants_alike}
 pub use Rattle.repo_member.proofs.GroupCatalogues.{lists_alike}

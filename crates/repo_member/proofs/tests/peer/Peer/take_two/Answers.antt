@@ -23,7 +23,7 @@ are_two g a (x ∷ y ∷ []) first second p q m n planned low high is_first is_s
     let one = subst (λ (job : Job). Came g job p m) is_first came in
     let two = subst (λ (job : Job). Came g job q n) is_second next in
     planned_jobs_are_outcomes g a (x ∷ y ∷ []) (p ∷ q ∷ []) (m ∷ n ∷ []) planned
-    (one.checked, (omega (arith, one.few), (two.checked, (omega (arith, two.few), tt))))
+    (one.checked, omega (arith, one.few), (two.checked, omega (arith, two.few), tt))
 
 pub take_outcome-requires-clause-outcome : goal.take_outcome-requires-clause-outcome
 take_outcome-requires-clause-outcome g c =
