@@ -2,3 +2,7 @@ pub use Rattle.svs_vector.specs.Vectors as Vectors
 pub mod Publications
 pub mod PlainModel
 pub mod Holdings
+pub mod Worlds
+pub mod Truth
+pub mod Sizes
+pub mod Serving

@@ -1,0 +1,49 @@
+-- What a member gives to one that asks for a part, by what was published and what it holds; and so what isn't the group's
+-- to say.
+use Rattle.std.specs.Prelude.{ℕ, Bool, true, List, [], Option, Some, None, unwrap_or, is_ok, Result, Ok, Err, if◌then◌else◌}
+use Rattle.std.specs.Str.{bytes_eq}
+use Rattle.ndn_name.specs.declared.fault.PacketFault.{PacketFault}
+use Rattle.repo_plan.specs.declared.part.Part.{Part}
+use Rattle.repo_object.specs.Verdict.{ring_verdict}
+use Rattle.repo_store.specs.Served.{served}
+use Rattle.group_model.specs.Publications.{Logs}
+use Rattle.group_model.specs.Events.{Came}
+use Rattle.group_model.specs.Events.Came.{Nothing, Its, Another}
+use Rattle.group_model.specs.World.{Outside}
+use Rattle.repo_member.specs.Groups.{GroupKeys}
+use Rattle.repo_member.specs.InGroup.{true_packet}
+use Rattle.repo_member.specs.TrueMembers.{true_want, true_packets}
+use Rattle.bench_world.specs.Sizes.{size_of}
+
+-- What octets are as a packet of a published part.
+abbrev pub octets_as : GroupKeys → Logs → Part → List ℕ → Came
+octets_as g logs t octets =
+    if is_ok (ring_verdict (true_want g logs t) g.members.ring octets)
+    then if bytes_eq octets (unwrap_or (true_packet g logs t) []) then Its else Another
+    else Nothing
+
+abbrev pub judged : GroupKeys → Logs → Part → Option (List ℕ) → Came
+judged g logs t None = Nothing
+judged g logs t (Some octets) = octets_as g logs t octets
+
+-- The packet that is served, if there is one.
+abbrev pub found : Result (Option (List ℕ)) PacketFault → Option (List ℕ)
+found (Ok packet) = packet
+found (Err fault) = None
+
+-- What a member that holds these parts gives to one that asks for a part.
+abbrev pub came_of : GroupKeys → Logs → List Part → Part → Came
+came_of g logs held t = judged g logs t (found (served (true_want g logs t).interest (true_packets g logs held)))
+
+-- What isn't the group's to say, with what its keys and publications make of it.
+abbrev pub outside : GroupKeys → (ℕ → ℕ → ℕ) → (ℕ → ℕ → ℕ → ℕ → ℕ → ℕ → Bool) → Outside
+outside g draw passes = record {
+  draw = draw;
+  passes = λ j t attempt loss. passes j t.publisher t.seq t.part attempt loss;
+  serves = came_of g;
+  size = size_of g;
+}
+
+-- The same where neither draws nor the network matter.
+abbrev pub keyed : GroupKeys → Outside
+keyed g = outside g (λ _ _. 0) (λ _ _ _ _ _ _. true)

@@ -1,0 +1,121 @@
+-- A group with the packets of its members, and the group's world that it is.
+use Rattle.std.specs.Prelude.{ℕ, ◌≡◌, ◌≤◌, ◌<◌, true, List, [], map, length, slice_index_or, None}
+use Rattle.std.specs.List.{All, remove}
+use Rattle.repo_plan.specs.Parts.{numbers_from}
+use Rattle.repo_plan.specs.Plan.{no_claims}
+use Rattle.bench_net.specs.SentList.{SentPacket, sent_packet}
+use Rattle.group_model.specs.Publications.{Logs}
+use Rattle.group_model.specs.Member.{Member}
+use Rattle.group_model.specs.Events.{SyncInterest}
+use Rattle.group_model.specs.Events.Came.{Nothing}
+use Rattle.group_model.specs.Sound.{IsTrueVector}
+use Rattle.group_model.specs.Limits.{IsWithin}
+use Rattle.group_model.specs.World.{Tally, World, Outside, logs_of}
+use Rattle.repo_member.specs.Groups.{GroupKeys}
+use Rattle.repo_member.specs.Alone.{Alone, alone_opening}
+use Rattle.repo_member.specs.Verdicts.{sync_of}
+use Rattle.repo_member.specs.InGroup.{in_group, AreLogs}
+use Rattle.repo_member.specs.TrueMembers.{IsTrueMember}
+
+-- A group: its names and keys, its members with their packets, what was sent, the moment, the tally, and how many steps
+-- were made.
+pub record GroupState : Type 0 where
+  pub keys : GroupKeys
+  pub members : List Alone
+  pub sent : List SentPacket
+  pub moment : ℕ
+  pub tally : Tally
+  pub steps : ℕ
+
+abbrev pub nobody : Alone
+nobody = record {
+  number = 0;
+  log = [];
+  known = [];
+  store = [];
+  hidden = [];
+  claims = no_claims;
+  attempts = [];
+  machine = record { members = 0; heard = None; deadline = 0; draws = 0 };
+}
+
+abbrev pub alone_at : List Alone → ℕ → Alone
+alone_at members j = slice_index_or members j nobody
+
+-- Each is as each in a sound group, and its stored packets are those of their parts.
+abbrev pub AreTrueMembers : GroupKeys → Logs → List Alone → Type 0
+AreTrueMembers g logs members = (j : ℕ) → j < length members → IsTrueMember g logs (alone_at members j)
+
+-- Members stand under their numbers.
+abbrev pub AreNumbered : List Alone → Type 0
+AreNumbered members = (j : ℕ) → j < length members → (alone_at members j).number ≡ j
+
+-- What counts of a member stays: its machine's draws, and the attempts of its parts.
+pub record CountsStay (old new : Alone) : Type 0 where
+  pub machine : new.machine ≡ old.machine
+  pub attempts : new.attempts ≡ old.attempts
+
+abbrev pub AllCountsStay : List Alone → List Alone → Type 0
+AllCountsStay old new = (j : ℕ) → CountsStay (alone_at old j) (alone_at new j)
+
+-- All members but one.
+abbrev pub others_than : ℕ → List Alone → List Alone
+others_than j members = remove members j
+
+-- The members as their group has them, without their packets.
+abbrev pub in_groups : List Alone → List Member
+in_groups members = map in_group members
+
+abbrev pub logs_around : List Alone → Logs
+logs_around members = logs_of (in_groups members)
+
+abbrev pub sync_in : SentPacket → SyncInterest
+sync_in p = record { sender = p.sender; vector = p.vector }
+
+-- The world that it is.
+abbrev pub world_of : GroupState → World
+world_of s = record {
+  members = in_groups s.members;
+  sent = map sync_in s.sent;
+  moment = s.moment;
+  issued = [];
+  tally = s.tally;
+}
+
+-- ---- what holds of every group
+
+-- A packet that was sent is the sync Interest of its vector, which tells of no publication that there isn't.
+pub record IsTrueSync (g : GroupKeys) (logs : Logs) (p : SentPacket) : Type 0 where
+  pub sender : p.sender < length g.members.names
+  pub vector : IsTrueVector logs p.vector
+  pub octets : p.octets ≡ sync_of g p.sender p.vector
+
+-- What a member tells now.
+abbrev pub tells : GroupKeys → Alone → SentPacket
+tells g a = sent_packet a.number a.known (sync_of g a.number a.known)
+
+-- A sound world: what was published is within the limits, each member stores the packets of the parts that it holds,
+-- what was sent is what members told, and counts are within those of so many steps.
+pub record IsTrueState (s : GroupState) : Type 0 where
+  pub are : AreLogs s.keys (logs_around s.members)
+  pub numbers : AreNumbered s.members
+  pub members : AreTrueMembers s.keys (logs_around s.members) s.members
+  pub sent : All (IsTrueSync s.keys (logs_around s.members)) s.sent
+  pub within : IsWithin s.steps (world_of s)
+  pub steps : s.steps ≤ 100000
+
+-- ---- draws
+
+abbrev pub no_packet : SentPacket
+no_packet = sent_packet 0 [] []
+
+-- What isn't the group's to say, where draws alone matter.
+abbrev pub drawing : (ℕ → ℕ → ℕ) → Outside
+drawing draw = record { draw = draw; passes = λ _ _ _ _. true; serves = λ _ _ _. Nothing; size = λ _ _. 0 }
+
+-- Members that have nothing yet.
+abbrev pub begun_one : ℕ → (ℕ → ℕ → ℕ) → ℕ → Alone
+begun_one n draw j = alone_opening n j 0 (draw j 0)
+
+abbrev pub begun_all : ℕ → (ℕ → ℕ → ℕ) → List Alone
+begun_all n draw = map (begun_one n draw) (numbers_from 0 n)
