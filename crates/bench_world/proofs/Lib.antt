@@ -4,3 +4,8 @@ pub mod Entries
 pub mod Settles
 pub mod Additions
 pub mod Publishes
+mod States
+mod Openings
+mod Claims
+mod Deliveries
+mod Timers

@@ -3,6 +3,11 @@ pub mod Publications
 pub mod PlainModel
 pub mod Holdings
 pub mod Worlds
+pub mod Kept
 pub mod Truth
 pub mod Sizes
 pub mod Serving
+pub mod Readings
+pub mod EventValues
+pub mod Steps
+pub mod Timers
