@@ -26,9 +26,13 @@ data AtNumber (packets : List SentPacket) (k : ℕ) : Type 0 where
   There : 1 ≤ k → k ≤ length packets → octets_of packets k ≡ Some (get_or packets (k - 1) no_packet).octets → AtNumber packets k
   Nowhere : (nat_le 1 k && nat_le k (length packets)) ≡ false → octets_of packets k ≡ None → AtNumber packets k
 
+and_false : (b : Bool) → (b && false) ≡ false
+and_false true = refl
+and_false false = refl
+
 at_number : (packets : List SentPacket) (k : ℕ) → AtNumber packets k
 at_number packets k = go (k == 0) (nat_le k (length packets)) refl refl where
-  abbrev read : Bool → Option (List ℕ)
+  read : Bool → Option (List ℕ)
   read b = cond b None (option_map (λ (y : SentPacket). y.octets) (slice_get packets (k - 1)))
 
   go : (b c : Bool) → (k == 0) ≡ b → nat_le k (length packets) ≡ c → AtNumber packets k
@@ -41,10 +45,6 @@ at_number packets k = go (k == 0) (nat_le k (length packets)) refl refl where
     inside false q one =
         let out : length packets < k = leb-false k (length packets) q in
         Nowhere (ap (λ (b : Bool). nat_le 1 k && b) q ∙ and_false (nat_le 1 k)) (ap read p ∙ ap (option_map (λ (y : SentPacket). y.octets)) (slice_get_past packets (k - 1) (omega (arith, one, out))))
-
-  and_false : (b : Bool) → (b && false) ≡ false
-  and_false true = refl
-  and_false false = refl
 
 pub record IsThere (packets : List SentPacket) (k : ℕ) (x : List ℕ) : Type 0 where
   pub first : 1 ≤ k

@@ -9,3 +9,4 @@ mod Openings
 mod Claims
 mod Deliveries
 mod Timers
+mod Objects

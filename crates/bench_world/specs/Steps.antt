@@ -13,33 +13,32 @@ use Rattle.bench_world.specs.declared.event.Event.{Event}
 use Rattle.bench_world.specs.declared.event.StepFault.{StepFault}
 use Rattle.bench_world.specs.declared.event.StepFault.TheVariants as fault
 use Rattle.bench_world.specs.EventValues.{EventValue, event_value, group_event}
-use Rattle.bench_world.specs.EventValues.EventValue as value
 use Rattle.bench_world.specs.Worlds.{GroupState}
 
 -- There are so many members; the members and fetchers that an event names are there, and what is said is within its
 -- limits.
 abbrev pub IsReady : ℕ → EventValue → Type 0
-IsReady n (value.Publish m name size content) =
+IsReady n (EventValue.Publish m name size content) =
     (m < n) × IsTrue (is_object_name name) × (1 ≤ size) × (size ≤ 8000) × (length (pieces size content) ≤ 200)
-IsReady n (value.Deliver k m) = m < n
-IsReady n (value.Sync k) = Unit {0}
-IsReady n (value.Advance ms) = ms ≤ 1000000000
-IsReady n (value.Fire m) = m < n
-IsReady n (value.Restart m) = m < n
-IsReady n (value.Vector m) = m < n
-IsReady n (value.Catalogue m) = m < n
-IsReady n (value.Claim m f) = (m < n) × IsFetcher f
-IsReady n (value.Lose m f) = (m < n) × IsFetcher f
-IsReady n (value.Answer m f q) = (m < n) × IsFetcher f × (q < n)
-IsReady n (value.Fetch m workers tries loss) =
+IsReady n (EventValue.Deliver k m) = m < n
+IsReady n (EventValue.Sync k) = Unit {0}
+IsReady n (EventValue.Advance ms) = ms ≤ 1000000000
+IsReady n (EventValue.Fire m) = m < n
+IsReady n (EventValue.Restart m) = m < n
+IsReady n (EventValue.Vector m) = m < n
+IsReady n (EventValue.Catalogue m) = m < n
+IsReady n (EventValue.Claim m f) = (m < n) × IsFetcher f
+IsReady n (EventValue.Lose m f) = (m < n) × IsFetcher f
+IsReady n (EventValue.Answer m f q) = (m < n) × IsFetcher f × (q < n)
+IsReady n (EventValue.Fetch m workers tries loss) =
     (m < n) × (1 ≤ workers) × (workers ≤ 16) × (1 ≤ tries) × (tries ≤ 16)
-IsReady n (value.Settle workers) = (1 ≤ workers) × (workers ≤ 16)
-IsReady n (value.Dump m p s x) = (m < n) × (s < 65536) × (x < 256)
-IsReady n (value.Hear m octets) = m < n
-IsReady n (value.Ask m octets) = m < n
-IsReady n (value.Feed m f octets) = (m < n) × IsFetcher f
-IsReady n value.Summary = Unit {0}
-IsReady n value.Traffic = Unit {0}
+IsReady n (EventValue.Settle workers) = (1 ≤ workers) × (workers ≤ 16)
+IsReady n (EventValue.Dump m p s x) = (m < n) × (s < 65536) × (x < 256)
+IsReady n (EventValue.Hear m octets) = m < n
+IsReady n (EventValue.Ask m octets) = m < n
+IsReady n (EventValue.Feed m f octets) = (m < n) × IsFetcher f
+IsReady n EventValue.Summary = Unit {0}
+IsReady n EventValue.Traffic = Unit {0}
 
 abbrev pub fault_of : Refusal → StepFault
 fault_of Refusal.NoSuchPacket = fault.Refused 5

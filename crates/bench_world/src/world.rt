@@ -6,6 +6,7 @@ ghost use Rattle.bench_world.specs.Worlds.{world_of, alone_at, drawing, begun_al
 
 mod claiming;
 mod publishing;
+mod reading;
 
 mod syncing;
 

@@ -5,11 +5,12 @@ ghost use Rattle.group_model.specs.Refusals.{refusal};
 ghost use Rattle.repo_plan.specs.Calls.{IsFetcher};
 ghost use Rattle.bench_world.specs.Serving.{keyed};
 ghost use Rattle.bench_world.specs.Worlds.{world_of};
-ghost use Rattle.bench_world.specs.EventValues.{EventValue, group_event, told_value, telling};
+ghost use Rattle.bench_world.specs.EventValues.{EventValue, group_event, told_value, telling, claim_told};
 ghost use Rattle.bench_world.specs.Steps.{IsFaultOf};
 
 use super::World;
 use crate::event::{Happened, StepFault};
+use repo_plan::Part;
 
 impl World {
     /// A member's fetcher claims the least part that is wanted and that no fetcher of the member claims, or none where
@@ -35,17 +36,7 @@ impl World {
             return Err(StepFault::Refused { number: 6 });
         };
         self.steps += 1;
-        let f = u64::from(f);
-        match claim {
-            Some(part) => Ok(Happened::ClaimPart {
-                m,
-                f,
-                publisher: part.publisher,
-                seq: u64::from(part.seq),
-                x: u64::from(part.part),
-            }),
-            None => Ok(Happened::ClaimNone { m, f }),
-        }
+        Ok(claimed(m, u64::from(f), claim))
     }
 
     /// A fetcher's claim ends, and its part can be claimed again.
@@ -77,5 +68,21 @@ impl World {
             seq: u64::from(part.seq),
             x: u64::from(part.part),
         })
+    }
+}
+
+// What is told of a claim.
+fn claimed(m: u32, f: u64, claim: Option<Part>) -> Happened
+    ensures { told_value result ≡ claim_told m f claim }
+{
+    match claim {
+        Some(part) => Happened::ClaimPart {
+            m,
+            f,
+            publisher: part.publisher,
+            seq: u64::from(part.seq),
+            x: u64::from(part.part),
+        },
+        None => Happened::ClaimNone { m, f },
     }
 }
