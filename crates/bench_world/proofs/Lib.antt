@@ -9,3 +9,6 @@ mod Openings
 mod Claims
 mod Deliveries
 mod Timers
+mod Coming
+mod TakenOut
+mod Asked
