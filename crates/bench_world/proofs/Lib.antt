@@ -10,3 +10,6 @@ mod Claims
 mod Deliveries
 mod Timers
 mod Objects
+mod Coming
+mod TakenOut
+mod Asked

@@ -11,3 +11,6 @@ pub mod Readings
 pub mod EventValues
 pub mod Steps
 pub mod Timers
+pub mod Others
+pub mod Answering
+pub mod Hearing

@@ -5,10 +5,13 @@
 //! hold.
 #![tactic(auto)]
 
+mod answering;
 mod event;
+mod hearing;
 mod holding;
 mod log;
 mod numbers;
+mod others;
 mod plain_entry;
 mod plain_world;
 mod world;
