@@ -6,3 +6,7 @@ pub mod Worlds
 pub mod Truth
 pub mod Sizes
 pub mod Serving
+pub mod Lending
+pub mod Gathering
+pub mod Fetching
+pub mod Settling
