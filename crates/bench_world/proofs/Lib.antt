@@ -4,3 +4,11 @@ pub mod Entries
 pub mod Settles
 pub mod Additions
 pub mod Publishes
+pub mod SetSums
+pub mod NextParts
+pub mod Attempts
+pub mod Asked
+pub mod OneByOne
+pub mod KnownByAll
+pub mod Phases
+pub mod Gathers

@@ -61,7 +61,7 @@ pub(crate) fn fetch<N: Net + Sync, R: Threads + Sync>(
     ensures err { OnErr result (member.new ≡ member.old) }
 {
     let jobs = member.plan(alloc, g, None, PHASE_LIMIT)?;
-    let outcome = phase(rt, alloc, link, &jobs, g.members(), tries, workers)?;
+    let outcome = phase(rt, alloc, &*link, &jobs, g.members(), tries, workers)?;
     let kept = member.take_outcome(g, &jobs, &outcome.parts, &outcome.attempts)?;
     Ok(FetchCounts {
         planned: jobs.len(),

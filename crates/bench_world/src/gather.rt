@@ -58,7 +58,7 @@ fn gain_phase<N: Net + Sync, R: Threads + Sync>(
         return Ok((None, NOTHING));
     };
     let place = last.want.part();
-    let outcome = phase(rt, alloc, link, &jobs, g.members(), 1, workers)?;
+    let outcome = phase(rt, alloc, &*link, &jobs, g.members(), 1, workers)?;
     // A settle counts no attempt.
     let attempts = vec![in alloc; 0; jobs.len()]?;
     let kept = member.take_outcome(g, &jobs, &outcome.parts, &attempts)?;
