@@ -7,7 +7,7 @@ use Rattle.std.proofs.lemmas.List.Sums.{sum_by-le}
 use Rattle.repo_plan.specs.declared.part.Part.{Part}
 use Rattle.repo_plan.specs.SortedList.{keys, contains, Rises}
 use Rattle.repo_plan.specs.Parts.{part_cmp, pair_of}
-use Rattle.repo_plan.specs.Plan.{Holdings, is_wanted, is_unclaimed, is_after}
+use Rattle.repo_plan.specs.Plan.{Holdings, is_wanted, is_unclaimed, is_after, attempts_of}
 use Rattle.repo_plan.proofs.Orders.{exact_parts}
 use Rattle.repo_plan.proofs.Sets.{In, from_map, contains_in, in_contains, rises_filter}
 use Rattle.group_model.specs.Publications.{Logs, all_parts}
@@ -26,7 +26,7 @@ use Rattle.repo_member.specs.TrueChanges.{IsTrueArrival}
 use Rattle.repo_member.proofs.PublicLaws.{takes_alike, plans_alike, true_is_alone, true_stores, takes_true, wants_published, packets_are_there}
 use Rattle.bench_world.specs.Worlds.{AreTrueMembers}
 use Rattle.bench_world.specs.Sizes.{size_of}
-use Rattle.bench_world.specs.Truth.{stores}
+use Rattle.bench_world.specs.Truth.{stores, TriedFew}
 use Rattle.bench_world.specs.Lending.{lent, lends}
 use Rattle.bench_world.specs.Gathering.{next_parts, lent_one, lent_all, one_each, held_sum, Counts, IsPlaceIn, Gains, NothingLeft, RoundSoFar}
 use Rattle.bench_world.proofs.SetSums.{sum_insert_keys, ones}
@@ -83,6 +83,14 @@ nothing_taken others (t ∷ ts) a none = go (lent others t) (none t (inl refl)) 
   go : (o : Option (List ℕ)) → is_some o ≡ false → alone_takes (lent_all others ts) (record a { store = with_fetched t o a.store }) ≡ alone_takes (lent_all others ts) a
   go None e = refl
   go (Some octets) e = absurd (true≢false e)
+
+module _ (g : GroupKeys) (logs : Logs) (others : List Alone) where
+  -- What was tried few times is still.
+  pub tried_still : (a b : Alone) → Gains g logs others a b → TriedFew a → TriedFew b
+  tried_still a b gains few t =
+      let h : attempts_of (alone_plan a) t + 16 < 2097152 = few t in
+      let e : attempts_of (alone_plan b) t ≡ attempts_of (alone_plan a) t = ap (λ (x : Alone). attempts_of (alone_plan x) t) gains.same in
+      omega (arith, h, e)
 
 module _ (g : GroupKeys) (logs : Logs) (others : List Alone) (are : AreLogs g logs) (all : AreTrueMembers g logs others) where
   module _ (a : Alone) (truly : IsTrueMember g logs a) (ts : List Part) (all_open : (t : Part) → In t ts → is_unclaimed (alone_plan a) t ≡ true) where
@@ -152,7 +160,7 @@ module _ (g : GroupKeys) (logs : Logs) (others : List Alone) (are : AreLogs g lo
   counts_both weight n m a b c h k = omega (arith, h, k)
 
   pub round_begins : (a : Alone) → IsTrueMember g logs a → RoundSoFar g logs others None 0 a a
-  round_begins a truly = record { gains = gains_none a truly; count = refl; still = λ e t u past. absurd (true≢false past) }
+  round_begins a truly = record { gains = gains_none a truly; count = omega arith; still = λ e t u past. absurd (true≢false past) }
 
   module _ (after : Option Part) (kept : ℕ) (old mid : Alone) (so_far : RoundSoFar g logs others after kept old mid)
       (new : Alone) (came : ℕ) (new_is : new ≡ alone_takes (lent_all others (next_parts after mid)) mid) (came_is : came ≡ length (filter (lends others) (next_parts after mid))) where

@@ -12,3 +12,7 @@ pub mod OneByOne
 pub mod KnownByAll
 pub mod Phases
 pub mod Gathers
+pub mod Gathered
+pub mod PutBack
+pub mod GatheredAll
+pub mod Learnt

@@ -3,6 +3,7 @@ use Rattle.std.specs.Prelude.{ℕ, ◌≡◌, ◌≤◌, ◌<◌, ◌⊎◌, tru
 use Rattle.repo_plan.specs.declared.part.Part.{Part}
 use Rattle.repo_plan.specs.Plan.{no_claims}
 use Rattle.group_model.specs.Member.{Member, member_holds}
+use Rattle.group_model.specs.Settles.{IsGathering}
 use Rattle.group_model.specs.Sound.{IsSoundGroup}
 use Rattle.group_model.specs.World.{World, member, logs, someone_holds}
 use Rattle.group_model.specs.Steps.{settled_vector, settled_member, new_parts}
@@ -10,7 +11,8 @@ use Rattle.repo_member.specs.Groups.{GroupKeys}
 use Rattle.repo_member.specs.Alone.{Alone}
 use Rattle.repo_member.specs.InGroup.{in_group}
 use Rattle.bench_net.specs.SentList.{SentPacket, sent_packet}
-use Rattle.bench_world.specs.Worlds.{alone_at, in_groups, AllCountsStay, AreTrueMembers}
+use Rattle.bench_world.specs.Truth.{AllTriedFew}
+use Rattle.bench_world.specs.Worlds.{alone_at, in_groups, AllCountsStay, AreTrueMembers, AreNumbered}
 use Rattle.bench_world.specs.declared.telling.Told.{Told}
 
 -- What a member tells, as it is kept.
@@ -42,6 +44,26 @@ pub record IsPartlySettled (w : World) (old new : Member) : Type 0 where
 pub record ArePartlySettled (w : World) (new : List Member) : Type 0 where
   pub len : length new ≡ length w.members
   pub each : (j : ℕ) → j < length w.members → IsPartlySettled w (member w j) (member (record w { members = new }) j)
+
+-- ---- one member after another
+
+-- Each member is gathering, or has gathered.
+pub record AreGathering (g : GroupKeys) (w : World) (begun members : List Alone) : Type 0 where
+  pub len : length members ≡ length begun
+  pub truly : AreTrueMembers g (logs w) members
+  pub numbers : AreNumbered members
+  pub tried : AllTriedFew members
+  pub each : (i : ℕ) → i < length members → IsGathering w (member w i) (in_group (alone_at members i))
+  pub someones : (t : Part) → someone_holds (in_groups members) t ≡ someone_holds w.members t
+  pub counts : AllCountsStay begun members
+
+-- The first so many have gathered, and the others not yet.
+pub record GatheredSoFar (g : GroupKeys) (w : World) (begun : List Alone) (j : ℕ) (members : List Alone) : Type 0 where
+  pub all : AreGathering g w begun members
+  pub done : (i : ℕ) → i < j → in_group (alone_at members i) ≡ settled_member w (member w i)
+  pub still : (i : ℕ) → j ≤ i → alone_at members i ≡ alone_at begun i
+
+-- ---- again
 
 -- A settle that then succeeds makes of the members what the one that failed would have made of them.
 abbrev pub SettlesAgain : Type 0

@@ -14,7 +14,7 @@ ghost use Rattle.bench_world.specs.Truth.{AreFewLogs, AllTriedFew};
 ghost use Rattle.bench_world.specs.Worlds.{alone_at, others_than, in_groups, AllCountsStay, AreTrueMembers, AreNumbered};
 
 use crate::fetch::{FetchCounts, fetch};
-use crate::gather::{NOTHING, gather};
+use crate::gather::gather;
 use crate::lending::MemberLink;
 use bench_net::Net;
 use repo_member::{Group, Kept, Member};
@@ -61,7 +61,7 @@ fn gather_at<N: Net + Sync, R: Threads + Sync>(
     kept
 }
 
-/// Each member gathers of the others, one after another: what came.
+/// Each member gathers of the others, one after another: how many parts came, and how many octets.
 pub(crate) fn gather_all<N: Net + Sync, R: Threads + Sync>(
     rt: &R,
     alloc: Global,
@@ -69,7 +69,7 @@ pub(crate) fn gather_all<N: Net + Sync, R: Threads + Sync>(
     net: &N,
     workers: u32,
     members: &mut Vec<Member>,
-) -> Result<Kept, AllocError>
+) -> Result<(u64, u64), AllocError>
     ghost begun: { World }
     requires workers { (1 ≤ workers) × (workers ≤ 16) }
     requires logs { AreFewLogs g.now (logs begun) }
@@ -78,8 +78,8 @@ pub(crate) fn gather_all<N: Net + Sync, R: Threads + Sync>(
     requires truly { AreTrueMembers g.now (logs begun) members.old.items }
     requires numbers { AreNumbered members.old.items }
     requires tried { AllTriedFew members.old.items }
-    ensures parts { IfOk result (λ kept. kept.parts ≡ settle_gains begun) }
-    ensures octets { IfOk result (λ kept. kept.octets ≡ gain_sum (size_of g.now (logs begun)) begun begun.members) }
+    ensures parts { IfOk result (λ r. r.0 ≡ settle_gains begun) }
+    ensures octets { IfOk result (λ r. r.1 ≡ gain_sum (size_of g.now (logs begun)) begun begun.members) }
     ensures members { OnOk result (in_groups members.new.items ≡ map (settled_member begun) begun.members) }
     ensures len { length members.new.items ≡ length members.old.items }
     ensures truly { AreTrueMembers g.now (logs begun) members.new.items }
@@ -88,13 +88,14 @@ pub(crate) fn gather_all<N: Net + Sync, R: Threads + Sync>(
     ensures err { OnErr result (ArePartlySettled begun (in_groups members.new.items)) }
 {
     let count = members.len() as u32;
-    let mut kept = NOTHING;
+    let mut parts = 0;
+    let mut octets = 0;
     for j in 0..count {
         let came = gather_at(rt, alloc, g, net, workers, members, j)?;
-        kept.parts += came.parts;
-        kept.octets += came.octets;
+        parts += u64::from(came.parts);
+        octets += came.octets;
     }
-    Ok(kept)
+    Ok((parts, octets))
 }
 
 /// One member fetches of the others.

@@ -21,8 +21,8 @@ use std::thread::Threads;
 /// How many parts a phase asks for at most.
 pub(crate) const PHASE_LIMIT: usize = 4096;
 
-/// Nothing came.
-pub(crate) const NOTHING: Kept = Kept {
+// Nothing came.
+const NOTHING: Kept = Kept {
     parts: 0,
     octets: 0,
 };
@@ -123,10 +123,10 @@ pub(crate) fn gather<N: Net + Sync, R: Threads + Sync>(
     let mut kept = NOTHING;
     'rounds: loop {
         let came = gain_round(rt, alloc, g, link, workers, member)?;
+        kept.parts += came.parts;
+        kept.octets += came.octets;
         if came.parts == 0 {
             return Ok(kept);
         }
-        kept.parts += came.parts;
-        kept.octets += came.octets;
     }
 }

@@ -1,6 +1,7 @@
 // What a settle makes of all members.
 ghost use Rattle.std.specs.Prelude.{◌≡◌, ◌+◌, ◌++◌, ◌≤◌, ◌<◌, ◌^◌, ℕ, length, map, IfOk, OnOk, OnErr, vec_len};
 ghost use Rattle.group_model.specs.World.{World, logs};
+ghost use Rattle.group_model.specs.Sound.{IsSoundGroup};
 ghost use Rattle.group_model.specs.Steps.{settled_member, settle_gains};
 ghost use Rattle.repo_member.specs.Alone.{alone_resets};
 ghost use Rattle.bench_world.specs.Sizes.{size_of};
@@ -11,12 +12,12 @@ ghost use Rattle.bench_world.specs.Settling.{told_of, gain_sum, ArePartlySettled
 use crate::exchange::gather_all;
 use crate::telling::{Told, all_known, learn_all, tell_all};
 use bench_net::{Draws, Net, Sent};
-use repo_member::{Group, Kept, Member};
+use repo_member::{Group, Member};
 use std::alloc::{AllocError, Global};
 use std::thread::Threads;
 
 /// All claims end, each member tells what it knows and learns what all know, and each gathers what the others store: what
-/// was told, and what came.
+/// was told, how many parts came, and how many octets.
 pub(crate) fn settle_members<N: Net + Sync, R: Threads + Sync>(
     rt: &R,
     alloc: Global,
@@ -24,17 +25,18 @@ pub(crate) fn settle_members<N: Net + Sync, R: Threads + Sync>(
     net: &N,
     workers: u32,
     members: &mut Vec<Member>,
-) -> Result<(Vec<Told>, Kept), AllocError>
+) -> Result<(Vec<Told>, u64, u64), AllocError>
     ghost begun: { World }
     requires workers { (1 ≤ workers) × (workers ≤ 16) }
     requires logs { AreFewLogs g.now (logs begun) }
     requires begun { in_groups members.old.items ≡ begun.members }
     requires numbers { AreNumbered members.old.items }
     requires truly { AreTrueMembers g.now (logs begun) members.old.items }
+    requires sound { IsSoundGroup begun }
     requires tried { AllTriedFew members.old.items }
     ensures told { IfOk result (λ r. map told_of r.0.items ≡ map (tells g.now) members.old.items) }
-    ensures parts { IfOk result (λ r. r.1.parts ≡ settle_gains begun) }
-    ensures octets { IfOk result (λ r. r.1.octets ≡ gain_sum (size_of g.now (logs begun)) begun begun.members) }
+    ensures parts { IfOk result (λ r. r.1 ≡ settle_gains begun) }
+    ensures octets { IfOk result (λ r. r.2 ≡ gain_sum (size_of g.now (logs begun)) begun begun.members) }
     ensures members { OnOk result (in_groups members.new.items ≡ map (settled_member begun) begun.members) }
     ensures len { length members.new.items ≡ length members.old.items }
     ensures truly { AreTrueMembers g.now (logs begun) members.new.items }
@@ -46,8 +48,8 @@ pub(crate) fn settle_members<N: Net + Sync, R: Threads + Sync>(
     let told = tell_all(alloc, g, members.as_slice())?;
     let known = all_known(alloc, members.as_slice())?;
     learn_all(&known, members);
-    let kept = gather_all(rt, alloc, g, net, workers, members)?;
-    Ok((told, kept))
+    let (parts, octets) = gather_all(rt, alloc, g, net, workers, members)?;
+    Ok((told, parts, octets))
 }
 
 /// What was told is sent, for which room was made.
