@@ -50,3 +50,7 @@ all_goes_on members i item all new l is e h =
 pub all_ends : (members : List Alone) (i : ℕ) (all : List ℕ) → length members ≤ i → join all (join_all (knowns (drop i members))) ≡ join_all (knowns members) → all ≡ join_all (knowns members)
 all_ends members i all l h =
     sym (join-[] all) ∙ ap (join all) (sym nothing_told) ∙ ap (λ (ms : List Alone). join all (join_all (knowns ms))) (sym (drop_all i members l)) ∙ h
+
+pub joined_short : (members : List Alone) → ((j : ℕ) → j < length members → length (alone_at members j).known ≡ length members) → length (join_all (knowns members)) ≤ length members
+joined_short [] wide = let e : length (join_all []) ≡ 0 = ap length nothing_told in omega (arith, e)
+joined_short (m ∷ ms) wide = let e : length (join_all (knowns (m ∷ ms))) ≡ suc (length ms) = joined_width (m ∷ ms) (suc (length ms)) (omega arith) wide in omega (arith, e)

@@ -64,13 +64,13 @@ pub(crate) fn send_all(sent: &mut Sent, told: Vec<Told>)
 }
 
 /// Each machine starts again, with its member's next draw.
-pub(crate) fn reset_all<D: Draws>(members: &mut [Member], moment: u64, draws: &D)
-    requires few { length members.old ≤ 16 }
+pub(crate) fn reset_all<D: Draws>(members: &mut Vec<Member>, moment: u64, draws: &D)
+    requires few { length members.old.items ≤ 16 }
     requires early { moment < 2 ^ 62 }
-    requires draws { (j : ℕ) → (alone_at members.old j).machine.draws < 2 ^ 62 }
-    ensures len { length members.new ≡ length members.old }
-    ensures each { (j : ℕ) → j < length members.old → alone_at members.new j
-        ≡ alone_resets moment (D.draw draws.now j (alone_at members.old j).machine.draws) (alone_at members.old j) }
+    requires draws { (j : ℕ) → (alone_at members.old.items j).machine.draws < 2 ^ 62 }
+    ensures len { length members.new.items ≡ length members.old.items }
+    ensures each { (j : ℕ) → j < length members.old.items → alone_at members.new.items j
+        ≡ alone_resets moment (D.draw draws.now j (alone_at members.old.items j).machine.draws) (alone_at members.old.items j) }
 {
     for (j, member) in members.iter_mut().enumerate() {
         let draw = draws.draw(j as u32, member.next_draw());

@@ -71,14 +71,14 @@ pub(crate) fn all_known(alloc: Global, members: &[Member]) -> Result<Vector, All
 }
 
 /// All claims end, and every member learns what all know. It takes no memory.
-pub(crate) fn learn_all(known: &Vector, members: &mut [Member])
+pub(crate) fn learn_all(known: &Vector, members: &mut Vec<Member>)
     requires few { length known.now ≤ 16 }
-    requires width { (j : ℕ) → j < length members.old → length (alone_at members.old j).known ≡ length known.now }
-    requires own { (j : ℕ) → j < length members.old
-        → slice_index known.now (alone_at members.old j).number ≤ length (alone_at members.old j).log }
-    ensures len { length members.new ≡ length members.old }
-    ensures each { (j : ℕ) → j < length members.old
-        → alone_at members.new j ≡ alone_learns known.now (alone_ends_claims (alone_at members.old j)) }
+    requires width { (j : ℕ) → j < length members.old.items → length (alone_at members.old.items j).known ≡ length known.now }
+    requires own { (j : ℕ) → j < length members.old.items
+        → slice_index known.now (alone_at members.old.items j).number ≤ length (alone_at members.old.items j).log }
+    ensures len { length members.new.items ≡ length members.old.items }
+    ensures each { (j : ℕ) → j < length members.old.items
+        → alone_at members.new.items j ≡ alone_learns known.now (alone_ends_claims (alone_at members.old.items j)) }
 {
     for member in members.iter_mut() {
         member.end_claims();
