@@ -16,3 +16,4 @@ pub mod Gathered
 pub mod PutBack
 pub mod GatheredAll
 pub mod Learnt
+pub mod GroupFetches

@@ -21,6 +21,15 @@ put_back ms mid new j x l a b =
     let at : alone_at new j ≡ x = ap (λ (xs : List Alone). alone_at xs j) is ∙ get_or-set_same ms j x nobody l in
     is ∙ ap (set ms j) (sym at)
 
+set_back : (ms : List Alone) (j : ℕ) → j < length ms → set ms j (alone_at ms j) ≡ ms
+set_back [] j l = absurd (omega (arith, l))
+set_back (m ∷ ms) zero l = refl
+set_back (m ∷ ms) (suc j) l = ap (λ (xs : List Alone). m ∷ xs) (set_back ms j (omega (arith, l)))
+
+-- Where it is put back as it was, nothing has changed.
+pub put_same : (ms mid new : List Alone) (j : ℕ) (x : Alone) → j < length ms → mid ≡ remove ms j → new ≡ insert mid j x → x ≡ alone_at ms j → new ≡ ms
+put_same ms mid new j x l a b e = put_in ms mid new j x l a b ∙ ap (set ms j) e ∙ set_back ms j l
+
 -- All but one are as they were.
 without : (g : GroupKeys) (logs : Logs) (xs : List Alone) (k : ℕ) → AreTrueMembers g logs xs → AreTrueMembers g logs (remove xs k)
 without g logs [] zero all j l = absurd (omega (arith, l))

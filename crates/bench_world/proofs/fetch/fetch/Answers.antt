@@ -21,8 +21,8 @@ take_outcome-requires-clause-outcome g c =
     c.args.tries c.requires.1.1.1.1.1.0.1 c.deref.result.now (c.deref.ensures.value ∙ c.in_ok-jobs.ensures) c.in_ok-outcome.outcome.parts.items c.deref-3.result.now c.deref-3.ensures.value
     c.in_ok-outcome.outcome.attempts.items c.deref-4.result.now c.deref-4.ensures.value c.in_ok-outcome.ensures.first
 
-pub total-attempts-requires : goal.total-attempts-requires
-total-attempts-requires g c =
+pub total-requires : goal.total-requires
+total-requires g c =
     let few = few_jobs (g.N.Net.passes c.args.link.now.net.now) c.args.g.now g.logs c.args.member.now c.args.link.now.others.now c.args.link.now.asker c.args.link.now.loss c.requires.1.1.1.1.1.1.0.are c.requires.1.1.1.1.1.1.1.1.0 c.requires.1.1.1.1.1.1.1.0
     c.requires.1.1.1.1.1.1.1.1.1 None c.deref-2.result.now (c.deref-2.ensures.value ∙ c.in_ok-jobs.ensures) c.members.result.now c.members.ensures.ring in
     let many = count_attempts (g.N.Net.passes c.args.link.now.net.now) c.args.g.now g.logs c.args.member.now c.args.link.now.others.now c.args.link.now.asker c.args.link.now.loss c.requires.1.1.1.1.1.1.0.are c.requires.1.1.1.1.1.1.1.1.0 c.requires.1.1.1.1.1.1.1.0
@@ -63,7 +63,7 @@ returns-clause-octets g c =
 
 pub returns-clause-attempts : goal.returns-clause-attempts
 returns-clause-attempts g c =
-    c.total-attempts.ensures ∙ ap sum (c.deref-5.ensures.value ∙ sym c.deref-4.ensures.value ∙ fetch_attempts (g.N.Net.passes c.args.link.now.net.now) c.args.g.now g.logs c.args.member.now c.args.link.now.others.now c.args.link.now.asker c.args.link.now.loss c.requires.1.1.1.1.1.1.0.are c.requires.1.1.1.1.1.1.1.1.0 c.requires.1.1.1.1.1.1.1.0
+    c.total.ensures ∙ ap sum (c.deref-5.ensures.value ∙ sym c.deref-4.ensures.value ∙ fetch_attempts (g.N.Net.passes c.args.link.now.net.now) c.args.g.now g.logs c.args.member.now c.args.link.now.others.now c.args.link.now.asker c.args.link.now.loss c.requires.1.1.1.1.1.1.0.are c.requires.1.1.1.1.1.1.1.1.0 c.requires.1.1.1.1.1.1.1.0
     c.requires.1.1.1.1.1.1.1.1.1 None c.deref-2.result.now (c.deref-2.ensures.value ∙ c.in_ok-jobs.ensures) c.members.result.now c.members.ensures.ring
     c.args.tries c.requires.1.1.1.1.1.0.1 c.deref.result.now (c.deref.ensures.value ∙ c.in_ok-jobs.ensures) c.in_ok-outcome.outcome.parts.items c.deref-3.result.now c.deref-3.ensures.value
     c.in_ok-outcome.outcome.attempts.items c.deref-4.result.now c.deref-4.ensures.value c.in_ok-outcome.ensures.first)
