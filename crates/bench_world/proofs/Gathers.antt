@@ -31,7 +31,7 @@ use Rattle.bench_world.specs.Lending.{lent, lends}
 use Rattle.bench_world.specs.Gathering.{next_parts, lent_one, lent_all, one_each, held_sum, Counts, IsPlaceIn, Gains, NothingLeft, RoundSoFar}
 use Rattle.bench_world.proofs.SetSums.{sum_insert_keys, ones}
 use Rattle.bench_world.proofs.NextParts.{all_from_in, none_pass, next_rise, next_unclaimed, next_after, next_covers, next_none, place_later}
-use Rattle.bench_world.proofs.Asked.{lends_true, came_lent}
+use Rattle.bench_world.proofs.Brought.{lends_true, came_lent}
 
 -- ---- parts that there are
 

@@ -29,7 +29,7 @@ use Rattle.bench_world.specs.Serving.{outside}
 use Rattle.bench_world.specs.Sizes.{size_of}
 use Rattle.bench_world.specs.Truth.{stores}
 use Rattle.bench_world.specs.Worlds.{nobody, alone_at, others_than, in_groups, AreTrueMembers, AreNumbered}
-use Rattle.bench_world.proofs.Asked.{lends_true}
+use Rattle.bench_world.proofs.Brought.{lends_true}
 use Rattle.bench_world.proofs.Gathered.{lends_held}
 use Rattle.bench_world.proofs.GatheredAll.{member_of}
 use Rattle.bench_world.proofs.NextParts.{all_from_in, next_unclaimed}

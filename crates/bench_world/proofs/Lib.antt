@@ -7,7 +7,7 @@ pub mod Publishes
 pub mod SetSums
 pub mod NextParts
 pub mod Attempts
-pub mod Asked
+pub mod Brought
 pub mod OneByOne
 pub mod KnownByAll
 pub mod Phases

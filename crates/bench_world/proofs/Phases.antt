@@ -33,7 +33,7 @@ use Rattle.bench_world.specs.Lending.{lent, lends, comes}
 use Rattle.bench_world.specs.Gathering.{next_parts, lent_one, lent_all}
 use Rattle.bench_world.specs.Fetching.{attempt_at, fetched_one, fetched_all}
 use Rattle.bench_world.proofs.NextParts.{next_unclaimed, from_slice_get}
-use Rattle.bench_world.proofs.Asked.{answer, lends_true, were_tried, none_counted, first_lengths, counted, octets_sum, fetched_is, lent_is, came_lent, want_part}
+use Rattle.bench_world.proofs.Brought.{answer, lends_true, were_tried, none_counted, first_lengths, counted, octets_sum, fetched_is, lent_is, came_lent, want_part}
 
 module _ (passes : ℕ → ℕ → ℕ → ℕ → ℕ → ℕ → Bool) (g : GroupKeys) (logs : Logs) (a : Alone) (others : List Alone) (asker : ℕ) (loss : Option ℕ) (are : AreLogs g logs) (truly : IsTrueMember g logs a) (all : AreTrueMembers g logs others)
     (tried : TriedFew a) (after : Option Part) (jobs : List Job) (jobs_are : jobs ≡ jobs_behind g a after 4096) (ring : List Pair) (ring_is : ring ≡ g.members.ring) where
