@@ -31,7 +31,8 @@ use Rattle.repo_member.specs.TrueMembers.{IsTrueMember}
 use Rattle.repo_member.proofs.PublicLaws.{packets_pass_for_members}
 use Rattle.bench_world.specs.Worlds.{nobody, alone_at, AreTrueMembers}
 use Rattle.bench_world.specs.Truth.{TriedFew}
-use Rattle.bench_world.specs.Lending.{or_else, lent, lends, place_beside, lent_at, lent_first, comes, if_comes}
+use Rattle.bench_world.specs.Others.{place_of}
+use Rattle.bench_world.specs.Lending.{or_else, lent, lends, lent_at, lent_first, comes, if_comes}
 use Rattle.bench_world.specs.Gathering.{lent_one, lent_all}
 use Rattle.bench_world.specs.Fetching.{attempt_at, fetched_one, fetched_all}
 use Rattle.bench_world.proofs.Attempts.{none_comes, some_comes}
@@ -63,11 +64,11 @@ module _ (g : GroupKeys) (logs : Logs) where
 
   -- Whoever is asked first, what is lent is the same.
   pub first_is_lent : (others : List Alone) (asker : ℕ) (t : Part) → AreTrueMembers g logs others → lent_first others asker t ≡ lent others t
-  first_is_lent others asker t truly = go (lent_at (slice_get others (place_beside asker t.publisher)) t) (lent others t) refl refl where
-    go : (x y : Option (List ℕ)) → lent_at (slice_get others (place_beside asker t.publisher)) t ≡ x → lent others t ≡ y → or_else x y ≡ y
+  first_is_lent others asker t truly = go (lent_at (slice_get others (place_of asker t.publisher)) t) (lent others t) refl refl where
+    go : (x y : Option (List ℕ)) → lent_at (slice_get others (place_of asker t.publisher)) t ≡ x → lent others t ≡ y → or_else x y ≡ y
     go None y e f = refl
-    go (Some octets) None e f = absurd (true≢false (sym (stored_lent others (place_beside asker t.publisher) t octets e) ∙ ap is_some f))
-    go (Some octets) (Some other) e f = sym (stored_true others (place_beside asker t.publisher) t octets truly e) ∙ lends_true others truly t other f
+    go (Some octets) None e f = absurd (true≢false (sym (stored_lent others (place_of asker t.publisher) t octets e) ∙ ap is_some f))
+    go (Some octets) (Some other) e f = sym (stored_true others (place_of asker t.publisher) t octets truly e) ∙ lends_true others truly t other f
 
 -- ---- what is checked
 

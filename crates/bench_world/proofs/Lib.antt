@@ -17,3 +17,15 @@ pub mod PutBack
 pub mod GatheredAll
 pub mod Learnt
 pub mod GroupFetches
+mod States
+mod Openings
+mod Claims
+mod Deliveries
+mod Timers
+mod Objects
+mod Readers
+mod Answered
+mod Hearings
+mod Coming
+mod TakenOut
+mod Asked

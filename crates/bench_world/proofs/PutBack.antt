@@ -1,34 +1,19 @@
--- A member that is taken out and put back.
-use Rattle.std.proofs.Common.{◌≡◌, ℕ, suc, zero, ◌<◌, List, [], ◌∷◌, length, set, refl, sym, ap, ◌∙◌, subst, arith}
+-- A member that is taken out and put back, changed or not.
+use Rattle.std.proofs.Common.{◌≡◌, ℕ, suc, zero, ◌<◌, List, [], ◌∷◌, length, set, sym, ap, ◌∙◌, subst, arith}
 use Rattle.std.specs.List.{remove, insert}
 use Rattle.std.proofs.lemmas.List.{get_or-set_same}
 use Rattle.repo_member.specs.Groups.{GroupKeys}
 use Rattle.repo_member.specs.Alone.{Alone}
 use Rattle.group_model.specs.Publications.{Logs}
-use Rattle.bench_world.specs.Worlds.{nobody, alone_at, others_than, AreTrueMembers}
+use Rattle.bench_world.specs.Worlds.{nobody, alone_at, AreTrueMembers}
+use Rattle.bench_world.proofs.TakenOut.{put_in}
 
-same_place : (ms : List Alone) (j : ℕ) (x : Alone) → j < length ms → insert (remove ms j) j x ≡ set ms j x
-same_place [] j x l = absurd (omega (arith, l))
-same_place (m ∷ ms) zero x l = refl
-same_place (m ∷ ms) (suc j) x l = ap (λ (xs : List Alone). m ∷ xs) (same_place ms j x (omega (arith, l)))
-
-pub put_in : (ms mid new : List Alone) (j : ℕ) (x : Alone) → j < length ms → mid ≡ remove ms j → new ≡ insert mid j x → new ≡ set ms j x
-put_in ms mid new j x l a b = b ∙ ap (λ (xs : List Alone). insert xs j x) a ∙ same_place ms j x l
-
-pub put_back : (ms mid new : List Alone) (j : ℕ) (x : Alone) → j < length ms → mid ≡ remove ms j → new ≡ insert mid j x → new ≡ set ms j (alone_at new j)
-put_back ms mid new j x l a b =
+-- It stands where it stood, and the others as they did.
+pub put_changed : (ms mid new : List Alone) (j : ℕ) (x : Alone) → j < length ms → mid ≡ remove ms j → new ≡ insert mid j x → new ≡ set ms j (alone_at new j)
+put_changed ms mid new j x l a b =
     let is : new ≡ set ms j x = put_in ms mid new j x l a b in
     let at : alone_at new j ≡ x = ap (λ (xs : List Alone). alone_at xs j) is ∙ get_or-set_same ms j x nobody l in
     is ∙ ap (set ms j) (sym at)
-
-set_back : (ms : List Alone) (j : ℕ) → j < length ms → set ms j (alone_at ms j) ≡ ms
-set_back [] j l = absurd (omega (arith, l))
-set_back (m ∷ ms) zero l = refl
-set_back (m ∷ ms) (suc j) l = ap (λ (xs : List Alone). m ∷ xs) (set_back ms j (omega (arith, l)))
-
--- Where it is put back as it was, nothing has changed.
-pub put_same : (ms mid new : List Alone) (j : ℕ) (x : Alone) → j < length ms → mid ≡ remove ms j → new ≡ insert mid j x → x ≡ alone_at ms j → new ≡ ms
-put_same ms mid new j x l a b e = put_in ms mid new j x l a b ∙ ap (set ms j) e ∙ set_back ms j l
 
 -- All but one are as they were.
 without : (g : GroupKeys) (logs : Logs) (xs : List Alone) (k : ℕ) → AreTrueMembers g logs xs → AreTrueMembers g logs (remove xs k)

@@ -1,9 +1,10 @@
 -- Packets that members lend to one that asks for parts.
-use Rattle.std.specs.Prelude.{ℕ, ◌-◌, Bool, true, false, List, [], ◌∷◌, Option, Some, None, is_some, slice_get, nat_lt, if◌then◌else◌}
+use Rattle.std.specs.Prelude.{ℕ, Bool, true, false, List, [], ◌∷◌, Option, Some, None, is_some, slice_get}
 use Rattle.repo_plan.specs.declared.part.Part.{Part}
 use Rattle.repo_plan.specs.SortedList.{value_of}
 use Rattle.repo_plan.specs.Parts.{part_cmp}
 use Rattle.repo_member.specs.Alone.{Alone}
+use Rattle.bench_world.specs.Others.{place_of}
 
 abbrev pub or_else : Option (List ℕ) → Option (List ℕ) → Option (List ℕ)
 or_else None other = other
@@ -20,17 +21,13 @@ lends others t = is_some (lent others t)
 
 -- ---- the publisher first
 
--- The place of a member among all but one.
-abbrev pub place_beside : ℕ → ℕ → ℕ
-place_beside asker number = if nat_lt asker number then number - 1 else number
-
 abbrev pub lent_at : Option Alone → Part → Option (List ℕ)
 lent_at None t = None
 lent_at (Some a) t = value_of part_cmp a.store t
 
 -- The packet that the part's publisher stores of it, or else the first of the others that stores it.
 abbrev pub lent_first : List Alone → ℕ → Part → Option (List ℕ)
-lent_first others asker t = or_else (lent_at (slice_get others (place_beside asker t.publisher)) t) (lent others t)
+lent_first others asker t = or_else (lent_at (slice_get others (place_of asker t.publisher)) t) (lent others t)
 
 -- ---- the way of attempts
 

@@ -3,6 +3,7 @@ pub mod Publications
 pub mod PlainModel
 pub mod Holdings
 pub mod Worlds
+pub mod Kept
 pub mod Truth
 pub mod Sizes
 pub mod Serving
@@ -10,3 +11,11 @@ pub mod Lending
 pub mod Gathering
 pub mod Fetching
 pub mod Settling
+pub mod Readings
+pub mod EventValues
+pub mod Steps
+pub mod Timers
+pub mod Others
+pub mod Answering
+pub mod Hearing
+pub mod Replying

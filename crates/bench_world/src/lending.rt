@@ -57,10 +57,10 @@ fn lent<'w>(others: &'w [Member], asker: u32, part: Part) -> Option<&'w [u8]>
     ensures { option_map (λ octets. octets.now) result ≡ lent_first others.now asker part }
 {
     let publisher = part.publisher;
-    let place = if asker < publisher {
-        publisher - 1
-    } else {
+    let place = if publisher < asker {
         publisher
+    } else {
+        publisher.saturating_sub(1)
     };
     if let Some(member) = others.get(place as usize) {
         if let Some(packet) = member.packet(part) {

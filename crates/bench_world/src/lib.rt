@@ -1,20 +1,31 @@
-//! A group of members without packets, a network or fetchers: what they published, know and hold, and how it changes as
-//! they publish and settle.
+//! All members of a group with what was sent between them, one event at a time.
+//!
+//! `World` holds the members with their packets and keys; each step is the step of the group's model, with what octets
+//! are filled in. `PlainWorld` is the same without packets, a network or fetchers: what the members published, know and
+//! hold.
 #![tactic(auto)]
 
+mod answering;
+mod event;
 mod exchange;
 mod fetch;
 mod gather;
+mod hearing;
 mod holding;
 mod lending;
 mod log;
+mod numbers;
+mod others;
 mod plain_entry;
 mod plain_world;
 mod settling;
 mod telling;
+mod world;
 
+pub use event::{Event, Happened, StepFault};
 pub use plain_entry::PlainEntry;
 pub use plain_world::PlainWorld;
+pub use world::World;
 
 #[cfg(test)]
 mod tests;

@@ -7,6 +7,7 @@ ghost use Rattle.repo_member.specs.InGroup.{AreLogs};
 ghost use Rattle.bench_world.specs.Worlds.{alone_at, tells, AreTrueMembers, AreNumbered};
 ghost use Rattle.bench_world.specs.Settling.{told_of};
 
+use crate::numbers::numbers;
 use repo_member::{Group, Member};
 use std::alloc::{AllocError, Global};
 use svs_vector::Vector;
@@ -44,18 +45,6 @@ pub(crate) fn tell_all(
         sender += 1;
     }
     Ok(told)
-}
-
-// The numbers of a vector.
-fn numbers(alloc: Global, vector: &Vector) -> Result<Vec<u16>, AllocError>
-    requires { length vector.now ≤ 16 }
-    ensures { IfOk result (λ numbers. numbers.items ≡ vector.now) }
-{
-    let mut numbers = Vec::with_capacity(alloc, vector.members())?;
-    for member in 0..vector.members() as u32 {
-        numbers.push(vector.get(member))?;
-    }
-    Ok(numbers)
 }
 
 /// What all members know together.

@@ -11,7 +11,8 @@ use Rattle.bench_world.specs.Fetching.{fetched_all}
 use Rattle.bench_world.specs.Sizes.{size_of}
 use Rattle.bench_world.specs.Truth.{TriedFew}
 use Rattle.bench_world.specs.Worlds.{nobody, alone_at, others_than, AreTrueMembers, AreNumbered}
-use Rattle.bench_world.proofs.PutBack.{put_in, put_same, others_true}
+use Rattle.bench_world.proofs.PutBack.{others_true}
+use Rattle.bench_world.proofs.TakenOut.{put_in, put_back}
 use Rattle.bench_world.proofs.GroupFetches.{planned_are, came_are, attempts_are, members_are, fetched_all_truly, fetched_numbers}
 use Rattle.bench_world.proofs.exchange.fetch_at.Goals as goal
 
@@ -104,11 +105,11 @@ returns-in-Ok-fetched-clause-attempts g c =
 pub returns-in-Err-clause-truly : goal.returns-in-Err-clause-truly
 returns-in-Err-clause-truly g c =
     let old = c.remove-member.ensures.value ∙ get_or_default c.args.members.now.items c.args.j c.remove-member.result nobody c.requires.1.1.1.1.1.1.0 in
-    let same = put_same c.args.members.now.items c.remove-member.new.self.items c.insert.new.self.items c.args.j c.fetch-fetched.new.member c.requires.1.1.1.1.1.1.0 c.remove-member.ensures.items c.in-Ok.ensures.items (c.in-Err.ensures.err ∙ old) in
+    let same = put_back c.args.members.now.items c.remove-member.new.self.items c.insert.new.self.items c.args.j c.fetch-fetched.new.member c.requires.1.1.1.1.1.1.0 c.remove-member.ensures.items c.in-Ok.ensures.items (c.in-Err.ensures.err ∙ old) in
     subst (AreTrueMembers c.args.g.now (logs g.begun)) (sym same) c.requires.1.1.1.1.1.1.1.1.1.1.0
 
 pub returns-in-Err-clause-numbers : goal.returns-in-Err-clause-numbers
 returns-in-Err-clause-numbers g c =
     let old = c.remove-member.ensures.value ∙ get_or_default c.args.members.now.items c.args.j c.remove-member.result nobody c.requires.1.1.1.1.1.1.0 in
-    let same = put_same c.args.members.now.items c.remove-member.new.self.items c.insert.new.self.items c.args.j c.fetch-fetched.new.member c.requires.1.1.1.1.1.1.0 c.remove-member.ensures.items c.in-Ok.ensures.items (c.in-Err.ensures.err ∙ old) in
+    let same = put_back c.args.members.now.items c.remove-member.new.self.items c.insert.new.self.items c.args.j c.fetch-fetched.new.member c.requires.1.1.1.1.1.1.0 c.remove-member.ensures.items c.in-Ok.ensures.items (c.in-Err.ensures.err ∙ old) in
     subst AreNumbered (sym same) c.requires.1.1.1.1.1.1.1.1.1.0

@@ -3,12 +3,12 @@ use Rattle.std.proofs.lemmas.List.{get_or_default}
 use Rattle.repo_member.specs.TrueMembers.{IsTrueMember}
 use Rattle.bench_world.specs.Truth.{TriedFew}
 use Rattle.bench_world.specs.Worlds.{nobody, AreTrueMembers}
-use Rattle.bench_world.proofs.PutBack.{put_back, others_true}
+use Rattle.bench_world.proofs.PutBack.{put_changed, others_true}
 use Rattle.bench_world.proofs.exchange.gather_at.Goals as goal
 
 pub returns-clause-others : goal.returns-clause-others
 returns-clause-others g c =
-    put_back c.args.members.now.items c.remove-member.new.self.items c.insert.new.self.items c.args.j c.gather-kept.new.member c.requires.1.1.1.1.1.0
+    put_changed c.args.members.now.items c.remove-member.new.self.items c.insert.new.self.items c.args.j c.gather-kept.new.member c.requires.1.1.1.1.1.0
     c.remove-member.ensures.items c.in-Ok.ensures.items
 
 pub gather-kept-requires : goal.gather-kept-requires

@@ -1,0 +1,7 @@
+use Rattle.bench_world.proofs.answering.feed.Given as goal
+
+abbrev pub ghost-want_for : goal.ghost-want_for
+ghost-want_for g a = g.logs
+
+abbrev pub ghost-take : goal.ghost-take
+ghost-take g a = g.logs

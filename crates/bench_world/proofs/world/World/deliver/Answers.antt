@@ -1,0 +1,60 @@
+use Rattle.std.proofs.Common.{◌≡◌, ◌≤◌, ◌<◌, length, None, sym, ap, ◌∙◌, subst}
+use Rattle.group_model.specs.Member.{Member}
+use Rattle.group_model.specs.World.{World, sent_at, member}
+use Rattle.group_model.specs.Refusals.{unless_sent}
+use Rattle.group_model.specs.Steps.{after_deliver, mode_at}
+use Rattle.svs_sync.specs.Suppression.{mode_of}
+use Rattle.bench_world.specs.EventValues.{delivered_told}
+use Rattle.bench_world.specs.Worlds.{GroupState, world_of, drawing}
+use Rattle.bench_world.specs.Kept.{state}
+use Rattle.bench_world.proofs.States.{few_draws, member_set}
+use Rattle.bench_world.proofs.Deliveries.{there, not_refused, heard_is, heard_state, heard_world}
+use Rattle.bench_world.proofs.world.World.deliver.Goals as goal
+
+pub hear-requires-clause-few : goal.hear-requires-clause-few
+hear-requires-clause-few g c =
+    let s = state c.self.inside in
+    let inside = subst (λ (x : GroupState). c.args.m < length x.members) (sym c.self.view_is) c.requires.there in
+    few_draws s c.self.invariant c.args.m inside c.index_mut-member.result.now c.index_mut-member.ensures.value
+
+pub invariant_of-self-2 : goal.invariant_of-self-2
+invariant_of-self-2 g c =
+    let s = state c.self.inside in
+    let inside = subst (λ (x : GroupState). c.args.m < length x.members) (sym c.self.view_is) c.requires.there in
+    let at = there s.sent c.args.k c.in-Some.octets.now c.in-Some.ensures in
+    let old = c.index_mut-member.result.now in
+    let e = heard_is s c.self.invariant c.args.k at.first at.last c.args.m inside old c.hear.new.self c.index_mut-member.ensures.value c.in-Some.octets.now s.moment c.draw-draw.result at.octets c.in-Ok.ensures.ok in
+    heard_state s c.self.invariant c.args.k at.first at.last c.args.m inside old c.hear.new.self c.index_mut-member.ensures.value (g.D.Draws.draw c.args.draws.now) c.draw-draw.result e
+    (c.draw-draw.ensures ∙ ap (g.D.Draws.draw c.args.draws.now c.args.m) c.next_draw.ensures)
+    (subst (λ (x : GroupState). x.steps < 100000) (sym c.self.view_is) c.requires.few)
+
+pub returns-clause-taken : goal.returns-clause-taken
+returns-clause-taken g c =
+    let s = state c.self.inside in
+    let at = there s.sent c.args.k c.in-Some.octets.now c.in-Some.ensures in
+    subst (λ (x : GroupState). unless_sent (world_of x) c.args.k ≡ None) c.self.view_is (not_refused s c.args.k at.first at.last)
+
+pub returns-clause-world : goal.returns-clause-world
+returns-clause-world g c =
+    let s = state c.self.inside in
+    let inside = subst (λ (x : GroupState). c.args.m < length x.members) (sym c.self.view_is) c.requires.there in
+    let at = there s.sent c.args.k c.in-Some.octets.now c.in-Some.ensures in
+    let old = c.index_mut-member.result.now in
+    let e = heard_is s c.self.invariant c.args.k at.first at.last c.args.m inside old c.hear.new.self c.index_mut-member.ensures.value c.in-Some.octets.now s.moment c.draw-draw.result at.octets c.in-Ok.ensures.ok in
+    heard_world s c.self.invariant c.args.k at.first at.last c.args.m inside old c.hear.new.self c.index_mut-member.ensures.value (g.D.Draws.draw c.args.draws.now) c.draw-draw.result e
+    (c.draw-draw.ensures ∙ ap (g.D.Draws.draw c.args.draws.now c.args.m) c.next_draw.ensures)
+    ∙ ap (λ (x : GroupState). after_deliver (drawing (g.D.Draws.draw c.args.draws.now)) (world_of x) c.args.m (sent_at (world_of x) c.args.k).vector) c.self.view_is
+
+pub returns-clause-told : goal.returns-clause-told
+returns-clause-told g c =
+    let s = state c.self.inside in
+    let inside = subst (λ (x : GroupState). c.args.m < length x.members) (sym c.self.view_is) c.requires.there in
+    let at = there s.sent c.args.k c.in-Some.octets.now c.in-Some.ensures in
+    let old = c.index_mut-member.result.now in
+    let e = heard_is s c.self.invariant c.args.k at.first at.last c.args.m inside old c.hear.new.self c.index_mut-member.ensures.value c.in-Some.octets.now s.moment c.draw-draw.result at.octets c.in-Ok.ensures.ok in
+    let after = heard_world s c.self.invariant c.args.k at.first at.last c.args.m inside old c.hear.new.self c.index_mut-member.ensures.value (g.D.Draws.draw c.args.draws.now) c.draw-draw.result e
+        (c.draw-draw.ensures ∙ ap (g.D.Draws.draw c.args.draws.now c.args.m) c.next_draw.ensures) in
+    c.delivered.ensures ∙ ap (λ n. delivered_told n c.args.m c.in-Ok.mode) c.from.ensures
+    ∙ ap (delivered_told c.args.k c.args.m) (c.in-Ok.ensures.mode ∙ ap (λ (x : Member). mode_of x.machine.heard) (sym (member_set s.members c.args.m c.hear.new.self inside))
+    ∙ ap (λ (w : World). mode_of (member w c.args.m).machine.heard) after)
+    ∙ ap (λ (x : GroupState). delivered_told c.args.k c.args.m (mode_at (after_deliver (drawing (g.D.Draws.draw c.args.draws.now)) (world_of x) c.args.m (sent_at (world_of x) c.args.k).vector) c.args.m)) c.self.view_is

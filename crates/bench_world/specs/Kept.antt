@@ -1,0 +1,16 @@
+-- How a world is kept.
+use Rattle.bench_world.specs.declared.world.World.TheInside.{Inside}
+use Rattle.bench_world.specs.Worlds.{GroupState, IsTrueState}
+
+abbrev pub state : Inside → GroupState
+state w = record {
+  keys = w.group;
+  members = w.members.items;
+  sent = w.sent.packets;
+  moment = w.moment;
+  tally = record { delivered = w.delivered; attempts = w.attempts; parts = w.parts; octets = w.octets };
+  steps = w.steps;
+}
+
+abbrev pub IsWorld : Inside → Type 0
+IsWorld w = IsTrueState (state w)

@@ -1,0 +1,55 @@
+-- When an event can be carried out, what comes of it, and lists of events.
+use Rattle.std.specs.Prelude.{ℕ, ◌≡◌, ◌<◌, ◌≤◌, IsTrue, length, Option, Some, None}
+use Rattle.repo_plan.specs.Parts.{numbers_from}
+use Rattle.repo_plan.specs.Calls.{IsFetcher}
+use Rattle.repo_object.specs.Objects.{is_object_name}
+use Rattle.repo_object.specs.Cuts.{pieces}
+use Rattle.group_model.specs.Refusals.{Refusal}
+use Rattle.bench_world.specs.declared.event.StepFault.{StepFault}
+use Rattle.bench_world.specs.declared.event.StepFault.TheVariants as fault
+use Rattle.bench_world.specs.EventValues.{EventValue, Told, group_event}
+
+-- There are so many members; the members and fetchers that an event names are there, and what is said is within its
+-- limits.
+abbrev pub IsReady : ℕ → EventValue → Type 0
+IsReady n (EventValue.Publish m name size content) =
+    (m < n) × IsTrue (is_object_name name) × (1 ≤ size) × (size ≤ 8000) × (length (pieces size content) ≤ 200)
+IsReady n (EventValue.Deliver k m) = m < n
+IsReady n (EventValue.Sync k) = Unit {0}
+IsReady n (EventValue.Advance ms) = ms ≤ 1000000000
+IsReady n (EventValue.Fire m) = m < n
+IsReady n (EventValue.Restart m) = m < n
+IsReady n (EventValue.Vector m) = m < n
+IsReady n (EventValue.Catalogue m) = m < n
+IsReady n (EventValue.Claim m f) = (m < n) × IsFetcher f
+IsReady n (EventValue.Lose m f) = (m < n) × IsFetcher f
+IsReady n (EventValue.Answer m f q) = (m < n) × IsFetcher f × (q < n)
+IsReady n (EventValue.Fetch m workers tries loss) =
+    (m < n) × (1 ≤ workers) × (workers ≤ 16) × (1 ≤ tries) × (tries ≤ 16)
+IsReady n (EventValue.Settle workers) = (1 ≤ workers) × (workers ≤ 16)
+IsReady n (EventValue.Dump m p s x) = (m < n) × (s < 65536) × (x < 256)
+IsReady n (EventValue.Hear m octets) = m < n
+IsReady n (EventValue.Ask m octets) = m < n
+IsReady n (EventValue.Feed m f octets) = (m < n) × IsFetcher f
+IsReady n EventValue.Summary = Unit {0}
+IsReady n EventValue.Traffic = Unit {0}
+
+abbrev pub fault_of : Refusal → StepFault
+fault_of Refusal.NoSuchPacket = fault.Refused 5
+fault_of Refusal.FetcherBusy = fault.Refused 6
+fault_of Refusal.FetcherIdle = fault.Refused 7
+fault_of Refusal.Foreign = fault.Foreign
+fault_of Refusal.NumbersSpent = fault.Refused 8
+
+-- Memory was wanting, or the event is refused so.
+abbrev pub IsFaultOf : Option Refusal → StepFault → Type 0
+IsFaultOf refusal fault.NoMemory = Unit {0}
+IsFaultOf None _ = ⊥
+IsFaultOf (Some refusal) told = told ≡ fault_of refusal
+
+-- All members are named, each with a number, or with its sums.
+abbrev pub NamesAll : ℕ → Told → Type 0
+NamesAll n (Told.Vector m members numbers) = (members ≡ numbers_from 0 n) × (length numbers ≡ n)
+NamesAll n (Told.Summary members entries segments octets) =
+    (members ≡ numbers_from 0 n) × (length entries ≡ n) × (length segments ≡ n) × (length octets ≡ n)
+NamesAll n _ = Unit {0}

@@ -1,0 +1,284 @@
+// Packets that come for what fetchers claim.
+ghost use Rattle.std.specs.Prelude.{◌≡◌, ◌⊎◌, ◌↔◌, ◌<◌, ◌^◌, Ok, Err, Some, None, IfSome, IfOk, IfErr, OnOk, OnErr, List, length, unwrap_or, option_map, slice_set, []};
+ghost use Rattle.std.specs.Str.{bytes_eq};
+ghost use Rattle.repo_plan.specs.Calls.{IsFetcher};
+ghost use Rattle.repo_plan.specs.Plan.{claim_of};
+ghost use Rattle.repo_store.specs.Served.{served};
+ghost use Rattle.group_model.specs.Publications.{Logs};
+ghost use Rattle.group_model.specs.Sound.{IsPublishedPart};
+ghost use Rattle.group_model.specs.Events.Came.{Another};
+ghost use Rattle.repo_member.specs.Alone.{Alone, alone_plan};
+ghost use Rattle.repo_member.specs.InGroup.{AreLogs, true_packet};
+ghost use Rattle.repo_member.specs.TrueMembers.{IsTrueMember, true_want};
+ghost use Rattle.bench_world.specs.Worlds.{alone_at, others_than, AreTrueMembers, AreNumbered};
+ghost use Rattle.bench_world.specs.Serving.{octets_as, judged, found};
+ghost use Rattle.bench_world.specs.Answering.{answered, claim_in, came_in, came_for, lender_of, fed_as, kept_of, after_claim, after_claimed};
+
+use crate::event::StepFault;
+use crate::others::Others;
+use repo_member::{Group, Member, WantFault};
+use repo_object::{PartRefusal, Want, check_part};
+use repo_plan::Part;
+use std::alloc::{AllocError, Global};
+
+/// What came of octets for a fetcher's part.
+#[derive(Clone, Copy, Debug)]
+pub(crate) enum Fed {
+    Kept,
+    Refused { refusal: PartRefusal },
+}
+
+// Whether octets are the packet of a part, by what its publisher stores, or else by its log.
+fn is_its_packet(
+    g: &Group,
+    publisher: &Member,
+    part: Part,
+    octets: &[u8],
+) -> Result<bool, AllocError>
+    ghost logs: { Logs }
+    requires logs { AreLogs g.now logs }
+    requires publisher { IsTrueMember g.now logs publisher.now }
+    requires number { publisher.now.number ≡ part.publisher }
+    requires part { IsPublishedPart logs part }
+    ensures { IfOk result (λ same. same ≡ bytes_eq octets.now (unwrap_or (true_packet g.now logs part) [])) }
+{
+    if let Some(packet) = publisher.packet(part) {
+        return Ok(octets == packet);
+    }
+    let Some(packet) = publisher.logged(g, part)? else {
+        unreachable!()
+    };
+    Ok(octets == packet.as_slice())
+}
+
+// The want of what a fetcher claims.
+fn want_for(alloc: Global, g: &Group, member: &Member, f: u8) -> Result<Want, StepFault>
+    ghost logs: { Logs }
+    requires logs { AreLogs g.now logs }
+    requires member { IsTrueMember g.now logs member.now }
+    requires fetcher { IsFetcher f }
+    ensures claim { IfOk result (λ want. claim_of (alone_plan member.now) f ≡ Some want.part) }
+    ensures want { IfOk result (λ want. want ≡ true_want g.now logs want.part) }
+    ensures idle { (result ≡ Err (StepFault.Refused 7)) ↔ (claim_of (alone_plan member.now) f ≡ None) }
+    ensures refused { IfErr result (λ fault. (fault ≡ StepFault.NoMemory) ⊎ (fault ≡ StepFault.Refused 7)) }
+{
+    match member.want(alloc, g, f) {
+        Ok(want) => Ok(want),
+        Err(WantFault::FetcherIdle) => Err(StepFault::Refused { number: 7 }),
+        Err(WantFault::NoMemory) => Err(StepFault::NoMemory),
+    }
+}
+
+// Octets are taken for what a member's fetcher claims, where they pass for it and are its publisher's packet. They are
+// foreign where they pass and aren't.
+fn take(
+    g: &Group,
+    publisher: &Member,
+    asker: &mut Member,
+    f: u8,
+    want: &Want,
+    octets: &[u8],
+) -> Result<Fed, StepFault>
+    ghost logs: { Logs }
+    requires logs { AreLogs g.now logs }
+    requires publisher { IsTrueMember g.now logs publisher.now }
+    requires number { publisher.now.number ≡ want.now.part.publisher }
+    requires asker { IsTrueMember g.now logs asker.old }
+    requires fetcher { IsFetcher f }
+    requires claim { claim_of (alone_plan asker.old) f ≡ Some want.now.part }
+    requires want { want.now ≡ true_want g.now logs want.now.part }
+    ensures fed { IfOk result (λ fed. fed ≡ fed_as g.now logs octets.now want.now.part) }
+    ensures asker { OnOk result (asker.new ≡ after_claim g.now logs f want.now.part
+        (octets_as g.now logs want.now.part octets.now) asker.old) }
+    ensures kept { IfOk result (λ fed. answered g.now logs (Some want.now.part)
+        (octets_as g.now logs want.now.part octets.now) ≡ Ok (kept_of octets.now fed)) }
+    ensures foreign { IfErr result (λ fault. (fault ≡ StepFault.NoMemory)
+        ⊎ ((fault ≡ StepFault.Foreign) × (octets_as g.now logs want.now.part octets.now ≡ Another))) }
+    ensures err { OnErr result (asker.new ≡ asker.old) }
+{
+    let checked = match check_part(want, octets, g.members()) {
+        Ok(checked) => checked,
+        Err(refusal) => return Ok(Fed::Refused { refusal }),
+    };
+    if !is_its_packet(g, publisher, want.part(), octets)? {
+        return Err(StepFault::Foreign);
+    }
+    // The fetcher claims the part, so only memory can be wanting.
+    match asker.accept_checked(g, f, &checked) {
+        Ok(_) => Ok(Fed::Kept),
+        Err(_) => Err(StepFault::NoMemory),
+    }
+}
+
+// The packet that a member serves to a want, if it serves one.
+fn served_to<'a>(member: &'a Member, want: &Want) -> Option<&'a [u8]>
+    ensures { option_map (λ octets. octets.now) result ≡ found (served want.now.interest member.now.store) }
+{
+    match member.serve(want.interest()) {
+        Ok(packet) => packet,
+        Err(_) => None,
+    }
+}
+
+// What is served is taken, if anything is: how many octets are kept, if they are.
+fn take_served(
+    g: &Group,
+    publisher: &Member,
+    asker: &mut Member,
+    f: u8,
+    want: &Want,
+    packet: Option<&[u8]>,
+) -> Result<Option<u64>, StepFault>
+    ghost logs: { Logs }
+    requires logs { AreLogs g.now logs }
+    requires publisher { IsTrueMember g.now logs publisher.now }
+    requires number { publisher.now.number ≡ want.now.part.publisher }
+    requires asker { IsTrueMember g.now logs asker.old }
+    requires fetcher { IsFetcher f }
+    requires claim { claim_of (alone_plan asker.old) f ≡ Some want.now.part }
+    requires want { want.now ≡ true_want g.now logs want.now.part }
+    ensures kept { IfOk result (λ kept. answered g.now logs (Some want.now.part)
+        (judged g.now logs want.now.part (option_map (λ octets. octets.now) packet.entry)) ≡ Ok kept) }
+    ensures small { IfOk result (λ kept. IfSome kept (λ n. n < 2 ^ 63)) }
+    ensures asker { OnOk result (asker.new ≡ after_claim g.now logs f want.now.part
+        (judged g.now logs want.now.part (option_map (λ octets. octets.now) packet.entry)) asker.old) }
+    ensures refused { IfErr result (λ fault. (fault ≡ StepFault.NoMemory)
+        ⊎ (answered g.now logs (Some want.now.part)
+        (judged g.now logs want.now.part (option_map (λ octets. octets.now) packet.entry)) ≡ Err fault)) }
+    ensures err { OnErr result (asker.new ≡ asker.old) }
+{
+    let Some(octets) = packet else {
+        return Ok(None);
+    };
+    match take(g, publisher, asker, f, want, octets) {
+        Ok(Fed::Kept) => Ok(Some(octets.len() as u64)),
+        Ok(Fed::Refused { .. }) => Ok(None),
+        Err(fault) => Err(fault),
+    }
+}
+
+// A member asks another, or itself where there is no other: how many octets are kept, if what came is.
+fn ask_one(
+    alloc: Global,
+    g: &Group,
+    publisher: &Member,
+    lender: Option<&Member>,
+    asker: &mut Member,
+    f: u8,
+    want: &Want,
+) -> Result<Option<u64>, StepFault>
+    ghost logs: { Logs }
+    requires logs { AreLogs g.now logs }
+    requires publisher { IsTrueMember g.now logs publisher.now }
+    requires number { publisher.now.number ≡ want.now.part.publisher }
+    requires asker { IsTrueMember g.now logs asker.old }
+    requires fetcher { IsFetcher f }
+    requires claim { claim_of (alone_plan asker.old) f ≡ Some want.now.part }
+    requires want { want.now ≡ true_want g.now logs want.now.part }
+    ensures kept { IfOk result (λ kept. answered g.now logs (Some want.now.part) (judged g.now logs want.now.part
+        (found (served want.now.interest (lender_of asker.old (option_map (λ a. a.now) lender.entry)).store))) ≡ Ok kept) }
+    ensures small { IfOk result (λ kept. IfSome kept (λ n. n < 2 ^ 63)) }
+    ensures asker { OnOk result (asker.new ≡ after_claim g.now logs f want.now.part (judged g.now logs want.now.part
+        (found (served want.now.interest (lender_of asker.old (option_map (λ a. a.now) lender.entry)).store))) asker.old) }
+    ensures refused { IfErr result (λ fault. (fault ≡ StepFault.NoMemory)
+        ⊎ (answered g.now logs (Some want.now.part) (judged g.now logs want.now.part
+        (found (served want.now.interest (lender_of asker.old (option_map (λ a. a.now) lender.entry)).store))) ≡ Err fault)) }
+    ensures err { OnErr result (asker.new ≡ asker.old) }
+{
+    if let Some(lender) = lender {
+        return take_served(g, publisher, asker, f, want, served_to(lender, want));
+    }
+    let Some(octets) = served_to(asker, want) else {
+        return Ok(None);
+    };
+    // What a member lends itself is lent as a copy.
+    let copy = octets.to_vec(alloc)?;
+    take_served(g, publisher, asker, f, want, Some(copy.as_slice()))
+}
+
+// A member's fetcher asks another for what it claims: how many octets are kept, if what came is.
+pub(crate) fn ask(
+    alloc: Global,
+    g: &Group,
+    members: &mut Vec<Member>,
+    m: u32,
+    f: u8,
+    q: u32,
+) -> Result<Option<u64>, StepFault>
+    ghost logs: { Logs }
+    requires logs { AreLogs g.now logs }
+    requires numbers { AreNumbered members.old.items }
+    requires members { AreTrueMembers g.now logs members.old.items }
+    requires width { length members.old.items ≡ length logs }
+    requires there { m < length members.old.items }
+    requires fetcher { IsFetcher f }
+    requires other { q < length members.old.items }
+    ensures kept { IfOk result (λ kept. answered g.now logs (claim_in members.old.items m f)
+        (came_in g.now logs members.old.items q (claim_in members.old.items m f)) ≡ Ok kept) }
+    ensures small { IfOk result (λ kept. IfSome kept (λ n. n < 2 ^ 63)) }
+    ensures members { OnOk result (members.new.items ≡ slice_set members.old.items m
+        (after_claimed g.now logs f (claim_in members.old.items m f)
+        (came_in g.now logs members.old.items q (claim_in members.old.items m f)) (alone_at members.old.items m))) }
+    ensures idle { (result ≡ Err (StepFault.Refused 7)) ↔ (claim_in members.old.items m f ≡ None) }
+    ensures refused { IfErr result (λ fault. (fault ≡ StepFault.NoMemory)
+        ⊎ (answered g.now logs (claim_in members.old.items m f)
+        (came_in g.now logs members.old.items q (claim_in members.old.items m f)) ≡ Err fault)) }
+    ensures err { OnErr result (members.new.items ≡ members.old.items) }
+{
+    let want = want_for(alloc, g, &members[m as usize], f)?;
+    let mut asker = members.remove(m as usize);
+    let others = Others {
+        members: members.as_slice(),
+        without: m,
+    };
+    let publisher = others.publisher(want.part());
+    let kept = ask_one(alloc, g, publisher, others.get(q), &mut asker, f, &want);
+    // There is room where the member stood.
+    let Ok(()) = members.insert(m as usize, asker) else {
+        unreachable!()
+    };
+    kept
+}
+
+// Octets from outside are taken for what a member's fetcher claims, if they are its publisher's packet.
+pub(crate) fn feed(
+    alloc: Global,
+    g: &Group,
+    members: &mut Vec<Member>,
+    m: u32,
+    f: u8,
+    octets: &[u8],
+) -> Result<Fed, StepFault>
+    ghost logs: { Logs }
+    requires logs { AreLogs g.now logs }
+    requires numbers { AreNumbered members.old.items }
+    requires members { AreTrueMembers g.now logs members.old.items }
+    requires width { length members.old.items ≡ length logs }
+    requires there { m < length members.old.items }
+    requires fetcher { IsFetcher f }
+    ensures fed { IfOk result (λ fed. option_map (fed_as g.now logs octets.now) (claim_in members.old.items m f) ≡ Some fed) }
+    ensures kept { IfOk result (λ fed. answered g.now logs (claim_in members.old.items m f)
+        (came_for g.now logs octets.now (claim_in members.old.items m f)) ≡ Ok (kept_of octets.now fed)) }
+    ensures members { OnOk result (members.new.items ≡ slice_set members.old.items m
+        (after_claimed g.now logs f (claim_in members.old.items m f)
+        (came_for g.now logs octets.now (claim_in members.old.items m f)) (alone_at members.old.items m))) }
+    ensures idle { (result ≡ Err (StepFault.Refused 7)) ↔ (claim_in members.old.items m f ≡ None) }
+    ensures refused { IfErr result (λ fault. (fault ≡ StepFault.NoMemory)
+        ⊎ (answered g.now logs (claim_in members.old.items m f)
+        (came_for g.now logs octets.now (claim_in members.old.items m f)) ≡ Err fault)) }
+    ensures err { OnErr result (members.new.items ≡ members.old.items) }
+{
+    let want = want_for(alloc, g, &members[m as usize], f)?;
+    let mut asker = members.remove(m as usize);
+    let others = Others {
+        members: members.as_slice(),
+        without: m,
+    };
+    let publisher = others.publisher(want.part());
+    let fed = take(g, publisher, &mut asker, f, &want, octets);
+    // There is room where the member stood.
+    let Ok(()) = members.insert(m as usize, asker) else {
+        unreachable!()
+    };
+    fed
+}

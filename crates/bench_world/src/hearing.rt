@@ -1,0 +1,80 @@
+// Sync Interests that come from outside.
+ghost use Rattle.std.specs.Prelude.{◌≡◌, ◌⊎◌, ◌<◌, ◌≤◌, ◌^◌, true, false, Ok, Err, IfOk, IfErr, OnOk, OnErr, length};
+ghost use Rattle.bench_net.specs.SentList.{was_sent};
+ghost use Rattle.svs_sync.specs.Suppression.{mode_of};
+ghost use Rattle.repo_member.specs.Groups.{node_limit};
+ghost use Rattle.repo_member.specs.Alone.{IsOf, alone_hears};
+ghost use Rattle.repo_member.specs.Verdicts.{group_verdict, vector_verdict};
+ghost use Rattle.bench_world.specs.Hearing.{told_sync};
+
+use crate::event::StepFault;
+use crate::numbers::numbers;
+use bench_net::Sent;
+use repo_member::{Group, HearRefusal, Member};
+use std::alloc::Global;
+use svs_sync::{Mode, SyncRefusal, check_sync};
+use svs_vector::Vector;
+
+// Who signed the sync Interest that octets are, and the vector that it tells, where the member takes it.
+pub(crate) fn told_by(
+    alloc: Global,
+    g: &Group,
+    member: &Member,
+    number: u32,
+    octets: &[u8],
+) -> Result<(u32, Vector), HearRefusal>
+    requires group { IsOf g.now member.now }
+    requires number { number ≡ member.now.number }
+    ensures told { IfOk result (λ told. told_sync (length member.now.log) number (group_verdict g.now octets.now)
+        ≡ Ok (record { sender = told.0; vector = told.1 })) }
+    ensures fits { IfOk result (λ told. vector_verdict member.now told.1 ≡ Ok told.1) }
+    ensures width { IfOk result (λ told. length told.1 ≡ length member.now.known) }
+    ensures refused { IfErr result (λ refusal. (refusal ≡ HearRefusal.NoMemory)
+        ⊎ (told_sync (length member.now.log) number (group_verdict g.now octets.now) ≡ Err refusal)) }
+{
+    let (signer, vector) = match check_sync(alloc, octets, g.name(), g.roster(), g.members()) {
+        Ok(told) => told,
+        Err(SyncRefusal::NoMemory) => return Err(HearRefusal::NoMemory),
+        Err(refusal) => return Err(HearRefusal::Sync(refusal)),
+    };
+    // Read for its clause alone: the member is one of its group.
+    let _known = member.vector();
+    let own = member.log_len();
+    let told = u32::from(vector.get(number));
+    if told > own {
+        return Err(HearRefusal::OwnNumberAhead { own, told });
+    }
+    Ok((signer, vector))
+}
+
+// The member hears a vector that it takes, if the signer sent it: its mode afterwards. Else it is foreign.
+pub(crate) fn hear_sent(
+    alloc: Global,
+    sent: &Sent,
+    member: &mut Member,
+    signer: u32,
+    vector: &Vector,
+    now: u64,
+    draw: u32,
+) -> Result<Mode, StepFault>
+    requires fits { vector_verdict member.old vector.now ≡ Ok vector.now }
+    requires width { length vector.now ≡ length member.old.known }
+    requires members { length vector.now ≤ node_limit }
+    requires early { now < 2 ^ 62 }
+    requires few { member.old.machine.draws < 2 ^ 62 }
+    ensures sent { OnOk result (was_sent signer vector.now sent.now.packets ≡ true) }
+    ensures ok { OnOk result (member.new ≡ alone_hears vector.now now draw member.old) }
+    ensures mode { IfOk result (λ mode. mode ≡ mode_of member.new.machine.heard) }
+    ensures foreign { IfErr result (λ fault. (fault ≡ StepFault.NoMemory)
+        ⊎ ((fault ≡ StepFault.Foreign) × (was_sent signer vector.now sent.now.packets ≡ false))) }
+    ensures err { OnErr result (member.new ≡ member.old) }
+{
+    let numbers = numbers(alloc, vector)?;
+    if !sent.has(signer, numbers.as_slice()) {
+        return Err(StepFault::Foreign);
+    }
+    match member.hear_vector(vector, now, draw) {
+        Ok(mode) => Ok(mode),
+        Err(_) => unreachable!(),
+    }
+}

@@ -1,0 +1,51 @@
+// A member of a group that is taken out for a while, and the others.
+ghost use Rattle.std.specs.Prelude.{◌≡◌, ◌≢◌, ◌<◌, ◌≤◌, ◌+◌, length, option_map};
+ghost use Rattle.bench_world.specs.Worlds.{alone_at};
+ghost use Rattle.bench_world.specs.Others.{place_of, other_at};
+
+use repo_member::Member;
+use repo_plan::Part;
+
+// The members of a group but one, by their numbers in the group.
+#[derive(Clone, Copy, Drop)]
+pub(crate) struct Others<'a> {
+    pub(crate) members: &'a [Member],
+    pub(crate) without: u32,
+}
+
+impl<'a> Others<'a> {
+    // A member of the group, or none where it is the one that was taken out.
+    pub(crate) fn get(&self, number: u32) -> Option<&'a Member>
+        requires there { number < length self.now.members.now + 1 }
+        requires without { self.now.without < length self.now.members.now + 1 }
+        ensures { option_map (λ member. member.now) result
+            ≡ other_at self.now.without self.now.members.now number }
+    {
+        if number == self.without {
+            return None;
+        }
+        Some(&self.members[self.place(number)])
+    }
+
+    // The publisher of a part, which isn't the one that was taken out.
+    pub(crate) fn publisher(&self, part: Part) -> &'a Member
+        requires there { part.publisher < length self.now.members.now + 1 }
+        requires without { self.now.without < length self.now.members.now + 1 }
+        requires other { part.publisher ≢ self.now.without }
+        ensures { result.now ≡ alone_at self.now.members.now (place_of self.now.without part.publisher) }
+    {
+        &self.members[self.place(part.publisher)]
+    }
+
+    // Where another member stands.
+    fn place(&self, number: u32) -> usize
+        requires { number ≢ self.now.without }
+        ensures { result ≡ place_of self.now.without number }
+    {
+        if number < self.without {
+            number as usize
+        } else {
+            number as usize - 1
+        }
+    }
+}

@@ -1,0 +1,160 @@
+ghost use Rattle.std.specs.Prelude.{◌≡◌, ◌+◌, ◌<◌, length, IfOk};
+ghost use Rattle.group_model.specs.World.{opening_world, member, catalogue_at};
+ghost use Rattle.group_model.specs.Sound.{IsSoundGroup};
+ghost use Rattle.repo_member.specs.Listed.{alone_catalogue};
+ghost use Rattle.bench_world.specs.Worlds.{world_of, alone_at, drawing, begun_all};
+
+mod claiming;
+mod publishing;
+mod reading;
+mod serving;
+mod syncing;
+
+use bench_net::{Draws, Sent, Tally};
+use repo_member::{Group, Member};
+use std::alloc::{AllocError, Global};
+use std::marker::Model;
+
+/// All members of a group, with what was sent between them, the moment, and what was counted.
+///
+/// A step that is refused has changed nothing, want of memory included, but for that of a settle.
+#[derive(Drop)]
+pub struct World {
+    alloc: Global,
+    group: Group,
+    members: Vec<Member>,
+    sent: Sent,
+    moment: u64,
+    delivered: u64,
+    attempts: u64,
+    parts: u64,
+    octets: u64,
+    steps: u32,
+}
+
+// A world is seen as what its members are by themselves, and what was sent. What the group makes of that is `world_of` it.
+impl Model for World {
+    ghost use Rattle.bench_world.specs.Worlds.{GroupState};
+
+    ghost Value = { GroupState };
+
+    ghost use Rattle.bench_world.specs.Kept.{state, IsWorld};
+
+    ghost view = { state };
+
+    ghost invariant = { IsWorld };
+}
+
+impl World {
+    /// The members of a group before anything has happened, each with its first draw. The moment is 0.
+    pub fn new<D: Draws>(alloc: Global, group: Group, draws: &D) -> Result<World, AllocError>
+        ensures world { IfOk result (λ world.
+            world_of world ≡ opening_world (drawing (D.draw draws.now)) (length group.members.names)) }
+        ensures keys { IfOk result (λ world. world.keys ≡ group) }
+        ensures steps { IfOk result (λ world. world.steps ≡ 0) }
+    {
+        let members = begin_all(alloc, &group, draws)?;
+        // Read for its clause alone: the group is one.
+        let _roster = group.roster();
+        Ok(World {
+            alloc,
+            group,
+            members,
+            sent: Sent::new(alloc),
+            moment: 0,
+            delivered: 0,
+            attempts: 0,
+            parts: 0,
+            octets: 0,
+            steps: 0,
+        })
+    }
+
+    /// How many steps were made, and settles begun.
+    pub fn steps(&self) -> u32
+        ensures { result ≡ self.now.steps }
+    {
+        self.steps
+    }
+
+    /// A member, whose catalogue is the group's catalogue of it.
+    pub fn member(&self, m: u32) -> &Member
+        requires there { m < length self.now.members }
+        ensures same { result.now ≡ alone_at self.now.members m }
+        ensures catalogue { alone_catalogue result.now.store ≡ catalogue_at (world_of self.now) m }
+    {
+        &self.members[m as usize]
+    }
+
+    pub fn group(&self) -> &Group
+        ensures { result.now ≡ self.now.keys }
+    {
+        &self.group
+    }
+
+    /// The moment, in milliseconds.
+    pub fn now(&self) -> u64
+        ensures { result ≡ self.now.moment }
+    {
+        self.moment
+    }
+
+    pub fn tally(&self) -> Tally
+        ensures syncs { result.syncs ≡ length self.now.sent }
+        ensures delivered { result.delivered ≡ self.now.tally.delivered }
+        ensures attempts { result.attempts ≡ self.now.tally.attempts }
+        ensures parts { result.parts ≡ self.now.tally.parts }
+        ensures octets { result.octets ≡ self.now.tally.octets }
+    {
+        Tally {
+            syncs: self.sent.len() as u64,
+            delivered: self.delivered,
+            attempts: self.attempts,
+            parts: self.parts,
+            octets: self.octets,
+        }
+    }
+
+    /// How many objects a member has published.
+    pub fn published(&self, m: u32) -> u32
+        requires there { m < length self.now.members }
+        ensures { result ≡ length (member (world_of self.now) m).log }
+    {
+        self.members[m as usize].log_len()
+    }
+
+    // One step more was made, which changed nothing else.
+    fn count(&mut self)
+        requires { self.old.steps < 100000 }
+        ensures world { world_of self.new ≡ world_of self.old }
+        ensures steps { self.new.steps ≡ self.old.steps + 1 }
+        ensures keys { self.new.keys ≡ self.old.keys }
+    {
+        self.steps += 1;
+    }
+
+    /// How many members there are.
+    //
+    // A caller sees the value alone, so `sound` states what holds of every world.
+    pub fn members(&self) -> usize
+        ensures len { result ≡ length self.now.members }
+        ensures sound { IsSoundGroup (world_of self.now) }
+    {
+        self.members.len()
+    }
+}
+
+// Members that have nothing yet.
+fn begin_all<D: Draws>(alloc: Global, g: &Group, draws: &D) -> Result<Vec<Member>, AllocError>
+    ensures { IfOk result (λ members. members.items
+        ≡ begun_all (length g.now.members.names) (D.draw draws.now)) }
+{
+    let count = g.roster().len() as u32;
+    let mut members = Vec::with_capacity(alloc, count as usize)?;
+    for number in 0..count {
+        let draw = draws.draw(number, 0);
+        let member = Member::new(alloc, g, number, 0, draw)?;
+        members.push(member)?;
+    }
+    Ok(members)
+}

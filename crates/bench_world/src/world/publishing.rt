@@ -1,0 +1,105 @@
+// What members publish.
+ghost use Rattle.std.specs.Prelude.{◌≡◌, ◌⊎◌, ◌+◌, ◌<◌, ◌≤◌, None, Some, IsTrue, IfOk, IfErr, OnOk, OnErr, length, map};
+ghost use Rattle.std.specs.List.{All};
+ghost use Rattle.repo_object.specs.Objects.{is_object_name, IsContent};
+ghost use Rattle.repo_object.specs.Cuts.{pieces};
+ghost use Rattle.group_model.specs.Events.{Event};
+ghost use Rattle.group_model.specs.Steps.{after_event, after_publish, next_seq_at, next_sync};
+ghost use Rattle.group_model.specs.Refusals.{Refusal, refusal};
+ghost use Rattle.bench_world.specs.Worlds.{world_of, drawing};
+ghost use Rattle.bench_world.specs.EventValues.{EventValue, group_event, told_value, telling};
+ghost use Rattle.bench_world.specs.Steps.{IsFaultOf};
+
+use super::World;
+use crate::event::{Happened, StepFault};
+use crate::numbers::numbers;
+use bench_net::Draws;
+use ndn_name::Name;
+use repo_member::PublishRefusal;
+use repo_object::cut;
+
+impl World {
+    /// A member publishes a content in segments of `size` octets under its next number, and its sync Interest is sent.
+    pub(crate) fn publish<D: Draws>(
+        &mut self,
+        m: u32,
+        name: &Name,
+        size: u32,
+        content: &[u8],
+        draws: &D,
+    ) -> Result<Happened, StepFault>
+        requires there { m < length self.old.members }
+        requires name { IsTrue (is_object_name name.now) }
+        requires size { (1 ≤ size) × (size ≤ 8000) }
+        requires segments { length (pieces size content.now) ≤ 200 }
+        requires few { self.old.steps < 100000 }
+        ensures taken { OnOk result (refusal (drawing (D.draw draws.now)) (world_of self.old)
+            (group_event self.old.keys (EventValue.Publish m name.now size content.now)) ≡ None) }
+        ensures world { OnOk result (world_of self.new ≡ after_event (drawing (D.draw draws.now)) (world_of self.old)
+            (group_event self.old.keys (EventValue.Publish m name.now size content.now))) }
+        ensures told { IfOk result (λ happened. told_value happened ≡ telling self.old.keys
+            (drawing (D.draw draws.now)) (world_of self.old) (EventValue.Publish m name.now size content.now)) }
+        ensures steps { OnOk result (self.new.steps ≡ self.old.steps + 1) }
+        ensures keys { self.new.keys ≡ self.old.keys }
+        ensures refused { IfErr result (IsFaultOf (refusal (drawing (D.draw draws.now)) (world_of self.old)
+            (group_event self.old.keys (EventValue.Publish m name.now size content.now)))) }
+        ensures err { OnErr result (self.new ≡ self.old) }
+    {
+        // There are few enough segments, so only memory can be wanting.
+        let Ok(contents) = cut(self.alloc, content, size as usize) else {
+            return Err(StepFault::NoMemory);
+        };
+        let segments = contents.len() as u64;
+        match self.publish_contents(m, name, &contents, draws) {
+            Ok((seq, sync)) => Ok(Happened::Publish {
+                m,
+                seq: u64::from(seq),
+                segments,
+                sync: u64::from(sync),
+            }),
+            Err(PublishRefusal::NumbersSpent { .. }) => Err(StepFault::Refused { number: 8 }),
+            Err(PublishRefusal::NoMemory) => Err(StepFault::NoMemory),
+        }
+    }
+
+    // A member publishes an object under its next number, and its sync Interest is sent: the number of the publication, and
+    // that of the sync Interest.
+    fn publish_contents<D: Draws>(
+        &mut self,
+        m: u32,
+        name: &Name,
+        contents: &[Vec<u8>],
+        draws: &D,
+    ) -> Result<(u16, u32), PublishRefusal>
+        requires there { m < length self.old.members }
+        requires name { IsTrue (is_object_name name.now) }
+        requires segments { length contents.now ≤ 200 }
+        requires contents { All (λ c. IsContent c.items) contents.now }
+        requires few { self.old.steps < 100000 }
+        ensures ok { OnOk result (world_of self.new ≡ after_publish (drawing (D.draw draws.now)) (world_of self.old) m
+            (record { name = name.now; contents = map (λ c. c.items) contents.now })) }
+        ensures taken { OnOk result (refusal (drawing (D.draw draws.now)) (world_of self.old) (Event.Publish m
+            (record { name = name.now; contents = map (λ c. c.items) contents.now })) ≡ None) }
+        ensures seq { IfOk result (λ r. r.0 ≡ next_seq_at (world_of self.old) m) }
+        ensures sync { IfOk result (λ r. r.1 ≡ next_sync (world_of self.old)) }
+        ensures steps { OnOk result (self.new.steps ≡ self.old.steps + 1) }
+        ensures keys { self.new.keys ≡ self.old.keys }
+        ensures refused { IfErr result (λ e. (e ≡ PublishRefusal.NoMemory)
+            ⊎ (refusal (drawing (D.draw draws.now)) (world_of self.old) (Event.Publish m
+            (record { name = name.now; contents = map (λ c. c.items) contents.now })) ≡ Some Refusal.NumbersSpent)) }
+        ensures err { OnErr result (self.new ≡ self.old) }
+    {
+        self.sent.reserve(1)?;
+        let member = &mut self.members[m as usize];
+        let mut vector = numbers(self.alloc, member.vector())?;
+        let draw = draws.draw(m, member.next_draw());
+        let published = match member.publish(&self.group, name, contents, self.moment, draw) {
+            Ok(published) => published,
+            Err(refusal) => return Err(refusal),
+        };
+        vector[m as usize] = published.seq;
+        let k = self.sent.add_reserved(m, vector, published.sync);
+        self.steps += 1;
+        Ok((published.seq, k))
+    }
+}

@@ -1,0 +1,146 @@
+// What is read of a world.
+ghost use Rattle.std.specs.Prelude.{◌≡◌, ◌+◌, ◌<◌, length, IfOk, OnOk, OnErr};
+ghost use Rattle.repo_plan.specs.Parts.{numbers_from, part_cmp};
+ghost use Rattle.repo_plan.specs.SortedList.{value_of};
+ghost use Rattle.bench_world.specs.Serving.{keyed};
+ghost use Rattle.bench_world.specs.Worlds.{world_of};
+ghost use Rattle.bench_world.specs.EventValues.{EventValue, told_value, telling, dump_told};
+
+use super::World;
+use crate::event::{Happened, StepFault};
+use repo_catalog::Entry;
+use repo_member::Member;
+use repo_plan::Part;
+use std::alloc::{AllocError, Global};
+
+impl World {
+    /// Which numbers a member knows.
+    pub(crate) fn vector(&mut self, m: u32) -> Result<Happened, AllocError>
+        requires there { m < length self.old.members }
+        requires few { self.old.steps < 100000 }
+        ensures world { OnOk result (world_of self.new ≡ world_of self.old) }
+        ensures told { IfOk result (λ happened. told_value happened
+            ≡ telling self.old.keys (keyed self.old.keys) (world_of self.old) (EventValue.Vector m)) }
+        ensures steps { OnOk result (self.new.steps ≡ self.old.steps + 1) }
+        ensures keys { self.new.keys ≡ self.old.keys }
+        ensures err { OnErr result (self.new ≡ self.old) }
+    {
+        let vector = self.members[m as usize].vector();
+        let mut numbers = Vec::with_capacity(self.alloc, vector.members())?;
+        for publisher in 0..vector.members() as u32 {
+            numbers.push(u64::from(vector.get(publisher)))?;
+        }
+        let members = self.numbered()?;
+        self.count();
+        Ok(Happened::Vector {
+            m,
+            members,
+            numbers,
+        })
+    }
+
+    /// What a member's catalogue lists.
+    pub(crate) fn catalogue(&mut self, m: u32) -> Result<Happened, AllocError>
+        requires there { m < length self.old.members }
+        requires few { self.old.steps < 100000 }
+        ensures world { OnOk result (world_of self.new ≡ world_of self.old) }
+        ensures told { IfOk result (λ happened. told_value happened
+            ≡ telling self.old.keys (keyed self.old.keys) (world_of self.old) (EventValue.Catalogue m)) }
+        ensures steps { OnOk result (self.new.steps ≡ self.old.steps + 1) }
+        ensures keys { self.new.keys ≡ self.old.keys }
+        ensures err { OnErr result (self.new ≡ self.old) }
+    {
+        let entries = copied(self.alloc, self.member(m).catalogue().entries())?;
+        self.count();
+        Ok(Happened::Catalogue {
+            m,
+            count: entries.len() as u64,
+            entries,
+        })
+    }
+
+    /// What was counted.
+    pub(crate) fn traffic(&mut self) -> Happened
+        requires few { self.old.steps < 100000 }
+        ensures world { world_of self.new ≡ world_of self.old }
+        ensures told { told_value result
+            ≡ telling self.old.keys (keyed self.old.keys) (world_of self.old) EventValue.Traffic }
+        ensures steps { self.new.steps ≡ self.old.steps + 1 }
+        ensures keys { self.new.keys ≡ self.old.keys }
+    {
+        let tally = self.tally();
+        self.count();
+        Happened::Traffic {
+            syncs: tally.syncs,
+            delivered: tally.delivered,
+            attempts: tally.attempts,
+            parts: tally.parts,
+            octets: tally.octets,
+        }
+    }
+
+    /// Which octets the packet of a part has, if the member holds it.
+    pub(crate) fn dump(&mut self, m: u32, p: u32, s: u32, x: u32) -> Result<Happened, AllocError>
+        requires there { m < length self.old.members }
+        requires small { (s < 65536) × (x < 256) }
+        requires few { self.old.steps < 100000 }
+        ensures world { OnOk result (world_of self.new ≡ world_of self.old) }
+        ensures told { IfOk result (λ happened. told_value happened
+            ≡ telling self.old.keys (keyed self.old.keys) (world_of self.old) (EventValue.Dump m p s x)) }
+        ensures steps { OnOk result (self.new.steps ≡ self.old.steps + 1) }
+        ensures keys { self.new.keys ≡ self.old.keys }
+        ensures err { OnErr result (self.new ≡ self.old) }
+    {
+        let part = Part {
+            publisher: p,
+            seq: s as u16,
+            part: x as u8,
+        };
+        let happened = dumped(self.alloc, m, &self.members[m as usize], part)?;
+        self.count();
+        Ok(happened)
+    }
+
+    // The numbers of the members.
+    fn numbered(&self) -> Result<Vec<u32>, AllocError>
+        ensures { IfOk result (λ numbers. numbers.items ≡ numbers_from 0 (length self.now.members)) }
+    {
+        let count = self.members.len() as u32;
+        let mut numbers = Vec::with_capacity(self.alloc, count as usize)?;
+        for number in 0..count {
+            numbers.push(number)?;
+        }
+        Ok(numbers)
+    }
+}
+
+// Copies of entries.
+fn copied(alloc: Global, entries: &[Entry]) -> Result<Vec<Entry>, AllocError>
+    ensures { IfOk result (λ copies. copies.items ≡ entries.now) }
+{
+    let mut copies = Vec::with_capacity(alloc, entries.len())?;
+    for entry in entries {
+        copies.push(Entry {
+            publisher: entry.publisher,
+            seq: entry.seq,
+            name: entry.name.clone()?,
+            segments: entry.segments,
+            octets: entry.octets,
+            digest: entry.digest,
+        })?;
+    }
+    Ok(copies)
+}
+
+// What is told of a packet that a member holds or doesn't.
+fn dumped(alloc: Global, m: u32, member: &Member, part: Part) -> Result<Happened, AllocError>
+    ensures { IfOk result (λ happened. told_value happened ≡ dump_told m (value_of part_cmp member.now.store part)) }
+{
+    match member.packet(part) {
+        Some(octets) => Ok(Happened::DumpHex {
+            m,
+            octets: octets.to_vec(alloc)?,
+        }),
+        None => Ok(Happened::DumpNone { m }),
+    }
+}

@@ -1,0 +1,168 @@
+// What members tell each other, and their timers.
+ghost use Rattle.std.specs.Prelude.{◌≡◌, ◌+◌, ◌<◌, ◌≤◌, None, length, IfOk, IfErr, OnOk, OnErr, option_map};
+ghost use Rattle.group_model.specs.Steps.{after_event};
+ghost use Rattle.group_model.specs.Refusals.{refusal};
+ghost use Rattle.bench_net.specs.SentList.{octets_of};
+ghost use Rattle.bench_world.specs.Worlds.{world_of, drawing};
+ghost use Rattle.bench_world.specs.Timers.{after_firing, fire_told};
+ghost use Rattle.bench_world.specs.EventValues.{EventValue, group_event, told_value, telling, delivered_told};
+ghost use Rattle.bench_world.specs.Steps.{IsFaultOf};
+
+use super::World;
+use crate::event::{Happened, StepFault};
+use crate::numbers::numbers;
+use bench_net::{Draws, Sent};
+use repo_member::Fire;
+use svs_sync::Mode;
+
+impl World {
+    /// A member hears a sync Interest that was sent, by its number.
+    pub(crate) fn deliver<D: Draws>(
+        &mut self,
+        k: u32,
+        m: u32,
+        draws: &D,
+    ) -> Result<Happened, StepFault>
+        requires there { m < length self.old.members }
+        requires few { self.old.steps < 100000 }
+        ensures taken { OnOk result (refusal (drawing (D.draw draws.now)) (world_of self.old)
+            (group_event self.old.keys (EventValue.Deliver k m)) ≡ None) }
+        ensures world { OnOk result (world_of self.new ≡ after_event (drawing (D.draw draws.now)) (world_of self.old)
+            (group_event self.old.keys (EventValue.Deliver k m))) }
+        ensures told { IfOk result (λ happened. told_value happened
+            ≡ telling self.old.keys (drawing (D.draw draws.now)) (world_of self.old) (EventValue.Deliver k m)) }
+        ensures steps { OnOk result (self.new.steps ≡ self.old.steps + 1) }
+        ensures keys { self.new.keys ≡ self.old.keys }
+        ensures refused { IfErr result (IsFaultOf (refusal (drawing (D.draw draws.now)) (world_of self.old)
+            (group_event self.old.keys (EventValue.Deliver k m)))) }
+        ensures err { OnErr result (self.new ≡ self.old) }
+    {
+        let Some(octets) = self.sent.octets(k) else {
+            return Err(StepFault::Refused { number: 5 });
+        };
+        let member = &mut self.members[m as usize];
+        let draw = draws.draw(m, member.next_draw());
+        // It was sent by a member, so only memory can be wanting.
+        let Ok(mode) = member.hear(&self.group, octets, self.moment, draw) else {
+            return Err(StepFault::NoMemory);
+        };
+        self.delivered += 1;
+        self.steps += 1;
+        Ok(delivered(u64::from(k), m, mode))
+    }
+
+    /// The octets of a sync Interest that was sent, by its number.
+    pub(crate) fn sync(&mut self, k: u32) -> Result<Happened, StepFault>
+        requires few { self.old.steps < 100000 }
+        ensures taken { OnOk result (refusal (drawing (λ _ _. 0)) (world_of self.old)
+            (group_event self.old.keys (EventValue.Sync k)) ≡ None) }
+        ensures world { OnOk result (world_of self.new ≡ after_event (drawing (λ _ _. 0)) (world_of self.old)
+            (group_event self.old.keys (EventValue.Sync k))) }
+        ensures told { IfOk result (λ happened. told_value happened
+            ≡ telling self.old.keys (drawing (λ _ _. 0)) (world_of self.old) (EventValue.Sync k)) }
+        ensures steps { OnOk result (self.new.steps ≡ self.old.steps + 1) }
+        ensures keys { self.new.keys ≡ self.old.keys }
+        ensures refused { IfErr result (IsFaultOf (refusal (drawing (λ _ _. 0)) (world_of self.old)
+            (group_event self.old.keys (EventValue.Sync k)))) }
+        ensures err { OnErr result (self.new ≡ self.old) }
+    {
+        let Some(octets) = self.sent.octets(k) else {
+            return Err(StepFault::Refused { number: 5 });
+        };
+        let octets = octets.to_vec(self.alloc)?;
+        self.steps += 1;
+        Ok(Happened::Sync {
+            k: u64::from(k),
+            octets,
+        })
+    }
+
+    /// The moment moves on.
+    pub(crate) fn advance(&mut self, ms: u64) -> Happened
+        requires short { ms ≤ 1000000000 }
+        requires few { self.old.steps < 100000 }
+        ensures world { world_of self.new ≡ after_event (drawing (λ _ _. 0)) (world_of self.old)
+            (group_event self.old.keys (EventValue.Advance ms)) }
+        ensures told { told_value result
+            ≡ telling self.old.keys (drawing (λ _ _. 0)) (world_of self.old) (EventValue.Advance ms) }
+        ensures steps { self.new.steps ≡ self.old.steps + 1 }
+        ensures keys { self.new.keys ≡ self.old.keys }
+    {
+        self.moment += ms;
+        self.steps += 1;
+        Happened::Advance { now: self.moment }
+    }
+
+    /// A member's timer fires.
+    pub(crate) fn fire<D: Draws>(&mut self, m: u32, draws: &D) -> Result<Happened, StepFault>
+        requires there { m < length self.old.members }
+        requires few { self.old.steps < 100000 }
+        ensures taken { OnOk result (refusal (drawing (D.draw draws.now)) (world_of self.old)
+            (group_event self.old.keys (EventValue.Fire m)) ≡ None) }
+        ensures world { OnOk result (world_of self.new ≡ after_event (drawing (D.draw draws.now)) (world_of self.old)
+            (group_event self.old.keys (EventValue.Fire m))) }
+        ensures told { IfOk result (λ happened. told_value happened
+            ≡ telling self.old.keys (drawing (D.draw draws.now)) (world_of self.old) (EventValue.Fire m)) }
+        ensures steps { OnOk result (self.new.steps ≡ self.old.steps + 1) }
+        ensures keys { self.new.keys ≡ self.old.keys }
+        ensures refused { IfErr result (IsFaultOf (refusal (drawing (D.draw draws.now)) (world_of self.old)
+            (group_event self.old.keys (EventValue.Fire m)))) }
+        ensures err { OnErr result (self.new ≡ self.old) }
+    {
+        self.sent.reserve(1)?;
+        let member = &mut self.members[m as usize];
+        let vector = numbers(self.alloc, member.vector())?;
+        let draw = draws.draw(m, member.next_draw());
+        let Ok(fire) = member.fire(&self.group, self.moment, draw) else {
+            return Err(StepFault::NoMemory);
+        };
+        let happened = send_fired(&mut self.sent, m, vector, fire);
+        self.steps += 1;
+        Ok(happened)
+    }
+
+    /// A member starts again: its claims end, and its machine is reset.
+    pub(crate) fn restart<D: Draws>(&mut self, m: u32, draws: &D) -> Happened
+        requires there { m < length self.old.members }
+        requires few { self.old.steps < 100000 }
+        ensures world { world_of self.new ≡ after_event (drawing (D.draw draws.now)) (world_of self.old)
+            (group_event self.old.keys (EventValue.Restart m)) }
+        ensures told { told_value result
+            ≡ telling self.old.keys (drawing (D.draw draws.now)) (world_of self.old) (EventValue.Restart m) }
+        ensures steps { self.new.steps ≡ self.old.steps + 1 }
+        ensures keys { self.new.keys ≡ self.old.keys }
+    {
+        let member = &mut self.members[m as usize];
+        let draw = draws.draw(m, member.next_draw());
+        member.restart(self.moment, draw);
+        self.steps += 1;
+        Happened::Restart { m }
+    }
+}
+
+// What is told of a delivery, by the mode of the member afterwards.
+fn delivered(k: u64, m: u32, mode: Mode) -> Happened
+    ensures { told_value result ≡ delivered_told k m mode }
+{
+    match mode {
+        Mode::Steady => Happened::DeliverSteady { k, m },
+        Mode::Suppressed => Happened::DeliverSuppressed { k, m },
+    }
+}
+
+// The sync Interest of a member that fired is sent, if there is one, for which room was made.
+fn send_fired(sent: &mut Sent, m: u32, vector: Vec<u16>, fire: Fire) -> Happened
+    requires room { 0 < sent.old.spare }
+    requires few { length sent.old.packets < 4294967295 }
+    ensures sent { sent.new.packets ≡ after_firing m vector.items fire sent.old.packets }
+    ensures told { told_value result ≡ fire_told m (length sent.old.packets + 1) fire }
+{
+    match fire {
+        Fire::Early => Happened::FireEarly { m },
+        Fire::Quiet => Happened::FireQuiet { m },
+        Fire::Sent(sync) => Happened::FireSent {
+            m,
+            k: u64::from(sent.add_reserved(m, vector, sync)),
+        },
+    }
+}
