@@ -1,7 +1,6 @@
 -- The first attempt that brings something, where each that comes through brings the same.
-use Rattle.std.proofs.Common.{◌≡◌, ℕ, suc, zero, ◌+◌, ◌<◌, Bool, true, false, cond, Option, Some, None, refl, sym, ap, ◌∙◌, subst, arith}
+use Rattle.std.proofs.Common.{◌≡◌, ℕ, suc, zero, ◌+◌, ◌<◌, Bool, true, false, cond, Option, Some, None, refl, sym, ap, ◌∙◌, arith}
 use Rattle.std.specs.Prelude.{is_some, unwrap_or, find}
-use Rattle.std.proofs.lemmas.Bool.{cases_Bool}
 use Rattle.std.proofs.lemmas.Option.{none-some}
 use Rattle.repo_plan.specs.Parts.{numbers_from}
 use Rattle.fetch_work.specs.Teams.{IsFirst}
@@ -57,8 +56,7 @@ module _ {T : Type 0} (f : ℕ → Option T) (tries : ℕ) where
         let hit = passed_one (p (h.0 + 1)) x (sym (each h.0) ∙ h.3) in
         let k : 1 + h.0 ≡ h.0 + 1 = omega arith in
         let found : find p (numbers_from 1 tries) ≡ Some (1 + h.0) = find_first p 1 tries h.0 h.1 (ap p k ∙ hit.0) (λ b l. missed b (h.4 b l)) in
-        let value : Some x ≡ Some c = ap (λ (y : T). Some y) hit.1 in
-        (
+        let value : Some x ≡ Some c = ap (λ (y : T). Some y) hit.1 in (
           value ∙ sym (ap (λ (o : Option ℕ). cond (is_some o) (let y : Option T = Some c in y) None) found),
           h.2 ∙ sym k ∙ sym (ap (λ (o : Option ℕ). unwrap_or o tries) found),
         )

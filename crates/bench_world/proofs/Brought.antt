@@ -1,17 +1,15 @@
 -- What a phase brings for the parts that a member asks for.
-use Rattle.std.proofs.Common.{◌≡◌, inl, inr, ℕ, suc, zero, ◌+◌, ◌-◌, ◌≤◌, ◌<◌, Bool, true, false, cond, ◌==◌, List, [], ◌∷◌, map, length, get_or, replicate, Option, Some, None, refl, sym, ap, ◌∙◌, subst, arith}
-use Rattle.std.specs.Prelude.{is_some, unwrap_or, find, filter, count_by, option_map, slice_get, nat_lt, sum_by, IfSome, IsOk, Result, Ok, Err}
+use Rattle.std.proofs.Common.{◌≡◌, inl, inr, ℕ, suc, zero, ◌+◌, ◌≤◌, ◌<◌, Bool, true, false, cond, ◌==◌, List, [], ◌∷◌, map, length, replicate, Option, Some, None, refl, sym, ap, ◌∙◌, subst, arith}
+use Rattle.std.specs.Prelude.{is_some, unwrap_or, find, filter, option_map, slice_get, sum_by, IfSome, IsOk, Result, Ok, Err}
 use Rattle.std.specs.List.{All}
-use Rattle.std.proofs.lemmas.List.{length-map}
-use Rattle.std.proofs.lemmas.List.Sums.{length-filter, sum_by-cons}
-use Rattle.std.proofs.lemmas.Bool.{true≢false, and_parts}
+use Rattle.std.proofs.lemmas.List.Sums.{sum_by-cons}
+use Rattle.std.proofs.lemmas.Bool.{true≢false}
 use Rattle.std.proofs.lemmas.Option.{none-some}
 use Rattle.ndn_data.specs.Data.{Data}
-use Rattle.ndn_sign.specs.Ring.{Pair}
 use Rattle.repo_plan.specs.declared.part.Part.{Part}
 use Rattle.repo_plan.specs.SortedList.{value_of}
 use Rattle.repo_plan.specs.Parts.{part_cmp, pair_of, numbers_from}
-use Rattle.repo_plan.specs.Plan.{is_wanted, is_unclaimed, attempts_of}
+use Rattle.repo_plan.specs.Plan.{is_wanted, attempts_of}
 use Rattle.repo_plan.proofs.Sets.{In}
 use Rattle.repo_object.specs.declared.job.Job.{Job}
 use Rattle.repo_object.specs.declared.part_refusal.PartRefusal.{PartRefusal}
@@ -23,18 +21,16 @@ use Rattle.fetch_work.specs.Teams.{IsFirst}
 use Rattle.group_model.specs.Publications.{Logs}
 use Rattle.repo_member.specs.Groups.{GroupKeys, node_at}
 use Rattle.repo_member.specs.Listed.{listing_at}
-use Rattle.repo_member.specs.Records.{Packet}
 use Rattle.repo_member.specs.Alone.{Alone, Fetched, alone_plan, want_of, nothing_listed}
 use Rattle.repo_member.specs.InGroup.{AreLogs, true_packet, asked_for, that_came}
 use Rattle.repo_member.specs.Outcomes.{job_for, outcome_of, octets_in, IsCheckedFor, WereTried}
 use Rattle.repo_member.specs.TrueMembers.{IsTrueMember}
 use Rattle.repo_member.proofs.PublicLaws.{packets_pass_for_members}
-use Rattle.bench_world.specs.Worlds.{nobody, alone_at, AreTrueMembers}
-use Rattle.bench_world.specs.Truth.{TriedFew}
+use Rattle.bench_world.specs.Worlds.{AreTrueMembers}
 use Rattle.bench_world.specs.Others.{place_of}
 use Rattle.bench_world.specs.Lending.{or_else, lent, lends, lent_at, lent_first, comes, if_comes}
 use Rattle.bench_world.specs.Gathering.{lent_one, lent_all}
-use Rattle.bench_world.specs.Fetching.{attempt_at, fetched_one, fetched_all}
+use Rattle.bench_world.specs.Fetching.{fetched_one, fetched_all}
 use Rattle.bench_world.proofs.Attempts.{none_comes, some_comes}
 
 -- ---- what is lent
@@ -204,8 +200,7 @@ module _ (passes : ℕ → ℕ → ℕ → ℕ → ℕ → ℕ → Bool) (g : Gr
           let k : attempts_of (alone_plan a) t + b + 1 ≡ attempts_of (alone_plan a) t + (b + 1) = omega arith in
           brought t b ∙ ap (λ (o : Option (List ℕ)). checked_reply (want_of g a.store t) g.members.ring (if_comes (comes passes asker loss t (attempts_of (alone_plan a) t + b + 1)) o)) e
           ∙ whole octets e (comes passes asker loss t (attempts_of (alone_plan a) t + b + 1))
-          ∙ ap (λ (m : ℕ). cond (comes passes asker loss t m) (let o : Option CheckedPart = Some (checked_part (want_of g a.store t) g.members.ring octets) in o) None) k) part n f in
-          (
+          ∙ ap (λ (m : ℕ). cond (comes passes asker loss t m) (let o : Option CheckedPart = Some (checked_part (want_of g a.store t) g.members.ring octets) in o) None) k) part n f in (
             ap (option_map (λ (c : CheckedPart). c.octets)) r.0
                 ∙ octets_if (is_some (find (λ k. comes passes asker loss t (attempts_of (alone_plan a) t + k)) (numbers_from 1 tries))) (checked_part (want_of g a.store t) g.members.ring octets) octets refl,
             r.1,

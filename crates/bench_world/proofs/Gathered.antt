@@ -1,16 +1,16 @@
 -- What a member has gathered is what comes to it in the group's settle, or a part of it.
-use Rattle.std.proofs.Common.{◌≡◌, ◌⊎◌, inl, inr, ℕ, ◌≤◌, ◌<◌, Bool, true, false, cond, ◌||◌, not, List, [], ◌∷◌, get_or, length, Option, Some, None, refl, sym, ap, ◌∙◌, subst, arith}
+use Rattle.std.proofs.Common.{◌≡◌, inl, inr, ℕ, ◌≤◌, ◌<◌, Bool, true, false, cond, ◌||◌, not, List, [], ◌∷◌, get_or, length, Option, Some, None, refl, sym, ap, ◌∙◌, subst, arith}
 use Rattle.std.specs.Prelude.{is_some}
 use Rattle.std.specs.List.{list_any}
 use Rattle.std.specs.Ordering.{eq_by_cmp}
 use Rattle.std.proofs.lemmas.Bool.{true≢false, and_from, not_from_false, or_cases, or_right, cases_Bool}
 use Rattle.repo_plan.specs.declared.part.Part.{Part}
 use Rattle.repo_plan.specs.SortedList.{keys, value_of, contains}
-use Rattle.repo_plan.specs.Parts.{Pair, part_cmp, pair_cmp, pair_of, record_of}
+use Rattle.repo_plan.specs.Parts.{part_cmp, pair_of, record_of}
 use Rattle.repo_plan.specs.Plan.{Holdings, no_claims, is_wanted, is_unclaimed, is_claimed, is_claim_of}
-use Rattle.repo_plan.proofs.Sets.{In, in_filter}
+use Rattle.repo_plan.proofs.Sets.{in_filter}
 use Rattle.group_model.specs.Publications.{all_parts}
-use Rattle.group_model.specs.Member.{Member, member_holds, member_hides, plan_of}
+use Rattle.group_model.specs.Member.{Member, member_holds, member_hides}
 use Rattle.group_model.specs.World.{World, no_member, member, logs, someone_holds}
 use Rattle.group_model.specs.Settles.{learnt_member, IsGathering, HasGathered}
 use Rattle.group_model.specs.Steps.{settled_vector, settled_member, comes_to, new_parts}

@@ -5,10 +5,10 @@ use Rattle.std.proofs.lemmas.Bool.{cases_eq}
 use Rattle.std.proofs.lemmas.List.{ext_get_or, get_or-map, get_or-set_other, length-map, length-set, take_all}
 use Rattle.std.proofs.lemmas.List.Sums.{sum_by_more, sum_by-cons}
 use Rattle.repo_plan.specs.declared.part.Part.{Part}
-use Rattle.repo_plan.specs.SortedList.{keys, contains, Rises}
+use Rattle.repo_plan.specs.SortedList.{keys, Rises}
 use Rattle.repo_plan.specs.Parts.{part_cmp}
 use Rattle.repo_plan.proofs.Orders.{exact_parts}
-use Rattle.repo_plan.proofs.Sets.{In, rises_filter}
+use Rattle.repo_plan.proofs.Sets.{rises_filter}
 use Rattle.group_model.specs.Publications.{all_parts}
 use Rattle.group_model.specs.Member.{Member, member_holds, insert_keys}
 use Rattle.group_model.specs.World.{World, no_member, member, logs, someone_holds}
@@ -19,14 +19,14 @@ use Rattle.group_model.proofs.Lists.{from_filter}
 use Rattle.group_model.proofs.Parts.{all_parts_rise}
 use Rattle.group_model.proofs.Settles.{comes}
 use Rattle.repo_member.specs.Groups.{GroupKeys}
-use Rattle.repo_member.specs.Alone.{Alone, alone_plan}
+use Rattle.repo_member.specs.Alone.{Alone}
 use Rattle.repo_member.specs.InGroup.{in_group, AreLogs}
 use Rattle.repo_member.specs.TrueMembers.{IsTrueMember}
 use Rattle.bench_world.specs.Lending.{lends}
 use Rattle.bench_world.specs.Truth.{stores, TriedFew, AllTriedFew}
-use Rattle.bench_world.specs.Gathering.{one_each, held_sum, Counts, Gains, NothingLeft}
+use Rattle.bench_world.specs.Gathering.{one_each, Counts, Gains, NothingLeft}
 use Rattle.bench_world.specs.Settling.{gain_sum, AreGathering, GatheredSoFar, IsPartlySettled, ArePartlySettled}
-use Rattle.bench_world.specs.Worlds.{nobody, alone_at, others_than, in_groups, AllCountsStay, AreTrueMembers, AreNumbered}
+use Rattle.bench_world.specs.Worlds.{nobody, alone_at, others_than, in_groups, AreTrueMembers, AreNumbered}
 use Rattle.bench_world.proofs.SetSums.{sum_insert_keys, ones}
 use Rattle.bench_world.proofs.Gathers.{tried_still}
 use Rattle.bench_world.proofs.Gathered.{lends_held, partly_settled, gathering, settled, someones_after}
@@ -160,13 +160,13 @@ module _ (g : GroupKeys) (w : World) (group : IsSoundGroup w) (are : AreLogs g (
           ∙ someones_after g w group are j there (others_than j mid) (alone_at mid j) (alone_at new j) learnt someones number gains t;
       counts = λ i. elim (cases_eq i j) [
         | inl same ↦ record {
-            machine = ap (λ (k : ℕ). (alone_at new k).machine) same ∙ ap (λ (a : Alone). a.machine) gains.same ∙ (so_far.all.counts j).machine ∙ ap (λ (k : ℕ). (alone_at begun k).machine) (sym same);
-            attempts = ap (λ (k : ℕ). (alone_at new k).attempts) same ∙ ap (λ (a : Alone). a.attempts) gains.same ∙ (so_far.all.counts j).attempts ∙ ap (λ (k : ℕ). (alone_at begun k).attempts) (sym same);
-          }
+          machine = ap (λ (k : ℕ). (alone_at new k).machine) same ∙ ap (λ (a : Alone). a.machine) gains.same ∙ (so_far.all.counts j).machine ∙ ap (λ (k : ℕ). (alone_at begun k).machine) (sym same);
+          attempts = ap (λ (k : ℕ). (alone_at new k).attempts) same ∙ ap (λ (a : Alone). a.attempts) gains.same ∙ (so_far.all.counts j).attempts ∙ ap (λ (k : ℕ). (alone_at begun k).attempts) (sym same);
+        }
         | inr other ↦ record {
-            machine = ap (λ (a : Alone). a.machine) (elsewhere i other) ∙ (so_far.all.counts i).machine;
-            attempts = ap (λ (a : Alone). a.attempts) (elsewhere i other) ∙ (so_far.all.counts i).attempts;
-          }
+          machine = ap (λ (a : Alone). a.machine) (elsewhere i other) ∙ (so_far.all.counts i).machine;
+          attempts = ap (λ (a : Alone). a.attempts) (elsewhere i other) ∙ (so_far.all.counts i).attempts;
+        }
       ];
     }
 

@@ -1,7 +1,6 @@
 -- What phases and rounds make of a member that gathers.
-use Rattle.std.proofs.Common.{◌≡◌, inl, inr, ℕ, ◌+◌, ◌*◌, ◌≤◌, ◌<◌, ◌^◌, Bool, true, false, cond, ◌||◌, not, List, [], ◌∷◌, length, Option, Some, None, refl, sym, ap, ◌∙◌, subst, arith}
+use Rattle.std.proofs.Common.{◌≡◌, inl, inr, ℕ, ◌+◌, ◌*◌, ◌≤◌, ◌<◌, Bool, true, false, cond, ◌||◌, List, [], ◌∷◌, length, Option, Some, None, refl, sym, ap, ◌∙◌, subst, arith}
 use Rattle.std.specs.Prelude.{is_some, unwrap_or, filter, sum_by, slice_index_or, IfSome, IsSomeAnd}
-use Rattle.std.specs.List.{All}
 use Rattle.std.proofs.lemmas.Bool.{true≢false, and_parts, or_cases, or_right}
 use Rattle.std.proofs.lemmas.List.Sums.{sum_by-le}
 use Rattle.repo_plan.specs.declared.part.Part.{Part}
@@ -20,7 +19,7 @@ use Rattle.group_model.proofs.SortedSets.{shorter}
 use Rattle.group_model.proofs.Plans.{wanted_parts}
 use Rattle.repo_member.specs.Groups.{GroupKeys}
 use Rattle.repo_member.specs.Alone.{Alone, Fetched, alone_plan, alone_takes, with_fetched}
-use Rattle.repo_member.specs.InGroup.{in_group, AreLogs, AreTries, true_packet, that_came}
+use Rattle.repo_member.specs.InGroup.{in_group, AreLogs, AreTries, true_packet}
 use Rattle.repo_member.specs.TrueMembers.{IsTrueMember}
 use Rattle.repo_member.specs.TrueChanges.{IsTrueArrival}
 use Rattle.repo_member.proofs.PublicLaws.{takes_alike, plans_alike, true_is_alone, true_stores, takes_true, wants_published, packets_are_there}

@@ -1,17 +1,17 @@
 -- What a member fetches is what comes to it in the group's fetch.
 use Rattle.std.proofs.Common.{◌≡◌, inl, inr, ℕ, suc, zero, ◌+◌, ◌<◌, Bool, true, false, cond, ◌||◌, List, [], ◌∷◌, map, length, get_or, set, take, Option, Some, None, refl, sym, ap, ◌∙◌, subst, arith}
 use Rattle.std.specs.Prelude.{is_some, unwrap_or, find, filter, sum, sum_by, IfSome}
-use Rattle.std.specs.List.{All, remove}
-use Rattle.std.proofs.lemmas.Bool.{cases_eq, and_parts}
+use Rattle.std.specs.List.{All}
+use Rattle.std.proofs.lemmas.Bool.{cases_eq}
 use Rattle.std.proofs.lemmas.List.{get_or-set_same, get_or-set_other, length-set, length-map, map-set}
 use Rattle.std.proofs.lemmas.List.Sums.{sum_by-cons}
 use Rattle.repo_plan.specs.declared.part.Part.{Part}
-use Rattle.repo_plan.specs.SortedList.{keys, value_of, contains}
+use Rattle.repo_plan.specs.SortedList.{value_of}
 use Rattle.repo_plan.specs.Parts.{part_cmp, numbers_from}
-use Rattle.repo_plan.specs.Plan.{unclaimed, is_unclaimed, attempts_of}
+use Rattle.repo_plan.specs.Plan.{unclaimed, attempts_of}
 use Rattle.repo_plan.proofs.Sets.{In, from_map}
 use Rattle.repo_plan.proofs.Scans.{behind_none}
-use Rattle.group_model.specs.Member.{Member, member_holds}
+use Rattle.group_model.specs.Member.{Member}
 use Rattle.group_model.specs.Events.{Event}
 use Rattle.group_model.specs.World.{World, Outside, no_member, member, logs, someone_holds}
 use Rattle.group_model.specs.Steps.{others_of, planned_parts, attempt, fetched_parts, attempts_for, attempts_made, fetches, after_fetch, after_event}
@@ -26,7 +26,6 @@ use Rattle.bench_world.specs.Lending.{lent, lends, comes}
 use Rattle.bench_world.specs.Gathering.{next_parts}
 use Rattle.bench_world.specs.Fetching.{attempt_at, fetched_one, fetched_all}
 use Rattle.bench_world.specs.Serving.{outside}
-use Rattle.bench_world.specs.Sizes.{size_of}
 use Rattle.bench_world.specs.Truth.{stores}
 use Rattle.bench_world.specs.Worlds.{nobody, alone_at, others_than, in_groups, AreTrueMembers, AreNumbered}
 use Rattle.bench_world.proofs.Brought.{lends_true}

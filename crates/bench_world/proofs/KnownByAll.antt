@@ -1,11 +1,11 @@
 -- What all members know together.
 use Rattle.std.proofs.Common.{◌≡◌, inl, ℕ, suc, ◌+◌, ◌≤◌, ◌<◌, List, [], ◌∷◌, map, length, get_or, drop, drop-cons, replicate, refl, sym, ap, ◌∙◌, arith}
-use Rattle.std.proofs.lemmas.List.{get_or_default, drop_all}
+use Rattle.std.proofs.lemmas.List.{drop_all}
 use Rattle.svs_vector.specs.Vectors.{join, join_all}
-use Rattle.svs_vector.proofs.JoinLemmas.{join-[], join_assoc, join_zeros, length-join}
+use Rattle.svs_vector.proofs.JoinLemmas.{join-[], join_assoc, join_zeros}
 use Rattle.group_model.proofs.Lists.{at_in}
 use Rattle.group_model.proofs.Settles.{length_join_all}
-use Rattle.repo_plan.proofs.Sets.{In, in_map, from_map}
+use Rattle.repo_plan.proofs.Sets.{from_map}
 use Rattle.repo_member.specs.Alone.{Alone}
 use Rattle.bench_world.specs.Worlds.{nobody, alone_at}
 

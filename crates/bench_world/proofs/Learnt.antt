@@ -12,13 +12,11 @@ use Rattle.group_model.specs.Settles.{learnt_member}
 use Rattle.group_model.specs.Sound.{IsSoundGroup, IsTrueVector}
 use Rattle.group_model.specs.Steps.{settled_vector}
 use Rattle.group_model.proofs.Settles.{settled_no_more}
-use Rattle.group_model.proofs.Lists.{in_at}
-use Rattle.repo_plan.specs.Plan.{attempts_of}
 use Rattle.repo_member.specs.Groups.{GroupKeys}
-use Rattle.repo_member.specs.Alone.{Alone, alone_plan, alone_learns, alone_ends_claims}
+use Rattle.repo_member.specs.Alone.{Alone, alone_learns, alone_ends_claims}
 use Rattle.repo_member.specs.InGroup.{in_group, AreLogs}
 use Rattle.repo_member.specs.TrueMembers.{IsTrueMember}
-use Rattle.repo_member.proofs.PublicLaws.{learns_true, ends_claims_true, true_is_of}
+use Rattle.repo_member.proofs.PublicLaws.{learns_true, ends_claims_true}
 use Rattle.bench_world.specs.Settling.{IsPartlySettled, ArePartlySettled}
 use Rattle.bench_world.specs.Truth.{TriedFew, AllTriedFew}
 use Rattle.bench_world.specs.Worlds.{nobody, alone_at, in_groups, AllCountsStay, AreTrueMembers, AreNumbered}

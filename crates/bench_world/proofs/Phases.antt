@@ -1,5 +1,5 @@
 -- A phase, from the code's values.
-use Rattle.std.proofs.Common.{◌≡◌, ℕ, ◌+◌, ◌≤◌, ◌<◌, Bool, true, false, cond, List, [], ◌∷◌, map, length, replicate, Option, Some, None, refl, sym, ap, ◌∙◌, subst, arith}
+use Rattle.std.proofs.Common.{◌≡◌, ℕ, ◌≤◌, Bool, true, false, cond, List, [], ◌∷◌, map, length, replicate, Option, Some, None, refl, sym, ap, ◌∙◌, subst, arith}
 use Rattle.std.specs.Prelude.{is_some, unwrap_or, filter, count_by, sum_by, slice_get, slice_index_or}
 use Rattle.std.specs.List.{All}
 use Rattle.std.proofs.lemmas.List.{length-map, length-replicate}
@@ -10,7 +10,7 @@ use Rattle.ndn_sign.specs.Ring.{Pair}
 use Rattle.repo_plan.specs.declared.part.Part.{Part}
 use Rattle.repo_plan.specs.SortedList.{contains}
 use Rattle.repo_plan.specs.Parts.{part_cmp}
-use Rattle.repo_plan.specs.Plan.{is_wanted, is_claimed, is_unclaimed, is_after, unclaimed, attempts_of}
+use Rattle.repo_plan.specs.Plan.{is_wanted, is_after, unclaimed}
 use Rattle.repo_plan.proofs.Orders.{exact_parts}
 use Rattle.repo_plan.proofs.Sets.{In, from_map, contains_in}
 use Rattle.repo_object.specs.declared.job.Job.{Job}
@@ -21,9 +21,9 @@ use Rattle.group_model.specs.Publications.{Logs, all_parts}
 use Rattle.group_model.proofs.Tries.{take_short}
 use Rattle.group_model.proofs.Catalogues.{in_all_parts}
 use Rattle.repo_member.specs.Groups.{GroupKeys}
-use Rattle.repo_member.specs.Alone.{Alone, Fetched, alone_plan, want_of}
+use Rattle.repo_member.specs.Alone.{Alone, Fetched, alone_plan}
 use Rattle.repo_member.specs.InGroup.{AreLogs, true_packet, that_came}
-use Rattle.repo_member.specs.Outcomes.{job_for, jobs_behind, outcome_of, octets_in, IsPlannedJob, ArePlannedJobs, IsOutcome, WereTried}
+use Rattle.repo_member.specs.Outcomes.{job_for, jobs_behind, outcome_of, octets_in, ArePlannedJobs, IsOutcome}
 use Rattle.repo_member.specs.TrueMembers.{IsTrueMember}
 use Rattle.repo_member.proofs.PublicLaws.{true_is_of, wants_published, jobs_are_planned, planned_jobs_are_outcomes}
 use Rattle.bench_world.specs.Worlds.{AreTrueMembers}

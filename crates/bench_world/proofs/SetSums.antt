@@ -1,5 +1,5 @@
 -- Sums over sets in order, and how long their fronts and filters are.
-use Rattle.std.proofs.Common.{◌≡◌, ◌⊎◌, inl, inr, ℕ, suc, zero, ◌+◌, ◌*◌, ◌≤◌, ◌<◌, Bool, true, false, cond, ◌||◌, List, [], ◌∷◌, length, take, refl, sym, ap, ◌∙◌, subst, arith}
+use Rattle.std.proofs.Common.{◌≡◌, ◌⊎◌, inl, inr, ℕ, suc, zero, ◌+◌, ◌≤◌, ◌<◌, Bool, true, false, cond, ◌||◌, List, [], ◌∷◌, length, take, refl, sym, ap, ◌∙◌, subst, arith}
 use Rattle.std.proofs.lemmas.Bool.{true≢false}
 use Rattle.std.specs.Prelude.{filter, sum_by}
 use Rattle.std.proofs.lemmas.List.Sums.{sum_by-cons}

@@ -1,5 +1,5 @@
 -- What a member gathers of others in a settle.
-use Rattle.std.specs.Prelude.{ℕ, ◌≡◌, ◌⊎◌, ◌+◌, true, false, List, [], map, filter, take, length, Option, Some, None, sum_by}
+use Rattle.std.specs.Prelude.{ℕ, ◌≡◌, ◌⊎◌, ◌+◌, true, false, List, [], map, filter, take, Option, Some, None, sum_by}
 use Rattle.repo_plan.specs.declared.part.Part.{Part}
 use Rattle.repo_plan.specs.SortedList.{keys, contains}
 use Rattle.repo_plan.specs.Parts.{part_cmp}

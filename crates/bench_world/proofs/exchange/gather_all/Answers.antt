@@ -1,5 +1,4 @@
-use Rattle.std.proofs.Common.{◌≡◌, ◌+◌, ◌*◌, ◌<◌, ◌≤◌, length, take, refl, subst, ap, sym, ◌∙◌, arith}
-use Rattle.group_model.specs.Publications.{all_parts}
+use Rattle.std.proofs.Common.{◌≡◌, ◌+◌, ◌<◌, length, take, refl, subst, ap, ◌∙◌, arith}
 use Rattle.group_model.specs.World.{logs}
 use Rattle.bench_world.specs.Gathering.{one_each, held_sum, Counts}
 use Rattle.bench_world.specs.Settling.{gain_sum, GatheredSoFar}

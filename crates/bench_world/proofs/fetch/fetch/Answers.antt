@@ -1,4 +1,4 @@
-use Rattle.std.proofs.Common.{◌≡◌, ◌≤◌, None, List, ℕ, length, map, sym, ap, ◌∙◌, arith}
+use Rattle.std.proofs.Common.{◌≡◌, None, List, length, sym, ap, ◌∙◌, arith}
 use Rattle.std.specs.Prelude.{sum}
 use Rattle.repo_member.specs.Alone.{Fetched, alone_takes}
 use Rattle.bench_world.proofs.Phases.{few_jobs, count_jobs, can_be_tried, count_attempts, fetch_outcome, fetch_is, fetch_parts, fetch_octets, fetch_attempts}

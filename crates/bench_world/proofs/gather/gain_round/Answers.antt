@@ -1,10 +1,5 @@
-use Rattle.std.proofs.Common.{◌≡◌, ◌+◌, ◌*◌, ◌<◌, ◌≤◌, ◌^◌, length, ap, sym, subst, arith}
-use Rattle.repo_plan.specs.Plan.{attempts_of}
-use Rattle.group_model.specs.Publications.{all_parts}
-use Rattle.repo_member.specs.Alone.{Alone, alone_plan}
-use Rattle.bench_world.specs.Gathering.{one_each, held_sum, Counts}
+use Rattle.std.proofs.Common.{arith}
 use Rattle.bench_world.specs.Sizes.{size_of}
-use Rattle.bench_world.specs.Truth.{TriedFew}
 use Rattle.bench_world.proofs.Gathers.{few_held, few_octets, went_on, went_left, went_smaller, went_gains, went_count, went_counts, counts_both, tried_still}
 use Rattle.bench_world.proofs.gather.gain_round.Goals as goal
 

@@ -1,4 +1,4 @@
-use Rattle.std.proofs.Common.{◌≡◌, ◌+◌, length}
+use Rattle.std.proofs.Common.{length}
 use Rattle.std.specs.Prelude.{filter}
 use Rattle.repo_plan.specs.Plan.{is_after}
 use Rattle.group_model.specs.Publications.{all_parts}

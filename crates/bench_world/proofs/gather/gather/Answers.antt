@@ -1,6 +1,5 @@
-use Rattle.std.proofs.Common.{◌≡◌, ◌≤◌, ◌+◌, length, arith}
-use Rattle.bench_world.specs.Sizes.{size_of}
-use Rattle.bench_world.proofs.Gathers.{few_held, few_octets, tried_still, gains_both, counts_both}
+use Rattle.std.proofs.Common.{arith}
+use Rattle.bench_world.proofs.Gathers.{few_held, few_octets, tried_still}
 use Rattle.bench_world.proofs.gather.gather.Goals as goal
 
 pub gain_round-requires : goal.gain_round-requires

@@ -1,4 +1,4 @@
-use Rattle.std.proofs.Common.{◌≡◌, ◌+◌, ◌-◌, length}
+use Rattle.std.proofs.Common.{◌-◌, length}
 use Rattle.group_model.specs.Publications.{all_parts}
 use Rattle.bench_world.specs.Gathering.{one_each, held_sum, Counts, Gains}
 use Rattle.bench_world.specs.Sizes.{size_of}

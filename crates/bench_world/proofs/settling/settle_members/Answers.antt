@@ -1,9 +1,6 @@
-use Rattle.std.proofs.Common.{◌≡◌, ◌≤◌, ◌<◌, ℕ, List, map, length, ap, sym, subst, ◌∙◌, arith, refl}
-use Rattle.std.specs.Prelude.{slice_index}
+use Rattle.std.proofs.Common.{◌≡◌, List, length, ap, sym, ◌∙◌, arith}
 use Rattle.svs_vector.specs.Vectors.{join_all}
 use Rattle.repo_member.specs.Alone.{Alone}
-use Rattle.group_model.specs.World.{logs}
-use Rattle.bench_world.specs.Worlds.{alone_at, in_groups, tells}
 use Rattle.bench_world.proofs.KnownByAll.{knowns, joined_short}
 use Rattle.bench_world.proofs.GatheredAll.{where_err}
 use Rattle.bench_world.proofs.Learnt.{few_members, widths, own_known, all_width, learnt_all, learnt_truly, learnt_numbers, learnt_tried, learnt_counts, counts_then, partly_none}

@@ -1,4 +1,4 @@
-use Rattle.std.proofs.Common.{◌≡◌, length, refl, ap, ◌∙◌, arith}
+use Rattle.std.proofs.Common.{length, refl, ap, ◌∙◌, arith}
 use Rattle.std.proofs.lemmas.List.{length-replicate}
 use Rattle.svs_vector.specs.Vectors.{join}
 use Rattle.bench_world.proofs.KnownByAll.{all_begins, all_goes_on, all_ends}
