@@ -27,6 +27,8 @@ mod Readers
 mod Answered
 mod Hearings
 mod Summaries
+mod Gainings
+mod EventRuns
 mod Coming
 mod TakenOut
 mod Asked
