@@ -29,3 +29,4 @@ mod Hearings
 mod Coming
 mod TakenOut
 mod Asked
+pub mod SettledAgain

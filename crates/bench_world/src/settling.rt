@@ -7,7 +7,7 @@ ghost use Rattle.repo_member.specs.Alone.{alone_resets};
 ghost use Rattle.bench_world.specs.Sizes.{size_of};
 ghost use Rattle.bench_world.specs.Truth.{AreFewLogs, AllTriedFew};
 ghost use Rattle.bench_world.specs.Worlds.{alone_at, in_groups, tells, AllCountsStay, AreTrueMembers, AreNumbered};
-ghost use Rattle.bench_world.specs.Settling.{told_of, gain_sum, ArePartlySettled};
+ghost use Rattle.bench_world.specs.Settling.{told_of, gain_sum, ArePartlySettled, SettlesAgain};
 
 use crate::exchange::gather_all;
 use crate::telling::{Told, all_known, learn_all, tell_all};
@@ -51,6 +51,11 @@ pub(crate) fn settle_members<N: Net + Sync, R: Threads + Sync>(
     let (parts, octets) = gather_all(rt, alloc, g, net, workers, members)?;
     Ok((told, parts, octets))
 }
+
+/// A settle that wanted memory can be made again, and then leaves what it would have left at first.
+pub fn a_settle_can_be_made_again()
+    ensures { SettlesAgain }
+{}
 
 /// What was told is sent, for which room was made.
 pub(crate) fn send_all(sent: &mut Sent, told: Vec<Told>)
