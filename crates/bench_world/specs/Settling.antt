@@ -1,5 +1,5 @@
 -- What a settle makes of all members, and what it leaves where memory was wanting.
-use Rattle.std.specs.Prelude.{ℕ, ◌≡◌, ◌≤◌, ◌<◌, ◌⊎◌, true, List, length, map, slice_index, sum_by}
+use Rattle.std.specs.Prelude.{ℕ, ◌≡◌, ◌≤◌, ◌<◌, ◌⊎◌, true, List, length, slice_index, sum_by}
 use Rattle.repo_plan.specs.declared.part.Part.{Part}
 use Rattle.repo_plan.specs.Plan.{no_claims}
 use Rattle.group_model.specs.Member.{Member, member_holds}
