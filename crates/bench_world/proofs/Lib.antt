@@ -32,3 +32,4 @@ mod EventRuns
 mod Coming
 mod TakenOut
 mod Asked
+pub mod SettledAgain

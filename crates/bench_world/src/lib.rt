@@ -25,6 +25,7 @@ mod world;
 pub use event::{Event, Happened, StepFault};
 pub use plain_entry::PlainEntry;
 pub use plain_world::PlainWorld;
+pub use settling::a_settle_can_be_made_again;
 pub use world::World;
 
 #[cfg(test)]
