@@ -81,6 +81,9 @@ module _ (s : GroupState) (is : IsTrueState s) where
   }
   told_truly (a ∷ members) numbers truly (suc k) d l = told_truly members (λ i h. numbers (suc i) (omega (arith, h))) (λ i h. truly (suc i) (omega (arith, h))) k d (omega (arith, l))
 
+  pub sound_only : IsSoundGroup (only s.members)
+  sound_only = record { members = (sound_state s is).members; sent = λ k l. absurd (omega (arith, l)) }
+
   -- ---- where memory was wanting
 
   still_within : (mid : List Alone) (steps : ℕ) → s.steps ≤ steps → length mid ≡ length s.members → AreNumbered mid → AreTrueMembers s.keys (logs_around s.members) mid → AllCountsStay s.members mid

@@ -28,6 +28,7 @@ mod Answered
 mod Hearings
 mod Summaries
 mod Gainings
+mod Resets
 mod EventRuns
 mod Coming
 mod TakenOut

@@ -114,4 +114,37 @@ impl World {
         self.octets += octets;
         Ok(parts)
     }
+
+    /// The step of a settle: each machine starts again afterwards, with its member's next draw.
+    pub(crate) fn settle_step<N: Net + Sync, D: Draws, R: Threads + Sync>(
+        &mut self,
+        rt: &R,
+        workers: u32,
+        net: &N,
+        draws: &D,
+    ) -> Result<Happened, StepFault>
+        requires workers { (1 ≤ workers) × (workers ≤ 16) }
+        requires few { self.old.steps < 100000 }
+        ensures taken { OnOk result (refusal (outside self.old.keys (D.draw draws.now) (N.passes net.now)) (world_of self.old)
+            (group_event self.old.keys (EventValue.Settle workers)) ≡ None) }
+        ensures world { OnOk result (world_of self.new
+            ≡ after_event (outside self.old.keys (D.draw draws.now) (N.passes net.now)) (world_of self.old)
+            (group_event self.old.keys (EventValue.Settle workers))) }
+        ensures told { IfOk result (λ happened. told_value happened
+            ≡ telling self.old.keys (outside self.old.keys (D.draw draws.now) (N.passes net.now)) (world_of self.old)
+            (EventValue.Settle workers)) }
+        ensures joined { OnOk result (NothingHidden (world_of self.new) → AllJoined (world_of self.new)) }
+        ensures steps { OnOk result (self.new.steps ≡ self.old.steps + 1) }
+        ensures keys { self.new.keys ≡ self.old.keys }
+        ensures refused { IfErr result (IsFaultOf (refusal (outside self.old.keys (D.draw draws.now) (N.passes net.now))
+            (world_of self.old) (group_event self.old.keys (EventValue.Settle workers)))) }
+        ensures err { OnErr result (HaveSettledPart self.old self.new) }
+    {
+        let syncs = self.members.len() as u64;
+        let Ok(kept) = self.settle(rt, workers, net) else {
+            return Err(StepFault::NoMemory);
+        };
+        reset_all(&mut self.members, self.moment, draws);
+        Ok(Happened::Settle { syncs, kept })
+    }
 }

@@ -1,6 +1,128 @@
-use Rattle.std.proofs.Common.{◌<◌, ◌+◌, length, sym, ap, ◌∙◌, subst, arith}
-use Rattle.bench_world.proofs.Gainings.{settle_fits}
+use Rattle.std.proofs.Common.{◌≡◌, ℕ, ◌≤◌, ◌<◌, ◌+◌, ◌++◌, List, length, map, refl, sym, ap, ◌∙◌, subst, arith}
+use Rattle.std.proofs.lemmas.List.{length-map}
+use Rattle.bench_net.specs.SentList.{SentPacket}
+use Rattle.group_model.specs.Steps.{settle_gains, after_gathering}
+use Rattle.bench_world.specs.Serving.{keyed}
+use Rattle.bench_world.specs.Runs.{HaveSettledPart}
+use Rattle.bench_world.specs.Settling.{told_of}
+use Rattle.bench_world.specs.Worlds.{GroupState, IsTrueState, tells, world_of}
+use Rattle.bench_world.specs.Kept.{state}
+use Rattle.bench_world.proofs.States.{few_logs, few_members, few_sent, tried_few}
+use Rattle.bench_world.proofs.Readers.{counted_state}
+use Rattle.bench_world.proofs.GatheredAll.{where_err}
+use Rattle.bench_world.proofs.Gainings.{sound_only, failed_state, partly, partly_before, settle_world, settle_state, settle_joined, settle_fits}
 use Rattle.bench_world.proofs.world.World.settle.Goals as goal
 
+pub invariant_of-self : goal.invariant_of-self
+invariant_of-self g c =
+    let s = state c.self.inside in
+    let few = subst (λ (x : GroupState). x.steps < 100000) (sym c.self.view_is) c.requires.few in
+    subst (λ (ps : List SentPacket). IsTrueState (record s { sent = ps; steps = s.steps + 1 })) (sym (ap (λ x. x.packets) c.in_err-reserve.ensures.err)) (counted_state s c.self.invariant few)
+
+pub returns-in_err-reserve-clause-err : goal.returns-in_err-reserve-clause-err
+returns-in_err-reserve-clause-err g c =
+    let s = state c.self.inside in
+    let few = subst (λ (x : GroupState). x.steps < 100000) (sym c.self.view_is) c.requires.few in
+    where_err c.from_residual.result (
+    subst (λ (x : GroupState). HaveSettledPart x (record s { sent = c.reserve.new.self.packets; steps = s.steps + 1 })) c.self.view_is
+    (subst (λ (ps : List SentPacket). HaveSettledPart s (record s { sent = ps; steps = s.steps + 1 })) (sym (ap (λ x. x.packets) c.in_err-reserve.ensures.err)) (partly_before s c.self.invariant few)))
+
+pub settle_members-settled-requires : goal.settle_members-settled-requires
+settle_members-settled-requires g c κs within =
+    let s = state c.self.inside in
+    (within.0, (within.1, (c.type_bounds.sync-N, (c.type_bounds.sync-R, (c.requires.workers, (few_logs s c.self.invariant, (refl, (c.self.invariant.numbers, (c.self.invariant.members, (sound_only s c.self.invariant, tried_few s c.self.invariant))))))))))
+
+pub invariant_of-self-in-Err : goal.invariant_of-self-in-Err
+invariant_of-self-in-Err g c =
+    let s = state c.self.inside in
+    let few = subst (λ (x : GroupState). x.steps < 100000) (sym c.self.view_is) c.requires.few in
+    let same : c.reserve.new.self.packets ≡ s.sent = ap (λ x. x.packets) c.in_ok-reserve.ensures.ok in
+    subst (λ (ps : List SentPacket). IsTrueState (record s { members = c.settle_members-settled.new.members.items; sent = ps; steps = s.steps + 1 })) (sym same)
+    (failed_state s c.self.invariant few c.settle_members-settled.new.members.items c.settle_members-settled.ensures.len c.settle_members-settled.ensures.numbers c.settle_members-settled.ensures.truly c.settle_members-settled.ensures.counts)
+
+pub returns-in-Err-clause-err : goal.returns-in-Err-clause-err
+returns-in-Err-clause-err g c =
+    let s = state c.self.inside in
+    let few = subst (λ (x : GroupState). x.steps < 100000) (sym c.self.view_is) c.requires.few in
+    let same : c.reserve.new.self.packets ≡ s.sent = ap (λ x. x.packets) c.in_ok-reserve.ensures.ok in
+    subst (λ (x : GroupState). HaveSettledPart x (record s { members = c.settle_members-settled.new.members.items; sent = c.reserve.new.self.packets; steps = s.steps + 1 })) c.self.view_is
+    (subst (λ (ps : List SentPacket). HaveSettledPart s (record s { members = c.settle_members-settled.new.members.items; sent = ps; steps = s.steps + 1 })) (sym same)
+    (partly s c.self.invariant few c.settle_members-settled.new.members.items c.in-Err.ensures.err))
+
+pub send_all-requires-clause-room : goal.send_all-requires-clause-room
+send_all-requires-clause-room g c =
+    let s = state c.self.inside in
+    let a : length (map told_of c.in-Ok.settled.0.items) ≡ length (map (tells s.keys) s.members) = ap length c.in-Ok.ensures.told in
+    let b = length-map c.in-Ok.settled.0.items told_of in
+    let d = length-map s.members (tells s.keys) in
+    let room = ap (λ x. x.spare) c.in_ok-reserve.ensures.ok in
+    omega (arith, a, b, d, room, c.len.ensures, c.self.inside.members.ok, c.in-Ok.settled.0.ok)
+
+pub send_all-requires-clause-few : goal.send_all-requires-clause-few
+send_all-requires-clause-few g c =
+    let s = state c.self.inside in
+    let a : length (map told_of c.in-Ok.settled.0.items) ≡ length (map (tells s.keys) s.members) = ap length c.in-Ok.ensures.told in
+    let b = length-map c.in-Ok.settled.0.items told_of in
+    let d = length-map s.members (tells s.keys) in
+    let e : length c.reserve.new.self.packets ≡ length s.sent = ap (λ x. length x.packets) c.in_ok-reserve.ensures.ok in
+    let n = few_members s c.self.invariant in
+    let f = few_sent s c.self.invariant in
+    omega (arith, a, b, d, e, n, f, c.in-Ok.settled.0.ok)
+
+pub overflow_add-self-3 : goal.overflow_add-self-3
+overflow_add-self-3 g c =
+    let s = state c.self.inside in
+    let few = subst (λ (x : GroupState). x.steps < 100000) (sym c.self.view_is) c.requires.few in
+    let sent : c.send_all.new.sent.packets ≡ c.self.inside.sent.packets ++ map told_of c.in-Ok.settled.0.items =
+    c.send_all.ensures ∙ ap (λ (ps : List SentPacket). ps ++ map told_of c.in-Ok.settled.0.items) (ap (λ x. x.packets) c.in_ok-reserve.ensures.ok) in
+    let count : c.len-count.result ≡ length c.settle_members-settled.new.members.items = omega (arith, c.len-count.ensures, c.settle_members-settled.new.members.ok) in
+    let fits = settle_fits s c.self.invariant few c.settle_members-settled.new.members.items c.in-Ok.ensures.members c.send_all.new.sent.packets c.in-Ok.settled.0.items sent c.in-Ok.ensures.told
+    c.len-count.result c.saturating_sub.result c.in-Ok.settled.1 c.in-Ok.settled.2 count c.saturating_sub.ensures c.in-Ok.ensures.parts c.in-Ok.ensures.octets in
+    omega (arith, fits.2)
+
+pub overflow_add-self-4 : goal.overflow_add-self-4
+overflow_add-self-4 g c =
+    let s = state c.self.inside in
+    let few = subst (λ (x : GroupState). x.steps < 100000) (sym c.self.view_is) c.requires.few in
+    let sent : c.send_all.new.sent.packets ≡ c.self.inside.sent.packets ++ map told_of c.in-Ok.settled.0.items =
+    c.send_all.ensures ∙ ap (λ (ps : List SentPacket). ps ++ map told_of c.in-Ok.settled.0.items) (ap (λ x. x.packets) c.in_ok-reserve.ensures.ok) in
+    let count : c.len-count.result ≡ length c.settle_members-settled.new.members.items = omega (arith, c.len-count.ensures, c.settle_members-settled.new.members.ok) in
+    let fits = settle_fits s c.self.invariant few c.settle_members-settled.new.members.items c.in-Ok.ensures.members c.send_all.new.sent.packets c.in-Ok.settled.0.items sent c.in-Ok.ensures.told
+    c.len-count.result c.saturating_sub.result c.in-Ok.settled.1 c.in-Ok.settled.2 count c.saturating_sub.ensures c.in-Ok.ensures.parts c.in-Ok.ensures.octets in
+    omega (arith, fits.3)
+
+pub invariant_of-self-2 : goal.invariant_of-self-2
+invariant_of-self-2 g c =
+    let s = state c.self.inside in
+    let few = subst (λ (x : GroupState). x.steps < 100000) (sym c.self.view_is) c.requires.few in
+    let sent : c.send_all.new.sent.packets ≡ c.self.inside.sent.packets ++ map told_of c.in-Ok.settled.0.items =
+    c.send_all.ensures ∙ ap (λ (ps : List SentPacket). ps ++ map told_of c.in-Ok.settled.0.items) (ap (λ x. x.packets) c.in_ok-reserve.ensures.ok) in
+    let count : c.len-count.result ≡ length c.settle_members-settled.new.members.items = omega (arith, c.len-count.ensures, c.settle_members-settled.new.members.ok) in
+    settle_state s c.self.invariant few c.settle_members-settled.new.members.items c.in-Ok.ensures.members c.send_all.new.sent.packets c.in-Ok.settled.0.items sent c.in-Ok.ensures.told
+    c.len-count.result c.saturating_sub.result c.in-Ok.settled.1 c.in-Ok.settled.2 count c.saturating_sub.ensures c.in-Ok.ensures.parts c.in-Ok.ensures.octets
+    c.settle_members-settled.ensures.len c.settle_members-settled.ensures.numbers c.settle_members-settled.ensures.truly
+
 pub returns-clause-world : goal.returns-clause-world
-returns-clause-world g c = ?
+returns-clause-world g c =
+    let s = state c.self.inside in
+    let few = subst (λ (x : GroupState). x.steps < 100000) (sym c.self.view_is) c.requires.few in
+    let sent : c.send_all.new.sent.packets ≡ c.self.inside.sent.packets ++ map told_of c.in-Ok.settled.0.items =
+    c.send_all.ensures ∙ ap (λ (ps : List SentPacket). ps ++ map told_of c.in-Ok.settled.0.items) (ap (λ x. x.packets) c.in_ok-reserve.ensures.ok) in
+    let count : c.len-count.result ≡ length c.settle_members-settled.new.members.items = omega (arith, c.len-count.ensures, c.settle_members-settled.new.members.ok) in
+    settle_world s c.self.invariant few c.settle_members-settled.new.members.items c.in-Ok.ensures.members c.send_all.new.sent.packets c.in-Ok.settled.0.items sent c.in-Ok.ensures.told
+    c.len-count.result c.saturating_sub.result c.in-Ok.settled.1 c.in-Ok.settled.2 count c.saturating_sub.ensures c.in-Ok.ensures.parts c.in-Ok.ensures.octets
+    ∙ ap (λ (x : GroupState). after_gathering (keyed x.keys) (world_of x)) c.self.view_is
+
+pub returns-clause-parts : goal.returns-clause-parts
+returns-clause-parts g c =
+    c.in-Ok.ensures.parts ∙ ap (λ (s : GroupState). settle_gains (world_of s)) c.self.view_is
+
+pub returns-clause-joined : goal.returns-clause-joined
+returns-clause-joined g c =
+    let s = state c.self.inside in
+    let few = subst (λ (x : GroupState). x.steps < 100000) (sym c.self.view_is) c.requires.few in
+    let sent : c.send_all.new.sent.packets ≡ c.self.inside.sent.packets ++ map told_of c.in-Ok.settled.0.items =
+    c.send_all.ensures ∙ ap (λ (ps : List SentPacket). ps ++ map told_of c.in-Ok.settled.0.items) (ap (λ x. x.packets) c.in_ok-reserve.ensures.ok) in
+    let count : c.len-count.result ≡ length c.settle_members-settled.new.members.items = omega (arith, c.len-count.ensures, c.settle_members-settled.new.members.ok) in
+    settle_joined s c.self.invariant few c.settle_members-settled.new.members.items c.in-Ok.ensures.members c.send_all.new.sent.packets c.in-Ok.settled.0.items sent c.in-Ok.ensures.told
+    c.len-count.result c.saturating_sub.result c.in-Ok.settled.1 c.in-Ok.settled.2 count c.saturating_sub.ensures c.in-Ok.ensures.parts c.in-Ok.ensures.octets
