@@ -24,6 +24,11 @@ abbrev pub StandsAsBefore : EventValue → GroupState → GroupState → Type 0
 StandsAsBefore (EventValue.Settle workers) old new = HaveSettledPart old new
 StandsAsBefore _ old new = new ≡ old
 
+-- After a settle, where nothing is hidden, each catalogue is the join of all publications.
+abbrev pub JoinsAfter : EventValue → World → Type 0
+JoinsAfter (EventValue.Settle workers) w = NothingHidden w → AllJoined w
+JoinsAfter _ w = Unit {0}
+
 -- ---- lists of events
 
 abbrev pub event_values : List Event → List EventValue

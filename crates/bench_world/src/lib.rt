@@ -19,6 +19,7 @@ mod others;
 mod plain_entry;
 mod plain_world;
 mod settling;
+mod step;
 mod telling;
 mod world;
 

@@ -139,6 +139,7 @@ impl World {
     // A caller sees the value alone, so `sound` states what holds of every world.
     pub fn members(&self) -> usize
         ensures len { result ≡ length self.now.members }
+        ensures names { length self.now.members ≡ length self.now.keys.members.names }
         ensures sound { IsSoundGroup (world_of self.now) }
     {
         self.members.len()

@@ -1,9 +1,10 @@
 // What is read of a world.
-ghost use Rattle.std.specs.Prelude.{◌≡◌, ◌+◌, ◌<◌, ℕ, length, map, IfOk, OnOk, OnErr};
+ghost use Rattle.std.specs.Prelude.{◌≡◌, ◌+◌, ◌<◌, ◌≤◌, ℕ, None, length, map, IfOk, IfErr, OnOk, OnErr};
 ghost use Rattle.repo_plan.specs.Parts.{numbers_from, part_cmp};
 ghost use Rattle.repo_plan.specs.SortedList.{value_of};
 ghost use Rattle.bench_world.specs.Serving.{keyed};
 ghost use Rattle.bench_world.specs.Worlds.{world_of, alone_at};
+ghost use Rattle.bench_world.specs.Steps.{IsFaultOf};
 ghost use Rattle.bench_world.specs.Sums.{totals_in, HasFewTotals};
 ghost use Rattle.bench_world.specs.EventValues.{EventValue, told_value, telling, dump_told};
 
@@ -13,10 +14,11 @@ use repo_catalog::Entry;
 use repo_member::Member;
 use repo_plan::Part;
 use std::alloc::{AllocError, Global};
+use svs_vector::Vector;
 
 impl World {
     /// Which numbers a member knows.
-    pub(crate) fn vector(&mut self, m: u32) -> Result<Happened, AllocError>
+    pub(crate) fn vector(&mut self, m: u32) -> Result<Happened, StepFault>
         requires there { m < length self.old.members }
         requires few { self.old.steps < 100000 }
         ensures world { OnOk result (world_of self.new ≡ world_of self.old) }
@@ -24,13 +26,10 @@ impl World {
             ≡ telling self.old.keys (keyed self.old.keys) (world_of self.old) (EventValue.Vector m)) }
         ensures steps { OnOk result (self.new.steps ≡ self.old.steps + 1) }
         ensures keys { self.new.keys ≡ self.old.keys }
+        ensures refused { IfErr result (IsFaultOf None) }
         ensures err { OnErr result (self.new ≡ self.old) }
     {
-        let vector = self.members[m as usize].vector();
-        let mut numbers = Vec::with_capacity(self.alloc, vector.members())?;
-        for publisher in 0..vector.members() as u32 {
-            numbers.push(u64::from(vector.get(publisher)))?;
-        }
+        let numbers = known(self.alloc, self.members[m as usize].vector())?;
         let members = self.numbered()?;
         self.count();
         Ok(Happened::Vector {
@@ -41,7 +40,7 @@ impl World {
     }
 
     /// What a member's catalogue lists.
-    pub(crate) fn catalogue(&mut self, m: u32) -> Result<Happened, AllocError>
+    pub(crate) fn catalogue(&mut self, m: u32) -> Result<Happened, StepFault>
         requires there { m < length self.old.members }
         requires few { self.old.steps < 100000 }
         ensures world { OnOk result (world_of self.new ≡ world_of self.old) }
@@ -49,6 +48,7 @@ impl World {
             ≡ telling self.old.keys (keyed self.old.keys) (world_of self.old) (EventValue.Catalogue m)) }
         ensures steps { OnOk result (self.new.steps ≡ self.old.steps + 1) }
         ensures keys { self.new.keys ≡ self.old.keys }
+        ensures refused { IfErr result (IsFaultOf None) }
         ensures err { OnErr result (self.new ≡ self.old) }
     {
         let entries = copied(self.alloc, self.member(m).catalogue().entries())?;
@@ -81,13 +81,14 @@ impl World {
     }
 
     /// What all catalogues come to.
-    pub(crate) fn summary(&mut self) -> Result<Happened, AllocError>
+    pub(crate) fn summary(&mut self) -> Result<Happened, StepFault>
         requires few { self.old.steps < 100000 }
         ensures world { OnOk result (world_of self.new ≡ world_of self.old) }
         ensures told { IfOk result (λ happened. told_value happened
             ≡ telling self.old.keys (keyed self.old.keys) (world_of self.old) EventValue.Summary) }
         ensures steps { OnOk result (self.new.steps ≡ self.old.steps + 1) }
         ensures keys { self.new.keys ≡ self.old.keys }
+        ensures refused { IfErr result (IsFaultOf None) }
         ensures err { OnErr result (self.new ≡ self.old) }
     {
         let members = self.numbered()?;
@@ -102,7 +103,7 @@ impl World {
     }
 
     /// Which octets the packet of a part has, if the member holds it.
-    pub(crate) fn dump(&mut self, m: u32, p: u32, s: u32, x: u32) -> Result<Happened, AllocError>
+    pub(crate) fn dump(&mut self, m: u32, p: u32, s: u32, x: u32) -> Result<Happened, StepFault>
         requires there { m < length self.old.members }
         requires small { (s < 65536) × (x < 256) }
         requires few { self.old.steps < 100000 }
@@ -111,6 +112,7 @@ impl World {
             ≡ telling self.old.keys (keyed self.old.keys) (world_of self.old) (EventValue.Dump m p s x)) }
         ensures steps { OnOk result (self.new.steps ≡ self.old.steps + 1) }
         ensures keys { self.new.keys ≡ self.old.keys }
+        ensures refused { IfErr result (IsFaultOf None) }
         ensures err { OnErr result (self.new ≡ self.old) }
     {
         let part = Part {
@@ -134,6 +136,18 @@ impl World {
         }
         Ok(numbers)
     }
+}
+
+// The numbers that a vector tells.
+fn known(alloc: Global, vector: &Vector) -> Result<Vec<u64>, AllocError>
+    requires { length vector.now ≤ 16 }
+    ensures { IfOk result (λ numbers. numbers.items ≡ vector.now) }
+{
+    let mut numbers = Vec::with_capacity(alloc, vector.members())?;
+    for publisher in 0..vector.members() as u32 {
+        numbers.push(u64::from(vector.get(publisher)))?;
+    }
+    Ok(numbers)
 }
 
 // What catalogues come to, one after another.

@@ -90,7 +90,7 @@ impl World {
     }
 
     /// What a member answers to octets as an Interest: the packet of the least part that satisfies it.
-    pub(crate) fn ask(&mut self, m: u32, octets: &[u8]) -> Result<Happened, AllocError>
+    pub(crate) fn ask(&mut self, m: u32, octets: &[u8]) -> Result<Happened, StepFault>
         requires there { m < length self.old.members }
         requires few { self.old.steps < 100000 }
         ensures world { OnOk result (world_of self.new ≡ world_of self.old) }
@@ -98,6 +98,7 @@ impl World {
             ≡ telling self.old.keys (keyed self.old.keys) (world_of self.old) (EventValue.Ask m octets.now)) }
         ensures steps { OnOk result (self.new.steps ≡ self.old.steps + 1) }
         ensures keys { self.new.keys ≡ self.old.keys }
+        ensures refused { IfErr result (IsFaultOf None) }
         ensures err { OnErr result (self.new ≡ self.old) }
     {
         let happened = asked(self.alloc, m, &self.members[m as usize], octets)?;

@@ -1,0 +1,106 @@
+// One event after another.
+ghost use Rattle.std.specs.Prelude.{◌≡◌, ◌+◌, ◌<◌, ◌≤◌, None, length, IfOk, IfErr, OnOk, OnErr};
+ghost use Rattle.std.specs.List.{All};
+ghost use Rattle.group_model.specs.Steps.{after_event, after_events};
+ghost use Rattle.group_model.specs.Refusals.{refusal, AreTaken};
+ghost use Rattle.bench_world.specs.Serving.{outside};
+ghost use Rattle.bench_world.specs.Worlds.{world_of};
+ghost use Rattle.bench_world.specs.EventValues.{event_value, group_event, told_value, telling};
+ghost use Rattle.bench_world.specs.Steps.{IsReady, IsFaultOf, NamesAll};
+ghost use Rattle.bench_world.specs.Runs.{StandsAsBefore, JoinsAfter, event_values, group_events, IsStopped, ListLawFrom};
+
+use crate::event::{Event, Happened, StepFault};
+use crate::world::World;
+use bench_net::{Draws, Net};
+use std::thread::Threads;
+
+impl World {
+    /// Carries out an event, and tells what came of it.
+    pub fn step<N: Net + Sync, D: Draws, R: Threads + Sync>(
+        &mut self,
+        rt: &R,
+        event: &Event,
+        net: &N,
+        draws: &D,
+    ) -> Result<Happened, StepFault>
+        requires ready { IsReady (length self.old.keys.members.names) (event_value event.now) }
+        requires few { self.old.steps < 100000 }
+        ensures taken { OnOk result (refusal (outside self.old.keys (D.draw draws.now) (N.passes net.now))
+            (world_of self.old) (group_event self.old.keys (event_value event.now)) ≡ None) }
+        ensures world { OnOk result (world_of self.new ≡ after_event (outside self.old.keys (D.draw draws.now) (N.passes net.now))
+            (world_of self.old) (group_event self.old.keys (event_value event.now))) }
+        ensures told { IfOk result (λ happened. told_value happened ≡ telling self.old.keys
+            (outside self.old.keys (D.draw draws.now) (N.passes net.now)) (world_of self.old) (event_value event.now)) }
+        ensures all { IfOk result (λ happened. NamesAll (length self.old.keys.members.names) (told_value happened)) }
+        // After a settle, where nothing is hidden, each catalogue is the join of all publications.
+        ensures joined { OnOk result (JoinsAfter (event_value event.now) (world_of self.new)) }
+        ensures steps { OnOk result (self.new.steps ≡ self.old.steps + 1) }
+        ensures keys { self.new.keys ≡ self.old.keys }
+        ensures refused { IfErr result (IsFaultOf (refusal (outside self.old.keys (D.draw draws.now) (N.passes net.now))
+            (world_of self.old) (group_event self.old.keys (event_value event.now)))) }
+        ensures err { OnErr result (StandsAsBefore (event_value event.now) self.old self.new) }
+    {
+        // Read for its clauses alone: the invariant holds.
+        let _count = self.members();
+        match self.carry_out(rt, event, net, draws) {
+            Ok(happened) => Ok(happened),
+            Err(fault) => Err(fault),
+        }
+    }
+
+    // The same, where the members are counted by themselves.
+    fn carry_out<N: Net + Sync, D: Draws, R: Threads + Sync>(
+        &mut self,
+        rt: &R,
+        event: &Event,
+        net: &N,
+        draws: &D,
+    ) -> Result<Happened, StepFault>
+        requires ready { IsReady (length self.old.members) (event_value event.now) }
+        requires few { self.old.steps < 100000 }
+        ensures taken { OnOk result (refusal (outside self.old.keys (D.draw draws.now) (N.passes net.now))
+            (world_of self.old) (group_event self.old.keys (event_value event.now)) ≡ None) }
+        ensures world { OnOk result (world_of self.new ≡ after_event (outside self.old.keys (D.draw draws.now) (N.passes net.now))
+            (world_of self.old) (group_event self.old.keys (event_value event.now))) }
+        ensures told { IfOk result (λ happened. told_value happened ≡ telling self.old.keys
+            (outside self.old.keys (D.draw draws.now) (N.passes net.now)) (world_of self.old) (event_value event.now)) }
+        ensures joined { OnOk result (JoinsAfter (event_value event.now) (world_of self.new)) }
+        ensures steps { OnOk result (self.new.steps ≡ self.old.steps + 1) }
+        ensures keys { self.new.keys ≡ self.old.keys }
+        ensures refused { IfErr result (IsFaultOf (refusal (outside self.old.keys (D.draw draws.now) (N.passes net.now))
+            (world_of self.old) (group_event self.old.keys (event_value event.now)))) }
+        ensures err { OnErr result (StandsAsBefore (event_value event.now) self.old self.new) }
+    {
+        match event {
+            Event::Publish {
+                m,
+                name,
+                size,
+                content,
+            } => self.publish(*m, name, *size, content, draws),
+            Event::Deliver { k, m } => self.deliver(*k, *m, draws),
+            Event::Sync { k } => self.sync(*k),
+            Event::Advance { ms } => Ok(self.advance(*ms)),
+            Event::Fire { m } => self.fire(*m, draws),
+            Event::Restart { m } => Ok(self.restart(*m, draws)),
+            Event::Vector { m } => self.vector(*m),
+            Event::Catalogue { m } => self.catalogue(*m),
+            Event::Claim { m, f } => self.claim(*m, *f),
+            Event::Lose { m, f } => self.lose(*m, *f),
+            Event::Answer { m, f, q } => self.answer(*m, *f, *q),
+            Event::Fetch {
+                m,
+                workers,
+                tries,
+                loss,
+            } => self.fetch(rt, *m, *workers, *tries, *loss, net),
+            Event::Settle { workers } => self.settle_step(rt, *workers, net, draws),
+            Event::Dump { m, p, s, x } => self.dump(*m, *p, *s, *x),
+            Event::Hear { m, octets } => self.hear(*m, octets, draws),
+            Event::Ask { m, octets } => self.ask(*m, octets),
+            Event::Feed { m, f, octets } => self.feed(*m, *f, octets),
+            Event::Summary => self.summary(),
+            Event::Traffic => Ok(self.traffic()),
+        }
+    }
+}
