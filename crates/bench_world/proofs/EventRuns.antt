@@ -1,20 +1,23 @@
 -- Lists of events that are carried out one after another.
-use Rattle.std.proofs.Common.{◌≡◌, ℕ, ◌+◌, ◌<◌, List, [], ◌∷◌, ◌++◌, None, map, length, get_or, take, refl, sym, ap, ◌∙◌, subst, arith}
-use Rattle.std.proofs.lemmas.List.{length-map, map-append, take_more, take_all, get_or_default}
+use Rattle.std.proofs.Common.{◌≡◌, ℕ, ◌+◌, ◌<◌, Option, List, [], ◌∷◌, ◌++◌, None, map, length, get_or, take, refl, sym, ap, ◌∙◌, subst, arith}
+use Rattle.std.specs.List.{take-map}
+use Rattle.std.proofs.lemmas.List.{length-map, map-append, take_more, take_all, get_or-map}
 use Rattle.group_model.specs.Events as group
 use Rattle.group_model.specs.World.{Outside, World}
 use Rattle.group_model.specs.Steps.{after_event, after_events}
-use Rattle.group_model.specs.Refusals.{refusal, NamesThose, IsTaken, AreTaken}
+use Rattle.group_model.specs.Refusals.{Refusal, refusal, NamesThose, IsTaken, AreTaken}
 use Rattle.group_model.specs.Sound.{IsSoundGroup}
 use Rattle.group_model.specs.Laws.{NothingHidden, NothingWanted, AllJoined}
 use Rattle.group_model.proofs.PublicLaws.{told_of_all}
 use Rattle.group_model.proofs.Worlds.{sound_after_all}
+use Rattle.group_model.proofs.Lasting.{lasts}
 use Rattle.repo_member.specs.Groups.{GroupKeys}
 use Rattle.repo_member.specs.InGroup.{in_group}
 use Rattle.bench_world.specs.declared.event.Event.{Event}
+use Rattle.bench_world.specs.declared.event.StepFault.{StepFault}
 use Rattle.bench_world.specs.EventValues.{EventValue, event_value, group_event}
-use Rattle.bench_world.specs.Steps.{IsReady}
-use Rattle.bench_world.specs.Runs.{event_values, group_events, ListLawFrom}
+use Rattle.bench_world.specs.Steps.{IsReady, IsFaultOf}
+use Rattle.bench_world.specs.Runs.{event_values, group_events, StandsAsBefore, IsStopped, ListLawFrom}
 use Rattle.bench_world.specs.Worlds.{GroupState, in_groups, world_of}
 
 -- ---- lists
@@ -64,8 +67,29 @@ module _ (out : Outside) (g : GroupKeys) (begun : World) (events : List Event) w
         ∙ map-append (group_event g) (event_values (take i events)) (event_value (get_or events i item) ∷ [])
         ∙ ap (λ (e : Event). group_events g (event_values (take i events)) ++ group_event g (event_value e) ∷ []) (sym item_is)
 
-    pub at_place : (none : Event) → get_or events i none ≡ item
-    at_place none = sym (item_is ∙ get_or_default events i item none inside)
+    pub at_place : (none : EventValue) → get_or (event_values events) i none ≡ event_value item
+    at_place none = get_or-map event_value events i item none inside ∙ ap event_value (sym item_is)
+
+    pub take_values : group_events g (take i (event_values events)) ≡ group_events g (event_values (take i events))
+    take_values = ap (group_events g) (take-map event_value events i)
+
+    -- The fault of this event is that of the list.
+    pub stopped_here : (out_ : Outside) (begun_ mid_ new_ : GroupState) (fault : StepFault) → out ≡ out_ → world_of begun_ ≡ begun → begun_.keys ≡ g → world_of mid_ ≡ mid → IsFaultOf (refusal out mid (group_event g (event_value item))) fault → StandsAsBefore (event_value item) mid_ new_
+        → IsStopped out_ begun_ (event_values events) i fault new_
+    stopped_here out_ begun_ mid_ new_ fault out_is begun_is keys_are mid_is because stands = record {
+      inside = let k = length-map events event_value in omega (arith, inside, k);
+      taken = let e : group_events begun_.keys (take i (event_values events)) ≡ group_events g (event_values (take i events)) = ap (λ (h : GroupKeys). group_events h (take i (event_values events))) keys_are ∙ take_values in
+          subst (λ (o : Outside). AreTaken o (world_of begun_) (group_events begun_.keys (take i (event_values events)))) out_is
+          (subst (λ (w : World). AreTaken out w (group_events begun_.keys (take i (event_values events)))) (sym begun_is) (subst (AreTaken out begun) (sym e) taken));
+      before = mid_;
+      world =
+          let e : group_events begun_.keys (take i (event_values events)) ≡ group_events g (event_values (take i events)) = ap (λ (h : GroupKeys). group_events h (take i (event_values events))) keys_are ∙ take_values in
+          mid_is ∙ world ∙ ap (after_events out begun) (sym e)
+          ∙ (λ j. after_events (out_is j) (sym begun_is j) (group_events begun_.keys (take i (event_values events))));
+      stands = subst (λ (v : EventValue). StandsAsBefore v mid_ new_) (sym (at_place EventValue.Traffic)) stands;
+      because = subst (λ (r : Option Refusal). IsFaultOf r fault)
+          (λ j. refusal (out_is j) (sym mid_is j) (group_event (sym keys_are j) (sym (at_place EventValue.Traffic) j))) because;
+    }
 
     module _ (not_refused : refusal out mid (group_event g (event_value item)) ≡ None) (step_world : new ≡ after_event out mid (group_event g (event_value item))) where
       is_taken : IsTaken out mid (group_event g (event_value item))
@@ -73,6 +97,11 @@ module _ (out : Outside) (g : GroupKeys) (begun : World) (events : List Event) w
 
       pub taken_more : AreTaken out begun (group_events g (event_values (take (i + 1) events)))
       taken_more = subst (AreTaken out begun) (sym one_more) (taken_append out begun (group_events g (event_values (take i events))) (group_event g (event_value item) ∷ []) taken (subst (λ (w : World). IsTaken out w (group_event g (event_value item))) world is_taken, tt))
+
+      pub many_more : IsSoundGroup begun → length new.members ≡ n
+      many_more sound =
+          ap (λ (w : World). length w.members) step_world
+          ∙ (lasts out mid (group_event g (event_value item)) is_taken (subst IsSoundGroup (sym world) (sound_after_all out (group_events g (event_values (take i events))) begun taken sound))).width ∙ many
 
       pub world_more : new ≡ after_events out begun (group_events g (event_values (take (i + 1) events)))
       world_more =

@@ -29,6 +29,7 @@ mod Hearings
 mod Summaries
 mod Gainings
 mod Resets
+mod Names
 mod EventRuns
 mod Coming
 mod TakenOut

@@ -103,4 +103,41 @@ impl World {
             Event::Traffic => Ok(self.traffic()),
         }
     }
+
+    /// Carries out events, one after another, up to the first fault: how many were carried out, and the fault, if there was one.
+    pub fn run_events<N: Net + Sync, D: Draws, R: Threads + Sync>(
+        &mut self,
+        rt: &R,
+        events: &[Event],
+        net: &N,
+        draws: &D,
+    ) -> Result<usize, (usize, StepFault)>
+        requires ready { All (λ event. IsReady (length self.old.keys.members.names) (event_value event)) events.now }
+        requires few { self.old.steps + length events.now ≤ 100000 }
+        ensures count { IfOk result (λ n. n ≡ length events.now) }
+        ensures taken { OnOk result (AreTaken (outside self.old.keys (D.draw draws.now) (N.passes net.now))
+            (world_of self.old) (group_events self.old.keys (event_values events.now))) }
+        ensures world { OnOk result (world_of self.new
+            ≡ after_events (outside self.old.keys (D.draw draws.now) (N.passes net.now))
+            (world_of self.old) (group_events self.old.keys (event_values events.now))) }
+        ensures stopped { IfErr result (λ fault. IsStopped (outside self.old.keys (D.draw draws.now) (N.passes net.now))
+            self.old (event_values events.now) fault.0 fault.1 self.new) }
+        // Where the later events publish nothing and tell all members of all, and nothing is wanted or hidden in the end,
+        // each catalogue is the join of all publications.
+        ensures joined { OnOk result (ListLawFrom (outside self.old.keys (D.draw draws.now) (N.passes net.now))
+            (world_of self.old) (group_events self.old.keys (event_values events.now)) (world_of self.new)) }
+        ensures steps { OnOk result (self.new.steps ≡ self.old.steps + length events.now) }
+        ensures keys { self.new.keys ≡ self.old.keys }
+    {
+        // Read for its clauses alone: the invariant holds.
+        let _count = self.members();
+        let mut made = 0;
+        for event in events {
+            match self.step(rt, event, net, draws) {
+                Ok(_) => made += 1,
+                Err(fault) => return Err((made, fault)),
+            }
+        }
+        Ok(made)
+    }
 }
