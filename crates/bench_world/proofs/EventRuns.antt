@@ -71,7 +71,7 @@ module _ (out : Outside) (g : GroupKeys) (begun : World) (events : List Event) w
     at_place none = get_or-map event_value events i item none inside ∙ ap event_value (sym item_is)
 
     pub take_values : group_events g (take i (event_values events)) ≡ group_events g (event_values (take i events))
-    take_values = ap (group_events g) (take-map event_value events i)
+    take_values = ap (group_events g) (take-map event_value i events)
 
     -- The fault of this event is that of the list.
     pub stopped_here : (out_ : Outside) (begun_ mid_ new_ : GroupState) (fault : StepFault) → out ≡ out_ → world_of begun_ ≡ begun → begun_.keys ≡ g → world_of mid_ ≡ mid → IsFaultOf (refusal out mid (group_event g (event_value item))) fault → StandsAsBefore (event_value item) mid_ new_

@@ -9,7 +9,7 @@ use Rattle.bench_world.proofs.Names.{names_all}
 use Rattle.bench_world.proofs.world.World.step.Goals as goal
 
 pub carry_out-requires-clause-ready : goal.carry_out-requires-clause-ready
-carry_out-requires-clause-ready g c = subst (λ n. IsReady n (event_value c.args.event.now)) (sym c.members-count.ensures.names) c.requires.ready
+carry_out-requires-clause-ready g c κs within = subst (λ n. IsReady n (event_value c.args.event.now)) (sym c.members-count.ensures.names) c.requires.ready
 
 pub returns-in-Ok-clause-all : goal.returns-in-Ok-clause-all
 returns-in-Ok-clause-all g c =
