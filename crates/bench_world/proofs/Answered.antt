@@ -6,7 +6,6 @@ use Rattle.ndn_data.specs.Data.{Data}
 use Rattle.repo_plan.specs.declared.part.Part.{Part}
 use Rattle.repo_plan.specs.SortedList.{contains}
 use Rattle.repo_plan.specs.Parts.{part_cmp}
-use Rattle.repo_plan.specs.Plan.{claim_of}
 use Rattle.repo_object.specs.declared.part_refusal.PartRefusal.{PartRefusal}
 use Rattle.repo_object.specs.Verdict.{ring_verdict}
 use Rattle.group_model.specs.Publications.{Logs, all_parts}
@@ -16,11 +15,11 @@ use Rattle.group_model.specs.Events.{Came, Event}
 use Rattle.group_model.specs.Events.Came.{Nothing, Its, Another}
 use Rattle.group_model.specs.Limits.{IsInRange, HasSmallPackets}
 use Rattle.group_model.specs.Refusals.{Refusal, refusal, if_idle_or_foreign}
-use Rattle.group_model.specs.World.{World, Tally, no_member, member}
+use Rattle.group_model.specs.World.{Tally, no_member, member}
 use Rattle.group_model.specs.Steps.{claim_at, came_from, came_as, passes_checks, tried_once, after_came, after_event}
 use Rattle.group_model.proofs.PublicLaws.{parts_are_those}
 use Rattle.repo_member.specs.Groups.{GroupKeys}
-use Rattle.repo_member.specs.Alone.{Alone, alone_plan, alone_accepts}
+use Rattle.repo_member.specs.Alone.{Alone, alone_accepts}
 use Rattle.repo_member.specs.InGroup.{in_group, AreLogs, true_packet}
 use Rattle.repo_member.specs.TrueMembers.{IsTrueMember, true_want}
 use Rattle.repo_member.proofs.PublicLaws.{accepts_alike, accepts_true, packets_are_there, true_stores}
@@ -29,11 +28,11 @@ use Rattle.bench_world.specs.declared.event.StepFault.TheVariants as fault
 use Rattle.bench_world.specs.declared.answering.Fed.{Fed}
 use Rattle.bench_world.specs.Sizes.{size_of}
 use Rattle.bench_world.specs.Serving.{keyed, octets_as}
-use Rattle.bench_world.specs.Answering.{claim_in, came_in, came_for, answered, after_claimed, fed_by, fed_as, kept_of}
+use Rattle.bench_world.specs.Answering.{claim_in, came_in, came_for, answered, after_claimed, fed_by, fed_as}
 use Rattle.bench_world.specs.Replying.{fed_reply, parts_kept}
-use Rattle.bench_world.specs.EventValues.{Told, fed_told, feed_told}
+use Rattle.bench_world.specs.EventValues.{fed_told, feed_told}
 use Rattle.bench_world.specs.Steps.{IsFaultOf}
-use Rattle.bench_world.specs.Worlds.{GroupState, IsTrueState, nobody, alone_at, in_groups, logs_around, world_of, sync_in}
+use Rattle.bench_world.specs.Worlds.{GroupState, IsTrueState, alone_at, in_groups, logs_around, world_of, sync_in}
 use Rattle.bench_world.proofs.Coming.{claim_published, packet_is}
 use Rattle.bench_world.proofs.States.{member_at, stepped_at}
 

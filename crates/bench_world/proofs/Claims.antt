@@ -13,7 +13,7 @@ use Rattle.repo_member.specs.InGroup.{in_group}
 use Rattle.repo_member.specs.TrueMembers.{IsTrueMember}
 use Rattle.repo_member.proofs.PublicLaws.{open_parts_alike, claims_true, loses_true}
 use Rattle.bench_world.specs.Worlds.{GroupState, IsTrueState, in_groups, logs_around, world_of, drawing}
-use Rattle.bench_world.proofs.States.{truly, number_is, member_is, among, in_world, true_in, stepped_at}
+use Rattle.bench_world.proofs.States.{truly, number_is, member_is, in_world, true_in, stepped_at}
 
 module _ (s : GroupState) (is : IsTrueState s) (m : ℕ) (there : m < length s.members) (old : Alone) (old_is : old ≡ get_or s.members m old) where
   pub claim_is : (f : ℕ) → claim_at (world_of s) m f ≡ claim_of (alone_plan old) f

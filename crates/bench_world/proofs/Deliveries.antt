@@ -7,7 +7,7 @@ use Rattle.std.proofs.lemmas.Option.{slice_get-get_or, slice_get_past}
 use Rattle.bench_net.specs.SentList.{SentPacket, octets_of}
 use Rattle.group_model.specs.Member.{Member}
 use Rattle.group_model.specs.Events.{SyncInterest, Event}
-use Rattle.group_model.specs.World.{World, Outside, no_sync, member, sent_at}
+use Rattle.group_model.specs.World.{World, no_sync, member, sent_at}
 use Rattle.group_model.specs.Steps.{after_deliver, drawn}
 use Rattle.group_model.specs.Refusals.{Refusal, unless, unless_sent}
 use Rattle.group_model.specs.Changes as group

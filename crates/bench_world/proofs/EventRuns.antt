@@ -1,5 +1,5 @@
 -- Lists of events that are carried out one after another.
-use Rattle.std.proofs.Common.{◌≡◌, ℕ, ◌+◌, ◌<◌, Option, List, [], ◌∷◌, ◌++◌, None, map, length, get_or, take, refl, sym, ap, ◌∙◌, subst, arith}
+use Rattle.std.proofs.Common.{◌≡◌, ℕ, ◌+◌, ◌<◌, Option, List, [], ◌∷◌, ◌++◌, None, length, get_or, take, refl, sym, ap, ◌∙◌, subst, arith}
 use Rattle.std.specs.List.{take-map}
 use Rattle.std.proofs.lemmas.List.{length-map, map-append, take_more, take_all, get_or-map}
 use Rattle.group_model.specs.Events as group
@@ -12,13 +12,12 @@ use Rattle.group_model.proofs.PublicLaws.{told_of_all}
 use Rattle.group_model.proofs.Worlds.{sound_after_all}
 use Rattle.group_model.proofs.Lasting.{lasts}
 use Rattle.repo_member.specs.Groups.{GroupKeys}
-use Rattle.repo_member.specs.InGroup.{in_group}
 use Rattle.bench_world.specs.declared.event.Event.{Event}
 use Rattle.bench_world.specs.declared.event.StepFault.{StepFault}
 use Rattle.bench_world.specs.EventValues.{EventValue, event_value, group_event}
 use Rattle.bench_world.specs.Steps.{IsReady, IsFaultOf}
 use Rattle.bench_world.specs.Runs.{event_values, group_events, StandsAsBefore, IsStopped, ListLawFrom}
-use Rattle.bench_world.specs.Worlds.{GroupState, in_groups, world_of}
+use Rattle.bench_world.specs.Worlds.{GroupState, world_of}
 
 -- ---- lists
 

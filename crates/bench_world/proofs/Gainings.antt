@@ -8,17 +8,16 @@ use Rattle.bench_net.specs.SentList.{SentPacket}
 use Rattle.svs_sync.specs.KeptVector.{Keeper}
 use Rattle.repo_plan.specs.declared.part.Part.{Part}
 use Rattle.group_model.specs.Publications.{Logs, no_object, published}
-use Rattle.group_model.specs.Member.{Member, tries_of}
+use Rattle.group_model.specs.Member.{tries_of}
 use Rattle.group_model.specs.Events.{SyncInterest, Event}
 use Rattle.group_model.specs.World.{Tally, World, Outside, member}
 use Rattle.group_model.specs.Laws.{NothingHidden, AllJoined}
 use Rattle.group_model.specs.Limits.{IsWithin, IsMemberWithin, IsTallyWithin}
 use Rattle.group_model.specs.Sound.{IsSoundGroup}
-use Rattle.group_model.specs.Steps.{new_parts, settle_gains, settled_member, syncs_of, after_gathering, fetched_parts, attempts_made, after_fetch}
+use Rattle.group_model.specs.Steps.{settle_gains, settled_member, syncs_of, after_gathering, fetched_parts, attempts_made, after_fetch}
 use Rattle.group_model.proofs.PublicLaws.{gathering_joins, gathering_within, more_within}
-use Rattle.repo_member.specs.Groups.{GroupKeys}
 use Rattle.repo_member.specs.Alone.{Alone}
-use Rattle.repo_member.specs.InGroup.{in_group, AreLogs}
+use Rattle.repo_member.specs.InGroup.{in_group}
 use Rattle.bench_world.specs.declared.telling.Told.{Told}
 use Rattle.bench_world.specs.Serving.{outside, keyed}
 use Rattle.bench_world.specs.Settling.{told_of, gain_sum, ArePartlySettled, IsPartlySettled}

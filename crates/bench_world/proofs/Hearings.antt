@@ -14,7 +14,7 @@ use Rattle.svs_sync.specs.Suppression.{mode_of}
 use Rattle.group_model.specs.Publications.{Logs}
 use Rattle.group_model.specs.Member.{Member}
 use Rattle.group_model.specs.Events.{SyncInterest, Event}
-use Rattle.group_model.specs.World.{World, no_member, member}
+use Rattle.group_model.specs.World.{World, member}
 use Rattle.group_model.specs.Steps.{tells_too_much, after_deliver, after_hear, mode_at, drawn}
 use Rattle.group_model.specs.Refusals.{Refusal, has_sent, unless, if_unsent}
 use Rattle.group_model.specs.Changes as group
@@ -61,8 +61,8 @@ sent_vector : (g : GroupKeys) (logs : Logs) (sender : ℕ) (v : List ℕ) (ps : 
 sent_vector g logs sender v [] h all = absurd (true≢false (sym h))
 sent_vector g logs sender v (p ∷ ps) h all = elim (or_cases ((sender == p.sender) && bytes_eq v p.vector) (was_sent sender v ps) h) [
   | inl here ↦
-    let both = and_parts (sender == p.sender) (bytes_eq v p.vector) here in
-    subst (IsTrueVector logs) (sym ((bytes_eq-Decides v p.vector).0 both.1)) (All-head (IsTrueSync g logs) p ps all).vector
+      let both = and_parts (sender == p.sender) (bytes_eq v p.vector) here in
+      subst (IsTrueVector logs) (sym ((bytes_eq-Decides v p.vector).0 both.1)) (All-head (IsTrueSync g logs) p ps all).vector
   | inr later ↦ sent_vector g logs sender v ps later (All-tail (IsTrueSync g logs) p ps all)
 ]
 
@@ -85,11 +85,12 @@ module _ (s : GroupState) (is : IsTrueState s) (m : ℕ) (there : m < length s.m
       go : (b : Bool) → nat_lt (length old.log) (slice_index told.1 m) ≡ b → cond b (Err (hear.OwnNumberAhead (length old.log) (slice_index told.1 m))) (Ok (made told)) ≡ Err x
           → (if_unsent (world_of s) m (Some (made told)) ≡ None) × (after_hear (drawing draws) (world_of s) m (Some (made told)) ≡ world_of s) × (hear_told (drawing draws) (world_of s) m (Ok told) ≡ Told.HearRefused m x)
       go true p h =
-          let same : hear.OwnNumberAhead (length old.log) (slice_index told.1 m) ≡ x = cc in
-          (ap (λ (b : Bool). cond b None (unless (has_sent (world_of s) (made told)) Refusal.Foreign)) (much true p),
-          ap (λ (b : Bool). cond b (world_of s) (after_deliver (drawing draws) (world_of s) m told.1)) (much true p),
-          ap (λ (b : Bool). cond b (Told.HearRefused m (hear.OwnNumberAhead (length (member (world_of s) m).log) (slice_index told.1 m))) (mode_told m (mode_at (after_deliver (drawing draws) (world_of s) m told.1) m))) (much true p)
-          ∙ ap (λ (y : Member). Told.HearRefused m (hear.OwnNumberAhead (length y.log) (slice_index told.1 m))) (member_is s is m there old old_is) ∙ ap (Told.HearRefused m) same)
+          let same : hear.OwnNumberAhead (length old.log) (slice_index told.1 m) ≡ x = cc in (
+            ap (λ (b : Bool). cond b None (unless (has_sent (world_of s) (made told)) Refusal.Foreign)) (much true p),
+            ap (λ (b : Bool). cond b (world_of s) (after_deliver (drawing draws) (world_of s) m told.1)) (much true p),
+            ap (λ (b : Bool). cond b (Told.HearRefused m (hear.OwnNumberAhead (length (member (world_of s) m).log) (slice_index told.1 m))) (mode_told m (mode_at (after_deliver (drawing draws) (world_of s) m told.1) m))) (much true p)
+                ∙ ap (λ (y : Member). Told.HearRefused m (hear.OwnNumberAhead (length y.log) (slice_index told.1 m))) (member_is s is m there old old_is) ∙ ap (Told.HearRefused m) same,
+          )
       go false p h = absurd cc
 
     pub refused_so : (x ≡ hear.NoMemory → ⊥) → (if_unsent (world_of s) m (read_as r) ≡ None) × (after_hear (drawing draws) (world_of s) m (read_as r) ≡ world_of s) × (hear_told (drawing draws) (world_of s) m r ≡ Told.HearRefused m x)

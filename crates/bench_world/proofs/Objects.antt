@@ -3,7 +3,7 @@ use Rattle.std.proofs.Common.{◌≡◌, ◌⊎◌, inl, inr, ℕ, ◌+◌, ◌�
 use Rattle.std.specs.Prelude.{nat_le, ◌↔◌}
 use Rattle.std.specs.List.{All}
 use Rattle.std.proofs.lemmas.Bool.{false_from_ne_true, cases_Bool, cases_eq, leb-true, leb-false, le-leb}
-use Rattle.std.proofs.lemmas.List.{length-append, length-map, length-set, map-set, map-append, get_or-set_same, get_or-set_other}
+use Rattle.std.proofs.lemmas.List.{length-append, length-set, map-set, map-append, get_or-set_same, get_or-set_other}
 use Rattle.std.proofs.lemmas.List.Elements.{All-append}
 use Rattle.bench_net.specs.SentList.{SentPacket, sent_packet}
 use Rattle.repo_object.specs.Objects.{NamedContents, IsObject}
@@ -144,6 +144,7 @@ module _ (s : GroupState) (is : IsTrueState s) (m : ℕ) (there : m < length s.m
               let away : last_of later p ≡ last_of (logs_around s.members) p = ap (λ (log : List NamedContents). length log) (get_or-set_other (logs_around s.members) m p (old.log ++ object ∷ []) [] other) in
               omega (arith, h, away)
         ]
+
       still_sent : All (IsTrueSync s.keys later) s.sent
       still_sent k d l = record { sender = (is.sent k d l).sender; vector = still_true (get_or s.sent k d).vector (is.sent k d l).vector; octets = (is.sent k d l).octets }
 

@@ -16,7 +16,7 @@ use Rattle.repo_member.specs.Alone.{Alone}
 use Rattle.repo_member.specs.InGroup.{in_group, AreLogs}
 use Rattle.repo_member.specs.TrueMembers.{IsTrueMember}
 use Rattle.repo_member.proofs.PublicLaws.{logs_begin, begins_true}
-use Rattle.bench_world.specs.Worlds.{GroupState, IsTrueState, nobody, alone_at, in_groups, logs_around, world_of, sync_in, drawing, begun_one, begun_all}
+use Rattle.bench_world.specs.Worlds.{IsTrueState, nobody, alone_at, in_groups, logs_around, world_of, sync_in, drawing, begun_one, begun_all}
 
 -- ---- numbers
 

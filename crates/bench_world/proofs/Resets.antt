@@ -1,5 +1,5 @@
 -- What becomes of a world in which each machine starts again after a settle.
-use Rattle.std.proofs.Common.{◌≡◌, ℕ, suc, ◌+◌, ◌≤◌, ◌<◌, ◌^◌, Bool, List, [], ◌∷◌, map, length, refl, sym, ap, ◌∙◌, subst, arith}
+use Rattle.std.proofs.Common.{◌≡◌, ℕ, suc, ◌+◌, ◌≤◌, ◌<◌, ◌^◌, Bool, List, [], ◌∷◌, length, refl, sym, ap, ◌∙◌, subst, arith}
 use Rattle.group_model.specs.Member.{Member}
 use Rattle.group_model.specs.Events.{Event}
 use Rattle.group_model.specs.World.{World, Outside}
@@ -12,7 +12,7 @@ use Rattle.repo_member.specs.InGroup.{in_group}
 use Rattle.repo_member.specs.TrueMembers.{IsTrueMember}
 use Rattle.repo_member.proofs.PublicLaws.{resets_true}
 use Rattle.bench_world.specs.Serving.{outside, keyed}
-use Rattle.bench_world.specs.Worlds.{GroupState, IsTrueState, nobody, alone_at, in_groups, logs_around, world_of}
+use Rattle.bench_world.specs.Worlds.{GroupState, IsTrueState, alone_at, in_groups, logs_around, world_of}
 use Rattle.bench_world.proofs.States.{member_within, changed_state, sound_state, within_more}
 use Rattle.bench_world.proofs.Answered.{sizes_short}
 

@@ -12,14 +12,13 @@ use Rattle.group_model.specs.Steps.{after_event}
 use Rattle.group_model.specs.Sound.{IsSoundGroup, IsSoundMember, IsTrueVector}
 use Rattle.group_model.specs.Limits.{IsInRange, IsMemberWithin, IsWithin, HasSmallPackets}
 use Rattle.group_model.proofs.PublicLaws.{within_after, few_parts}
-use Rattle.repo_plan.specs.declared.part.Part.{Part}
 use Rattle.repo_member.specs.Groups.{GroupKeys}
 use Rattle.repo_member.specs.Alone.{Alone}
 use Rattle.repo_member.specs.InGroup.{in_group, AreLogs}
 use Rattle.repo_member.specs.InEvents.{IsMemberOf, IsTrueIn}
 use Rattle.repo_member.specs.TrueMembers.{IsTrueMember}
 use Rattle.repo_member.proofs.PublicLaws.{true_stores}
-use Rattle.bench_world.specs.Truth.{TriedFew, AllTriedFew, AreFewLogs}
+use Rattle.bench_world.specs.Truth.{AllTriedFew, AreFewLogs}
 use Rattle.bench_world.specs.Worlds.{GroupState, IsTrueState, IsTrueSync, nobody, alone_at, in_groups, logs_around, AreNumbered, AreTrueMembers, sync_in, world_of, no_packet}
 
 -- ---- members

@@ -8,15 +8,13 @@ use Rattle.std.proofs.lemmas.Bool.{cases_lt}
 use Rattle.std.proofs.lemmas.List.Sums.{sum_by-le}
 use Rattle.repo_plan.specs.Parts.{numbers_from}
 use Rattle.repo_plan.proofs.Sets.{In, from_map}
-
-use Rattle.repo_object.specs.Objects.{NamedContents, IsObject, IsContent}
+use Rattle.repo_object.specs.Objects.{IsObject, IsContent}
 use Rattle.repo_catalog.specs.declared.entry.Entry.{Entry}
 use Rattle.group_model.specs.Publications.{Logs, Publication, no_object, published, published_entry}
 use Rattle.group_model.specs.Member.{Member, holds_all, catalogued, catalogue}
 use Rattle.group_model.specs.Replies.{Totals}
-use Rattle.group_model.specs.World.{catalogue_at, member, logs}
+use Rattle.group_model.specs.World.{catalogue_at, member}
 use Rattle.group_model.specs.Steps.{totals_of}
-use Rattle.group_model.specs.Limits.{IsWithin}
 use Rattle.group_model.proofs.Runs.{length_numbers}
 use Rattle.group_model.proofs.Parts.{IsIn, in_published}
 use Rattle.group_model.proofs.Lists.{from_filter, in_at}
@@ -61,11 +59,11 @@ module _ (s : GroupState) (is : IsTrueState s) where
       let high : q.seq ≤ length (get_or (logs_around s.members) q.publisher []) = at.there.to_last in
       let log : All IsObject (get_or (logs_around s.members) q.publisher []) = log_of (logs_around s.members) is.are.objects q.publisher in
       subst IsObject (sym at.object) (log (q.seq - 1) no_object (omega (arith, low, high))) where
-    log_of : (ls : Logs) → All (All IsObject) ls → (p : ℕ) → All IsObject (get_or ls p [])
-    log_of ls all p = elim (cases_lt p (length ls)) [
-      | inl inside ↦ all p [] inside
-      | inr past ↦ subst (All IsObject) (sym (get_or_past ls p [] past)) (λ k d l. absurd (omega (arith, l)))
-    ]
+        log_of : (ls : Logs) → All (All IsObject) ls → (p : ℕ) → All IsObject (get_or ls p [])
+        log_of ls all p = elim (cases_lt p (length ls)) [
+          | inl inside ↦ all p [] inside
+          | inr past ↦ subst (All IsObject) (sym (get_or_past ls p [] past)) (λ k d l. absurd (omega (arith, l)))
+        ]
 
   few_totals : (m : Member) → HasFewTotals (totals_of (catalogue (logs_around s.members) m))
   few_totals m =
@@ -78,10 +76,10 @@ module _ (s : GroupState) (is : IsTrueState s) where
       sum_few (λ e. e.segments) 200 (catalogued (logs_around s.members) m) (λ q i. (object_of q (from_filter (holds_all m) (published (logs_around s.members)) q i).0).few) in
       let octets : sum_by (λ e. e.octets) (catalogue (logs_around s.members) m) ≤ length (catalogue (logs_around s.members) m) * 1600000 =
       sum_few (λ e. e.octets) 1600000 (catalogued (logs_around s.members) m) (λ q i.
-          let o : IsObject q.object = object_of q (from_filter (holds_all m) (published (logs_around s.members)) q i).0 in
-          let few : length q.object.contents ≤ 200 = o.few in
-          let sum : length (concat q.object.contents) ≤ length q.object.contents * 8000 = concat_few q.object.contents o.contents in
-          omega (arith, few, sum)) in
+      let o : IsObject q.object = object_of q (from_filter (holds_all m) (published (logs_around s.members)) q i).0 in
+      let few : length q.object.contents ≤ 200 = o.few in
+      let sum : length (concat q.object.contents) ≤ length q.object.contents * 8000 = concat_few q.object.contents o.contents in
+      omega (arith, few, sum)) in
       record {
         entries = omega (arith, steps, most, kept, same);
         segments = omega (arith, steps, most, kept, same, segments);
@@ -111,8 +109,8 @@ module _ (s : GroupState) (is : IsTrueState s) where
       ∙ ap totals_of (sym (listed i inside))
       ∙ ap f (sym (number_at 0 (length (in_groups s.members)) i (omega (arith, inside, many)) ∙ z))
       ∙ sym (get_or-map f (numbers_from 0 (length (in_groups s.members))) i 0 none (omega (arith, inside, many, long)))) where
-    none : Totals
-    none = record { entries = 0; segments = 0; octets = 0 }
+        none : Totals
+        none = record { entries = 0; segments = 0; octets = 0 }
 
   pub sums_are : (g : Totals → ℕ) → map (λ a. g (totals_in a)) s.members ≡ map g (all_totals (world_of s))
   sums_are g = over s.members ∙ ap (map g) totals_are where

@@ -12,7 +12,6 @@ use Rattle.group_model.specs.Events.{SyncInterest, Event}
 use Rattle.group_model.specs.World.{World, no_member, member}
 use Rattle.group_model.specs.Steps.{timer_at, after_fire, after_restart, drawn}
 use Rattle.group_model.specs.Changes as group
-use Rattle.group_model.specs.Sound.{IsTrueVector}
 use Rattle.repo_member.specs.declared.member.syncing.Fire.{Fire}
 use Rattle.repo_member.specs.declared.member.syncing.Fire.TheVariants as does
 use Rattle.repo_member.specs.Fires.{TellsFire}

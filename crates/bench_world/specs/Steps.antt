@@ -7,7 +7,7 @@ use Rattle.repo_object.specs.Cuts.{pieces}
 use Rattle.group_model.specs.Refusals.{Refusal}
 use Rattle.bench_world.specs.declared.event.StepFault.{StepFault}
 use Rattle.bench_world.specs.declared.event.StepFault.TheVariants as fault
-use Rattle.bench_world.specs.EventValues.{EventValue, Told, group_event}
+use Rattle.bench_world.specs.EventValues.{EventValue, Told}
 
 -- There are so many members; the members and fetchers that an event names are there, and what is said is within its
 -- limits.

@@ -17,25 +17,50 @@ pub enum Event {
         content: Vec<u8>,
     },
     /// A member hears a sync Interest that was sent.
-    Deliver { k: u32, m: u32 },
+    Deliver {
+        k: u32,
+        m: u32,
+    },
     /// Which octets a sync Interest has that was sent.
-    Sync { k: u32 },
+    Sync {
+        k: u32,
+    },
     /// The moment moves on by so many milliseconds.
-    Advance { ms: u64 },
+    Advance {
+        ms: u64,
+    },
     /// A member's timer fires.
-    Fire { m: u32 },
+    Fire {
+        m: u32,
+    },
     /// A member starts again.
-    Restart { m: u32 },
+    Restart {
+        m: u32,
+    },
     /// Which numbers a member knows.
-    Vector { m: u32 },
+    Vector {
+        m: u32,
+    },
     /// What a member's catalogue lists.
-    Catalogue { m: u32 },
+    Catalogue {
+        m: u32,
+    },
     /// A fetcher claims the least part that is wanted and that no fetcher of its member claims.
-    Claim { m: u32, f: u32 },
+    Claim {
+        m: u32,
+        f: u32,
+    },
     /// A fetcher's claim ends.
-    Lose { m: u32, f: u32 },
+    Lose {
+        m: u32,
+        f: u32,
+    },
     /// A fetcher asks member `q` for what it claims.
-    Answer { m: u32, f: u32, q: u32 },
+    Answer {
+        m: u32,
+        f: u32,
+        q: u32,
+    },
     /// A member asks the others for the parts that it wants, by so many workers, so often at most, over a network with that
     /// loss.
     Fetch {
@@ -45,15 +70,32 @@ pub enum Event {
         loss: u32,
     },
     /// Each member tells what it knows, and fetches what it lacks, by so many workers.
-    Settle { workers: u32 },
+    Settle {
+        workers: u32,
+    },
     /// Which octets the packet of a part has, if the member holds it: part `x` of publication `s` of member `p`.
-    Dump { m: u32, p: u32, s: u32, x: u32 },
+    Dump {
+        m: u32,
+        p: u32,
+        s: u32,
+        x: u32,
+    },
     /// A member hears octets as a sync Interest.
-    Hear { m: u32, octets: Vec<u8> },
+    Hear {
+        m: u32,
+        octets: Vec<u8>,
+    },
     /// A member is asked by octets as an Interest.
-    Ask { m: u32, octets: Vec<u8> },
+    Ask {
+        m: u32,
+        octets: Vec<u8>,
+    },
     /// Octets come as a packet of what a fetcher claims.
-    Feed { m: u32, f: u32, octets: Vec<u8> },
+    Feed {
+        m: u32,
+        f: u32,
+        octets: Vec<u8>,
+    },
     /// What all catalogues come to.
     Summary,
     /// What was counted.

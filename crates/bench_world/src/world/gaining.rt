@@ -95,14 +95,7 @@ impl World {
     {
         self.steps += 1;
         self.sent.reserve(self.members.len())?;
-        let settled = settle_members(
-            rt,
-            self.alloc,
-            &self.group,
-            net,
-            workers,
-            &mut self.members,
-        );
+        let settled = settle_members(rt, self.alloc, &self.group, net, workers, &mut self.members);
         let (told, parts, octets) = match settled {
             Ok(settled) => settled,
             Err(error) => return Err(error),

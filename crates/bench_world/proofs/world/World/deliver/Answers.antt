@@ -1,4 +1,4 @@
-use Rattle.std.proofs.Common.{◌≡◌, ◌≤◌, ◌<◌, length, None, sym, ap, ◌∙◌, subst}
+use Rattle.std.proofs.Common.{◌≡◌, ◌<◌, length, None, sym, ap, ◌∙◌, subst}
 use Rattle.group_model.specs.Member.{Member}
 use Rattle.group_model.specs.World.{World, sent_at, member}
 use Rattle.group_model.specs.Refusals.{unless_sent}
@@ -53,7 +53,7 @@ returns-clause-told g c =
     let old = c.index_mut-member.result.now in
     let e = heard_is s c.self.invariant c.args.k at.first at.last c.args.m inside old c.hear.new.self c.index_mut-member.ensures.value c.in-Some.octets.now s.moment c.draw-draw.result at.octets c.in-Ok.ensures.ok in
     let after = heard_world s c.self.invariant c.args.k at.first at.last c.args.m inside old c.hear.new.self c.index_mut-member.ensures.value (g.D.Draws.draw c.args.draws.now) c.draw-draw.result e
-        (c.draw-draw.ensures ∙ ap (g.D.Draws.draw c.args.draws.now c.args.m) c.next_draw.ensures) in
+    (c.draw-draw.ensures ∙ ap (g.D.Draws.draw c.args.draws.now c.args.m) c.next_draw.ensures) in
     c.delivered.ensures ∙ ap (λ n. delivered_told n c.args.m c.in-Ok.mode) c.from.ensures
     ∙ ap (delivered_told c.args.k c.args.m) (c.in-Ok.ensures.mode ∙ ap (λ (x : Member). mode_of x.machine.heard) (sym (member_set s.members c.args.m c.hear.new.self inside))
     ∙ ap (λ (w : World). mode_of (member w c.args.m).machine.heard) after)

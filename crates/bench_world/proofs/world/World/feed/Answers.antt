@@ -1,5 +1,5 @@
-use Rattle.std.proofs.Common.{◌≡◌, ◌<◌, ◌+◌, ℕ, cond, Option, None, length, sym, ap, ◌∙◌, subst}
-use Rattle.std.specs.Prelude.{is_some, unwrap_or, Ok}
+use Rattle.std.proofs.Common.{◌≡◌, ◌<◌, ◌+◌, None, length, sym, ap, ◌∙◌, subst}
+use Rattle.std.specs.Prelude.{Ok}
 use Rattle.group_model.specs.Events.{Event}
 use Rattle.group_model.specs.World.{Tally}
 use Rattle.group_model.specs.Refusals.{refusal}

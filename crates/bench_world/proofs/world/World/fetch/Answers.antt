@@ -1,10 +1,8 @@
-use Rattle.std.proofs.Common.{◌≡◌, ℕ, ◌<◌, ◌+◌, length, refl, sym, ap, ◌∙◌, subst, arith}
-use Rattle.std.specs.Prelude.{sum_by}
-use Rattle.group_model.specs.World.{Tally}
+use Rattle.std.proofs.Common.{◌<◌, length, refl, sym, ap, ◌∙◌, subst, arith}
 use Rattle.group_model.specs.Steps.{planned_parts, fetched_parts, attempts_made, after_fetch}
 use Rattle.bench_world.specs.Serving.{outside}
 use Rattle.bench_world.specs.EventValues.{Told}
-use Rattle.bench_world.specs.Worlds.{GroupState, IsTrueState, world_of, only}
+use Rattle.bench_world.specs.Worlds.{GroupState, world_of}
 use Rattle.bench_world.specs.Kept.{state}
 use Rattle.bench_world.proofs.States.{few_logs, tried_few}
 use Rattle.bench_world.proofs.Gainings.{fetch_fits, fetch_world, fetch_state}
@@ -49,4 +47,4 @@ pub returns-clause-told : goal.returns-clause-told
 returns-clause-told g c =
     (λ i. Told.Fetch c.args.m (c.in-Ok.ensures.planned i) ((c.from-2.ensures ∙ c.in-Ok.ensures.parts) i) (c.in-Ok.ensures.attempts i))
     ∙ ap (λ (x : GroupState). Told.Fetch c.args.m (length (planned_parts (world_of x) c.args.m)) (length (fetched_parts (outside x.keys (λ _ _. 0) (g.N.Net.passes c.args.net.now)) (world_of x) c.args.m c.args.tries c.args.loss))
-        (attempts_made (outside x.keys (λ _ _. 0) (g.N.Net.passes c.args.net.now)) (world_of x) c.args.m c.args.tries c.args.loss)) c.self.view_is
+    (attempts_made (outside x.keys (λ _ _. 0) (g.N.Net.passes c.args.net.now)) (world_of x) c.args.m c.args.tries c.args.loss)) c.self.view_is

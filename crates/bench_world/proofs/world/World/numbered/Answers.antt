@@ -1,4 +1,3 @@
-use Rattle.std.proofs.Common.{ℕ, refl, ◌∙◌}
 use Rattle.bench_world.proofs.Openings.{next_number}
 use Rattle.bench_world.proofs.world.World.numbered.Goals as goal
 

@@ -1,4 +1,4 @@
-use Rattle.std.proofs.Common.{◌≡◌, ◌<◌, ◌+◌, sym, ap, ◌∙◌, subst}
+use Rattle.std.proofs.Common.{◌<◌, ◌+◌, sym, ap, ◌∙◌, subst}
 use Rattle.group_model.specs.Steps.{after_gathering, after_settle}
 use Rattle.bench_world.specs.Serving.{outside, keyed}
 use Rattle.bench_world.specs.Worlds.{GroupState, world_of}

@@ -1,8 +1,8 @@
-use Rattle.std.proofs.Common.{◌≡◌, length, sym, ap, ◌∙◌, subst}
+use Rattle.std.proofs.Common.{length, sym, ◌∙◌, subst}
 use Rattle.std.proofs.lemmas.List.{length-map}
 use Rattle.repo_member.specs.InGroup.{in_group}
 use Rattle.bench_world.specs.Serving.{outside}
-use Rattle.bench_world.specs.EventValues.{Told, event_value, telling}
+use Rattle.bench_world.specs.EventValues.{event_value}
 use Rattle.bench_world.specs.Steps.{IsReady, NamesAll}
 use Rattle.bench_world.specs.Worlds.{world_of}
 use Rattle.bench_world.proofs.Names.{names_all}

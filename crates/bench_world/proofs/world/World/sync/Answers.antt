@@ -1,4 +1,4 @@
-use Rattle.std.proofs.Common.{◌≡◌, ◌+◌, ◌-◌, ◌<◌, length, None, refl, sym, ap, ◌∙◌, subst, arith}
+use Rattle.std.proofs.Common.{◌≡◌, ◌<◌, None, refl, sym, ap, ◌∙◌, subst, arith}
 use Rattle.group_model.specs.Events.{Event}
 use Rattle.group_model.specs.World.{sent_at}
 use Rattle.group_model.specs.Refusals.{unless_sent}
