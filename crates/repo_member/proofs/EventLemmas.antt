@@ -34,7 +34,7 @@ use Rattle.repo_member.proofs.GroupCatalogues.{lists_alike}
 
 module _ (w : World) (j : ℕ) (a : Alone) (is : IsMemberOf w j a) where
   -- the member after a change of it
-  changed : (change : Member → Member) → get_or (set w.members j (change (member w j))) j no_member ≡ change (in_group a)
+  pub changed : (change : Member → Member) → get_or (set w.members j (change (member w j))) j no_member ≡ change (in_group a)
   changed change = get_or-set_same w.members j (change (member w j)) no_member is.there ∙ ap change is.same
 
 pub publish_is_event : PublishIsEvent

@@ -56,4 +56,4 @@ invariant_of-self-2 c =
     c.gain_all.ensures.others.known ∙ ap (λ (p : Holdings). p.known) c.raise.ensures ∙ ap (λ (p : Holdings). (raises number (c.log_len-log.result + 1) p).known) c.make_room.ensures.plan
     ∙ ap (λ (n : ℕ). (raises number (n + 1) c.self.inside.plan).known) long in
     let hidden = c.gain_all.ensures.others.hidden ∙ ap (λ (p : Holdings). p.hidden) c.raise.ensures ∙ ap (λ (p : Holdings). p.hidden) c.make_room.ensures.plan in
-    published_is c.self.inside c.self.invariant _ refl longer vector (ap (λ (k : Keeper). k.members) c.published.ensures) planned hidden kept
+    published_is c.self.inside c.self.invariant _ refl longer vector (ap (λ (k : Keeper). k.members) c.published.ensures) planned hidden kept c.self.invariant.waiting
