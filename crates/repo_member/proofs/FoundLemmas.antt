@@ -1,7 +1,8 @@
 -- A catalogued publication: its parts are stored and no others, it is known, and no fetcher claims a part of it.
-use Rattle.std.proofs.Common.{◌≡◌, inl, inr, ℕ, zero, suc, ◌+◌, ◌-◌, ◌<◌, ◌≤◌, Bool, true, false, cond, ◌&&◌, ◌||◌, ◌==◌, List, [], ◌∷◌, ◌++◌, map, length, take, length-map, refl, sym, ap, ◌∙◌, subst, Option, Some, None, option_map, is_some, arith}
+use Rattle.std.proofs.Common.{◌≡◌, ◌⊎◌, inl, inr, ℕ, zero, suc, ◌+◌, ◌-◌, ◌<◌, ◌≤◌, Bool, true, false, cond, ◌&&◌, ◌||◌, ◌==◌, List, [], ◌∷◌, ◌++◌, map, length, take, refl, sym, ap, ◌∙◌, subst, Option, Some, None, option_map, is_some, arith}
 use Rattle.std.specs.Prelude.{filter, slice_index_or, nat_le, get_or}
 use Rattle.std.proofs.lemmas.Bool.{true≢false, and_parts, cases_eq, eqb-true, eq-eqb, cases_Bool}
+use Rattle.std.proofs.lemmas.List.{length-map}
 use Rattle.std.specs.List.{All, list_all, list_any}
 use Rattle.std.specs.Option.{option_and_then}
 use Rattle.std.specs.Ordering.{eq_by_cmp, is_eq}
@@ -27,7 +28,7 @@ use Rattle.repo_catalog.specs.Entries.{publication_of, has_name, IsCatalogue}
 use Rattle.group_model.proofs.Lists.{from_filter, each_all}
 use Rattle.group_model.proofs.SortedSets.{same_set}
 use Rattle.repo_member.specs.Records.{Packet}
-use Rattle.repo_member.specs.Listed.{stored_at, listing_at, shape, are_stored, entry_at, entry_listed, entry_of_listing, entries_in, alone_catalogue}
+use Rattle.repo_member.specs.Listed.{stored_at, listing_at, listed_shape, are_stored, entry_at, entry_listed, entry_of_listing, entries_in, alone_catalogue}
 use Rattle.repo_member.specs.Gaining.{AreTied}
 use Rattle.repo_member.specs.Deleting.{publications_named, outside_all}
 use Rattle.repo_member.proofs.CatalogueLemmas.{entries_value, entries_rise, Keyed, entries_keyed}
@@ -40,7 +41,7 @@ use Rattle.repo_member.proofs.HidingLemmas.{other_way, value_outside}
 
 -- a publication whose record and so many segments are stored
 pub record IsWhole (packets : List Packet) (pair : Pair) (n : ℕ) : Type 0 where
-  pub told : option_map shape (listing_at packets pair) ≡ Some n
+  pub told : option_map listed_shape (listing_at packets pair) ≡ Some n
   pub each : (x : ℕ) → x ≤ n → is_some (stored_at packets pair x) ≡ true
 
 none_some : {A : Type 0} (x : A) → (let n : Option A = None in n) ≡ Some x → ⊥
@@ -52,27 +53,27 @@ whole_of_entry packets pair e h = go (listing_at packets pair) refl h where
   record_there l None p = absurd (none_some l p)
   record_there l (Some octets) p = refl
 
-  of_listing : (l : Listed) → listing_at packets pair ≡ Some l → (b : Bool) → are_stored packets pair (shape l) ≡ b → cond b (Some (entry_of_listing packets pair l)) None ≡ Some e → IsWhole packets pair e.segments
+  of_listing : (l : Listed) → listing_at packets pair ≡ Some l → (b : Bool) → are_stored packets pair (listed_shape l) ≡ b → cond b (Some (entry_of_listing packets pair l)) None ≡ Some e → IsWhole packets pair e.segments
   of_listing l p false q h = absurd (none_some e h)
   of_listing l p true q h =
       let same : entry_of_listing packets pair l ≡ e = cc in
-      let long : shape l ≡ e.segments = ap (λ (x : Entry). x.segments) same in
+      let long : listed_shape l ≡ e.segments = ap (λ (x : Entry). x.segments) same in
       record {
-        told = ap (option_map shape) p ∙ ap (λ (n : ℕ). Some n) long;
+        told = ap (option_map listed_shape) p ∙ ap (λ (n : ℕ). Some n) long;
         each = λ x below. at x below (cases_eq x 0);
       } where
         at : (x : ℕ) → x ≤ e.segments → ((x ≡ 0) ⊎ (x ≡ 0 → ⊥)) → is_some (stored_at packets pair x) ≡ true
         at x below (inl z) = ap (λ (y : ℕ). is_some (stored_at packets pair y)) z ∙ record_there l (stored_at packets pair 0) p
         at x below (inr nz) =
-            let long : shape l ≡ e.segments = ap (λ (o : Option Entry). option_segments o) h in
-            each_all (λ (y : ℕ). is_some (stored_at packets pair y)) (numbers_from 1 (shape l)) q x (in_numbers 1 (shape l) x (omega (arith, nz)) (omega (arith, below, long))) where
+            let long : listed_shape l ≡ e.segments = ap (λ (o : Option Entry). option_segments o) h in
+            each_all (λ (y : ℕ). is_some (stored_at packets pair y)) (numbers_from 1 (listed_shape l)) q x (in_numbers 1 (listed_shape l) x (omega (arith, nz)) (omega (arith, below, long))) where
               option_segments : Option Entry → ℕ
               option_segments None = 0
               option_segments (Some y) = y.segments
 
   go : (o : Option Listed) → listing_at packets pair ≡ o → option_and_then (entry_listed packets pair) o ≡ Some e → IsWhole packets pair e.segments
   go None p q = absurd (none_some e q)
-  go (Some l) p q = of_listing l p (are_stored packets pair (shape l)) refl q
+  go (Some l) p q = of_listing l p (are_stored packets pair (listed_shape l)) refl q
 
 keyed_at : (es : List (Pair × Entry)) (x : Pair × Entry) → Keyed es → In x es → publication_of x.1 ≡ x.0
 keyed_at [] x k i = absurd i
@@ -99,9 +100,9 @@ module _ (p : Holdings) (packets : List Packet) (pair : Pair) (n : ℕ) (s : IsS
     go true z = omega (arith, eqb-true t.part 0 z)
     go false nz =
         let segment = asked_segment p packets t tied asked nz in
-        let told : option_map shape (listing_at packets pair) ≡ Some (shape segment.listing) = ap (λ (q : Pair). option_map shape (listing_at packets q)) (sym here) ∙ ap (option_map shape) segment.listed in
-        let same : Some (shape segment.listing) ≡ Some n = sym told ∙ whole.told in
-        let long : shape segment.listing ≡ n = cc in
+        let told : option_map listed_shape (listing_at packets pair) ≡ Some (listed_shape segment.listing) = ap (λ (q : Pair). option_map listed_shape (listing_at packets q)) (sym here) ∙ ap (option_map listed_shape) segment.listed in
+        let same : Some (listed_shape segment.listing) ≡ Some n = sym told ∙ whole.told in
+        let long : listed_shape segment.listing ≡ n = cc in
         omega (arith, segment.counted, long)
 
   pub whole_known : knows p pair ≡ true

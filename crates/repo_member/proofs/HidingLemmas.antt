@@ -16,7 +16,7 @@ use Rattle.repo_store.specs.StoreList.{packets_outside}
 use Rattle.repo_catalog.specs.declared.entry.Entry.{Entry}
 use Rattle.repo_catalog.specs.Entries.{publication_of, is_of, without}
 use Rattle.repo_member.specs.Records.{Packet}
-use Rattle.repo_member.specs.Listed.{stored_at, listing_at, shape, shapes_in, entry_at, entry_listed, entries_in, alone_catalogue}
+use Rattle.repo_member.specs.Listed.{stored_at, listing_at, listed_shape, shapes_in, entry_at, entry_listed, entries_in, alone_catalogue}
 use Rattle.repo_member.specs.Gaining.{AreTied, AreKept}
 use Rattle.repo_member.proofs.SortedMaps.{same_map}
 use Rattle.repo_member.proofs.CatalogueLemmas.{shapes_value, shapes_rise, entries_value, entries_rise, Keyed, entries_keyed, same_entry}
@@ -62,9 +62,9 @@ module _ (pair : Pair) (packets : List Packet) where
       same_map exact_pairs (filter (λ e. is_other e.0) (shapes_in packets)) (shapes_in (packets_outside pair packets))
       (rises_keys_filter exact_pairs is_other (shapes_in packets) (shapes_rise packets r)) (shapes_rise (packets_outside pair packets) (rises_outside r))
       (λ q. value_of-filter exact_pairs is_other (shapes_in packets) q ∙ go q (eq_by_cmp pair_cmp pair q) refl ∙ sym (shapes_value (packets_outside pair packets) q (rises_outside r))) where
-        go : (q : Pair) (b : Bool) → eq_by_cmp pair_cmp pair q ≡ b → cond (not b) (value_of pair_cmp (shapes_in packets) q) None ≡ option_map shape (listing_at (packets_outside pair packets) q)
-        go q true p = sym (ap (λ (k : Pair). option_map shape (listing_at (packets_outside pair packets) k)) (sym (eq_same exact_pairs pair q p)) ∙ ap (option_map shape) listing_gone)
-        go q false p = shapes_value packets q r ∙ ap (λ (o : Option (List ℕ)). option_map shape (option_and_then listing_in o)) (sym (others_stay q p 0))
+        go : (q : Pair) (b : Bool) → eq_by_cmp pair_cmp pair q ≡ b → cond (not b) (value_of pair_cmp (shapes_in packets) q) None ≡ option_map listed_shape (listing_at (packets_outside pair packets) q)
+        go q true p = sym (ap (λ (k : Pair). option_map listed_shape (listing_at (packets_outside pair packets) k)) (sym (eq_same exact_pairs pair q p)) ∙ ap (option_map listed_shape) listing_gone)
+        go q false p = shapes_value packets q r ∙ ap (λ (o : Option (List ℕ)). option_map listed_shape (option_and_then listing_in o)) (sym (others_stay q p 0))
 
   entries_outside : Rises part_cmp (keys packets) → filter (λ e. is_other e.0) (entries_in packets) ≡ entries_in (packets_outside pair packets)
   entries_outside r =

@@ -17,7 +17,7 @@ pub use Rattle.repo_store.specs.Served
 pub use Rattle.repo_catalog.specs.Entries
 pub use Rattle.repo_command.specs.Commands
 pub use Rattle.repo_command.specs.Answers
-pub use Rattle.repo_command.specs.Verdict
+pub use Rattle.repo_command.specs.Verdict as CommandVerdict
 pub use Rattle.repo_process.specs.Processes
 pub use Rattle.repo_process.specs.Insertions
 pub use Rattle.group_model.specs.Publications

@@ -8,7 +8,9 @@ use Rattle.repo_store.specs.StoreList.{StoreList}
 use Rattle.repo_catalog.specs.Entries.{EntryList}
 use Rattle.svs_sync.specs.KeptVector.{Keeper}
 use Rattle.repo_member.specs.Listed.{alone_catalogue, shapes_in}
+use Rattle.repo_process.specs.Insertions.{Insertions}
 use Rattle.repo_member.specs.Alone.{IsAlone}
+use Rattle.repo_member.specs.Members.{AreWaiting}
 use Rattle.repo_member.proofs.member.Member.new.Goals as goal
 
 pub invariant_of-result : goal.invariant_of-result
@@ -36,4 +38,5 @@ invariant_of-result c =
         };
         listed = ap (λ (k : EntryList). k.entries) c.new-6.ensures ∙ sym (ap (λ (s : StoreList). alone_catalogue s.packets) c.new-5.ensures);
       };
+      waiting = subst (λ (i : Insertions). AreWaiting i.processes) (sym c.new-7.ensures) (λ number p found waits. absurd cc);
     }
