@@ -25,7 +25,7 @@ use Rattle.repo_store.proofs.StoreLemmas.{lengths_inside}
 use Rattle.repo_process.proofs.ProcessLemmas.{length-numbers}
 use Rattle.repo_catalog.specs.declared.entry.Entry.{Entry}
 use Rattle.repo_catalog.specs.Entries.{publication_of, has_name, IsCatalogue}
-use Rattle.group_model.proofs.Lists.{from_filter, each_all}
+use Rattle.group_model.proofs.Lists.{from_filter, each_all, in_at}
 use Rattle.group_model.proofs.SortedSets.{same_set}
 use Rattle.repo_member.specs.Records.{Packet}
 use Rattle.repo_member.specs.Listed.{stored_at, listing_at, listed_shape, are_stored, entry_at, entry_listed, entry_of_listing, entries_in, alone_catalogue}
@@ -91,7 +91,7 @@ entry_listed_whole packets e r i =
 -- ---- such a publication in a sound plan
 
 module _ (p : Holdings) (packets : List Packet) (pair : Pair) (n : ℕ) (s : IsSound p) (tied : AreTied p packets) (whole : IsWhole packets pair n) where
-  held_each : (x : ℕ) → x ≤ n → holds p (part_of pair x) ≡ true
+  pub held_each : (x : ℕ) → x ≤ n → holds p (part_of pair x) ≡ true
   held_each x below = held_value p packets pair tied (part_of pair x) ∙ whole.each x below
 
   counted : (t : Part) → is_asked p t ≡ true → pair_of t ≡ pair → t.part ≤ n
@@ -206,11 +206,7 @@ entries_before [] i d e r l j = absurd (omega (arith, l))
 entries_before (x ∷ es) zero d e r l j = absurd j
 entries_before (x ∷ es) (suc i) d e r l (inl same) =
     ap (λ (y : Entry). pair_cmp (publication_of y) (publication_of (get_or es i d))) same
-    ∙ each_before exact_pairs.total (publication_of x) (map publication_of es) r.0 (publication_of (get_or es i d)) (in_map publication_of es (get_or es i d) (in_at es i d (omega (arith, l)))) where
-      in_at : (xs : List Entry) (k : ℕ) (z : Entry) → k < length xs → In (get_or xs k z) xs
-      in_at [] k z b = absurd (omega (arith, b))
-      in_at (y ∷ xs) zero z b = inl refl
-      in_at (y ∷ xs) (suc k) z b = inr (in_at xs k z (omega (arith, b)))
+    ∙ each_before exact_pairs.total (publication_of x) (map publication_of es) r.0 (publication_of (get_or es i d)) (in_map publication_of es (get_or es i d) (in_at es i d (omega (arith, l))))
 entries_before (x ∷ es) (suc i) d e r l (inr j) = entries_before es i d e r.1 (omega (arith, l)) j
 
 pub others_before : (name : List Component) (es : List Entry) (i : ℕ) (d : Entry) → IsCatalogue es → i < length es
@@ -231,3 +227,36 @@ one_more_dropped p packets pair n pairs s tied whole others =
     let inside : length (packets_in pair front) ≡ n + 1 = ap length (inside_all pair pairs packets others) ∙ packets_counted p packets pair n s tied whole in
     let more : length (outside_all (pairs ++ pair ∷ []) packets) ≡ length (packets_outside pair front) = ap length (outside_append pairs pair packets) in
     omega (arith, split, inside, more)
+
+-- no packet comes by this
+pub outside_shorter : (pairs : List Pair) (packets : List Packet) → length (outside_all pairs packets) ≤ length packets
+outside_shorter [] packets = omega arith
+outside_shorter (pair ∷ pairs) packets =
+    let split = lengths_inside pair packets in
+    let shorter = outside_shorter pairs (packets_outside pair packets) in
+    omega (arith, split, shorter)
+
+-- ---- the entry at a place of the catalogue
+
+-- what a loop over the entries learns of one
+pub record IsEntryAt (p : Holdings) (packets : List Packet) (name : List Component) (entries : List Entry) (i : ℕ) (e : Entry) : Type 0 where
+  pub held : holds p (part_of (publication_of e) 0) ≡ true
+  pub known : knows p (publication_of e) ≡ true
+  pub unclaimed : claims_part_in p (publication_of e) ≡ false
+  pub fewer : length (outside_all (publications_named name (take i entries) ++ publication_of e ∷ []) packets) + (e.segments + 1)
+      ≡ length (outside_all (publications_named name (take i entries)) packets)
+
+pub entry_is_at : (p : Holdings) (packets : List Packet) (name : List Component) (entries : List Entry) (i : ℕ) (d e : Entry)
+    → IsSound p → AreTied p packets → entries ≡ alone_catalogue packets → IsCatalogue entries → i < length entries → e ≡ get_or entries i d
+    → IsEntryAt p packets name entries i e
+entry_is_at p packets name entries i d e sound tied listed order low is =
+    let there : In e (alone_catalogue packets) = subst (In e) listed (subst (λ (x : Entry). In x entries) (sym is) (in_at entries i d low)) in
+    let whole : IsWhole packets (publication_of e) e.segments = entry_listed_whole packets e tied.in_order there in
+    let others : (q : Pair) → In q (publications_named name (take i entries)) → eq_by_cmp pair_cmp q (publication_of e) ≡ false =
+    λ q j. ap (λ (x : Entry). eq_by_cmp pair_cmp q (publication_of x)) is ∙ others_before name entries i d order low q j in
+    record {
+      held = held_each p packets (publication_of e) e.segments sound tied whole 0 (omega arith);
+      known = whole_known p packets (publication_of e) e.segments sound tied whole;
+      unclaimed = whole_unclaimed p packets (publication_of e) e.segments sound tied whole;
+      fewer = one_more_dropped p packets (publication_of e) e.segments (publications_named name (take i entries)) sound tied whole others;
+    }

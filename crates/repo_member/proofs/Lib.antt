@@ -15,6 +15,7 @@ mod VectorLemmas
 mod ChangeLemmas
 mod TruePackets
 mod FoundLemmas
+mod ReplyLemmas
 mod GroupPlans
 mod GroupCatalogues
 mod LastingPackets
@@ -29,6 +30,7 @@ mod PublishedParts
 mod FetchedParts
 mod HiddenParts
 mod InsertionParts
+mod WaitingLemmas
 mod DeletionLemmas
 mod CommandEvents
 mod CallReach
