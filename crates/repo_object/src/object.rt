@@ -72,6 +72,16 @@ impl Object {
         Object { name, contents }
     }
 
+    /// The name and the contents, which are moved out of it.
+    pub fn into_parts(self) -> (Name, Vec<Vec<u8>>)
+        ensures name { result.0 ≡ self.name }
+        ensures contents { map (λ c. c.items) result.1.items ≡ self.contents }
+        ensures within { IsObject self }
+    {
+        let Object { name, contents } = self;
+        (name, contents)
+    }
+
     pub fn name(&self) -> &Name
         ensures same { result.now ≡ self.now.name }
         ensures within { IsObject self.now }
