@@ -31,6 +31,7 @@ mod FetchedParts
 mod HiddenParts
 mod InsertionParts
 mod WaitingLemmas
+mod BlockStates
 mod DeletionLemmas
 mod CommandEvents
 mod CallReach

@@ -50,11 +50,6 @@ abbrev pub alone_blocks : GroupKeys → (process index : ℕ) → List ℕ → (
 alone_blocks g process index content moment draw a =
     after_block g process moment draw a (alone_block a process index content)
 
--- No block is missing any more.
-abbrev pub CompletesOne : BlockState → Type 0
-CompletesOne (Whole p) = Unit {0}
-CompletesOne _ = ⊥
-
 -- What is told of a block is what it comes to.
 abbrev pub TellsBlock : GroupKeys → (old new : Alone) → BlockState → Blocked → Type 0
 TellsBlock g old new Unknown blocked.Unknown = Unit {0}

@@ -1,14 +1,15 @@
-ghost use Rattle.std.specs.Prelude.{◌≡◌, ◌<◌, ◌≤◌, ◌^◌, ◌↔◌, ℕ, Err, IfOk, OnOk, OnErr, length};
+ghost use Rattle.std.specs.Prelude.{◌≡◌, ◌<◌, ◌≤◌, ◌^◌, ◌↔◌, ℕ, Err, IfOk, OnOk, OnErr, IsTrue, length};
 ghost use Rattle.repo_object.specs.Objects.{IsContent};
+ghost use Rattle.repo_process.specs.Arrivals.{is_last};
 ghost use Rattle.repo_member.specs.Alone.{IsOf, publication_limit};
-ghost use Rattle.repo_member.specs.Blocks.{alone_block, alone_blocks, CompletesOne, TellsBlock};
+ghost use Rattle.repo_member.specs.Blocks.{alone_block, alone_blocks, TellsBlock};
 
 use super::Member;
-use super::publishing::Published;
+use super::publishing::{LOG_LIMIT, Published};
 use crate::group::Group;
 use crate::refusals::PublishRefusal;
-use repo_process::{BlockState, Processes};
-use std::mem;
+use repo_object::Object;
+use repo_process::BlockState;
 
 /// What came of a block of an insertion.
 #[derive(Debug, Drop)]
@@ -44,31 +45,37 @@ impl Member {
         ensures ok { OnOk result
             (self.new ≡ alone_blocks g.now process index content.now now draw self.old) }
         ensures spent { (log : ℕ) → (result ≡ Err (PublishRefusal.NumbersSpent log))
-            ↔ (CompletesOne (alone_block self.old process index content.now)
+            ↔ (IsTrue (is_last (alone_block self.old process index content.now))
             × (log ≡ length self.old.log) × (publication_limit ≤ length self.old.log)) }
         ensures err { OnErr result (self.new ≡ self.old) }
     {
+        let is_last = self.processes.completes(process, index);
+        let log = self.log_len();
+        if is_last && log >= LOG_LIMIT {
+            return Err(PublishRefusal::NumbersSpent { log });
+        }
         match self.processes.block(process, index, content)? {
             BlockState::Unknown => return Ok(Blocked::Unknown),
             BlockState::Kept { .. } => return Ok(Blocked::Waiting),
             BlockState::Complete => {}
         }
-        // The object is lent while the member's other fields change.
-        let none = Processes::new(*self.log.allocator());
-        let mut processes = mem::replace(&mut self.processes, none);
-        let blocked = match processes.whole(process) {
-            Some((name, contents)) => match self.publish(g, name, contents, now, draw) {
-                Ok(published) => Ok(Blocked::Published(published)),
-                Err(refusal) => Err(refusal),
-            },
-            None => Ok(Blocked::Already),
+        let Some((name, _)) = self.processes.whole(process) else {
+            return Ok(Blocked::Already);
         };
-        match &blocked {
-            Ok(Blocked::Published(_)) => processes.published(process),
-            Ok(_) => {}
-            Err(_) => processes.take_back(process, index),
+        let Ok(name) = name.clone() else {
+            self.processes.take_back(process, index);
+            return Err(PublishRefusal::NoMemory);
+        };
+        // The blocks are moved into the object, and back where it is not published.
+        let object = Object::from_parts(name, self.processes.hand_over(process));
+        match self.publish_object(g, object, now, draw) {
+            Ok(published) => Ok(Blocked::Published(published)),
+            Err(object) => {
+                let (_, contents) = object.into_parts();
+                self.processes.reopen(process, contents);
+                self.processes.take_back(process, index);
+                Err(PublishRefusal::NoMemory)
+            }
         }
-        self.processes = processes;
-        blocked
     }
 }
