@@ -98,7 +98,7 @@ parameters_again c is short =
 
 -- ---- the verdict
 
-abbrev or_bad : ℕ → Command → Bool → Result (ℕ × Command) CommandRefusal
+abbrev pub or_bad : ℕ → Command → Bool → Result (ℕ × Command) CommandRefusal
 or_bad client c b = if b then Ok (client, c) else Err BadParameter
 
 insertion : (a b : Bool) (client : ℕ) (range : ℕ × ℕ) (name : List Component)

@@ -39,4 +39,5 @@ mod CallPackets
 mod TrueMembers
 mod TrueChanges
 mod TrueSyncs
+mod OrderLemmas
 pub mod PublicLaws

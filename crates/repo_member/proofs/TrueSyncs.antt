@@ -61,7 +61,7 @@ module _ (nodes : NodeKeys) (have : HaveKeys nodes) (j : ℕ) (there : j < lengt
   long : length nodes.ring ≡ length nodes.names
   long = ring_length nodes have
 
-  ring_at : (k : ℕ) → k < length nodes.names → (get_or nodes.ring k (pair [] [])).name ≡ encoding (key_name (get_or nodes.names k []))
+  pub ring_at : (k : ℕ) → k < length nodes.names → (get_or nodes.ring k (pair [] [])).name ≡ encoding (key_name (get_or nodes.names k []))
   ring_at k l =
       sym (get_or-map (λ (q : Ring.Pair). q.name) nodes.ring k (pair [] []) [] (omega (arith, long, l)))
       ∙ ap (λ (xs : List (List ℕ)). get_or xs k []) have.keys

@@ -1,12 +1,14 @@
 -- What a member makes of a command, and what it answers.
-use Rattle.std.specs.Prelude.{ℕ, List, Option, Some, None, Result, Ok, Err, length, nat_le, ◌==◌, if◌then◌else◌}
+use Rattle.std.specs.Prelude.{◌≡◌, ℕ, ◌<◌, ◌≤◌, true, false, List, Option, Some, None, Result, Ok, Err, length, nat_le, ◌==◌, if◌then◌else◌}
 use Rattle.std.specs.Ordering.{nat_cmp}
 use Rattle.ndn_name.specs.declared.fault.PacketFault.{PacketFault}
 use Rattle.ndn_name.specs.Names.{Component, encoding}
 use Rattle.ndn_data.specs.WrittenData.{written_data}
 use Rattle.ndn_interest.specs.Interest.{Interest, interest_of}
 use Rattle.repo_plan.specs.SortedList.{value_of}
+use Rattle.repo_object.specs.Limits.{object_name_limit}
 use Rattle.repo_object.specs.Objects.{key_name}
+use Rattle.repo_command.specs.Commands.{named_length, is_command, IsSpelled, command_interest}
 use Rattle.repo_command.specs.declared.command.Command.{Command}
 use Rattle.repo_command.specs.declared.command.Command.TheVariants.{Insert, Check, Delete}
 use Rattle.repo_command.specs.declared.command_refusal.CommandRefusal.{CommandRefusal}
@@ -17,7 +19,7 @@ use Rattle.repo_command.specs.Verdict.{command_verdict}
 use Rattle.repo_command.specs.Answers.{only, written_answer}
 use Rattle.repo_process.specs.Insertions.{next_number, starts}
 use Rattle.group_model.specs.Steps.{check_answer}
-use Rattle.repo_member.specs.Groups.{GroupKeys, node_at, key_at}
+use Rattle.repo_member.specs.Groups.{GroupKeys, IsGroup, node_at, key_at, client_at, client_key_at}
 use Rattle.repo_member.specs.Alone.{Alone}
 use Rattle.repo_member.specs.Deleting.{catalogued, alone_deletes, dropped}
 
@@ -31,6 +33,24 @@ coded (Err refusal) = Err (refusal_code refusal)
 -- the number of the client and its command, or the code of the refusal
 abbrev pub order_of : GroupKeys → ℕ → List ℕ → Result (ℕ × Command) ℕ
 order_of g number octets = coded (command_verdict (node_at g number) g.clients.ring octets)
+
+-- the Interest that a client makes of a command for a member
+abbrev pub order_made : GroupKeys → (number client : ℕ) → Command → List ℕ
+order_made g number client command =
+    command_interest (node_at g number) command (key_name (client_at g client)) (client_key_at g client)
+
+-- A command within the limits that a client of the group makes for a member is that client's and that command.
+abbrev pub MadeOrdersAreTaken : Type 0
+MadeOrdersAreTaken = (g : GroupKeys) (number client : ℕ) (command : Command) → IsGroup g
+    → number < length g.members.names → client < length g.clients.names → IsSpelled command → is_command command ≡ true
+    → order_of g number (order_made g number client command) ≡ Ok (client, command)
+
+-- One that goes beyond them is refused as what doesn't read so, whoever makes it.
+abbrev pub OrdersBeyondAreMalformed : Type 0
+OrdersBeyondAreMalformed = (g : GroupKeys) (number client : ℕ) (command : Command) → IsGroup g
+    → number < length g.members.names → client < length g.clients.names → IsSpelled command
+    → named_length command ≤ object_name_limit → is_command command ≡ false
+    → order_of g number (order_made g number client command) ≡ Err status.Malformed
 
 -- ---- what becomes of the member
 

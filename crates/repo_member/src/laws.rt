@@ -8,6 +8,7 @@ ghost use Rattle.repo_member.specs.Outcomes.{JobsArePlanned, PlannedJobsAreOutco
 ghost use Rattle.repo_member.specs.TrueMembers.{TrueIsAlone, TrueIsOf, TrueStores, StoresThose, LogsThose, WantsPublished, WantsAreTrue, PacketsAreThere, PacketsPass, PacketsPassForMembers, AcceptsTheClaimed, TakesTheTrue};
 ghost use Rattle.repo_member.specs.TrueChanges.{BeginsTrue, PublishesTrue, OthersPublish, LogsHaveGrown, LearnsTrue, HearsTrue, InsertsTrue, BlocksTrue, DeletesTrue, ObeysTrue, FiresTrue, ResetsTrue, RestartsTrue, EndsClaimsTrue, ClaimsTrue, LosesTrue, AcceptsTrue, TakesTrue};
 ghost use Rattle.repo_member.specs.TrueSyncs.{KeysAreFound, SyncsAreTold, SyncsAreTaken};
+ghost use Rattle.repo_member.specs.Commanded.{MadeOrdersAreTaken, OrdersBeyondAreMalformed};
 ghost use Rattle.repo_member.specs.Calls.{LogsGoOn, PublicationsStay, LoggedPacketsStay, NumbersNeverFall, KnownIsTheJoin, InEveryMember, HeldPacketsStay, HiddenForGood, HiddenIsGone, OthersPassed, OwnStored};
 
 /// A member by itself begins as its group has it, and each change of it is the group's change of that member.
@@ -80,6 +81,13 @@ pub fn calls_are_events()
     ensures settle { SettleIsEvent }
     ensures open_parts { OpenPartsAlike }
     ensures catalogue { CataloguesAlike }
+{}
+
+/// A command that a client of the group makes for a member is taken by it as that client's and that command, where it is
+/// within the limits of commands.
+pub fn made_orders_are_taken()
+    ensures taken { MadeOrdersAreTaken }
+    ensures beyond { OrdersBeyondAreMalformed }
 {}
 
 /// Whatever is called afterwards, a member's log has what it had as its front, a publication keeps its number, which
