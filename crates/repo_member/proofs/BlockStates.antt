@@ -1,16 +1,15 @@
 -- A block that comes: what is told of it, and how it is undone.
-use Rattle.std.proofs.Common.{◌≡◌, ℕ, ◌+◌, ◌-◌, ◌<◌, ◌≤◌, Bool, true, false, cond, not, ◌&&◌, List, [], ◌∷◌, map, length, Option, Some, None, option_map, is_some, refl, sym, ap, ◌∙◌, subst, arith}
-use Rattle.std.specs.Prelude.{IsSomeAnd, IsTrue, filter}
+use Rattle.std.proofs.Common.{◌≡◌, ℕ, ◌+◌, ◌-◌, Bool, true, false, cond, not, ◌&&◌, List, Option, Some, None, is_some, refl, sym, ap, ◌∙◌, subst}
+use Rattle.std.specs.Prelude.{IsSomeAnd, IsTrue}
 use Rattle.std.specs.Ordering.{nat_cmp, eq_by_cmp}
 use Rattle.std.proofs.lemmas.Bool.{true≢false}
 use Rattle.repo_plan.specs.SortedList.{Rises, keys, value_of, with_value}
 use Rattle.repo_plan.proofs.Sets.{value_of-with_value, rises_with_value, eq_same, eq_itself}
 use Rattle.repo_object.specs.Objects.{NamedContents}
-use Rattle.repo_process.specs.declared.block_state.BlockState as declared_state
 use Rattle.repo_process.specs.declared.block_state.BlockState.TheVariants.{Kept, Complete}
 use Rattle.repo_process.specs.Processes.{Process, BlockState, has_block, with_block, without_block, is_whole, object_of, closed, block_state}
 use Rattle.repo_process.specs.Processes.BlockState.{Unknown, Already, Waiting, Whole}
-use Rattle.repo_process.specs.Arrivals.{told, is_last, whole_object, reopened}
+use Rattle.repo_process.specs.Arrivals.{told, whole_object, reopened}
 use Rattle.repo_process.specs.Fields.{blocks_from}
 use Rattle.repo_process.specs.Insertions.{Insertions, with_process, with_changed, changes_process, with_arrival}
 use Rattle.repo_process.proofs.LawLemmas.{block_stays, block_gone, block_comes}

@@ -1,36 +1,32 @@
 -- What commands and blocks make of a member by itself is what their events make of it.
-use Rattle.std.proofs.Common.{◌≡◌, ℕ, ◌-◌, ◌<◌, ◌≤◌, Bool, true, false, cond, not, ◌==◌, List, [], ◌∷◌, ◌++◌, map, length, get_or, set, Option, Some, None, Result, Ok, Err, refl, sym, ap, ◌∙◌, subst, arith}
+use Rattle.std.proofs.Common.{◌≡◌, ℕ, ◌-◌, Bool, true, false, cond, not, ◌==◌, List, [], ◌∷◌, ◌++◌, length, Some, None, Ok, Err, refl, sym, ap, ◌∙◌, arith}
 use Rattle.std.specs.Prelude.{nat_le, nat_lt}
 use Rattle.std.specs.Ordering.{nat_cmp}
 use Rattle.std.proofs.lemmas.Bool.{leb-false, lt-ltb}
-use Rattle.std.proofs.lemmas.List.{length-map, length-set, get_or-set_same}
+use Rattle.std.proofs.lemmas.List.{length-map, length-set}
 use Rattle.ndn_name.specs.Names.{Component}
-use Rattle.repo_plan.specs.declared.part.Part.{Part}
-use Rattle.repo_plan.specs.SortedList.{keys, value_of}
-use Rattle.repo_plan.specs.Parts.{Pair}
+use Rattle.repo_plan.specs.SortedList.{value_of}
 use Rattle.repo_command.specs.declared.command.Command.{Command}
 use Rattle.repo_command.specs.declared.command.Command.TheVariants.{Insert, Check, Delete}
 use Rattle.repo_command.specs.declared.answer.Answer.{Answer}
 use Rattle.repo_command.specs.Answers.{only}
-use Rattle.repo_process.specs.Processes.{Process, BlockState, starting, object_of, closed, block_state}
+use Rattle.repo_process.specs.Processes.{Process, BlockState, object_of, closed, block_state}
 use Rattle.repo_process.specs.Processes.BlockState.{Unknown, Already, Waiting, Whole}
-use Rattle.repo_process.specs.Insertions.{next_number}
-use Rattle.group_model.specs.Publications.{Publication, pair_in}
+use Rattle.group_model.specs.Publications.{pair_in}
 use Rattle.group_model.specs.Member.{Member, named, member_hides_all}
 use Rattle.group_model.specs.Changes as group
-use Rattle.group_model.specs.Events.{Event}
 use Rattle.group_model.specs.Replies.{Reply}
-use Rattle.group_model.specs.World.{Outside, World, no_member, member, with_member, logs}
-use Rattle.group_model.specs.Steps.{drawn, can_start, check_answer, after_command, answer_of, dropped, block_at, with_process_at, after_event, after_publish, after_block, reply_to}
-use Rattle.group_model.specs.Refusals.{Refusal, unless, if_spent, if_whole, refusal}
+use Rattle.group_model.specs.World.{World, member, with_member, logs}
+use Rattle.group_model.specs.Steps.{drawn, can_start, check_answer, after_command, answer_of, dropped, with_process_at, after_block}
+use Rattle.group_model.specs.Refusals.{Refusal, unless, if_whole}
 use Rattle.repo_member.specs.Groups.{GroupKeys}
 use Rattle.repo_member.specs.Alone.{Alone, alone_publishes}
 use Rattle.repo_member.specs.Deleting as alone
 use Rattle.repo_member.specs.Deleting.{catalogued, alone_deletes}
-use Rattle.repo_member.specs.Commanded.{alone_starts, alone_obeys, start_answer, delete_answer, answer_to}
+use Rattle.repo_member.specs.Commanded.{alone_starts, alone_obeys, start_answer, answer_to}
 use Rattle.repo_member.specs.Blocks as own
 use Rattle.repo_member.specs.Blocks.{alone_block, alone_keeps, alone_blocks}
-use Rattle.repo_member.specs.InGroup.{in_group, StoresInOrder, StartsAlike, KeepsAlike}
+use Rattle.repo_member.specs.InGroup.{in_group, StartsAlike, KeepsAlike}
 use Rattle.repo_member.specs.InEvents.{IsMemberOf, IsTrueIn, OrderIsEvent, OrderIsAnswered, IssueIsEvent, IssueIsAnswered, BlockStatesAlike, BlockIsEvent}
 use Rattle.repo_member.proofs.DeletionLemmas.{named_alike, deletes_alike}
 use Rattle.repo_member.proofs.EventLemmas.{changed, publish_is_event}

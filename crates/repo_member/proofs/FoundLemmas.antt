@@ -1,20 +1,19 @@
 -- A catalogued publication: its parts are stored and no others, it is known, and no fetcher claims a part of it.
-use Rattle.std.proofs.Common.{◌≡◌, ◌⊎◌, inl, inr, ℕ, zero, suc, ◌+◌, ◌-◌, ◌<◌, ◌≤◌, Bool, true, false, cond, ◌&&◌, ◌||◌, ◌==◌, List, [], ◌∷◌, ◌++◌, map, length, take, refl, sym, ap, ◌∙◌, subst, Option, Some, None, option_map, is_some, arith}
-use Rattle.std.specs.Prelude.{filter, slice_index_or, nat_le, get_or}
-use Rattle.std.proofs.lemmas.Bool.{true≢false, and_parts, cases_eq, eqb-true, eq-eqb, cases_Bool}
+use Rattle.std.proofs.Common.{◌≡◌, ◌⊎◌, inl, inr, ℕ, zero, suc, ◌+◌, ◌<◌, ◌≤◌, Bool, true, false, cond, ◌==◌, List, [], ◌∷◌, ◌++◌, map, length, take, refl, sym, ap, ◌∙◌, subst, Option, Some, None, option_map, is_some, arith}
+use Rattle.std.specs.Prelude.{filter, slice_index_or, get_or}
+use Rattle.std.proofs.lemmas.Bool.{true≢false, and_parts, cases_eq, eqb-true}
 use Rattle.std.proofs.lemmas.List.{length-map}
-use Rattle.std.specs.List.{All, list_all, list_any}
+use Rattle.std.specs.List.{list_any}
 use Rattle.std.specs.Option.{option_and_then}
 use Rattle.std.specs.Ordering.{eq_by_cmp, is_eq}
-use Rattle.std.specs.declared.cmp.Ordering.{Ordering}
-use Rattle.std.specs.declared.cmp.Ordering.TheVariants.{Less, Equal}
+use Rattle.std.specs.declared.cmp.Ordering.TheVariants.{Less}
 use Rattle.ndn_name.specs.Names.{Component}
 use Rattle.repo_plan.specs.declared.part.Part.{Part}
-use Rattle.repo_plan.specs.SortedList.{keys, Rises, contains, value_of}
-use Rattle.repo_plan.specs.Parts.{Pair, Shape, pair_cmp, part_cmp, pair_of, part_of, parts_of, numbers_from}
+use Rattle.repo_plan.specs.SortedList.{keys, Rises, contains}
+use Rattle.repo_plan.specs.Parts.{Pair, pair_cmp, part_cmp, pair_of, part_of, parts_of, numbers_from}
 use Rattle.repo_plan.specs.Plan.{Holdings, holds, knows, is_in, is_asked, can_be_asked, shape_of, is_claim_in, claims_part_in, opening}
 use Rattle.repo_plan.specs.Sound.{IsSound}
-use Rattle.repo_plan.proofs.Orders.{Exact, exact_pairs, exact_parts}
+use Rattle.repo_plan.proofs.Orders.{exact_pairs, exact_parts}
 use Rattle.repo_plan.proofs.Sets.{In, eq_same, eq_itself, keys-filter, rises_filter, in_filter, contains_in, in_contains, from_map, in_map, each_before}
 use Rattle.repo_plan.proofs.Known.{in_numbers, rises_numbers, from_parts_of, in_parts_of}
 use Rattle.repo_plan.proofs.Changes.{wanted_parts}
@@ -32,10 +31,9 @@ use Rattle.repo_member.specs.Listed.{stored_at, listing_at, listed_shape, are_st
 use Rattle.repo_member.specs.Gaining.{AreTied}
 use Rattle.repo_member.specs.Deleting.{publications_named, outside_all}
 use Rattle.repo_member.proofs.CatalogueLemmas.{entries_value, entries_rise, Keyed, entries_keyed}
-use Rattle.repo_member.proofs.GainingLemmas.{contains-value, shape_told, held_value}
+use Rattle.repo_member.proofs.GainingLemmas.{contains-value, held_value}
 use Rattle.repo_member.proofs.AskedLemmas.{asked_segment}
 use Rattle.repo_member.proofs.TruePackets.{value_in}
-use Rattle.repo_member.proofs.HidingLemmas.{other_way, value_outside}
 
 -- ---- what is catalogued is stored wholly
 

@@ -1,20 +1,18 @@
 -- A publication that is hidden: what is stored, what the plan holds, and what is listed.
-use Rattle.std.proofs.Common.{◌≡◌, ℕ, ◌+◌, ◌≤◌, Bool, true, false, cond, not, List, [], ◌∷◌, map, refl, sym, ap, ◌∙◌, subst, Option, Some, None, option_map}
-use Rattle.std.proofs.lemmas.Bool.{true≢false}
+use Rattle.std.proofs.Common.{◌≡◌, ℕ, Bool, true, false, cond, not, List, [], ◌∷◌, map, refl, sym, ap, ◌∙◌, Option, None, option_map}
 use Rattle.std.specs.Prelude.{filter}
 use Rattle.std.specs.Option.{option_and_then}
 use Rattle.std.specs.Ordering.{eq_by_cmp}
 use Rattle.repo_plan.specs.declared.part.Part.{Part}
-use Rattle.repo_plan.specs.SortedList.{keys, Rises, contains, value_of}
-use Rattle.repo_plan.specs.Parts.{Pair, Shape, pair_cmp, part_cmp, pair_of, part_of}
+use Rattle.repo_plan.specs.SortedList.{keys, Rises, value_of}
+use Rattle.repo_plan.specs.Parts.{Pair, Shape, pair_cmp, part_cmp, part_of}
 use Rattle.repo_plan.specs.Plan.{Holdings, is_in, hides_too, uses_room}
 use Rattle.repo_plan.proofs.Orders.{exact_pairs, exact_parts}
 use Rattle.repo_plan.proofs.Sets.{eq_same, eq_itself, keys-filter, rises_keys_filter, value_of-filter}
-use Rattle.repo_object.specs.Publication.{Listed}
 use Rattle.repo_object.specs.Verdict.{listing_in}
 use Rattle.repo_store.specs.StoreList.{packets_outside}
 use Rattle.repo_catalog.specs.declared.entry.Entry.{Entry}
-use Rattle.repo_catalog.specs.Entries.{publication_of, is_of, without}
+use Rattle.repo_catalog.specs.Entries.{without}
 use Rattle.repo_member.specs.Records.{Packet}
 use Rattle.repo_member.specs.Listed.{stored_at, listing_at, listed_shape, shapes_in, entry_at, entry_listed, entries_in, alone_catalogue}
 use Rattle.repo_member.specs.Gaining.{AreTied, AreKept}

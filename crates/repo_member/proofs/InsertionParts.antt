@@ -1,7 +1,7 @@
 -- What commands and blocks make of insertion processes.
-use Rattle.std.proofs.Common.{◌≡◌, inl, inr, ℕ, zero, suc, ◌+◌, ◌-◌, ◌<◌, ◌≤◌, Bool, true, false, cond, not, ◌&&◌, List, [], ◌∷◌, map, length, Option, Some, None, Result, Ok, Err, is_some, refl, sym, ap, ◌∙◌, subst, arith}
-use Rattle.std.specs.Prelude.{nat_le, nat_lt, unwrap_or, IsOk, IfOk}
-use Rattle.std.specs.List.{All, list_all}
+use Rattle.std.proofs.Common.{◌≡◌, inl, inr, ℕ, ◌+◌, ◌-◌, Bool, true, false, cond, not, ◌&&◌, List, [], ◌∷◌, map, length, Option, Some, None, Result, Ok, Err, is_some, refl, sym, ap, ◌∙◌, subst, arith}
+use Rattle.std.specs.Prelude.{nat_le, nat_lt, unwrap_or, IfOk}
+use Rattle.std.specs.List.{All}
 use Rattle.std.specs.Ordering.{nat_cmp, eq_by_cmp}
 use Rattle.std.proofs.lemmas.Bool.{true≢false, and_parts, leb-true, ltb-true}
 use Rattle.std.proofs.lemmas.Cmp.{nat_cmp_total}
@@ -9,15 +9,13 @@ use Rattle.std.proofs.lemmas.List.{length-map}
 use Rattle.std.proofs.lemmas.List.Elements.{All-cons, All-nil}
 use Rattle.ndn_name.specs.Names.{Component, IsName}
 use Rattle.repo_plan.specs.SortedList.{value_of, with_value}
-use Rattle.repo_plan.specs.Parts.{numbers_from}
 use Rattle.repo_plan.proofs.Orders.{Exact, nat_same, nat_itself}
 use Rattle.repo_plan.proofs.Sets.{In, value_of-with_value}
-use Rattle.repo_object.specs.Objects.{NamedContents, is_object_name, IsContent, IsObject}
+use Rattle.repo_object.specs.Objects.{is_object_name, IsContent, IsObject}
 use Rattle.repo_command.specs.declared.command.Command.{Command}
 use Rattle.repo_command.specs.declared.command.Command.TheVariants.{Insert, Check, Delete}
 use Rattle.repo_command.specs.declared.command_refusal.CommandRefusal.{CommandRefusal}
 use Rattle.repo_command.specs.Commands.{is_command, IsSpelled}
-use Rattle.repo_command.specs.StatusCodes.{refusal_code}
 use Rattle.repo_command.specs.Verdict.{command_verdict}
 use Rattle.repo_command.proofs.TakenLemmas.{taken_commands}
 use Rattle.repo_process.specs.Processes.{Process, BlockState, starting, indexes, has_index, has_block, is_whole, with_block, object_of, closed, with_it, block_in, block_state}
@@ -28,7 +26,7 @@ use Rattle.group_model.proofs.Lists.{each_all}
 use Rattle.repo_member.specs.Groups.{GroupKeys, node_at}
 use Rattle.repo_member.specs.Alone.{Alone, alone_publishes, alone_clears}
 use Rattle.repo_member.specs.Commanded.{coded, order_of, alone_starts, alone_obeys, after_order}
-use Rattle.repo_member.specs.Blocks.{IsWithinLimits, AreWithinLimits, alone_block, alone_keeps, alone_publishes_whole, after_block, alone_blocks}
+use Rattle.repo_member.specs.Blocks.{IsWithinLimits, AreWithinLimits, alone_block, alone_keeps, after_block, alone_blocks}
 use Rattle.repo_member.proofs.HeldParts.{IsReached, reached_insertions}
 use Rattle.repo_member.proofs.PublishedParts.{reached_publishes}
 use Rattle.repo_member.proofs.HiddenParts.{reached_deletes}

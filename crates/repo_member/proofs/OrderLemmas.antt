@@ -1,5 +1,5 @@
 -- Commands that clients of the group make for its members.
-use Rattle.std.proofs.Common.{◌≡◌, ℕ, ◌+◌, ◌-◌, ◌<◌, ◌≤◌, true, false, ◌&&◌, List, [], length, get_or, Some, refl, sym, ap, ◌∙◌, subst, arith}
+use Rattle.std.proofs.Common.{◌≡◌, ℕ, ◌-◌, ◌<◌, ◌≤◌, true, ◌&&◌, List, [], length, get_or, Some, sym, ap, ◌∙◌, subst, arith}
 use Rattle.std.specs.Prelude.{slice_get, nat_le, nat_lt}
 use Rattle.std.proofs.lemmas.Bool.{and_parts}
 use Rattle.std.proofs.lemmas.Option.{slice_get-get_or, unwrap_or-slice_get}
@@ -15,7 +15,7 @@ use Rattle.repo_command.specs.declared.command.Command.TheVariants.{Insert, Chec
 use Rattle.repo_command.specs.Commands.{named_length, is_command, IsSpelled}
 use Rattle.repo_command.specs.Verdict.{command_verdict}
 use Rattle.repo_command.proofs.MadeLemmas.{or_bad, made_commands}
-use Rattle.repo_member.specs.Groups.{NodeKeys, GroupKeys, HaveKeys, IsGroup, IsPlainNodeName, node_at, client_at, client_key_at}
+use Rattle.repo_member.specs.Groups.{GroupKeys, IsGroup, IsPlainNodeName, node_at, client_at, client_key_at}
 use Rattle.repo_member.specs.Commanded.{coded, order_made, MadeOrdersAreTaken, OrdersBeyondAreMalformed}
 use Rattle.repo_member.proofs.GroupLemmas.{ring_length}
 use Rattle.repo_member.proofs.TrueSyncs.{number_at, ring_at}

@@ -1,5 +1,5 @@
 -- How many octets a reply has: fewer than a packet may have.
-use Rattle.std.proofs.Common.{ℕ, ◌+◌, ◌<◌, ◌≤◌, List, [], ◌++◌, length, length-append, None, ◌≡◌, arith}
+use Rattle.std.proofs.Common.{ℕ, ◌≤◌, List, [], ◌++◌, length, length-append, None, ◌≡◌, arith}
 use Rattle.ndn_tlv.specs.Spelling.{element}
 use Rattle.ndn_name.specs.Names.{Component, encoding}
 use Rattle.ndn_sign.specs.Hmac.{hmac}

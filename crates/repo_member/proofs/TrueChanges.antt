@@ -1,16 +1,15 @@
 -- Which changes leave a member one whose stored packets are those of their parts.
-use Rattle.std.proofs.Common.{◌≡◌, inl, inr, ℕ, zero, suc, ◌+◌, ◌-◌, ◌<◌, ◌≤◌, max, Bool, true, false, cond, not, List, [], ◌∷◌, ◌++◌, map, length, get_or, take, set, replicate, Option, Some, None, refl, sym, ap, ◌∙◌, subst, arith}
+use Rattle.std.proofs.Common.{◌≡◌, inl, inr, ℕ, zero, suc, ◌+◌, ◌-◌, Bool, true, false, cond, not, List, [], ◌∷◌, ◌++◌, length, get_or, set, replicate, Option, Some, None, refl, sym, ap, ◌∙◌, subst, arith}
 use Rattle.std.specs.Prelude.{nat_lt, is_some, filter, IfSome}
 use Rattle.std.specs.List.{All}
 use Rattle.std.proofs.lemmas.Bool.{true≢false, and_parts, not-true}
-use Rattle.std.proofs.lemmas.List.{length-set, length-replicate, get_or-replicate, get_or-set_same, set-get_or, length_push, take_all}
+use Rattle.std.proofs.lemmas.List.{length-set, length-replicate, get_or-set_same, set-get_or, length_push, take_all}
 use Rattle.std.proofs.lemmas.List.Elements.{All-head, All-tail, All-weaker}
-use Rattle.svs_vector.specs.Vectors.{join}
 use Rattle.svs_sync.specs.KeptVector.{Keeper, steady_kept, fired_kept, hears_kept}
 use Rattle.repo_plan.specs.declared.part.Part.{Part}
 use Rattle.repo_plan.specs.SortedList.{keys, Rises, value_of}
 use Rattle.repo_plan.specs.Parts.{Pair, part_cmp}
-use Rattle.repo_plan.specs.Plan.{Holdings, is_in, no_claims, is_wanted, is_claimed, claim_of, unclaimed, is_unclaimed, first}
+use Rattle.repo_plan.specs.Plan.{Holdings, is_in, no_claims, is_wanted, is_claimed, unclaimed, is_unclaimed, first}
 use Rattle.repo_plan.proofs.Orders.{exact_parts}
 use Rattle.repo_plan.proofs.Sets.{In, contains_in}
 use Rattle.repo_plan.proofs.Known.{contains-unclaimed}
@@ -21,7 +20,7 @@ use Rattle.repo_process.specs.Processes.BlockState.{Unknown, Already, Waiting, W
 use Rattle.repo_process.specs.Insertions.{next_number, starts, with_process}
 use Rattle.repo_store.specs.StoreList.{packets_outside}
 use Rattle.group_model.specs.Publications.{Logs, last_of}
-use Rattle.group_model.specs.Member.{Member, plan_of, gains, with_tries}
+use Rattle.group_model.specs.Member.{plan_of, with_tries}
 use Rattle.group_model.specs.Changes as group
 use Rattle.group_model.specs.Sound.{IsSoundMember, HeardTruly}
 use Rattle.group_model.proofs.Members.{Grows, grown, with_machine, sound_learns, sound_claims, sound_loses}
@@ -33,9 +32,9 @@ use Rattle.repo_member.specs.Deleting.{catalogued, outside_all}
 use Rattle.repo_member.specs.Commanded.{alone_starts}
 use Rattle.repo_member.specs.Blocks.{alone_block, alone_keeps, after_block}
 use Rattle.repo_member.specs.Groups.{GroupKeys}
-use Rattle.repo_member.specs.Alone.{Alone, Fetched, alone_plan, alone_opening, alone_publishes, alone_learns, alone_hears, alone_fires, alone_claims, alone_accepts, alone_takes, alone_ends_claims, alone_clears, next_seq, with_fetched}
+use Rattle.repo_member.specs.Alone.{Alone, Fetched, alone_plan, alone_publishes, alone_claims, alone_takes, alone_ends_claims, alone_clears}
 use Rattle.repo_member.specs.InGroup.{in_group, AreLogs, GrowInto, AreItsPackets, CameTruly, asked_for, that_came}
-use Rattle.repo_member.specs.Outcomes.{with_all_fetched, with_all_tries}
+use Rattle.repo_member.specs.Outcomes.{with_all_tries}
 use Rattle.repo_member.specs.TrueMembers.{IsTrueMember}
 use Rattle.repo_member.specs.TrueChanges.{BeginsTrue, PublishesTrue, OthersPublish, LogsHaveGrown, LearnsTrue, HearsTrue, InsertsTrue, BlocksTrue, DeletesTrue, ObeysTrue, FiresTrue, ResetsTrue, RestartsTrue, EndsClaimsTrue, ClaimsTrue, LosesTrue, AcceptsTrue, IsTrueArrival, TakesTrue}
 use Rattle.repo_member.proofs.CallReach.{fired_wide}

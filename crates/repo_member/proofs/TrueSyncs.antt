@@ -23,13 +23,10 @@ use Rattle.group_model.specs.Publications.{Logs, last_of}
 use Rattle.group_model.specs.Sound.{IsTrueVector}
 use Rattle.repo_member.specs.declared.refusals.HearRefusal.TheVariants.{OwnNumberAhead}
 use Rattle.repo_member.specs.Groups.{NodeKeys, GroupKeys, HaveKeys, IsPlainNodeName, node_at, key_at}
-use Rattle.repo_member.specs.Alone.{Alone}
 use Rattle.repo_member.specs.Verdicts.{sync_of, told_verdict}
 use Rattle.repo_member.specs.InGroup.{AreLogs}
-use Rattle.repo_member.specs.TrueMembers.{IsTrueMember}
 use Rattle.repo_member.specs.TrueSyncs.{KeysAreFound, SyncsAreTold, SyncsAreTaken}
 use Rattle.repo_member.proofs.GroupLemmas.{ring_length}
-use Rattle.repo_member.proofs.TrueMembers.{ring_name}
 
 -- ---- the first place
 

@@ -1,19 +1,19 @@
 -- A member of which insertion processes or hidden publications change.
-use Rattle.std.proofs.Common.{◌≡◌, ◌⊎◌, inl, inr, ℕ, zero, suc, ◌+◌, ◌-◌, ◌<◌, ◌≤◌, Bool, true, false, cond, ◌||◌, List, [], ◌∷◌, length, get_or, Option, Some, None, refl, sym, ap, ◌∙◌, subst, arith}
+use Rattle.std.proofs.Common.{◌≡◌, ◌⊎◌, inl, inr, ℕ, zero, suc, ◌+◌, ◌-◌, ◌<◌, ◌≤◌, Bool, true, false, cond, List, [], ◌∷◌, length, get_or, Some, refl, sym, ap, ◌∙◌, subst, arith}
 use Rattle.std.specs.List.{All, list_all}
 use Rattle.std.specs.Ordering.{nat_cmp, eq_by_cmp}
 use Rattle.std.proofs.lemmas.Bool.{or_cases}
 use Rattle.ndn_name.specs.Names.{Component}
 use Rattle.repo_plan.specs.SortedList.{value_of, contains, insert_key}
 use Rattle.repo_plan.specs.Parts.{Pair, pair_cmp, numbers_from}
-use Rattle.repo_plan.specs.Plan.{Holdings, knows, hides}
+use Rattle.repo_plan.specs.Plan.{Holdings, knows}
 use Rattle.repo_plan.proofs.Orders.{exact_pairs}
 use Rattle.repo_plan.proofs.Sets.{In, eq_same, contains-insert_key, value_of-with_value}
 use Rattle.repo_process.specs.Processes.{Process, starting, has_block, is_whole}
 use Rattle.repo_process.specs.Insertions.{Insertions, starts, with_process}
 use Rattle.group_model.proofs.Lists.{at_in}
 use Rattle.repo_member.specs.declared.member.Member.TheInside.{Inside}
-use Rattle.repo_member.specs.Alone.{Alone, alone_plan}
+use Rattle.repo_member.specs.Alone.{alone_plan}
 use Rattle.repo_member.specs.Gaining.{AreKept}
 use Rattle.repo_member.specs.Deleting.{with_hidden, IsHiding}
 use Rattle.repo_member.specs.Members.{alone, AreWaiting, IsMember}

@@ -6,7 +6,7 @@ use Rattle.svs_sync.specs.KeptVector.{Keeper, steady_kept, hears_kept, fired_kep
 use Rattle.svs_sync.specs.Suppression.{periodic}
 use Rattle.repo_plan.specs.declared.part.Part.{Part}
 use Rattle.repo_plan.specs.Parts.{Pair, part_cmp, pair_of, part_of}
-use Rattle.repo_plan.specs.SortedList.{Rises, keys, value_of, with_value}
+use Rattle.repo_plan.specs.SortedList.{Rises, keys}
 use Rattle.repo_plan.specs.Plan.{Holdings, no_claims, knows, hides}
 use Rattle.repo_object.specs.Objects.{NamedContents, Publisher}
 use Rattle.repo_object.specs.Publication.{Listed, packets}

@@ -1,5 +1,5 @@
-use Rattle.std.proofs.Common.{◌≡◌, ◌+◌, ◌-◌, ◌<◌, ◌≤◌, ℕ, Bool, true, false, cond, List, map, length, Option, Some, option_map, refl, sym, ap, ◌∙◌, subst, arith}
-use Rattle.std.specs.Prelude.{IfSome, IsSomeAnd, IsTrue, nat_lt}
+use Rattle.std.proofs.Common.{◌≡◌, ◌<◌, ℕ, Bool, true, false, cond, List, map, length, Option, Some, option_map, refl, sym, ap, ◌∙◌, subst, arith}
+use Rattle.std.specs.Prelude.{IfSome, IsSomeAnd, IsTrue}
 use Rattle.std.specs.List.{All}
 use Rattle.std.specs.Ordering.{nat_cmp}
 use Rattle.std.proofs.lemmas.Bool.{true≢false, lt-ltb}
@@ -18,7 +18,7 @@ use Rattle.repo_member.specs.declared.member.block.Blocked.TheVariants as blocke
 use Rattle.repo_member.specs.Alone.{Alone, alone_publishes}
 use Rattle.repo_member.specs.Blocks.{alone_block, alone_keeps, after_block, TellsBlock}
 use Rattle.repo_member.specs.Members.{alone, AreWaiting, IsMember}
-use Rattle.repo_member.proofs.BlockStates.{ComesLast, comes_last, kept_waiting, nothing_lent, can_take_back, taken_back, handed, can_reopen, opened_again}
+use Rattle.repo_member.proofs.BlockStates.{comes_last, kept_waiting, nothing_lent, can_take_back, taken_back, handed, can_reopen, opened_again}
 use Rattle.repo_member.proofs.WaitingLemmas.{waiting_with, with_processes}
 use Rattle.repo_member.proofs.member.Member.block.Goals.{else-is_last-via-then-is_last+else-log-ge-LOG_LIMIT, else-is_last-via-else-is_last}
 use Rattle.repo_member.proofs.member.Member.block.Goals as goal

@@ -4,7 +4,6 @@ use Rattle.repo_plan.specs.declared.part.Part.{Part}
 use Rattle.repo_plan.specs.Parts.{Pair}
 use Rattle.repo_plan.specs.Plan.{Holdings, knows, is_claim_in, claims_part_in}
 use Rattle.repo_member.specs.Alone.{Alone, alone_plan}
-use Rattle.repo_member.specs.Members.{alone}
 use Rattle.repo_member.proofs.WaitingLemmas.{hidden_is}
 use Rattle.repo_member.proofs.member.Member.delete.Goals as goal
 

@@ -1,4 +1,4 @@
-use Rattle.std.proofs.Common.{◌≡◌, sym, ap, ◌∙◌, subst}
+use Rattle.std.proofs.Common.{sym, subst}
 use Rattle.repo_process.specs.Insertions.{Insertions}
 use Rattle.repo_member.specs.Members.{AreWaiting}
 use Rattle.repo_member.proofs.WaitingLemmas.{waiting_starts, with_processes}

@@ -1,11 +1,9 @@
-use Rattle.std.proofs.Common.{◌≡◌, ◌≤◌, ◌<◌, ℕ, List, [], None, Some, length, get_or, sym, ap, ◌∙◌, subst, arith}
+use Rattle.std.proofs.Common.{◌≤◌, ◌<◌, List, [], None, length, sym, ap, ◌∙◌, subst, arith}
 use Rattle.std.specs.Prelude.{slice_get, unwrap_or}
 use Rattle.std.proofs.lemmas.Option.{unwrap_or-slice_get}
 use Rattle.ndn_name.specs.Names.{Component, encoding}
 use Rattle.ndn_data.specs.WrittenData.{written_data}
-use Rattle.repo_object.specs.Objects.{key_name}
 use Rattle.repo_object.proofs.PacketSizes.{key_name-size}
-use Rattle.repo_command.specs.Answers.{written_answer}
 use Rattle.repo_member.specs.Alone.{Alone}
 use Rattle.repo_member.specs.Groups.{IsPlainNodeName}
 use Rattle.repo_member.proofs.ReplyLemmas.{reply-size}

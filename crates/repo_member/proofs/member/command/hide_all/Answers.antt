@@ -1,13 +1,11 @@
-use Rattle.std.proofs.Common.{◌≡◌, ◌≤◌, ◌+◌, ◌-◌, ℕ, false, List, length, drop, get_or, Option, sym, ap, ◌∙◌, subst, arith}
+use Rattle.std.proofs.Common.{◌+◌, ℕ, List, length, drop, get_or, Option, sym, ap, ◌∙◌, arith}
 use Rattle.std.specs.List.{list_any}
 use Rattle.std.proofs.lemmas.List.{at_drop_more, at_drop_all}
 use Rattle.repo_plan.specs.declared.part.Part.{Part}
 use Rattle.repo_plan.specs.Parts.{Pair}
-use Rattle.repo_plan.specs.Plan.{Holdings, is_claim_in, claims_part_in}
+use Rattle.repo_plan.specs.Plan.{Holdings, is_claim_in}
 use Rattle.repo_store.specs.StoreList.{StoreList}
-use Rattle.repo_catalog.specs.Entries.{EntryList}
 use Rattle.repo_member.specs.Records.{Packet}
-use Rattle.repo_member.specs.Gaining.{AreKept}
 use Rattle.repo_member.specs.Deleting.{outside_all, with_hidden}
 use Rattle.repo_member.proofs.HidingLemmas.{kept_hides}
 use Rattle.repo_member.proofs.member.command.hide_all.Goals as goal
