@@ -14,10 +14,10 @@ use Rattle.repo_object.specs.Objects.{NamedContents}
 use Rattle.svs_sync.specs.declared.fired.Fired.{Fired}
 use Rattle.svs_sync.specs.declared.fired.Fired.TheVariants.{Early, Quiet, Send}
 use Rattle.group_model.specs.Publications.{Publication, pair_in, last_of}
-use Rattle.group_model.specs.Processes.{Process, BlockState, closed, object_of}
-use Rattle.group_model.specs.Processes.BlockState.{Unknown, Already, Waiting, Whole}
-use Rattle.group_model.specs.Commands.{Command}
-use Rattle.group_model.specs.Commands.Command.{Insert, Check, Delete}
+use Rattle.repo_process.specs.Processes.{Process, BlockState, closed, object_of}
+use Rattle.repo_process.specs.Processes.BlockState.{Unknown, Already, Waiting, Whole}
+use Rattle.repo_command.specs.declared.command.Command.{Command}
+use Rattle.repo_command.specs.declared.command.Command.TheVariants.{Insert, Check, Delete}
 use Rattle.group_model.specs.Member.{Member, member_holds, member_hides, named, member_hides_too, member_hides_all}
 use Rattle.group_model.specs.Changes.{publishes, learns, starts}
 use Rattle.group_model.specs.Events.{SyncInterest, Came, Event}

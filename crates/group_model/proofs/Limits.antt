@@ -20,10 +20,10 @@ use Rattle.svs_sync.specs.Suppression.{periodic}
 use Rattle.svs_vector.specs.Vectors.{covers}
 use Rattle.repo_object.specs.Objects.{NamedContents}
 use Rattle.group_model.specs.Publications.{Logs, Publication, no_object, numbered, published_from, published, pair_in, parts_in, all_parts}
-use Rattle.group_model.specs.Processes.{Process, BlockState, indexes, has_index, has_block, with_block, with_it, is_whole, block_in, starting, closed, object_of}
-use Rattle.group_model.specs.Processes.BlockState.{Unknown, Already, Waiting, Whole}
-use Rattle.group_model.specs.Commands.{Command}
-use Rattle.group_model.specs.Commands.Command.{Insert, Check, Delete}
+use Rattle.repo_process.specs.Processes.{Process, BlockState, indexes, has_index, has_block, with_block, with_it, is_whole, block_in, starting, closed, object_of}
+use Rattle.repo_process.specs.Processes.BlockState.{Unknown, Already, Waiting, Whole}
+use Rattle.repo_command.specs.declared.command.Command.{Command}
+use Rattle.repo_command.specs.declared.command.Command.TheVariants.{Insert, Check, Delete}
 use Rattle.group_model.specs.Member.{Member, plan_of, tries_of, named, member_hides_too, member_hides_all}
 use Rattle.group_model.specs.Changes.{publishes, learns, resets, restarts, takes, member_with_claim, with_process, starts}
 use Rattle.group_model.specs.Events.{SyncInterest, Came, Event}

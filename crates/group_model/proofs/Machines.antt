@@ -15,10 +15,10 @@ use Rattle.svs_sync.specs.KeptVector.{Keeper, kept, steady_kept, due_kept, fires
 use Rattle.svs_sync.proofs.KeptLemmas.{after_all_same, fires_same}
 use Rattle.repo_object.specs.Objects.{NamedContents}
 use Rattle.group_model.specs.Publications.{Publication}
-use Rattle.group_model.specs.Processes.{BlockState, closed, object_of}
-use Rattle.group_model.specs.Processes.BlockState.{Unknown, Already, Waiting, Whole}
-use Rattle.group_model.specs.Commands.{Command}
-use Rattle.group_model.specs.Commands.Command.{Insert, Check, Delete}
+use Rattle.repo_process.specs.Processes.{BlockState, closed, object_of}
+use Rattle.repo_process.specs.Processes.BlockState.{Unknown, Already, Waiting, Whole}
+use Rattle.repo_command.specs.declared.command.Command.{Command}
+use Rattle.repo_command.specs.declared.command.Command.TheVariants.{Insert, Check, Delete}
 use Rattle.group_model.specs.Member.{Member, named, member_hides_too, member_hides_all}
 use Rattle.group_model.specs.Changes.{publishes, learns, starts}
 use Rattle.group_model.specs.Publications.{pair_in}

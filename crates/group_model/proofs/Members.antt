@@ -10,7 +10,7 @@ use Rattle.svs_vector.specs.Vectors.{join, covers}
 use Rattle.svs_vector.proofs.JoinLemmas.{join-at, length-join}
 use Rattle.svs_sync.specs.KeptVector.{Keeper, steady_kept, hears_kept}
 use Rattle.group_model.specs.Publications.{Logs, last_of, count}
-use Rattle.group_model.specs.Processes.{Process}
+use Rattle.repo_process.specs.Processes.{Process}
 use Rattle.group_model.specs.Member.{Member, member_holds, plan_of}
 use Rattle.group_model.specs.Changes.{learns, member_with_claim}
 use Rattle.group_model.specs.Sound.{IsSoundMember, IsPublished, IsKnown, TellsNoMore, IsTrueVector, HeardTruly, IsHeldSoundly, IsHiddenSoundly}

@@ -14,10 +14,10 @@ use Rattle.svs_sync.specs.declared.fired.Fired.TheVariants.{Early, Quiet, Send}
 use Rattle.svs_sync.specs.Suppression.{periodic}
 use Rattle.repo_object.specs.Objects.{NamedContents}
 use Rattle.group_model.specs.Publications.{Logs, Publication, pair_in, parts_in, published, published_entry, last_of, count, object_at}
-use Rattle.group_model.specs.Processes.{BlockState}
-use Rattle.group_model.specs.Processes.BlockState.{Unknown, Already, Waiting, Whole}
-use Rattle.group_model.specs.Commands.{Command}
-use Rattle.group_model.specs.Commands.Command.{Insert, Check, Delete}
+use Rattle.repo_process.specs.Processes.{BlockState}
+use Rattle.repo_process.specs.Processes.BlockState.{Unknown, Already, Waiting, Whole}
+use Rattle.repo_command.specs.declared.command.Command.{Command}
+use Rattle.repo_command.specs.declared.command.Command.TheVariants.{Insert, Check, Delete}
 use Rattle.group_model.specs.Member.{Member, plan_of, member_holds, member_hides, holds_all, named}
 use Rattle.group_model.specs.Changes.{learns, starts}
 use Rattle.group_model.specs.Events.{SyncInterest, Came, Event}

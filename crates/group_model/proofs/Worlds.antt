@@ -16,10 +16,10 @@ use Rattle.svs_sync.specs.declared.fired.Fired.TheVariants.{Early, Quiet, Send}
 use Rattle.svs_sync.specs.KeptVector.{steady_kept}
 use Rattle.repo_object.specs.Objects.{NamedContents}
 use Rattle.group_model.specs.Publications.{Logs, last_of, object_at, no_object}
-use Rattle.group_model.specs.Processes.{Process, BlockState, closed, object_of}
-use Rattle.group_model.specs.Processes.BlockState.{Unknown, Already, Waiting, Whole}
-use Rattle.group_model.specs.Commands.{Command}
-use Rattle.group_model.specs.Commands.Command.{Insert, Check, Delete}
+use Rattle.repo_process.specs.Processes.{Process, BlockState, closed, object_of}
+use Rattle.repo_process.specs.Processes.BlockState.{Unknown, Already, Waiting, Whole}
+use Rattle.repo_command.specs.declared.command.Command.{Command}
+use Rattle.repo_command.specs.declared.command.Command.TheVariants.{Insert, Check, Delete}
 use Rattle.group_model.specs.Member.{Member, plan_of, named, member_hides_all, with_each_tried}
 use Rattle.group_model.specs.Changes.{publishes, learns, resets, restarts, takes, member_with_claim, with_process, starts}
 use Rattle.group_model.specs.Events.{SyncInterest, Came, Event}

@@ -9,7 +9,7 @@ use Rattle.repo_plan.specs.Parts.{parts_of}
 use Rattle.svs_vector.specs.Vectors.{join}
 use Rattle.svs_sync.specs.KeptVector.{steady_kept, hears_kept}
 use Rattle.repo_object.specs.Objects.{NamedContents}
-use Rattle.group_model.specs.Processes.{Process, starting}
+use Rattle.repo_process.specs.Processes.{Process, starting}
 use Rattle.group_model.specs.Member.{Member, gains, insert_keys, member_without_claims}
 
 -- The machine is Steady again.

@@ -3,7 +3,7 @@ use Rattle.std.specs.Prelude.{ℕ, List, Option, Result}
 use Rattle.repo_plan.specs.declared.part.Part.{Part}
 use Rattle.repo_object.specs.Objects.{NamedContents}
 use Rattle.group_model.specs.Publications.{Logs}
-use Rattle.group_model.specs.Commands.{Command}
+use Rattle.repo_command.specs.declared.command.Command.{Command}
 
 -- A sync Interest, by its sender and the vector that it tells of.
 pub record SyncInterest : Type 0 where

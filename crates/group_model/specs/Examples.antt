@@ -9,8 +9,8 @@ use Rattle.repo_catalog.specs.declared.entry.Entry.{Entry}
 use Rattle.svs_sync.specs.declared.mode.Mode.TheVariants.{Steady, Suppressed}
 use Rattle.repo_object.specs.Objects.{NamedContents}
 use Rattle.group_model.specs.Publications.{Logs, no_object, join_of}
-use Rattle.group_model.specs.Commands.{only}
-use Rattle.group_model.specs.Commands.Command.{Insert, Check, Delete}
+use Rattle.repo_command.specs.Answers.{only}
+use Rattle.repo_command.specs.declared.command.Command.TheVariants.{Insert, Check, Delete}
 use Rattle.group_model.specs.Events.{Came, Found, Event}
 use Rattle.group_model.specs.Events.Came.{Nothing, Its, Another}
 use Rattle.group_model.specs.Events.Found.{NoPacket, Packet}

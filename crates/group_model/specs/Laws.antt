@@ -5,8 +5,8 @@ use Rattle.repo_plan.specs.SortedList.{Rises, contains}
 use Rattle.repo_plan.specs.Parts.{part_cmp}
 use Rattle.repo_plan.specs.Plan.{wanted}
 use Rattle.group_model.specs.Publications.{Logs, last_of, all_parts, join_of}
-use Rattle.group_model.specs.Processes.{BlockState}
-use Rattle.group_model.specs.Processes.BlockState.{Whole}
+use Rattle.repo_process.specs.Processes.{BlockState}
+use Rattle.repo_process.specs.Processes.BlockState.{Whole}
 use Rattle.group_model.specs.Member.{plan_of}
 use Rattle.group_model.specs.Events.{Event}
 use Rattle.group_model.specs.World.{Outside, World, member, logs, sent_at, catalogue_at}

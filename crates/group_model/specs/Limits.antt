@@ -4,9 +4,9 @@ use Rattle.std.specs.Ordering.{nat_cmp}
 use Rattle.repo_plan.specs.declared.part.Part.{Part}
 use Rattle.repo_plan.specs.SortedList.{value_of}
 use Rattle.group_model.specs.Publications.{no_object, published, all_parts}
-use Rattle.group_model.specs.Processes.{Process, indexes}
-use Rattle.group_model.specs.Commands.{Command}
-use Rattle.group_model.specs.Commands.Command.{Insert}
+use Rattle.repo_process.specs.Processes.{Process, indexes}
+use Rattle.repo_command.specs.declared.command.Command.{Command}
+use Rattle.repo_command.specs.declared.command.Command.TheVariants.{Insert}
 use Rattle.group_model.specs.Member.{Member, tries_of}
 use Rattle.group_model.specs.Events.{Event}
 use Rattle.group_model.specs.World.{Tally, World, Outside, member, logs, opening_world}

@@ -4,8 +4,8 @@ use Rattle.svs_sync.specs.Suppression
 use Rattle.svs_sync.specs.Suppression.{periodic, fires}
 use Rattle.svs_sync.specs.Suppression.Event.{published, heard, fired, reset}
 use Rattle.svs_sync.specs.KeptVector.{kept}
-use Rattle.group_model.specs.Processes.{BlockState}
-use Rattle.group_model.specs.Processes.BlockState.{Whole}
+use Rattle.repo_process.specs.Processes.{BlockState}
+use Rattle.repo_process.specs.Processes.BlockState.{Whole}
 use Rattle.group_model.specs.Events.{SyncInterest, Event}
 use Rattle.group_model.specs.World.{Outside, World, member, sent_at, opening_world}
 use Rattle.group_model.specs.Steps.{drawn, timer_at, tells_too_much, block_at, after_event, after_events}

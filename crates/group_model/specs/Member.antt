@@ -10,7 +10,7 @@ use Rattle.svs_sync.specs.KeptVector.{Keeper}
 use Rattle.repo_object.specs.Objects.{NamedContents}
 use Rattle.repo_catalog.specs.declared.entry.Entry.{Entry}
 use Rattle.group_model.specs.Publications.{Logs, Publication, count, pair_in, parts_in, published, published_entry}
-use Rattle.group_model.specs.Processes.{Process}
+use Rattle.repo_process.specs.Processes.{Process}
 use Rattle.group_model.specs.Commands.{is_equal_name}
 
 pub record Member : Type 0 where

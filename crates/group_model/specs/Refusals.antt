@@ -3,9 +3,10 @@ use Rattle.std.specs.Prelude.{ℕ, ◌≡◌, ◌<◌, ◌≤◌, Bool, not, Lis
 use Rattle.std.specs.List.{list_any}
 use Rattle.std.specs.Str.{bytes_eq}
 use Rattle.repo_plan.specs.declared.part.Part.{Part}
-use Rattle.group_model.specs.Processes.{BlockState}
-use Rattle.group_model.specs.Processes.BlockState.{Whole}
-use Rattle.group_model.specs.Commands.{Command, is_command}
+use Rattle.repo_process.specs.Processes.{BlockState}
+use Rattle.repo_process.specs.Processes.BlockState.{Whole}
+use Rattle.repo_command.specs.declared.command.Command.{Command}
+use Rattle.group_model.specs.Commands.{is_equal_command}
 use Rattle.group_model.specs.Events.{SyncInterest, Came, Event}
 use Rattle.group_model.specs.Events.Came.{Another}
 use Rattle.group_model.specs.World.{World, Outside, member}
@@ -32,7 +33,7 @@ abbrev pub has_sent : World → SyncInterest → Bool
 has_sent w sync = list_any (λ s. s.sender == sync.sender && bytes_eq s.vector sync.vector) w.sent
 
 abbrev pub has_issued : World → ℕ → ℕ × Command → Bool
-has_issued w j order = list_any (λ i. i.member == j && (i.client == order.0 && is_command i.command order.1)) w.issued
+has_issued w j order = list_any (λ i. i.member == j && (i.client == order.0 && is_equal_command i.command order.1)) w.issued
 
 -- ---- what refuses an event
 

@@ -3,7 +3,7 @@ use Rattle.std.specs.Prelude.{ℕ, Bool, List, Option}
 use Rattle.repo_plan.specs.declared.part.Part.{Part}
 use Rattle.svs_sync.specs.declared.mode.Mode.{Mode}
 use Rattle.repo_catalog.specs.declared.entry.Entry.{Entry}
-use Rattle.group_model.specs.Commands.{Answer}
+use Rattle.repo_command.specs.declared.answer.Answer.{Answer}
 use Rattle.group_model.specs.Events.{SyncInterest, Found}
 
 -- What a catalogue comes to: entries, segments and octets.

@@ -14,10 +14,12 @@ use Rattle.svs_sync.specs.KeptVector.{fires_kept}
 use Rattle.repo_object.specs.Objects.{NamedContents}
 use Rattle.repo_catalog.specs.declared.entry.Entry.{Entry}
 use Rattle.group_model.specs.Publications.{Logs, all_parts}
-use Rattle.group_model.specs.Processes.{Process, BlockState, present, object_of, closed, block_state}
-use Rattle.group_model.specs.Processes.BlockState.{Unknown, Already, Waiting, Whole}
-use Rattle.group_model.specs.Commands.{Command, Answer, only}
-use Rattle.group_model.specs.Commands.Command.{Insert, Check, Delete}
+use Rattle.repo_process.specs.Processes.{Process, BlockState, present, object_of, closed, block_state}
+use Rattle.repo_process.specs.Processes.BlockState.{Unknown, Already, Waiting, Whole}
+use Rattle.repo_command.specs.declared.command.Command.{Command}
+use Rattle.repo_command.specs.declared.answer.Answer.{Answer}
+use Rattle.repo_command.specs.Answers.{only}
+use Rattle.repo_command.specs.declared.command.Command.TheVariants.{Insert, Check, Delete}
 use Rattle.group_model.specs.Member.{Member, member_holds, member_hides, plan_of, named, gains, member_hides_all, tries_of, with_each_tried, member_without_claims}
 use Rattle.group_model.specs.Changes.{resets, publishes, learns, restarts, member_with_claim, takes, with_process, starts}
 use Rattle.group_model.specs.Events.{SyncInterest, Came, Event}

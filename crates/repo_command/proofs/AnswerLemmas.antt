@@ -10,13 +10,13 @@ use Rattle.ndn_tlv.specs.Spelling.{element}
 use Rattle.ndn_tlv.specs.NumberField.{number_field}
 use Rattle.ndn_tlv.specs.Listing.{Listing, nothing, ◌then◌, gathered, ◌>>=◌}
 use Rattle.ndn_tlv.specs.Elements.{Item, placed, elements}
-use Rattle.ndn_tlv.specs.OrderTable.{place_of, fields}
+use Rattle.ndn_tlv.specs.OrderTable.{place_of, fields, once}
 use Rattle.ndn_tlv.proofs.NumberFields.{number_of-number_field}
 use Rattle.ndn_packet.proofs.ReadBack.{alone}
 use Rattle.repo_command.specs.declared.answer.Answer.{Answer}
 use Rattle.repo_command.specs.declared.answer_fields.AnswerField.{AnswerField}
 use Rattle.repo_command.specs.declared.answer_fields.AnswerField.TheVariants.{ProcessId, StatusCode, InsertNum, DeleteNum}
-use Rattle.repo_command.specs.OrderTables.{once, repo_command_response}
+use Rattle.repo_command.specs.OrderTables.{repo_command_response}
 use Rattle.repo_command.specs.Signer.{or_refused}
 use Rattle.repo_command.specs.Answers.{IsSmall, IsAnswer, NoAnswer, none, written_field, response_value, written_answer, AnswerSoFar, no_number, with_number, with_answer_field, bad_field, answer_fields, whole_answer, response_among, answer_in, answer_of}
 use Rattle.repo_command.proofs.LengthLemmas.{field_short, number_element-size}

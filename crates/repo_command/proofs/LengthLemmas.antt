@@ -1,5 +1,5 @@
 -- How many octets a command has: fewer than a packet may have.
-use Rattle.std.proofs.Common.{ℕ, ◌^◌, ◌<◌, ◌≤◌, List, [], ◌∷◌, ◌++◌, length, length-append, inl, inr, arith}
+use Rattle.std.proofs.Common.{ℕ, ◌^◌, ◌<◌, ◌≤◌, List, [], ◌∷◌, ◌++◌, length, length-append, Option, Some, None, inl, inr, arith}
 use Rattle.std.proofs.lemmas.Bool.{cases_lt, le-ltb, lt-ltb}
 use Rattle.sha2.specs.Sha256.{sha256}
 use Rattle.sha2.proofs.Facts256.{length-sha256}
@@ -15,6 +15,8 @@ use Rattle.repo_command.specs.declared.command.Command.TheVariants.{Insert, Chec
 use Rattle.repo_command.specs.declared.verb.Verb.{Verb}
 use Rattle.repo_command.specs.declared.verb.Verb.TheVariants as verb
 use Rattle.repo_command.specs.Verbs.{verb_of, command_name}
+use Rattle.repo_command.specs.declared.answer.Answer.{Answer}
+use Rattle.repo_command.specs.Answers.{written_field, response_value, written_answer}
 use Rattle.repo_command.specs.Commands.{named_length, parameters_value, written_parameters, command_interest}
 
 -- ---- names
@@ -55,9 +57,33 @@ parameters-size c short =
     let value = value-size c short in
     omega (arith, value, element-at_most 201 (parameters_value c) (omega arith) (omega (arith, value)))
 
+-- ---- answers
+
+written-size : (typ : ℕ) (n : Option ℕ) → typ < 253 → length (written_field typ n) ≤ 10
+written-size typ None low = omega arith
+written-size typ (Some n) low = number_element-size typ n low
+
+pub answer-size : (a : Answer) → length (written_answer a) ≤ 44
+answer-size a =
+    let process = written_field 206 a.process in
+    let code = element 208 (number_field a.code) in
+    let inserted = written_field 209 a.inserted in
+    let deleted = written_field 210 a.deleted in
+    let long : length (response_value a) ≤ 40 = omega (
+      arith,
+      written-size 206 a.process (omega arith),
+      number_element-size 208 a.code (omega arith),
+      written-size 209 a.inserted (omega arith),
+      written-size 210 a.deleted (omega arith),
+      length-append ((process ++ code) ++ inserted) deleted,
+      length-append (process ++ code) inserted,
+      length-append process code,
+    ) in
+    omega (arith, long, element-at_most 207 (response_value a) (omega arith) (omega (arith, long)))
+
 -- ---- the packet
 
-info-size : (key_name : List Component) → length (encoding key_name) ≤ 205 → length (written_info key_name) ≤ 216
+pub info-size : (key_name : List Component) → length (encoding key_name) ≤ 205 → length (written_info key_name) ≤ 216
 info-size key_name short =
     let inner = element-at_most 7 (encoding key_name) (omega arith) (omega arith) in
     omega (arith, length-append (element 0x1b (4 ∷ [])) (element 0x1c (element 7 (encoding key_name))), element-narrow 0x1b (4 ∷ []) (omega arith) (omega arith), inner, element-at_most 0x1c (element 7 (encoding key_name)) (omega arith) (omega (arith, inner)))

@@ -9,7 +9,7 @@ use Rattle.ndn_tlv.specs.Spelling.{element}
 use Rattle.ndn_tlv.specs.NumberField.{number_of, number_field}
 use Rattle.ndn_tlv.specs.Listing.{Listing, nothing, ◌then◌, gathered, ◌>>=◌}
 use Rattle.ndn_tlv.specs.Elements.{Item, placed, elements}
-use Rattle.ndn_tlv.specs.OrderTable.{place_of, fields}
+use Rattle.ndn_tlv.specs.OrderTable.{place_of, fields, once}
 use Rattle.ndn_tlv.proofs.NumberFields.{number_of-number_field}
 use Rattle.ndn_name.specs.declared.fault.PacketFault.{PacketFault}
 use Rattle.ndn_name.specs.declared.name_fault.NameFault.{NameFault}
@@ -28,7 +28,7 @@ use Rattle.repo_command.specs.declared.command_refusal.CommandRefusal.{CommandRe
 use Rattle.repo_command.specs.declared.command_refusal.CommandRefusal.TheVariants.{BadParameter}
 use Rattle.repo_command.specs.declared.parameters.ParameterField.{ParameterField}
 use Rattle.repo_command.specs.declared.parameters.ParameterField.TheVariants.{Name, StartBlockId, EndBlockId, ProcessId}
-use Rattle.repo_command.specs.OrderTables.{once, repo_command_parameter}
+use Rattle.repo_command.specs.OrderTables.{repo_command_parameter}
 use Rattle.repo_command.specs.Signer.{or_refused}
 use Rattle.repo_command.specs.Verbs.{verb_of, command_name}
 use Rattle.repo_command.specs.Commands.{named_length, is_command, IsSpelled, parameters_value, written_parameters, command_interest}
@@ -98,7 +98,7 @@ parameters_again c is short =
 
 -- ---- the verdict
 
-abbrev or_bad : ℕ → Command → Bool → Result (ℕ × Command) CommandRefusal
+abbrev pub or_bad : ℕ → Command → Bool → Result (ℕ × Command) CommandRefusal
 or_bad client c b = if b then Ok (client, c) else Err BadParameter
 
 insertion : (a b : Bool) (client : ℕ) (range : ℕ × ℕ) (name : List Component)

@@ -14,6 +14,7 @@ use Rattle.repo_command.specs.declared.answer_fields.NoAnswer as no_answer
 use Rattle.repo_command.specs.declared.answer_fields.Gathered as declared_gathered
 use Rattle.repo_command.specs.declared.answer_fields.AnswerField.{AnswerField}
 use Rattle.repo_command.specs.declared.answer_fields.AnswerField.TheVariants.{ProcessId, StatusCode, InsertNum, DeleteNum}
+use Rattle.repo_command.specs.ElementTypes as types
 use Rattle.repo_command.specs.OrderTables.{repo_command_response}
 use Rattle.repo_command.specs.Signer.{or_refused}
 
@@ -40,11 +41,11 @@ written_field typ (Some n) = element typ (number_field n)
 
 abbrev pub response_value : Answer → List ℕ
 response_value a =
-    ((written_field 206 a.process ++ element 208 (number_field a.code)) ++ written_field 209 a.inserted)
-    ++ written_field 210 a.deleted
+    ((written_field types.ProcessId a.process ++ element types.StatusCode (number_field a.code))
+    ++ written_field types.InsertNum a.inserted) ++ written_field types.DeleteNum a.deleted
 
 abbrev pub written_answer : Answer → List ℕ
-written_answer a = element 207 (response_value a)
+written_answer a = element types.RepoCommandResponse (response_value a)
 
 -- ---- reading
 
@@ -92,7 +93,7 @@ whole_answer s = option_and_then (coded_answer s) s.code
 
 -- One element of that type, and nothing else.
 abbrev pub response_among : List Item → Option TlvFault → Option Item
-response_among (e ∷ []) None = if e.typ == 207 then Some e else None
+response_among (e ∷ []) None = if e.typ == types.RepoCommandResponse then Some e else None
 response_among _ fault = None
 
 abbrev pub answer_in : Item → Option Answer

@@ -1,5 +1,6 @@
 -- Commands of the repo protocol, in this project's profile, and the Interests that they are written as.
 use Rattle.std.specs.Prelude.{ℕ, ◌<◌, ◌^◌, ◌-◌, Bool, true, ◌&&◌, List, ◌++◌, length, nat_le, nat_lt}
+use Rattle.ndn_tlv.specs.Types as standard
 use Rattle.ndn_tlv.specs.Spelling.{element}
 use Rattle.ndn_tlv.specs.NumberField.{number_field}
 use Rattle.ndn_name.specs.Names.{Component, IsName, encoding}
@@ -7,6 +8,7 @@ use Rattle.ndn_interest.specs.WrittenInterest.{written_interest}
 use Rattle.repo_object.specs.Objects.{is_object_name}
 use Rattle.repo_command.specs.declared.command.Command.{Command}
 use Rattle.repo_command.specs.declared.command.Command.TheVariants.{Insert, Check, Delete}
+use Rattle.repo_command.specs.ElementTypes as types
 use Rattle.repo_command.specs.Verbs.{verb_of, command_name}
 
 -- What a repository may take: an object's name, and for an insertion 1 to 200 blocks.
@@ -30,12 +32,13 @@ named_length (Delete name) = length (encoding name)
 -- What is in the RepoCommandParameter of a command: the fields that its verb needs.
 abbrev pub parameters_value : Command → List ℕ
 parameters_value (Insert name first last) =
-    element 7 (encoding name) ++ (element 204 (number_field first) ++ element 205 (number_field last))
-parameters_value (Check process) = element 206 (number_field process)
-parameters_value (Delete name) = element 7 (encoding name)
+    element standard.Name (encoding name)
+    ++ (element types.StartBlockId (number_field first) ++ element types.EndBlockId (number_field last))
+parameters_value (Check process) = element types.ProcessId (number_field process)
+parameters_value (Delete name) = element standard.Name (encoding name)
 
 abbrev pub written_parameters : Command → List ℕ
-written_parameters command = element 201 (parameters_value command)
+written_parameters command = element types.RepoCommandParameter (parameters_value command)
 
 -- The Interest of a command for a node, signed under the key of this name: its parameters are the command's.
 abbrev pub command_interest : List Component → Command → List Component → List ℕ → List ℕ

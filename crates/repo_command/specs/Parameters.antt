@@ -17,6 +17,7 @@ use Rattle.repo_command.specs.declared.parameters.ParameterField.{ParameterField
 use Rattle.repo_command.specs.declared.parameters.ParameterField.TheVariants.{Name, StartBlockId, EndBlockId, ProcessId}
 use Rattle.repo_command.specs.declared.verb.Verb.{Verb}
 use Rattle.repo_command.specs.declared.verb.Verb.TheVariants.{Insert, Check, Delete}
+use Rattle.repo_command.specs.ElementTypes as types
 use Rattle.repo_command.specs.OrderTables.{repo_command_parameter}
 use Rattle.repo_command.specs.Signer.{or_refused}
 
@@ -55,7 +56,7 @@ parameters_in e =
 -- The first element is the RepoCommandParameter. What follows it is not looked at.
 abbrev pub parameter_among : List Item → Result Item CommandRefusal
 parameter_among [] = Err BadParameter
-parameter_among (e ∷ es) = if e.typ == 201 then Ok e else Err BadParameter
+parameter_among (e ∷ es) = if e.typ == types.RepoCommandParameter then Ok e else Err BadParameter
 
 abbrev pub parameters_of : List ℕ → Result Parameters CommandRefusal
 parameters_of octets = parameter_among (elements 0 octets).items >>= parameters_in

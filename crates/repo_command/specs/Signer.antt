@@ -4,10 +4,12 @@ use Rattle.std.specs.Prelude.{ℕ, Bool, false, ◌&&◌, List, ◌++◌, Option
 use Rattle.std.specs.Option.{option_map_or}
 use Rattle.std.specs.Str.{bytes_eq}
 use Rattle.sha2.specs.Sha256.{sha256}
+use Rattle.ndn_tlv.specs.Types as types
 use Rattle.ndn_tlv.specs.Listing.{◌>>=◌}
 use Rattle.ndn_name.specs.Names.{Component, encoding}
 use Rattle.ndn_sign.specs.Hmac.{hmac}
 use Rattle.ndn_sign.specs.Ring.{Pair, number_of}
+use Rattle.ndn_packet.specs.SignatureInfo.{SignatureHmacWithSha256}
 use Rattle.ndn_interest.specs.Interest.{Interest, last_component}
 use Rattle.repo_command.specs.declared.signature_refusal.SignatureRefusal.{SignatureRefusal}
 use Rattle.repo_command.specs.declared.signature_refusal.SignatureRefusal.TheVariants.{Unsigned, ParamsDigest, UnknownKey, BadSignature}
@@ -23,14 +25,14 @@ or_refused refusal None = Err refusal
 -- The last component of the name is the digest of the octets.
 abbrev pub is_digest_of : List ℕ → Option Component → Bool
 is_digest_of octets None = false
-is_digest_of octets (Some last) = last.0 == 2 && bytes_eq last.1 (sha256 octets)
+is_digest_of octets (Some last) = last.0 == types.ParametersSha256DigestComponent && bytes_eq last.1 (sha256 octets)
 
 abbrev pub has_its_digest : Interest → Bool
 has_its_digest i = option_map_or (λ octets. is_digest_of octets (last_component i.name)) i.digested false
 
--- The number of the key that the Interest names, where it is signed by HMAC with SHA-256, which is signature type 4.
+-- The number of the key that the Interest names, where it is signed by HMAC with SHA-256.
 abbrev pub key_of : List Pair → Option ℕ → Option (List Component) → Option ℕ
-key_of ring (Some typ) (Some name) = if typ == 4 then number_of (encoding name) ring else None
+key_of ring (Some typ) (Some name) = if typ == SignatureHmacWithSha256 then number_of (encoding name) ring else None
 key_of ring (Some typ) None = None
 key_of ring None locator = None
 

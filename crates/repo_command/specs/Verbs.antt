@@ -1,6 +1,7 @@
 -- The verbs of commands, and the names that commands have.
 use Rattle.std.specs.Prelude.{ℕ, Bool, ◌&&◌, List, [], ◌∷◌, ◌++◌, Option, Some, None, codes, if◌then◌else◌}
 use Rattle.std.specs.Str.{bytes_eq}
+use Rattle.ndn_tlv.specs.Types as types
 use Rattle.ndn_name.specs.Names.{Component, encoding}
 use Rattle.ndn_interest.specs.Interest.{without_last, ends_in_digest}
 use Rattle.repo_command.specs.declared.command.Command.{Command}
@@ -20,7 +21,7 @@ verb_text Check = codes "check"
 verb_text Delete = codes "delete"
 
 abbrev pub verb_component : Verb → Component
-verb_component verb = (8, verb_text verb)
+verb_component verb = (types.GenericNameComponent, verb_text verb)
 
 -- The name of a command for a node without the parameters digest: the node's name, and the verb.
 abbrev pub command_name : List Component → Verb → List Component

@@ -1,5 +1,5 @@
 ghost use Rattle.std.specs.Prelude.{◌≡◌, ◌++◌, ◌<◌, IfOk, OnOk};
-ghost use Rattle.repo_command.specs.Answers.{written_field, written_answer, answer_of};
+ghost use Rattle.repo_command.specs.Answers.{only, written_field, written_answer, answer_of};
 
 use crate::answer_fields::Gathered;
 use crate::element_types::{
@@ -18,6 +18,20 @@ pub struct Answer {
     pub inserted: Option<u64>,
     /// How many packets were dropped.
     pub deleted: Option<u64>,
+}
+
+impl Answer {
+    /// An answer that has a code alone.
+    pub fn only(code: u16) -> Answer
+        ensures { result ≡ only code }
+    {
+        Answer {
+            code,
+            process: None,
+            inserted: None,
+            deleted: None,
+        }
+    }
 }
 
 /// Writes the RepoCommandResponse of an answer.

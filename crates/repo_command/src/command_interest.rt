@@ -1,21 +1,19 @@
 ghost use Rattle.std.specs.Prelude.{◌≡◌, ◌≤◌, ◌⊎◌, ◌++◌, length, IsOk, IfOk, OnOk, MatchResult, Ok, Err};
 ghost use Rattle.ndn_name.specs.Names.{encoding};
-ghost use Rattle.repo_command.specs.Commands.{command_interest, written_parameters, parameters_value, named_length};
+ghost use Rattle.repo_command.specs.Commands.{IsSpelled, command_interest, written_parameters, parameters_value, named_length};
 ghost use Rattle.repo_command.specs.Verdict.{command_verdict};
 ghost use Rattle.repo_command.specs.Verbs.{verb_of};
 
 use crate::command::Command;
 use crate::command_refusal::CommandRefusal;
-use crate::element_types::{
-    END_BLOCK_ID, NAME, PROCESS_ID, REPO_COMMAND_PARAMETER, START_BLOCK_ID,
-};
+use crate::element_types::{END_BLOCK_ID, PROCESS_ID, REPO_COMMAND_PARAMETER, START_BLOCK_ID};
 use crate::parameters::Parameters;
 use crate::signer::signer_of;
 use crate::verb::{Verb, command_name, verb_in};
 use ndn_interest::{InterestView, write_signed};
 use ndn_name::{Name, PacketWriteFault};
 use ndn_sign::KeyRing;
-use ndn_tlv::Writer;
+use ndn_tlv::{Writer, types};
 use repo_object::{NODE_NAME_LIMIT, OBJECT_NAME_LIMIT};
 use std::alloc::{AllocError, Global};
 
@@ -73,12 +71,12 @@ fn put_fields(writer: &mut Writer, command: &Command) -> Result<(), AllocError>
 {
     match command {
         Command::Insert { name, first, last } => {
-            writer.put(NAME, name.octets())?;
+            writer.put(types::NAME, name.octets())?;
             writer.put_number(START_BLOCK_ID, *first)?;
             writer.put_number(END_BLOCK_ID, *last)
         }
         Command::Check { process } => writer.put_number(PROCESS_ID, *process),
-        Command::Delete { name } => writer.put(NAME, name.octets()),
+        Command::Delete { name } => writer.put(types::NAME, name.octets()),
     }
 }
 
@@ -96,6 +94,7 @@ pub fn check_command(
         (λ taken. command_verdict node.now ring.now octets.now ≡ Ok (taken.0, taken.1))
         (λ refusal. (command_verdict node.now ring.now octets.now ≡ Err refusal)
         ⊎ ((refusal ≡ CommandRefusal.NoMemory) × IsOk (command_verdict node.now ring.now octets.now))) }
+    ensures spelled { IfOk result (λ taken. IsSpelled taken.1) }
 {
     let interest = InterestView::read(octets)?;
     let verb = verb_in(&interest.name, node).ok_or(CommandRefusal::OtherName)?;

@@ -1,4 +1,8 @@
+ghost use Rattle.std.specs.Prelude.{◌≡◌};
+ghost use Rattle.repo_command.specs.StatusCodes.{refusal_code};
+
 use crate::signature_refusal::SignatureRefusal;
+use crate::status_codes::{MALFORMED, NOT_VALIDATED};
 use ndn_name::PacketFault;
 use thiserror::Error;
 
@@ -25,6 +29,20 @@ pub enum CommandRefusal {
     BadParameter,
     #[error("out of memory")]
     NoMemory,
+}
+
+impl CommandRefusal {
+    /// The status code that a repository answers to a command that it refuses. Want of memory is no fault of a command.
+    pub fn status_code(self) -> u16
+        ensures { result ≡ refusal_code self }
+    {
+        match self {
+            CommandRefusal::ParamsDigest
+            | CommandRefusal::UnknownKey
+            | CommandRefusal::BadSignature => NOT_VALIDATED,
+            _ => MALFORMED,
+        }
+    }
 }
 
 impl From<PacketFault> for CommandRefusal {

@@ -1,6 +1,4 @@
-//! The types of the elements that commands and answers are written in.
-
-pub(crate) const NAME: u32 = 0x07;
+//! The types of the elements of commands and answers, in this project's profile of the repo protocol.
 
 pub(crate) const REPO_COMMAND_PARAMETER: u32 = 201;
 

@@ -1,4 +1,5 @@
 ghost use Rattle.std.specs.Prelude.{◌≡◌, ◌^◌, ◌<◌, ◌≤◌, ◌↔◌, ◌++◌, ◌∷◌, [], ℕ, List, Ok, Err, Some, IsTrue, length, slice_get, if◌then◌else◌};
+ghost use Rattle.ndn_tlv.specs.Types as standard;
 ghost use Rattle.ndn_name.specs.Names.{Component, IsName, encoding};
 ghost use Rattle.ndn_sign.specs.Hmac.{hmac};
 ghost use Rattle.ndn_sign.specs.Ring.{Pair, number_of, pair};
@@ -7,7 +8,9 @@ ghost use Rattle.repo_command.specs.declared.answer.Answer.{Answer};
 ghost use Rattle.repo_command.specs.declared.command.Command.{Command};
 ghost use Rattle.repo_command.specs.declared.command_refusal.CommandRefusal.TheVariants.{BadParameter};
 ghost use Rattle.repo_command.specs.declared.verb.Verb.{Verb};
+ghost use Rattle.repo_command.specs.ElementTypes as types;
 ghost use Rattle.repo_command.specs.OrderTables.{repo_command_parameter, repo_command_response};
+ghost use Rattle.repo_command.specs.StatusCodes as status;
 ghost use Rattle.repo_command.specs.Signer.{has_its_digest, is_signed};
 ghost use Rattle.repo_command.specs.Verbs.{verb_component, verb_in};
 ghost use Rattle.repo_command.specs.Commands.{named_length, is_command, command_interest, IsSpelled};
@@ -15,15 +18,35 @@ ghost use Rattle.repo_command.specs.Verdict.{command_verdict};
 ghost use Rattle.repo_command.specs.Answers.{written_answer, answer_of, IsAnswer};
 
 use crate::answer_fields::RESPONSE;
-use crate::element_types::{REPO_COMMAND_PARAMETER, REPO_COMMAND_RESPONSE};
+use crate::element_types::{
+    DELETE_NUM, END_BLOCK_ID, INSERT_NUM, PROCESS_ID, REPO_COMMAND_PARAMETER,
+    REPO_COMMAND_RESPONSE, START_BLOCK_ID, STATUS_CODE,
+};
 use crate::parameters::PARAMETER;
+use crate::status_codes::{ACCEPTED, DONE, IN_PROGRESS, MALFORMED, NOT_FOUND, NOT_VALIDATED};
 
-/// The order tables of commands and answers are those of the profile, and so are the types of the elements that they are
-/// for.
+/// The order tables of commands and answers are those of the profile, and so are the types of elements.
 pub fn order_tables_are_the_profiles()
     ensures parameter { PARAMETER ≡ repo_command_parameter }
     ensures response { RESPONSE ≡ repo_command_response }
-    ensures types { (REPO_COMMAND_PARAMETER ≡ 201) × (REPO_COMMAND_RESPONSE ≡ 207) }
+    ensures parameter_type { REPO_COMMAND_PARAMETER ≡ types.RepoCommandParameter }
+    ensures response_type { REPO_COMMAND_RESPONSE ≡ types.RepoCommandResponse }
+    ensures first { START_BLOCK_ID ≡ types.StartBlockId }
+    ensures last { END_BLOCK_ID ≡ types.EndBlockId }
+    ensures process { PROCESS_ID ≡ types.ProcessId }
+    ensures code { STATUS_CODE ≡ types.StatusCode }
+    ensures inserted { INSERT_NUM ≡ types.InsertNum }
+    ensures deleted { DELETE_NUM ≡ types.DeleteNum }
+{}
+
+/// The status codes are those of the profile.
+pub fn status_codes_are_the_profiles()
+    ensures accepted { ACCEPTED ≡ status.Accepted }
+    ensures done { DONE ≡ status.Done }
+    ensures in_progress { IN_PROGRESS ≡ status.InProgress }
+    ensures not_validated { NOT_VALIDATED ≡ status.NotValidated }
+    ensures malformed { MALFORMED ≡ status.Malformed }
+    ensures not_found { NOT_FOUND ≡ status.NotFound }
 {}
 
 /// The command that was made is checked: it tells the command that was given, and the number of the client's key in the
@@ -50,7 +73,7 @@ pub fn taken_commands_are_within_limits()
 pub fn commands_are_tested()
     ensures name { (node name : List Component) (verb : Verb) → IsName node → IsName name
         → (verb_in node name ≡ Some verb)
-        ↔ ((digest : List ℕ) × (name ≡ node ++ verb_component verb ∷ (2, digest) ∷ [])) }
+        ↔ ((digest : List ℕ) × (name ≡ node ++ verb_component verb ∷ (standard.ParametersSha256DigestComponent, digest) ∷ [])) }
     ensures digest { (i : Interest) → IsTrue (has_its_digest i) ↔ IsDigested i }
     ensures signature { (ring : List Pair) (signer : ℕ) (signed : List ℕ × List ℕ) (i : Interest)
         → IsTrue (is_signed ring signer signed i)

@@ -12,6 +12,7 @@ mod laws;
 mod parameters;
 mod signature_refusal;
 mod signer;
+pub mod status_codes;
 mod verb;
 
 pub use answer::{Answer, read_answer, write_answer};
@@ -20,7 +21,7 @@ pub use command_interest::{KEY_NAME_LIMIT, check_command, make_command};
 pub use command_refusal::CommandRefusal;
 pub use laws::{
     commands_are_tested, made_commands_are_checked, order_tables_are_the_profiles,
-    taken_commands_are_within_limits, written_answers_are_read,
+    status_codes_are_the_profiles, taken_commands_are_within_limits, written_answers_are_read,
 };
 pub use signature_refusal::SignatureRefusal;
 pub use signer::signer_of;

@@ -1,16 +1,15 @@
 ghost use Rattle.std.specs.Prelude.{◌≡◌, ◌+◌, ◌^◌, ◌<◌, ◌≤◌, ◌⊎◌, length, IsOk, IfOk, MatchResult, Ok, Err};
-ghost use Rattle.ndn_name.specs.Names.{encoding};
+ghost use Rattle.ndn_name.specs.Names.{IsName, encoding};
 ghost use Rattle.ndn_tlv.specs.Elements.{item, elements};
+ghost use Rattle.repo_command.specs.Commands.{IsSpelled};
 ghost use Rattle.repo_command.specs.Parameters.{parameters, with_parameter, parameters_in, parameters_of, parameter_among, number_in, object_name_of, range_of, command_from};
 
 use crate::command::Command;
 use crate::command_refusal::CommandRefusal;
-use crate::element_types::{
-    END_BLOCK_ID, NAME, PROCESS_ID, REPO_COMMAND_PARAMETER, START_BLOCK_ID,
-};
+use crate::element_types::{END_BLOCK_ID, PROCESS_ID, REPO_COMMAND_PARAMETER, START_BLOCK_ID};
 use crate::verb::Verb;
 use ndn_name::{Name, NameFault, NameView};
-use ndn_tlv::{Element, FieldReader, Place, Reader, read_number};
+use ndn_tlv::{Element, FieldReader, Place, Reader, read_number, types};
 use repo_object::{OBJECT_NAME_LIMIT, is_object_name};
 use std::alloc::Global;
 
@@ -24,7 +23,7 @@ pub(crate) enum ParameterField {
 
 pub(crate) const PARAMETER: [Place<ParameterField>; 4] = [
     Place {
-        typ: NAME,
+        typ: types::NAME,
         field: ParameterField::Name,
         repeats: false,
     },
@@ -113,10 +112,11 @@ impl<'p> Parameters<'p> {
 
     // The command of that verb with these parameters. Only its name takes memory.
     pub(crate) fn into_command(self, alloc: Global, verb: Verb) -> Result<Command, CommandRefusal>
-        ensures { MatchResult result
+        ensures command { MatchResult result
             (λ command. command_from verb (parameters self.entry) ≡ Ok command)
             (λ refusal. (command_from verb (parameters self.entry) ≡ Err refusal)
             ⊎ ((refusal ≡ CommandRefusal.NoMemory) × IsOk (command_from verb (parameters self.entry)))) }
+        ensures spelled { IfOk result IsSpelled }
     {
         match verb {
             Verb::Insert => {
@@ -190,12 +190,17 @@ fn range(first: Option<u64>, last: Option<u64>) -> Result<(u64, u64), CommandRef
 // The name of a view, with octets of its own.
 fn owned_name(alloc: Global, view: &NameView<'_>) -> Result<Name, CommandRefusal>
     requires { length (encoding view.now) ≤ OBJECT_NAME_LIMIT }
-    ensures { MatchResult result
+    ensures same { MatchResult result
         (λ name. name ≡ view.now)
         (λ refusal. refusal ≡ CommandRefusal.NoMemory) }
+    ensures valid { IfOk result IsName }
 {
     match Name::from_view(alloc, view) {
-        Ok(name) => Ok(name),
+        Ok(name) => {
+            // Its clause says that the components are a name's.
+            let _octets = name.octets();
+            Ok(name)
+        }
         Err(NameFault::NameTooLong) => unreachable!(),
         Err(_) => Err(CommandRefusal::NoMemory),
     }

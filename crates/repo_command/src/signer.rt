@@ -4,10 +4,8 @@ ghost use Rattle.repo_command.specs.Signer.{key_of, signer_of};
 
 use crate::signature_refusal::SignatureRefusal;
 use ndn_interest::InterestView;
+use ndn_packet::SIGNATURE_HMAC_WITH_SHA256;
 use ndn_sign::KeyRing;
-
-// HMAC with SHA-256, as a signature type.
-const HMAC_WITH_SHA256: u64 = 4;
 
 /// The number of the key in the ring under which an Interest is signed (NDN Packet Format 0.3, "Signed Interest"; RFC
 /// 2104). It takes no memory.
@@ -34,7 +32,7 @@ fn key_of(interest: &InterestView<'_>, ring: &KeyRing) -> Option<u32>
         ≡ key_of ring.now (packet interest.now).signature_type (packet interest.now).locator }
 {
     match (interest.signature_type, &interest.locator) {
-        (Some(HMAC_WITH_SHA256), Some(name)) => ring.find(name.octets()),
+        (Some(SIGNATURE_HMAC_WITH_SHA256), Some(name)) => ring.find(name.octets()),
         _ => None,
     }
 }

@@ -3,6 +3,7 @@ ghost use Rattle.ndn_name.specs.Names.{encoding};
 ghost use Rattle.repo_command.specs.Verbs.{verb_text, between, is_command_name, verb_in, command_name};
 
 use ndn_name::{Name, NameFault, NameView};
+use ndn_tlv::types;
 use repo_object::NODE_NAME_LIMIT;
 use std::alloc::AllocError;
 
@@ -45,7 +46,7 @@ pub(crate) fn command_name(node: &Name, verb: Verb) -> Result<Name, AllocError>
     ensures { IfOk result (λ name. name ≡ command_name node.now verb) }
 {
     let mut name = node.clone()?;
-    match name.push(8, verb.text()) {
+    match name.push(types::GENERIC_NAME_COMPONENT, verb.text()) {
         Ok(()) => Ok(name),
         Err(NameFault::NameTooLong) => unreachable!(),
         Err(_) => Err(AllocError),

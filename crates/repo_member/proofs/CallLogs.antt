@@ -7,6 +7,12 @@ use Rattle.std.proofs.lemmas.List.{take_at}
 use Rattle.repo_plan.specs.declared.part.Part.{Part}
 use Rattle.repo_plan.specs.Plan.{claim_of}
 use Rattle.repo_object.specs.Objects.{NamedContents}
+use Rattle.ndn_name.specs.Names.{Component}
+use Rattle.repo_command.specs.declared.command.Command as commands
+use Rattle.repo_command.specs.declared.command.Command.TheVariants.{Insert, Check, Delete}
+use Rattle.repo_process.specs.Processes.{Process, BlockState, object_of, closed}
+use Rattle.repo_process.specs.Processes.BlockState.{Unknown, Already, Waiting, Whole}
+use Rattle.repo_process.specs.Insertions.{next_number}
 use Rattle.repo_member.specs.declared.refusals.HearRefusal.{HearRefusal}
 use Rattle.repo_member.specs.declared.refusals.AcceptRefusal.{AcceptRefusal}
 use Rattle.repo_member.specs.Groups.{GroupKeys, publisher_at}
@@ -15,7 +21,10 @@ use Rattle.group_model.specs.Member.{with_tries}
 use Rattle.repo_member.specs.Alone.{Alone, Fetched, alone_plan, alone_publishes, packet_in, logged, alone_takes, with_fetched}
 use Rattle.repo_member.specs.Verdicts.{hear_verdict, accept_verdict}
 use Rattle.repo_member.specs.Outcomes.{outcome_of}
-use Rattle.repo_member.specs.Calls.{MemberCall, Publish, Hear, JoinFrom, Fire, Claim, Lose, Accept, TakeOutcome, EndClaims, Reset, Restart, if_heard, if_joined, if_claimed, if_lost, if_accepted, after_call, after_calls, LogsGoOn, PublicationsStay, LoggedPacketsStay}
+use Rattle.repo_member.specs.Deleting.{alone_deletes}
+use Rattle.repo_member.specs.Commanded.{order_of, alone_starts, alone_obeys, after_order}
+use Rattle.repo_member.specs.Blocks.{alone_block, alone_keeps, after_block}
+use Rattle.repo_member.specs.Calls.{MemberCall, Publish, Hear, JoinFrom, Fire, Claim, Lose, Accept, TakeOutcome, Command, Block, EndClaims, Reset, Restart, if_heard, if_joined, if_claimed, if_lost, if_accepted, after_call, after_calls, LogsGoOn, PublicationsStay, LoggedPacketsStay}
 
 -- an outcome changes what is stored and tried alone
 pub takes_same : {A : Type 0} (f : Alone → A) → ((a : Alone) (store : List Packet) (attempts : List (Part × ℕ)) → f (record a { store = store; attempts = attempts }) ≡ f a)
@@ -66,6 +75,29 @@ more_after g (Accept f octets) a = go (accept_verdict g a f octets) where
 more_after g (TakeOutcome jobs parts attempts) a =
     let xs = outcome_of jobs parts attempts in
     nothing_more a (alone_takes xs a) (takes_same (λ b. b.number) (λ b s t. refl) xs a) (takes_same (λ b. b.log) (λ b s t. refl) xs a)
+more_after g (Command octets) a = go (order_of g a.number octets) where
+  started : (name : List Component) (first last : ℕ) (o : Option ℕ) → HasMore a (alone_starts name first last a o)
+  started name first last None = nothing_more a a refl refl
+  started name first last (Some n) = nothing_more a (alone_starts name first last a (Some n)) refl refl
+
+  obeyed : (command : commands.Command) → HasMore a (alone_obeys command a)
+  obeyed (Insert name first last) = started name first last (next_number a.insertions)
+  obeyed (Check process) = nothing_more a a refl refl
+  obeyed (Delete name) = nothing_more a (alone_deletes name a) refl refl
+
+  go : (order : Result (ℕ × commands.Command) ℕ) → HasMore a (after_order order a)
+  go (Ok order) = obeyed order.1
+  go (Err code) = nothing_more a a refl refl
+more_after g (Block process index content moment draw) a = go (alone_block a process index content) where
+  published : (p : Process) (b : Bool) → HasMore a (cond b (alone_publishes g (object_of p) moment draw (alone_keeps process (closed p) a)) a)
+  published p true = record { number = refl; more = object_of p ∷ []; log = refl }
+  published p false = nothing_more a a refl refl
+
+  go : (state : BlockState) → HasMore a (after_block g process moment draw a state)
+  go Unknown = nothing_more a a refl refl
+  go Already = nothing_more a a refl refl
+  go (Waiting p) = nothing_more a (alone_keeps process p a) refl refl
+  go (Whole p) = published p (nat_lt (length a.log) 65535)
 more_after g EndClaims a = nothing_more a (after_call g EndClaims a) refl refl
 more_after g (Reset moment draw) a = nothing_more a (after_call g (Reset moment draw) a) refl refl
 more_after g (Restart moment draw) a = nothing_more a (after_call g (Restart moment draw) a) refl refl

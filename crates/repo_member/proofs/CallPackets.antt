@@ -1,25 +1,39 @@
 -- What calls make of the packets that a member stores.
-use Rattle.std.proofs.Common.{◌≡◌, ℕ, Bool, true, false, cond, List, [], ◌∷◌, length, Option, Some, None, Result, Ok, Err, refl, sym, ap, ◌∙◌}
+use Rattle.std.proofs.Common.{◌≡◌, ℕ, Bool, true, false, cond, not, ◌&&◌, List, [], ◌∷◌, length, Option, Some, None, Result, Ok, Err, refl, sym, ap, ◌∙◌, subst}
 use Rattle.std.specs.Prelude.{nat_lt}
 use Rattle.std.specs.Ordering.{eq_by_cmp}
+use Rattle.std.proofs.lemmas.Bool.{or_parts, or_right}
 use Rattle.repo_plan.specs.declared.part.Part.{Part}
 use Rattle.repo_plan.specs.SortedList.{keys, contains, value_of, with_value}
-use Rattle.repo_plan.specs.Parts.{part_cmp}
-use Rattle.repo_plan.specs.Plan.{claim_of}
-use Rattle.repo_plan.proofs.Orders.{exact_parts}
-use Rattle.repo_plan.proofs.Sets.{eq_same}
+use Rattle.repo_plan.specs.Parts.{Pair, pair_cmp, part_cmp, pair_of}
+use Rattle.repo_plan.specs.Plan.{hides, holds, is_asked, claim_of}
+use Rattle.repo_plan.proofs.Orders.{exact_pairs, exact_parts}
+use Rattle.repo_plan.proofs.Sets.{eq_same, contains-insert_key}
+use Rattle.repo_object.specs.Objects.{NamedContents}
+use Rattle.ndn_name.specs.Names.{Component}
+use Rattle.repo_command.specs.declared.command.Command as commands
+use Rattle.repo_command.specs.declared.command.Command.TheVariants.{Insert, Check, Delete}
+use Rattle.repo_process.specs.Processes.{BlockState, object_of, closed}
+use Rattle.repo_process.specs.Processes.BlockState.{Unknown, Already, Waiting, Whole}
+use Rattle.repo_process.specs.Insertions.{next_number}
 use Rattle.repo_store.specs.StoreList.{with_packet}
 use Rattle.repo_member.specs.declared.refusals.HearRefusal.{HearRefusal}
 use Rattle.repo_member.specs.declared.refusals.AcceptRefusal.{AcceptRefusal}
 use Rattle.repo_member.specs.Records.{Packet}
 use Rattle.repo_member.specs.Groups.{GroupKeys}
 use Rattle.group_model.specs.Member.{with_tries}
-use Rattle.repo_member.specs.Alone.{Alone, Fetched, alone_plan, with_packets, new_packets, alone_publishes, alone_takes, with_fetched}
+use Rattle.repo_member.specs.Alone.{Alone, Fetched, alone_plan, with_packets, new_packets, alone_publishes, logged, alone_takes, with_fetched}
 use Rattle.repo_member.specs.Verdicts.{hear_verdict, accept_verdict}
 use Rattle.repo_member.specs.Outcomes.{outcome_of}
-use Rattle.repo_member.specs.Calls.{MemberCall, Publish, Hear, JoinFrom, Fire, Claim, Lose, Accept, TakeOutcome, EndClaims, Reset, Restart, if_heard, if_joined, if_claimed, if_lost, if_accepted, after_call, HeldPacketsStay}
+use Rattle.repo_member.specs.Deleting.{catalogued, alone_hides}
+use Rattle.repo_member.specs.Commanded.{order_of, alone_starts, alone_obeys, after_order}
+use Rattle.repo_member.specs.Blocks.{alone_block, alone_keeps, after_block}
+use Rattle.repo_member.specs.Calls.{MemberCall, Publish, Hear, JoinFrom, Fire, Claim, Lose, Accept, TakeOutcome, Command, Block, EndClaims, Reset, Restart, if_heard, if_joined, if_claimed, if_lost, if_accepted, after_call, after_calls, HeldPacketsStay, HiddenForGood, HiddenIsGone, OwnStored}
 use Rattle.repo_member.proofs.GainingLemmas.{put_elsewhere}
-use Rattle.repo_member.proofs.HeldParts.{StaysStored, missing_value}
+use Rattle.repo_member.proofs.HidingLemmas.{other_way, value_outside}
+use Rattle.repo_member.proofs.HeldParts.{IsReached, StaysStored, missing_value}
+use Rattle.repo_member.proofs.HiddenParts.{hidden_one}
+use Rattle.repo_member.proofs.CallLogs.{takes_same}
 
 stays_as_it_is : (stored : List Packet) → StaysStored stored stored
 stays_as_it_is stored = record { still = λ t octets h. h }
@@ -58,37 +72,125 @@ stays_taken (x ∷ xs) a =
     let next : Alone = record a { store = with_fetched x.part x.packet a.store; attempts = with_tries x.part x.attempts a.attempts } in
     stays_longer a.store next.store (alone_takes xs next).store (stays_fetched x.part x.packet a.store) (stays_taken xs next)
 
-stays_after : (g : GroupKeys) (call : MemberCall) (a : Alone) → StaysStored a.store (after_call g call a).store
-stays_after g (Publish object moment draw) a = go (nat_lt (length a.log) 65535) where
-  go : (b : Bool) → StaysStored a.store (cond b (alone_publishes g object moment draw a) a).store
-  go true = stays_with_all (new_packets g object a) a.store
-  go false = stays_as_it_is a.store
-stays_after g (Hear octets moment draw) a = go (hear_verdict g a octets) where
-  go : (v : Result (List ℕ) HearRefusal) → StaysStored a.store (if_heard moment draw a v).store
-  go (Ok told) = stays_as_it_is a.store
-  go (Err refusal) = stays_as_it_is a.store
-stays_after g (JoinFrom octets) a = go (hear_verdict g a octets) where
-  go : (v : Result (List ℕ) HearRefusal) → StaysStored a.store (if_joined a v).store
-  go (Ok told) = stays_as_it_is a.store
-  go (Err refusal) = stays_as_it_is a.store
-stays_after g (Fire moment draw) a = stays_as_it_is a.store
-stays_after g (Claim f) a = go (claim_of (alone_plan a) f) where
-  go : (claim : Option Part) → StaysStored a.store (if_claimed f a claim).store
-  go None = stays_as_it_is a.store
-  go (Some t) = stays_as_it_is a.store
-stays_after g (Lose f) a = go (claim_of (alone_plan a) f) where
-  go : (claim : Option Part) → StaysStored a.store (if_lost f a claim).store
-  go None = stays_as_it_is a.store
-  go (Some t) = stays_as_it_is a.store
-stays_after g (Accept f octets) a = go (accept_verdict g a f octets) where
-  go : (v : Result Part AcceptRefusal) → StaysStored a.store (if_accepted f octets a v).store
-  go (Ok t) = stays_with t octets a.store
-  go (Err refusal) = stays_as_it_is a.store
-stays_after g (TakeOutcome jobs parts attempts) a = stays_taken (outcome_of jobs parts attempts) a
-stays_after g EndClaims a = stays_as_it_is a.store
-stays_after g (Reset moment draw) a = stays_as_it_is a.store
-stays_after g (Restart moment draw) a = stays_as_it_is a.store
+-- ---- a call
+
+-- What is hidden stays hidden, and what is stored stays, but for what is hidden.
+record Keeps (old new : Alone) : Type 0 where
+  hidden : (pair : Pair) → hides (alone_plan old) pair ≡ true → hides (alone_plan new) pair ≡ true
+  stored : (t : Part) (octets : List ℕ) → value_of part_cmp old.store t ≡ Some octets → hides (alone_plan new) (pair_of t) ≡ false → value_of part_cmp new.store t ≡ Some octets
+
+keeps_all : (old new : Alone) → new.hidden ≡ old.hidden → StaysStored old.store new.store → Keeps old new
+keeps_all old new hidden stays = record {
+  hidden = λ pair h. ap (λ (pairs : List Pair). contains pair_cmp pairs pair) hidden ∙ h;
+  stored = λ t octets h shown. stays.still t octets h;
+}
+
+keeps_as_it_is : (old new : Alone) → new.hidden ≡ old.hidden → new.store ≡ old.store → Keeps old new
+keeps_as_it_is old new hidden store =
+    keeps_all old new hidden (subst (StaysStored old.store) (sym store) (stays_as_it_is old.store))
+
+keeps_longer : (first second third : Alone) → Keeps first second → Keeps second third → Keeps first third
+keeps_longer first second third a b = record {
+  hidden = λ pair h. b.hidden pair (a.hidden pair h);
+  stored = λ t octets h shown. b.stored t octets (a.stored t octets h (still_shown (pair_of t) (hides (alone_plan second) (pair_of t)) refl shown)) shown;
+} where
+  still_shown : (pair : Pair) (c : Bool) → hides (alone_plan second) pair ≡ c → hides (alone_plan third) pair ≡ false → c ≡ false
+  still_shown pair true h shown = sym (b.hidden pair h) ∙ shown
+  still_shown pair false h shown = refl
+
+keeps_hidden_one : (pair : Pair) (a : Alone) → Keeps a (hidden_one pair a)
+keeps_hidden_one pair a = record {
+  hidden = λ q h. contains-insert_key exact_pairs pair a.hidden q ∙ or_right (eq_by_cmp pair_cmp q pair) (contains pair_cmp a.hidden q) h;
+  stored = λ t octets h shown.
+      let apart = or_parts (eq_by_cmp pair_cmp (pair_of t) pair) (contains pair_cmp a.hidden (pair_of t)) (sym (contains-insert_key exact_pairs pair a.hidden (pair_of t)) ∙ shown) in
+      value_outside pair a.store t ∙ ap (λ (b : Bool). cond (not b) (value_of part_cmp a.store t) None) (other_way (pair_of t) pair apart.0) ∙ h;
+}
+
+keeps_hidden : (pairs : List Pair) (a : Alone) → Keeps a (alone_hides pairs a)
+keeps_hidden [] a = keeps_as_it_is a (alone_hides [] a) refl refl
+keeps_hidden (pair ∷ pairs) a = keeps_longer a (hidden_one pair a) (alone_hides pairs (hidden_one pair a)) (keeps_hidden_one pair a) (keeps_hidden pairs (hidden_one pair a))
+
+keeps_published : (g : GroupKeys) (object : NamedContents) (moment draw : ℕ) (old a : Alone) → a.hidden ≡ old.hidden → a.store ≡ old.store → (b : Bool)
+    → Keeps old (cond b (alone_publishes g object moment draw a) old)
+keeps_published g object moment draw old a hidden store true =
+    keeps_all old (alone_publishes g object moment draw a) hidden (subst (λ (stored : List Packet). StaysStored stored (with_packets (new_packets g object a) a.store)) store (stays_with_all (new_packets g object a) a.store))
+keeps_published g object moment draw old a hidden store false = keeps_as_it_is old old refl refl
+
+keeps_after : (g : GroupKeys) (call : MemberCall) (a : Alone) → Keeps a (after_call g call a)
+keeps_after g (Publish object moment draw) a = keeps_published g object moment draw a a refl refl (nat_lt (length a.log) 65535)
+keeps_after g (Hear octets moment draw) a = go (hear_verdict g a octets) where
+  go : (v : Result (List ℕ) HearRefusal) → Keeps a (if_heard moment draw a v)
+  go (Ok told) = keeps_as_it_is a (if_heard moment draw a (Ok told)) refl refl
+  go (Err refusal) = keeps_as_it_is a a refl refl
+keeps_after g (JoinFrom octets) a = go (hear_verdict g a octets) where
+  go : (v : Result (List ℕ) HearRefusal) → Keeps a (if_joined a v)
+  go (Ok told) = keeps_as_it_is a (if_joined a (Ok told)) refl refl
+  go (Err refusal) = keeps_as_it_is a a refl refl
+keeps_after g (Fire moment draw) a = keeps_as_it_is a (after_call g (Fire moment draw) a) refl refl
+keeps_after g (Claim f) a = go (claim_of (alone_plan a) f) where
+  go : (claim : Option Part) → Keeps a (if_claimed f a claim)
+  go None = keeps_as_it_is a (if_claimed f a None) refl refl
+  go (Some t) = keeps_as_it_is a a refl refl
+keeps_after g (Lose f) a = go (claim_of (alone_plan a) f) where
+  go : (claim : Option Part) → Keeps a (if_lost f a claim)
+  go None = keeps_as_it_is a a refl refl
+  go (Some t) = keeps_as_it_is a (if_lost f a (Some t)) refl refl
+keeps_after g (Accept f octets) a = go (accept_verdict g a f octets) where
+  go : (v : Result Part AcceptRefusal) → Keeps a (if_accepted f octets a v)
+  go (Ok t) = keeps_all a (if_accepted f octets a (Ok t)) refl (stays_with t octets a.store)
+  go (Err refusal) = keeps_as_it_is a a refl refl
+keeps_after g (TakeOutcome jobs parts attempts) a =
+    let xs = outcome_of jobs parts attempts in
+    keeps_all a (alone_takes xs a) (takes_same (λ b. b.hidden) (λ b s t. refl) xs a) (stays_taken xs a)
+keeps_after g (Command octets) a = go (order_of g a.number octets) where
+  started : (name : List Component) (first last : ℕ) (o : Option ℕ) → Keeps a (alone_starts name first last a o)
+  started name first last None = keeps_as_it_is a a refl refl
+  started name first last (Some n) = keeps_as_it_is a (alone_starts name first last a (Some n)) refl refl
+
+  obeyed : (command : commands.Command) → Keeps a (alone_obeys command a)
+  obeyed (Insert name first last) = started name first last (next_number a.insertions)
+  obeyed (Check process) = keeps_as_it_is a a refl refl
+  obeyed (Delete name) = keeps_hidden (catalogued name a) a
+
+  go : (order : Result (ℕ × commands.Command) ℕ) → Keeps a (after_order order a)
+  go (Ok order) = obeyed order.1
+  go (Err code) = keeps_as_it_is a a refl refl
+keeps_after g (Block process index content moment draw) a = go (alone_block a process index content) where
+  go : (state : BlockState) → Keeps a (after_block g process moment draw a state)
+  go Unknown = keeps_as_it_is a a refl refl
+  go Already = keeps_as_it_is a a refl refl
+  go (Waiting p) = keeps_as_it_is a (alone_keeps process p a) refl refl
+  go (Whole p) = keeps_published g (object_of p) moment draw a (alone_keeps process (closed p) a) refl refl (nat_lt (length a.log) 65535)
+keeps_after g EndClaims a = keeps_as_it_is a (after_call g EndClaims a) refl refl
+keeps_after g (Reset moment draw) a = keeps_as_it_is a (after_call g (Reset moment draw) a) refl refl
+keeps_after g (Restart moment draw) a = keeps_as_it_is a (after_call g (Restart moment draw) a) refl refl
+
+-- ---- the laws
+
+keeps_after_all : (g : GroupKeys) (calls : List MemberCall) (a : Alone) → Keeps a (after_calls g calls a)
+keeps_after_all g [] a = keeps_as_it_is a a refl refl
+keeps_after_all g (call ∷ calls) a =
+    keeps_longer a (after_call g call a) (after_calls g calls (after_call g call a)) (keeps_after g call a) (keeps_after_all g calls (after_call g call a))
 
 pub held_packets_stay : HeldPacketsStay
-held_packets_stay g [] a t octets h = h
-held_packets_stay g (call ∷ calls) a t octets h = held_packets_stay g calls (after_call g call a) t octets ((stays_after g call a).still t octets h)
+held_packets_stay g calls a t octets h shown = (keeps_after_all g calls a).stored t octets h shown
+
+pub hidden_for_good : HiddenForGood
+hidden_for_good g calls a pair h = (keeps_after_all g calls a).hidden pair h
+
+pub hidden_is_gone : (g : GroupKeys) (a : Alone) → IsReached g a → HiddenIsGone g a
+hidden_is_gone g a r t h = (
+  ap (λ (b : Bool). is_asked (alone_plan a) t && (not (holds (alone_plan a) t) && not b)) h ∙ none (is_asked (alone_plan a) t) (not (holds (alone_plan a) t)),
+  missing_value a.store t (r.sound.hidden t h),
+) where
+  none : (b c : Bool) → (b && (c && false)) ≡ false
+  none true true = refl
+  none true false = refl
+  none false c = refl
+
+-- an own part is stored as it was published, unless its publication is hidden
+pub own_stored : (g : GroupKeys) (a : Alone) → IsReached g a → OwnStored g a
+own_stored g a r t own = go (hides (alone_plan a) (pair_of t)) refl where
+  go : (b : Bool) → hides (alone_plan a) (pair_of t) ≡ b → value_of part_cmp a.store t ≡ cond b None (logged g a t)
+  go true h = missing_value a.store t (r.sound.hidden t h)
+  go false shown = r.own t own shown

@@ -14,15 +14,16 @@ use Rattle.repo_object.specs.Verdict.{ring_verdict}
 use Rattle.repo_member.specs.declared.refusals.HearRefusal.{HearRefusal}
 use Rattle.repo_member.specs.declared.refusals.AcceptRefusal.{AcceptRefusal}
 use Rattle.repo_member.specs.Groups.{GroupKeys}
-use Rattle.repo_member.specs.Alone.{Alone, alone_plan, alone_publishes, alone_learns, alone_claims, alone_accepts, alone_ends_claims, want_of}
+use Rattle.repo_member.specs.Alone.{Alone, alone_plan, alone_publishes, alone_learns, alone_claims, alone_accepts, alone_ends_claims, alone_clears, want_of}
 use Rattle.repo_member.specs.Verdicts.{hear_verdict, passed, claim_verdict, accept_verdict}
-use Rattle.repo_member.specs.Calls.{MemberCall, Publish, Hear, JoinFrom, Fire, Claim, Lose, Accept, TakeOutcome, EndClaims, Reset, Restart, if_heard, if_joined, if_claimed, if_lost, if_accepted, after_call, after_calls, IsAllowedCall, AreAllowedCalls, InEveryMember}
+use Rattle.repo_member.specs.Calls.{MemberCall, Publish, Hear, JoinFrom, Fire, Claim, Lose, Accept, TakeOutcome, Command, Block, EndClaims, Reset, Restart, if_heard, if_joined, if_claimed, if_lost, if_accepted, after_call, after_calls, IsAllowedCall, AreAllowedCalls, InEveryMember}
 use Rattle.repo_member.proofs.MemberLemmas.{still_wide}
 use Rattle.repo_member.proofs.CallVectors.{told_is}
 use Rattle.repo_member.proofs.ToldWidth.{told_wide}
 use Rattle.repo_member.proofs.HeldParts.{IsReached, PassesNow, reached_opening, reached_with, reached_learns, reached_gains}
 use Rattle.repo_member.proofs.PublishedParts.{reached_publishes}
 use Rattle.repo_member.proofs.FetchedParts.{reached_takes}
+use Rattle.repo_member.proofs.InsertionParts.{reached_order, reached_blocks, reached_clears}
 
 -- ---- a call
 
@@ -101,10 +102,13 @@ reached_call g (Accept f octets) a can r = go (accept_verdict g a f octets) refl
   go (Ok t) p = reached_accepts g a f t octets (accepted g a f t octets p) r
   go (Err refusal) p = r
 reached_call g (TakeOutcome jobs parts attempts) a can r = reached_takes g a jobs parts attempts can.0 can.1 r
+reached_call g (Command octets) a can r = reached_order g octets a can r
+reached_call g (Block process index content moment draw) a can r = reached_blocks g process index content moment draw a can r
 reached_call g EndClaims a can r = claims_too g a (alone_ends_claims a).claims (sound_end (alone_plan a) r.sound) r
 reached_call g (Reset moment draw) a can r = machine_too g a (steady_kept moment draw a.machine) refl r
 reached_call g (Restart moment draw) a can r =
-    machine_too g (alone_ends_claims a) (steady_kept moment draw a.machine) refl (claims_too g a (alone_ends_claims a).claims (sound_end (alone_plan a) r.sound) r)
+    let ended = alone_ends_claims a in
+    machine_too g (alone_clears ended) (steady_kept moment draw a.machine) refl (reached_clears g ended (claims_too g a ended.claims (sound_end (alone_plan a) r.sound) r))
 
 -- ---- all calls
 

@@ -10,6 +10,12 @@ use Rattle.svs_sync.specs.SyncInterest.{sync_verdict}
 use Rattle.repo_plan.specs.declared.part.Part.{Part}
 use Rattle.repo_plan.specs.Plan.{claim_of}
 use Rattle.repo_object.specs.Objects.{NamedContents}
+use Rattle.ndn_name.specs.Names.{Component}
+use Rattle.repo_command.specs.declared.command.Command as commands
+use Rattle.repo_command.specs.declared.command.Command.TheVariants.{Insert, Check, Delete}
+use Rattle.repo_process.specs.Processes.{Process, BlockState, object_of, closed}
+use Rattle.repo_process.specs.Processes.BlockState.{Unknown, Already, Waiting, Whole}
+use Rattle.repo_process.specs.Insertions.{next_number}
 use Rattle.repo_member.specs.declared.refusals.HearRefusal.{HearRefusal}
 use Rattle.repo_member.specs.declared.refusals.HearRefusal.TheVariants.{OwnNumberAhead}
 use Rattle.repo_member.specs.declared.refusals.AcceptRefusal.{AcceptRefusal}
@@ -17,7 +23,10 @@ use Rattle.repo_member.specs.Groups.{GroupKeys}
 use Rattle.repo_member.specs.Alone.{Alone, alone_plan, alone_publishes, alone_takes}
 use Rattle.repo_member.specs.Verdicts.{told_verdict, hear_verdict, accept_verdict}
 use Rattle.repo_member.specs.Outcomes.{outcome_of}
-use Rattle.repo_member.specs.Calls.{MemberCall, Publish, Hear, JoinFrom, Fire, Claim, Lose, Accept, TakeOutcome, EndClaims, Reset, Restart, if_heard, if_joined, if_claimed, if_lost, if_accepted, after_call, after_calls, vector_taken, vector_of_call, vectors_told, NumbersNeverFall, KnownIsTheJoin}
+use Rattle.repo_member.specs.Deleting.{alone_deletes}
+use Rattle.repo_member.specs.Commanded.{order_of, alone_starts, alone_obeys, after_order}
+use Rattle.repo_member.specs.Blocks.{alone_block, alone_keeps, after_block}
+use Rattle.repo_member.specs.Calls.{MemberCall, Publish, Hear, JoinFrom, Fire, Claim, Lose, Accept, TakeOutcome, Command, Block, EndClaims, Reset, Restart, if_heard, if_joined, if_claimed, if_lost, if_accepted, after_call, after_calls, vector_taken, vector_of_call, vectors_told, NumbersNeverFall, KnownIsTheJoin}
 use Rattle.repo_member.proofs.CallLogs.{takes_same}
 
 -- ---- what octets tell
@@ -159,6 +168,29 @@ learns_by g (Accept f octets) a is = go (accept_verdict g a f octets) where
 learns_by g (TakeOutcome jobs parts attempts) a is =
     let xs = outcome_of jobs parts attempts in
     learns_nothing a (alone_takes xs a) (takes_same (λ b. b.number) (λ b s t. refl) xs a) (takes_same (λ b. b.known) (λ b s t. refl) xs a) (takes_same (λ b. b.log) (λ b s t. refl) xs a) is
+learns_by g (Command octets) a is = go (order_of g a.number octets) where
+  started : (name : List Component) (first last : ℕ) (o : Option ℕ) → Learns [] a (alone_starts name first last a o)
+  started name first last None = learns_nothing a a refl refl refl is
+  started name first last (Some n) = learns_nothing a (alone_starts name first last a (Some n)) refl refl refl is
+
+  obeyed : (command : commands.Command) → Learns [] a (alone_obeys command a)
+  obeyed (Insert name first last) = started name first last (next_number a.insertions)
+  obeyed (Check process) = learns_nothing a a refl refl refl is
+  obeyed (Delete name) = learns_nothing a (alone_deletes name a) refl refl refl is
+
+  go : (order : Result (ℕ × commands.Command) ℕ) → Learns [] a (after_order order a)
+  go (Ok order) = obeyed order.1
+  go (Err code) = learns_nothing a a refl refl refl is
+learns_by g (Block process index content moment draw) a is = go (alone_block a process index content) where
+  published : (p : Process) (b : Bool) → Learns [] a (cond b (alone_publishes g (object_of p) moment draw (alone_keeps process (closed p) a)) a)
+  published p true = learns_own (object_of p) a (alone_publishes g (object_of p) moment draw (alone_keeps process (closed p) a)) refl refl refl is
+  published p false = learns_nothing a a refl refl refl is
+
+  go : (state : BlockState) → Learns [] a (after_block g process moment draw a state)
+  go Unknown = learns_nothing a a refl refl refl is
+  go Already = learns_nothing a a refl refl refl is
+  go (Waiting p) = learns_nothing a (alone_keeps process p a) refl refl refl is
+  go (Whole p) = published p (nat_lt (length a.log) 65535)
 learns_by g EndClaims a is = learns_nothing a (after_call g EndClaims a) refl refl refl is
 learns_by g (Reset moment draw) a is = learns_nothing a (after_call g (Reset moment draw) a) refl refl refl is
 learns_by g (Restart moment draw) a is = learns_nothing a (after_call g (Restart moment draw) a) refl refl refl is

@@ -53,12 +53,12 @@ entries_value packets pair r =
     ∙ ap (option_and_then (listed_entry packets pair)) (value_of-records packets pair)
     ∙ and_then_twice listing_in (entry_listed packets pair) (stored_at packets pair 0)
 
-entries_rise : (packets : List Packet) → Rises part_cmp (keys packets) → Rises pair_cmp (keys (entries_in packets))
+pub entries_rise : (packets : List Packet) → Rises part_cmp (keys packets) → Rises pair_cmp (keys (entries_in packets))
 entries_rise packets r = rises_kept exact_pairs (listed_entry packets) (records_in packets) (rises_records packets r)
 
 -- ---- entries stand under their publications
 
-abbrev Keyed : List (Pair × Entry) → Type 0
+abbrev pub Keyed : List (Pair × Entry) → Type 0
 Keyed [] = Unit {0}
 Keyed (x ∷ xs) = (publication_of x.1 ≡ x.0) × Keyed xs
 
@@ -84,7 +84,7 @@ listed_keyed packets pair octets e h = go (listing_in octets) h where
   go None p = absurd (none_is_some e p)
   go (Some l) p = entry_keyed packets pair l e p
 
-entries_keyed : (packets : List Packet) → Keyed (entries_in packets)
+pub entries_keyed : (packets : List Packet) → Keyed (entries_in packets)
 entries_keyed packets = keyed_kept (listed_entry packets) (listed_keyed packets) (records_in packets)
 
 -- a new entry goes to its place

@@ -23,7 +23,7 @@ use Rattle.group_model.specs.Steps.{drawn, timer_at, claim_at, passes_checks, ca
 use Rattle.group_model.proofs.Lists.{contains-insert_keys, rises_insert_keys}
 use Rattle.group_model.proofs.Settles.{member_settled, member_gathered}
 use Rattle.group_model.proofs.SortedSets.{same_members}
-use Rattle.repo_member.specs.Alone.{Alone, alone_plan, alone_learns, alone_hears, alone_fires, alone_claims, alone_accepts, alone_takes, alone_ends_claims, alone_resets}
+use Rattle.repo_member.specs.Alone.{Alone, alone_plan, alone_learns, alone_hears, alone_fires, alone_claims, alone_accepts, alone_takes, alone_ends_claims}
 use Rattle.repo_member.specs.InGroup.{in_group, StoresInOrder, AreTries, that_came, after_timer}
 use Rattle.repo_member.specs.Outcomes.{with_all_tries}
 use Rattle.repo_member.specs.Alone.{Fetched}
@@ -34,7 +34,7 @@ use Rattle.repo_member.proofs.GroupCatalogues.{lists_alike}
 
 module _ (w : World) (j : ℕ) (a : Alone) (is : IsMemberOf w j a) where
   -- the member after a change of it
-  changed : (change : Member → Member) → get_or (set w.members j (change (member w j))) j no_member ≡ change (in_group a)
+  pub changed : (change : Member → Member) → get_or (set w.members j (change (member w j))) j no_member ≡ change (in_group a)
   changed change = get_or-set_same w.members j (change (member w j)) no_member is.there ∙ ap change is.same
 
 pub publish_is_event : PublishIsEvent

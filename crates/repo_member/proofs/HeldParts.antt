@@ -15,7 +15,7 @@ use Rattle.ndn_data.specs.Data.{Data}
 use Rattle.repo_plan.specs.declared.part.Part.{Part}
 use Rattle.repo_plan.specs.SortedList.{keys, Rises, contains, value_of}
 use Rattle.repo_plan.specs.Parts.{Pair, part_cmp, pair_of, part_of}
-use Rattle.repo_plan.specs.Plan.{knows, holds, is_asked, can_be_asked, shape_of}
+use Rattle.repo_plan.specs.Plan.{knows, holds, hides, is_asked, can_be_asked, shape_of}
 use Rattle.repo_plan.specs.Sound.{IsSound, CanBeHeld}
 use Rattle.repo_plan.proofs.Orders.{exact_parts}
 use Rattle.repo_plan.proofs.Sets.{eq_same}
@@ -27,12 +27,14 @@ use Rattle.repo_object.specs.Wants.{WantedPart, want_record, want_segment}
 use Rattle.repo_object.specs.Verdict.{listing_in, listing_within, ring_verdict, publisher_key}
 use Rattle.repo_object.proofs.Passing.{passes}
 use Rattle.repo_object.proofs.Publications.{packets-length, record_listed}
+use Rattle.repo_process.specs.Insertions.{Insertions}
 use Rattle.repo_store.specs.StoreList.{with_packet}
 use Rattle.repo_member.specs.Records.{Packet}
 use Rattle.repo_member.specs.Listed.{stored_at, listing_at, listed_shape}
 use Rattle.repo_member.specs.Groups.{GroupKeys, IsGroup, node_at, publisher_at}
 use Rattle.repo_member.specs.Alone.{Alone, IsAlone, IsOf, alone_plan, alone_opening, logged, packet_in, nothing_listed, want_of, alone_learns}
 use Rattle.repo_member.specs.Gaining.{told_shape}
+use Rattle.repo_member.specs.Blocks.{AreWithinLimits}
 use Rattle.repo_member.proofs.GainingLemmas.{contains-value, put_elsewhere, value_of-put}
 use Rattle.repo_member.proofs.AskedLemmas.{asked_segment}
 use Rattle.repo_member.proofs.MemberLemmas.{knows_more, want_part}
@@ -52,8 +54,9 @@ pub record IsReached (g : GroupKeys) (a : Alone) : Type 0 where
   pub sound : IsSound (alone_plan a)
   pub few : length a.log ≤ 65535
   pub objects : All IsObject a.log
-  pub own : (t : Part) → t.publisher ≡ a.number → value_of part_cmp a.store t ≡ logged g a t
+  pub own : (t : Part) → t.publisher ≡ a.number → hides (alone_plan a) (pair_of t) ≡ false → value_of part_cmp a.store t ≡ logged g a t
   pub others : (t : Part) (octets : List ℕ) → t.publisher ≢ a.number → value_of part_cmp a.store t ≡ Some octets → PassesNow g a.store t octets
+  pub insertions : AreWithinLimits a.insertions.processes
 
 -- ---- the beginning
 
@@ -75,8 +78,9 @@ reached_opening g number moment draw group inside =
       sound = sound_opening n;
       few = omega arith;
       objects = All-nil IsObject;
-      own = λ t h. nothing (t.publisher == number) (t.seq == 0);
+      own = λ t h shown. nothing (t.publisher == number) (t.seq == 0);
       others = λ t octets h found. absurd cc;
+      insertions = λ n p found. absurd cc;
     } where
       nothing : (b c : Bool) → let none : Option (List ℕ) = None in none ≡ cond b (cond c none none) none
       nothing false c = refl
@@ -97,6 +101,21 @@ reached_with g a claims attempts machine wide sound r = record {
   objects = r.objects;
   own = r.own;
   others = r.others;
+  insertions = r.insertions;
+}
+
+-- insertion processes
+pub reached_insertions : (g : GroupKeys) (a : Alone) (insertions : Insertions) → AreWithinLimits insertions.processes → IsReached g a → IsReached g (record a { insertions = insertions })
+reached_insertions g a insertions each r = record {
+  group = r.group;
+  alone = record { member = r.alone.member; own = r.alone.own; width = r.alone.width; in_order = r.alone.in_order; hidden = r.alone.hidden };
+  of = r.of;
+  sound = r.sound;
+  few = r.few;
+  objects = r.objects;
+  own = r.own;
+  others = r.others;
+  insertions = each;
 }
 
 few_members : (g : GroupKeys) (a : Alone) → IsReached g a → length a.known ≤ 2 ^ 32
@@ -123,6 +142,7 @@ reached_learns g a told wide not_ahead r =
       objects = r.objects;
       own = r.own;
       others = r.others;
+      insertions = r.insertions;
     }
 
 -- ---- own parts
@@ -137,8 +157,8 @@ logged_own g a t object own above there =
     ∙ ap (λ (b : Bool). cond b None (option_and_then (packet_in (publisher_at g a.number) t) (slice_get a.log (t.seq - 1)))) (ne_eqb t.seq 0 (λ e. absurd (omega (arith, e, above))))
     ∙ ap (option_and_then (packet_in (publisher_at g a.number) t)) there
 
--- an own part that is asked for was published
-module _ (g : GroupKeys) (a : Alone) (t : Part) (r : IsReached g a) (own : t.publisher ≡ a.number) (asked : is_asked (alone_plan a) t ≡ true) where
+-- an own part that is asked for and not hidden was published
+module _ (g : GroupKeys) (a : Alone) (t : Part) (r : IsReached g a) (own : t.publisher ≡ a.number) (asked : is_asked (alone_plan a) t ≡ true) (shown : hides (alone_plan a) (pair_of t) ≡ false) where
   known : (1 ≤ t.seq) × (t.seq ≤ length a.log)
   known =
       let both = and_parts (nat_le 1 t.seq) (nat_le t.seq (slice_index a.known t.publisher)) (and_parts (knows (alone_plan a) (pair_of t)) (can_be_asked (keys a.store) (shape_of (alone_plan a) (pair_of t)) t) asked).0 in
@@ -166,7 +186,7 @@ module _ (g : GroupKeys) (a : Alone) (t : Part) (r : IsReached g a) (own : t.pub
   -- its record is stored, and lists its segments
   listed : listing_at a.store (pair_of t) ≡ Some (published_listing by object)
   listed =
-      ap (option_and_then listing_in) (r.own (part_of (pair_of t) 0) own ∙ logged_own g a (part_of (pair_of t) 0) object own (omega (arith, known.0)) there)
+      ap (option_and_then listing_in) (r.own (part_of (pair_of t) 0) own shown ∙ logged_own g a (part_of (pair_of t) 0) object own (omega (arith, known.0)) there)
       ∙ record_listed by object publishes_it is_object t.seq (omega (arith, known.1, r.few))
 
   within : t.part < length (packets by t.seq object)
@@ -185,7 +205,7 @@ module _ (g : GroupKeys) (a : Alone) (t : Part) (r : IsReached g a) (own : t.pub
   pub own_stored : (value_of part_cmp a.store t ≡ None) → ⊥
   own_stored missing =
       let octets = slice_index_or (packets by t.seq object) t.part [] in
-      none_some octets (sym missing ∙ r.own t own ∙ logged_own g a t object own (omega (arith, known.0)) there ∙ slice_get-get_or (packets by t.seq object) t.part [] within)
+      none_some octets (sym missing ∙ r.own t own shown ∙ logged_own g a t object own (omega (arith, known.0)) there ∙ slice_get-get_or (packets by t.seq object) t.part [] within)
 
 -- ---- a part that comes
 
@@ -251,7 +271,7 @@ module _ (g : GroupKeys) (a : Alone) (t : Part) (octets : List ℕ) (r : IsReach
     go q found false p h = put_elsewhere a.store t octets fresh q p ∙ h
 
   not_own : t.publisher ≢ a.number
-  not_own own = own_stored g a t r own can.asked (missing_value a.store t fresh)
+  not_own own = own_stored g a t r own can.asked can.not_hidden (missing_value a.store t fresh)
 
   pub reached_gains : PassesNow g a.store t octets → IsReached g (gains t octets a)
   reached_gains passed = record {
@@ -261,8 +281,9 @@ module _ (g : GroupKeys) (a : Alone) (t : Part) (octets : List ℕ) (r : IsReach
     sound = sound_gained a t octets r.alone.in_order fresh (passed_told g a.store t octets passed) can r.sound;
     few = r.few;
     objects = r.objects;
-    own = λ q own. put_elsewhere a.store t octets fresh q (other q own (eq_by_cmp part_cmp q t) refl) ∙ r.own q own;
+    own = λ q own shown. put_elsewhere a.store t octets fresh q (other q own (eq_by_cmp part_cmp q t) refl) ∙ r.own q own shown;
     others = λ q found away h. at q found away (eq_by_cmp part_cmp q t) refl (sym (value_of-put a.store t octets fresh q) ∙ h);
+    insertions = r.insertions;
   } where
     other : (q : Part) → q.publisher ≡ a.number → (b : Bool) → eq_by_cmp part_cmp q t ≡ b → b ≡ false
     other q own true p = absurd (not_own (sym (ap (λ (u : Part). u.publisher) (eq_same exact_parts q t p)) ∙ own))

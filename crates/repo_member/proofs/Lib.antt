@@ -3,6 +3,7 @@ mod SortedMaps
 mod RecordLemmas
 mod CatalogueLemmas
 mod GainingLemmas
+mod HidingLemmas
 mod ContentLemmas
 mod AskedLemmas
 mod PlanLemmas
@@ -13,6 +14,8 @@ mod OwnLemmas
 mod VectorLemmas
 mod ChangeLemmas
 mod TruePackets
+mod FoundLemmas
+mod ReplyLemmas
 mod GroupPlans
 mod GroupCatalogues
 mod LastingPackets
@@ -25,9 +28,16 @@ mod PlanChanges
 mod HeldParts
 mod PublishedParts
 mod FetchedParts
+mod HiddenParts
+mod InsertionParts
+mod WaitingLemmas
+mod BlockStates
+mod DeletionLemmas
+mod CommandEvents
 mod CallReach
 mod CallPackets
 mod TrueMembers
 mod TrueChanges
 mod TrueSyncs
+mod OrderLemmas
 pub mod PublicLaws

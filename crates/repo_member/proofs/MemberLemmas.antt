@@ -103,6 +103,7 @@ learns_is m told vector plan machine is width few joined planned wide =
       };
       known = refl;
       kept = record { tied = record { in_order = is.kept.tied.in_order; held = is.kept.tied.held; shapes = is.kept.tied.shapes }; listed = is.kept.listed };
+      waiting = is.waiting;
     } in
     rw (joined, planned) made
 

@@ -35,7 +35,7 @@ use Rattle.repo_member.specs.Listed.{listed_shape, listing_at, entry_at, alone_c
 use Rattle.repo_member.specs.Alone.{alone_plan, as_parts, with_packets}
 use Rattle.repo_member.specs.Gaining.{AreTied, AreKept, with_listed}
 use Rattle.repo_member.specs.Publishing.{IsNew, ArePackets}
-use Rattle.repo_member.specs.Members.{alone, IsMember}
+use Rattle.repo_member.specs.Members.{alone, AreWaiting, IsMember}
 use Rattle.repo_member.proofs.MemberLemmas.{knows_more}
 use Rattle.repo_member.proofs.PublishLemmas.{record_stored, relisted_publication}
 
@@ -139,8 +139,8 @@ module _ (m : Inside) (is : IsMember m) where
       → next.vector ≡ slice_set m.vector m.number (max (slice_index m.vector m.number) (length m.log.items + 1))
       → next.machine.members ≡ m.machine.members
       → next.plan.known ≡ slice_set m.plan.known m.number (max (slice_index m.plan.known m.number) (length m.log.items + 1))
-      → next.plan.hidden ≡ m.plan.hidden → AreKept next.plan next.store.packets next.catalogue.entries → IsMember next
-  published_is next number more vector members known hidden kept =
+      → next.plan.hidden ≡ m.plan.hidden → AreKept next.plan next.store.packets next.catalogue.entries → AreWaiting next.processes.processes → IsMember next
+  published_is next number more vector members known hidden kept waiting =
       let long = length-set m.vector m.number (max (slice_index m.vector m.number) (length m.log.items + 1)) in
       let wide : length next.vector ≡ length m.vector = ap (λ (v : List ℕ). length v) vector ∙ long in
       let own = is.alone.own in
@@ -158,12 +158,13 @@ module _ (m : Inside) (is : IsMember m) where
         };
         known = known ∙ ap greater is.known ∙ sym vector;
         kept = kept;
+        waiting = waiting;
       }
 
   -- a part more, or none
   pub gained_is : (next : Inside) → next.number ≡ m.number → next.log.items ≡ m.log.items → next.vector ≡ m.vector → next.machine ≡ m.machine
-      → next.plan.known ≡ m.plan.known → next.plan.hidden ≡ m.plan.hidden → AreKept next.plan next.store.packets next.catalogue.entries → IsMember next
-  gained_is next number log vector machine known hidden kept = record {
+      → next.plan.known ≡ m.plan.known → next.plan.hidden ≡ m.plan.hidden → AreKept next.plan next.store.packets next.catalogue.entries → AreWaiting next.processes.processes → IsMember next
+  gained_is next number log vector machine known hidden kept waiting = record {
     alone = record {
       member = omega (arith, number, ap (λ (v : List ℕ). length v) vector, is.alone.member);
       own = ap (λ (v : List ℕ). slice_index v next.number) vector ∙ ap (slice_index m.vector) number ∙ is.alone.own ∙ sym (ap (λ l. length l) log);
@@ -174,6 +175,7 @@ module _ (m : Inside) (is : IsMember m) where
     };
     known = known ∙ is.known ∙ sym vector;
     kept = kept;
+    waiting = waiting;
   }
 
 -- ---- what is stored and listed of it

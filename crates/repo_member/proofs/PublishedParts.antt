@@ -9,6 +9,7 @@ use Rattle.std.proofs.lemmas.List.Elements.{All-push}
 use Rattle.repo_plan.specs.declared.part.Part.{Part}
 use Rattle.repo_plan.specs.SortedList.{keys, contains, value_of}
 use Rattle.repo_plan.specs.Parts.{Pair, part_cmp, pair_of, part_of}
+use Rattle.repo_plan.specs.Plan.{hides}
 use Rattle.repo_plan.specs.Sound.{IsSound}
 use Rattle.repo_plan.proofs.Orders.{exact_parts}
 use Rattle.repo_plan.proofs.Sets.{eq_same}
@@ -139,8 +140,8 @@ module _ (g : GroupKeys) (object : NamedContents) (moment draw : ℕ) (a : Alone
           above : q.seq - 1 ≡ length a.log → (q.seq ≡ 0 → ⊥) → q.seq ≡ next_seq a
           above e ne = elim (cases_eq q.seq 0) [ inl z ↦ absurd (ne z) | inr n ↦ omega (arith, e, n) ]
 
-  own_parts : (q : Part) → q.publisher ≡ a.number → value_of part_cmp after q ≡ logged g (alone_publishes g object moment draw a) q
-  own_parts q own = elim (cases_eq q.seq (next_seq a)) [
+  own_parts : (q : Part) → q.publisher ≡ a.number → hides (alone_plan a) (pair_of q) ≡ false → value_of part_cmp after q ≡ logged g (alone_publishes g object moment draw a) q
+  own_parts q own shown = elim (cases_eq q.seq (next_seq a)) [
     | inl same ↦
         let is : q ≡ part_of pair q.part = λ i. record { publisher = own i; seq = same i; part = q.part } in
         let last : q.seq - 1 ≡ length a.log = omega (arith, same) in
@@ -148,7 +149,7 @@ module _ (g : GroupKeys) (object : NamedContents) (moment draw : ℕ) (a : Alone
         ap (value_of part_cmp after) (is ∙ ap (part_of pair) from_first) ∙ puts_value pair 0 made a.store (λ y h. new.not_held y) q.part
         ∙ ap (λ (n : ℕ). slice_get (packets by n object) q.part) (sym same)
         ∙ sym (logged_own g (alone_publishes g object moment draw a) q object own (omega (arith, same)) (ap (slice_get (a.log ++ object ∷ [])) last ∙ at_end a.log object))
-    | inr other ↦ aside q (of_another q other) ∙ r.own q own ∙ logged_before q other
+    | inr other ↦ aside q (of_another q other) ∙ r.own q own shown ∙ logged_before q other
   ]
 
   same_want : (q : Part) → q.publisher ≢ a.number → want_of g a.store q ≡ want_of g after q
@@ -173,4 +174,5 @@ module _ (g : GroupKeys) (object : NamedContents) (moment draw : ℕ) (a : Alone
     own = own_parts;
     others = λ q octets away h.
         subst (λ (want : WantedPart). IsOk (ring_verdict want g.members.ring octets)) (same_want q away) (r.others q octets away (sym (aside q (of_others q away)) ∙ h));
+    insertions = r.insertions;
   }

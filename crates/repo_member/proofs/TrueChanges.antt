@@ -1,36 +1,47 @@
 -- Which changes leave a member one whose stored packets are those of their parts.
-use Rattle.std.proofs.Common.{◌≡◌, inl, inr, ℕ, zero, suc, ◌+◌, ◌-◌, ◌<◌, ◌≤◌, max, Bool, true, false, cond, not, List, [], ◌∷◌, ◌++◌, map, length, get_or, take, set, replicate, Option, Some, None, refl, sym, ap, ◌∙◌, subst, arith}
+use Rattle.std.proofs.Common.{◌≡◌, inl, inr, ℕ, zero, suc, ◌+◌, ◌-◌, Bool, true, false, cond, not, List, [], ◌∷◌, ◌++◌, length, get_or, set, replicate, Option, Some, None, refl, sym, ap, ◌∙◌, subst, arith}
 use Rattle.std.specs.Prelude.{nat_lt, is_some, filter, IfSome}
 use Rattle.std.specs.List.{All}
 use Rattle.std.proofs.lemmas.Bool.{true≢false, and_parts, not-true}
-use Rattle.std.proofs.lemmas.List.{length-set, length-replicate, get_or-replicate, get_or-set_same, length_push, take_all}
+use Rattle.std.proofs.lemmas.List.{length-set, length-replicate, get_or-set_same, set-get_or, length_push, take_all}
 use Rattle.std.proofs.lemmas.List.Elements.{All-head, All-tail, All-weaker}
-use Rattle.svs_vector.specs.Vectors.{join}
 use Rattle.svs_sync.specs.KeptVector.{Keeper, steady_kept, fired_kept, hears_kept}
 use Rattle.repo_plan.specs.declared.part.Part.{Part}
-use Rattle.repo_plan.specs.SortedList.{keys, Rises}
-use Rattle.repo_plan.specs.Parts.{part_cmp}
-use Rattle.repo_plan.specs.Plan.{Holdings, no_claims, is_wanted, is_claimed, claim_of, unclaimed, is_unclaimed, first}
+use Rattle.repo_plan.specs.SortedList.{keys, Rises, value_of}
+use Rattle.repo_plan.specs.Parts.{Pair, part_cmp}
+use Rattle.repo_plan.specs.Plan.{Holdings, is_in, no_claims, is_wanted, is_claimed, unclaimed, is_unclaimed, first}
 use Rattle.repo_plan.proofs.Orders.{exact_parts}
 use Rattle.repo_plan.proofs.Sets.{In, contains_in}
 use Rattle.repo_plan.proofs.Known.{contains-unclaimed}
 use Rattle.repo_object.specs.Objects.{NamedContents}
+use Rattle.repo_command.specs.declared.command.Command.TheVariants.{Insert, Check, Delete}
+use Rattle.repo_process.specs.Processes.{Process, BlockState, object_of, closed}
+use Rattle.repo_process.specs.Processes.BlockState.{Unknown, Already, Waiting, Whole}
+use Rattle.repo_process.specs.Insertions.{next_number, starts, with_process}
+use Rattle.repo_store.specs.StoreList.{packets_outside}
 use Rattle.group_model.specs.Publications.{Logs, last_of}
-use Rattle.group_model.specs.Member.{Member, plan_of, gains, with_tries}
+use Rattle.group_model.specs.Member.{plan_of, with_tries}
 use Rattle.group_model.specs.Changes as group
 use Rattle.group_model.specs.Sound.{IsSoundMember, HeardTruly}
 use Rattle.group_model.proofs.Members.{Grows, grown, with_machine, sound_learns, sound_claims, sound_loses}
 use Rattle.group_model.proofs.Gains.{Publishes, AreTried, sound_takes, sound_gains, sound_publishes, rises_tried, tried_once_more}
+use Rattle.group_model.proofs.Deletions.{sound_deletes}
 use Rattle.group_model.proofs.Settles.{no_claim}
+use Rattle.repo_member.specs.Records.{Packet}
+use Rattle.repo_member.specs.Deleting.{catalogued, outside_all}
+use Rattle.repo_member.specs.Commanded.{alone_starts}
+use Rattle.repo_member.specs.Blocks.{alone_block, alone_keeps, after_block}
 use Rattle.repo_member.specs.Groups.{GroupKeys}
-use Rattle.repo_member.specs.Alone.{Alone, Fetched, alone_plan, alone_opening, alone_publishes, alone_learns, alone_hears, alone_fires, alone_claims, alone_accepts, alone_takes, alone_ends_claims, next_seq, with_fetched}
+use Rattle.repo_member.specs.Alone.{Alone, Fetched, alone_plan, alone_publishes, alone_claims, alone_takes, alone_ends_claims, alone_clears}
 use Rattle.repo_member.specs.InGroup.{in_group, AreLogs, GrowInto, AreItsPackets, CameTruly, asked_for, that_came}
-use Rattle.repo_member.specs.Outcomes.{with_all_fetched, with_all_tries}
+use Rattle.repo_member.specs.Outcomes.{with_all_tries}
 use Rattle.repo_member.specs.TrueMembers.{IsTrueMember}
-use Rattle.repo_member.specs.TrueChanges.{BeginsTrue, PublishesTrue, OthersPublish, LogsHaveGrown, LearnsTrue, HearsTrue, FiresTrue, ResetsTrue, EndsClaimsTrue, ClaimsTrue, LosesTrue, AcceptsTrue, IsTrueArrival, TakesTrue}
+use Rattle.repo_member.specs.TrueChanges.{BeginsTrue, PublishesTrue, OthersPublish, LogsHaveGrown, LearnsTrue, HearsTrue, InsertsTrue, BlocksTrue, DeletesTrue, ObeysTrue, FiresTrue, ResetsTrue, RestartsTrue, EndsClaimsTrue, ClaimsTrue, LosesTrue, AcceptsTrue, IsTrueArrival, TakesTrue}
 use Rattle.repo_member.proofs.CallReach.{fired_wide}
 use Rattle.repo_member.proofs.ChangeLemmas.{publishes_alike, accepts_alike, takes_in_group}
+use Rattle.repo_member.proofs.DeletionLemmas.{deletes_alike}
 use Rattle.repo_member.proofs.GroupPlans.{plans_alike}
+use Rattle.repo_member.proofs.HidingLemmas.{value_outside}
 use Rattle.repo_member.proofs.LastingPackets.{begins_truly, grown_last, grown_object, grows_truly, publishes_truly, published_grows, object_next, accepts_truly, takes_truly}
 use Rattle.repo_member.proofs.MemberLemmas.{still_wide}
 use Rattle.repo_member.proofs.OutcomeLemmas.{takes_all}
@@ -132,7 +143,7 @@ pub learns_true : LearnsTrue
 learns_true g logs told a v t = record {
   there = t.there;
   log = t.log;
-  sound = with_machine logs a.number (group.learns 0 0 told (in_group a)) a.machine [] 1 (sound_learns 0 0 logs a.number told (in_group a) v t.sound) t.sound.heard;
+  sound = with_machine logs a.number (group.learns 0 0 told (in_group a)) a.machine a.insertions.processes a.insertions.next_process (sound_learns 0 0 logs a.number told (in_group a) v t.sound) t.sound.heard;
   machine = t.machine;
   packets = t.packets;
 }
@@ -151,7 +162,7 @@ machine_true : (g : GroupKeys) (logs : Logs) (a : Alone) (machine : Keeper) → 
 machine_true g logs a machine wide heard t = record {
   there = t.there;
   log = t.log;
-  sound = with_machine logs a.number (in_group a) machine [] 1 t.sound heard;
+  sound = with_machine logs a.number (in_group a) machine a.insertions.processes a.insertions.next_process t.sound heard;
   machine = wide ∙ t.machine;
   packets = t.packets;
 }
@@ -164,6 +175,63 @@ fires_true g logs moment draw a t = machine_true g logs a (fired_kept moment dra
 
 pub resets_true : ResetsTrue
 resets_true g logs moment draw a t = machine_true g logs a (steady_kept moment draw a.machine) refl tt t
+
+-- ---- commands and blocks
+
+pub inserts_true : InsertsTrue
+inserts_true g logs insertions a t = record {
+  there = t.there;
+  log = t.log;
+  sound = with_machine logs a.number (in_group a) a.machine insertions.processes insertions.next_process t.sound t.sound.heard;
+  machine = t.machine;
+  packets = t.packets;
+}
+
+-- where a log stays as it is, so do all
+same_logs : (g : GroupKeys) (logs : Logs) (a b : Alone) → b.number ≡ a.number → b.log ≡ a.log → IsTrueMember g logs a → IsTrueMember g logs b → IsTrueMember g (set logs a.number b.log) b
+same_logs g logs a b number log t u =
+    let same : logs ≡ set logs a.number b.log = sym (set-get_or logs a.number []) ∙ ap (set logs a.number) (t.log ∙ sym log) in
+    subst (λ (ls : Logs). IsTrueMember g ls b) same u
+
+pub blocks_true : BlocksTrue
+blocks_true g process index content moment draw logs a t = go (alone_block a process index content) where
+  kept : (p : Process) → IsTrueMember g logs (alone_keeps process p a)
+  kept p = inserts_true g logs (with_process process p a.insertions) a t
+
+  publishes : (p : Process) (b : Bool) → let later = cond b (alone_publishes g (object_of p) moment draw (alone_keeps process (closed p) a)) a in IsTrueMember g (set logs a.number later.log) later
+  publishes p true = publishes_true g (object_of p) moment draw logs (alone_keeps process (closed p) a) (kept (closed p))
+  publishes p false = same_logs g logs a a refl refl t t
+
+  go : (state : BlockState) → let later = after_block g process moment draw a state in IsTrueMember g (set logs a.number later.log) later
+  go Unknown = same_logs g logs a a refl refl t t
+  go Already = same_logs g logs a a refl refl t t
+  go (Waiting p) = same_logs g logs a (alone_keeps process p a) refl refl t (kept p)
+  go (Whole p) = publishes p (nat_lt (length a.log) 65535)
+
+-- what is stored still was stored before
+stored_before : (pairs : List Pair) (packets : List Packet) (t : Part) (octets : List ℕ) → value_of part_cmp (outside_all pairs packets) t ≡ Some octets → value_of part_cmp packets t ≡ Some octets
+stored_before [] packets t octets h = h
+stored_before (pair ∷ pairs) packets t octets h = go (is_in pair t) (sym (value_outside pair packets t) ∙ stored_before pairs (packets_outside pair packets) t octets h) where
+  go : (b : Bool) → cond (not b) (value_of part_cmp packets t) None ≡ Some octets → value_of part_cmp packets t ≡ Some octets
+  go true k = absurd cc
+  go false k = k
+
+pub deletes_true : DeletesTrue
+deletes_true g logs name a are t = record {
+  there = t.there;
+  log = t.log;
+  sound = subst (IsSoundMember logs a.number) (sym (deletes_alike g logs name a are (true_stores g logs a t))) (sound_deletes logs a.number name (in_group a) t.sound);
+  machine = t.machine;
+  packets = λ u octets h. t.packets u octets (stored_before (catalogued name a) a.store u octets h);
+}
+
+pub obeys_true : ObeysTrue
+obeys_true g logs (Insert name first last) a are t = go (next_number a.insertions) where
+  go : (o : Option ℕ) → IsTrueMember g logs (alone_starts name first last a o)
+  go None = t
+  go (Some number) = inserts_true g logs (starts name first last a.insertions) a t
+obeys_true g logs (Check process) a are t = t
+obeys_true g logs (Delete name) a are t = deletes_true g logs name a are t
 
 -- ---- claims
 
@@ -187,6 +255,11 @@ ends_claims_true g logs a t = record {
   machine = t.machine;
   packets = t.packets;
 }
+
+pub restarts_true : RestartsTrue
+restarts_true g logs moment draw a t =
+    let ended = alone_ends_claims a in
+    resets_true g logs moment draw (alone_clears ended) (inserts_true g logs (record a.insertions { processes = [] }) ended (ends_claims_true g logs a t))
 
 pub loses_true : LosesTrue
 loses_true g logs f a t = record {

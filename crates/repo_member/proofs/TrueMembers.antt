@@ -1,5 +1,5 @@
 -- What a group's publications say of a member whose stored packets are those of their parts.
-use Rattle.std.proofs.Common.{◌≡◌, inl, inr, ℕ, ◌+◌, ◌-◌, ◌<◌, ◌≤◌, Bool, true, false, cond, ◌==◌, List, [], ◌∷◌, map, length, get_or, Option, Some, None, Result, Ok, Err, refl, sym, ap, ◌∙◌, subst, arith}
+use Rattle.std.proofs.Common.{◌≡◌, inl, inr, ℕ, ◌+◌, ◌-◌, ◌<◌, ◌≤◌, Bool, true, false, cond, ◌==◌, List, [], ◌∷◌, length, get_or, Option, Some, None, Result, Ok, Err, refl, sym, ap, ◌∙◌, subst, arith}
 use Rattle.std.specs.Prelude.{nat_le, is_some, unwrap_or, slice_get, IsOk, IsSomeAnd}
 use Rattle.std.specs.List.{All}
 use Rattle.std.specs.Option.{option_and_then}
@@ -11,10 +11,9 @@ use Rattle.ndn_sign.specs.Ring
 use Rattle.ndn_sign.specs.Ring.{pair}
 use Rattle.ndn_data.specs.Data.{Data}
 use Rattle.repo_plan.specs.declared.part.Part.{Part}
-use Rattle.repo_plan.specs.SortedList.{keys, Rises, value_of}
+use Rattle.repo_plan.specs.SortedList.{keys, value_of}
 use Rattle.repo_plan.specs.Parts.{part_cmp, pair_of, record_of}
 use Rattle.repo_plan.specs.Plan.{Holdings, is_wanted, claim_of}
-use Rattle.repo_plan.proofs.Known.{wanted_is_asked}
 use Rattle.repo_plan.proofs.Orders.{exact_parts}
 use Rattle.repo_plan.proofs.Sets.{In}
 use Rattle.repo_object.specs.declared.part_refusal.PartRefusal.{PartRefusal}
@@ -28,15 +27,13 @@ use Rattle.group_model.specs.Member.{member_holds}
 use Rattle.group_model.specs.Sound.{IsPublished, IsPublishedPart}
 use Rattle.group_model.proofs.Plans.{IsWanted, wanted_parts}
 use Rattle.group_model.proofs.Members.{known_published}
-use Rattle.repo_member.specs.declared.refusals.AcceptRefusal.{AcceptRefusal}
 use Rattle.repo_member.specs.Groups.{GroupKeys, IsGroup, node_at, key_at, publisher_at}
 use Rattle.repo_member.specs.Records.{Packet}
 use Rattle.repo_member.specs.Listed.{listing_at}
 use Rattle.repo_member.specs.Alone.{Alone, alone_plan, want_of, nothing_listed}
-use Rattle.repo_member.specs.Verdicts.{passed, claim_verdict, accept_verdict}
-use Rattle.repo_member.specs.InGroup.{in_group, AreLogs, StoresTruly, true_packet}
+use Rattle.repo_member.specs.Verdicts.{passed, claim_verdict}
+use Rattle.repo_member.specs.InGroup.{in_group, AreLogs, true_packet}
 use Rattle.repo_member.specs.TrueMembers.{IsTrueMember, true_want, true_packets, TrueIsAlone, TrueIsOf, TrueStores, StoresThose, LogsThose, WantsPublished, WantsAreTrue, PacketsAreThere, PacketsPass, PacketsPassForMembers, AcceptsTheClaimed, TakesTheTrue}
-use Rattle.repo_member.proofs.AskedLemmas.{asked_member}
 use Rattle.repo_member.proofs.CallReach.{accepted}
 use Rattle.repo_member.proofs.GainingLemmas.{contains-value}
 use Rattle.repo_member.proofs.GroupLemmas.{ring_length}

@@ -23,13 +23,10 @@ use Rattle.group_model.specs.Publications.{Logs, last_of}
 use Rattle.group_model.specs.Sound.{IsTrueVector}
 use Rattle.repo_member.specs.declared.refusals.HearRefusal.TheVariants.{OwnNumberAhead}
 use Rattle.repo_member.specs.Groups.{NodeKeys, GroupKeys, HaveKeys, IsPlainNodeName, node_at, key_at}
-use Rattle.repo_member.specs.Alone.{Alone}
 use Rattle.repo_member.specs.Verdicts.{sync_of, told_verdict}
 use Rattle.repo_member.specs.InGroup.{AreLogs}
-use Rattle.repo_member.specs.TrueMembers.{IsTrueMember}
 use Rattle.repo_member.specs.TrueSyncs.{KeysAreFound, SyncsAreTold, SyncsAreTaken}
 use Rattle.repo_member.proofs.GroupLemmas.{ring_length}
-use Rattle.repo_member.proofs.TrueMembers.{ring_name}
 
 -- ---- the first place
 
@@ -61,7 +58,7 @@ module _ (nodes : NodeKeys) (have : HaveKeys nodes) (j : ℕ) (there : j < lengt
   long : length nodes.ring ≡ length nodes.names
   long = ring_length nodes have
 
-  ring_at : (k : ℕ) → k < length nodes.names → (get_or nodes.ring k (pair [] [])).name ≡ encoding (key_name (get_or nodes.names k []))
+  pub ring_at : (k : ℕ) → k < length nodes.names → (get_or nodes.ring k (pair [] [])).name ≡ encoding (key_name (get_or nodes.names k []))
   ring_at k l =
       sym (get_or-map (λ (q : Ring.Pair). q.name) nodes.ring k (pair [] []) [] (omega (arith, long, l)))
       ∙ ap (λ (xs : List (List ℕ)). get_or xs k []) have.keys

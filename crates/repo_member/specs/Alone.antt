@@ -6,11 +6,12 @@ use Rattle.svs_sync.specs.KeptVector.{Keeper, steady_kept, hears_kept, fired_kep
 use Rattle.svs_sync.specs.Suppression.{periodic}
 use Rattle.repo_plan.specs.declared.part.Part.{Part}
 use Rattle.repo_plan.specs.Parts.{Pair, part_cmp, pair_of, part_of}
-use Rattle.repo_plan.specs.SortedList.{Rises, keys, value_of, with_value}
+use Rattle.repo_plan.specs.SortedList.{Rises, keys}
 use Rattle.repo_plan.specs.Plan.{Holdings, no_claims, knows, hides}
 use Rattle.repo_object.specs.Objects.{NamedContents, Publisher}
 use Rattle.repo_object.specs.Publication.{Listed, packets}
 use Rattle.repo_object.specs.Wants.{WantedPart, want_record, want_segment}
+use Rattle.repo_process.specs.Insertions.{Insertions}
 use Rattle.repo_store.specs.StoreList.{with_packet}
 use Rattle.group_model.specs.Member.{with_tries}
 use Rattle.repo_member.specs.Records.{Packet}
@@ -27,6 +28,11 @@ pub record Alone : Type 0 where
   pub claims : List (Option Part)  -- by fetcher; the first stands at place 0
   pub attempts : List (Part × ℕ)  -- in order, without 0
   pub machine : Keeper
+  pub insertions : Insertions  -- its insertion processes
+
+-- no insertion processes
+abbrev pub no_insertions : Insertions
+no_insertions = record { processes = []; next_process = 1 }
 
 -- a member of so many that has nothing
 abbrev pub alone_opening : ℕ → ℕ → ℕ → ℕ → Alone
@@ -39,6 +45,7 @@ alone_opening members number moment draw = record {
   claims = no_claims;
   attempts = [];
   machine = record { members = members; heard = None; deadline = moment + periodic draw; draws = 1 };
+  insertions = no_insertions;
 }
 
 -- its fetch plan: it holds what it stores, and the stored records tell how many segments there are
@@ -168,3 +175,10 @@ alone_ends_claims a = record a { claims = no_claims }
 
 abbrev pub alone_resets : ℕ → ℕ → Alone → Alone
 alone_resets moment draw a = record a { machine = steady_kept moment draw a.machine }
+
+-- Insertion processes end, and their numbers go on.
+abbrev pub alone_clears : Alone → Alone
+alone_clears a = record a { insertions = record a.insertions { processes = [] } }
+
+abbrev pub alone_restarts : ℕ → ℕ → Alone → Alone
+alone_restarts moment draw a = alone_resets moment draw (alone_clears (alone_ends_claims a))

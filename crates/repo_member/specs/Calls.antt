@@ -1,21 +1,24 @@
 -- Lists of calls of one member of a group, and what holds after them.
-use Rattle.std.specs.Prelude.{◌≡◌, ◌≢◌, ℕ, ◌<◌, ◌≤◌, List, [], ◌∷◌, ◌++◌, length, take, Option, Some, None, Result, Ok, Err, slice_index, slice_set, slice_get, nat_lt, if◌then◌else◌, IsOk, IfSome}
+use Rattle.std.specs.Prelude.{◌≡◌, ◌≢◌, ℕ, ◌<◌, ◌≤◌, true, false, List, [], ◌∷◌, ◌++◌, length, take, Option, Some, None, Result, Ok, Err, slice_index, slice_set, slice_get, nat_lt, if◌then◌else◌, IsOk, IfOk, IfSome}
 use Rattle.std.specs.List.{All}
 use Rattle.svs_vector.specs.Vectors.{join_all}
 use Rattle.repo_plan.specs.declared.part.Part.{Part}
-use Rattle.repo_plan.specs.Parts.{part_cmp}
+use Rattle.repo_plan.specs.Parts.{Pair, part_cmp, pair_of}
 use Rattle.repo_plan.specs.SortedList.{value_of}
-use Rattle.repo_plan.specs.Plan.{claim_of, unclaimed, first}
+use Rattle.repo_plan.specs.Plan.{hides, is_wanted, claim_of, unclaimed, first}
 use Rattle.repo_plan.specs.Calls.{IsFetcher}
 use Rattle.repo_object.specs.declared.job.Job.{Job}
-use Rattle.repo_object.specs.Objects.{NamedContents, IsObject}
+use Rattle.repo_object.specs.Objects.{NamedContents, IsContent, IsObject}
 use Rattle.repo_object.specs.Verdict.{CheckedPart, IsChecked, ring_verdict}
+use Rattle.repo_command.specs.Commands.{IsSpelled}
 use Rattle.repo_member.specs.declared.refusals.HearRefusal.{HearRefusal}
 use Rattle.repo_member.specs.declared.refusals.AcceptRefusal.{AcceptRefusal}
 use Rattle.repo_member.specs.Groups.{GroupKeys, IsGroup}
-use Rattle.repo_member.specs.Alone.{Alone, IsAlone, publication_limit, alone_plan, alone_opening, alone_publishes, logged, alone_learns, alone_hears, alone_fires, alone_claims, want_of, alone_accepts, alone_takes, alone_ends_claims, alone_resets}
+use Rattle.repo_member.specs.Alone.{Alone, IsAlone, publication_limit, alone_plan, alone_opening, alone_publishes, logged, alone_learns, alone_hears, alone_fires, alone_claims, want_of, alone_accepts, alone_takes, alone_ends_claims, alone_resets, alone_restarts}
 use Rattle.repo_member.specs.Verdicts.{hear_verdict, accept_verdict}
 use Rattle.repo_member.specs.Outcomes.{outcome_of, IsOutcome}
+use Rattle.repo_member.specs.Commanded.{order_of, after_order}
+use Rattle.repo_member.specs.Blocks.{alone_blocks}
 
 -- A call that may change a member, with what it is given: octets, fetchers, moments and draws. One that answers want of
 -- memory changes nothing, so it is in no list.
@@ -28,6 +31,8 @@ pub data MemberCall : Type 0 where
   Lose : ℕ → MemberCall
   Accept : ℕ → List ℕ → MemberCall
   TakeOutcome : List Job → List (Option CheckedPart) → List ℕ → MemberCall
+  Command : List ℕ → MemberCall
+  Block : ℕ → ℕ → List ℕ → ℕ → ℕ → MemberCall
   EndClaims : MemberCall
   Reset : ℕ → ℕ → MemberCall
   Restart : ℕ → ℕ → MemberCall
@@ -70,9 +75,11 @@ after_call g (Claim f) a = if_claimed f a (claim_of (alone_plan a) f)
 after_call g (Lose f) a = if_lost f a (claim_of (alone_plan a) f)
 after_call g (Accept f octets) a = if_accepted f octets a (accept_verdict g a f octets)
 after_call g (TakeOutcome jobs parts attempts) a = alone_takes (outcome_of jobs parts attempts) a
+after_call g (Command octets) a = after_order (order_of g a.number octets) a
+after_call g (Block process index content moment draw) a = alone_blocks g process index content moment draw a
 after_call g EndClaims a = alone_ends_claims a
 after_call g (Reset moment draw) a = alone_resets moment draw a
-after_call g (Restart moment draw) a = alone_resets moment draw (alone_ends_claims a)
+after_call g (Restart moment draw) a = alone_restarts moment draw a
 
 -- The member after a list of calls.
 abbrev pub after_calls : GroupKeys → List MemberCall → Alone → Alone
@@ -81,7 +88,8 @@ after_calls g (call ∷ calls) a = after_calls g calls (after_call g call a)
 
 -- ---- which calls can be made
 
--- The conditions of a call, but for those that keep moments and draws small. A checked part passed its checks by its type.
+-- The conditions of a call, but for those that keep moments and draws small. A checked part passed its checks by its type,
+-- and so is the name in a command a name.
 abbrev pub IsAllowedCall : GroupKeys → Alone → MemberCall → Type 0
 IsAllowedCall g a (Publish object moment draw) = IsObject object
 IsAllowedCall g a (Hear octets moment draw) = Unit {0}
@@ -92,6 +100,8 @@ IsAllowedCall g a (Lose f) = IsFetcher f
 IsAllowedCall g a (Accept f octets) = IsFetcher f
 IsAllowedCall g a (TakeOutcome jobs parts attempts) =
     IsOutcome g a jobs parts attempts × All (λ part. IfSome part IsChecked) parts
+IsAllowedCall g a (Command octets) = IfOk (order_of g a.number octets) (λ order. IsSpelled order.1)
+IsAllowedCall g a (Block process index content moment draw) = IsContent content
 IsAllowedCall g a EndClaims = Unit {0}
 IsAllowedCall g a (Reset moment draw) = Unit {0}
 IsAllowedCall g a (Restart moment draw) = Unit {0}
@@ -158,16 +168,29 @@ KnownIsTheJoin = (g : GroupKeys) (calls : List MemberCall) (a : Alone) → IsAlo
 
 -- ---- what is held
 
--- A packet that is stored stays.
+-- A packet that is stored stays, as long as its publication is not hidden.
 abbrev pub HeldPacketsStay : Type 0
 HeldPacketsStay = (g : GroupKeys) (calls : List MemberCall) (a : Alone) (t : Part) (octets : List ℕ)
-    → value_of part_cmp a.store t ≡ Some octets → value_of part_cmp (after_calls g calls a).store t ≡ Some octets
+    → value_of part_cmp a.store t ≡ Some octets →
+    let later = after_calls g calls a in
+    hides (alone_plan later) (pair_of t) ≡ false → value_of part_cmp later.store t ≡ Some octets
+
+-- What is hidden stays hidden.
+abbrev pub HiddenForGood : Type 0
+HiddenForGood = (g : GroupKeys) (calls : List MemberCall) (a : Alone) (pair : Pair) → hides (alone_plan a) pair ≡ true
+    → hides (alone_plan (after_calls g calls a)) pair ≡ true
+
+-- No part of a hidden publication is wanted or stored.
+abbrev pub HiddenIsGone : GroupKeys → Alone → Type 0
+HiddenIsGone g a = (t : Part) → hides (alone_plan a) (pair_of t) ≡ true
+    → (is_wanted (alone_plan a) t ≡ false) × (value_of part_cmp a.store t ≡ None)
 
 -- Each packet of another publisher's part that is stored passes for the want that the member has of that part now.
 abbrev pub OthersPassed : GroupKeys → Alone → Type 0
 OthersPassed g a = (t : Part) (octets : List ℕ) → t.publisher ≢ a.number → value_of part_cmp a.store t ≡ Some octets
     → IsOk (ring_verdict (want_of g a.store t) g.members.ring octets)
 
--- Of its own parts a member stores those that it published, and of each the packet that it published.
+-- Of its own parts a member stores those that it published and did not hide, and of each the packet that it published.
 abbrev pub OwnStored : GroupKeys → Alone → Type 0
-OwnStored g a = (t : Part) → t.publisher ≡ a.number → value_of part_cmp a.store t ≡ logged g a t
+OwnStored g a = (t : Part) → t.publisher ≡ a.number
+    → value_of part_cmp a.store t ≡ (if hides (alone_plan a) (pair_of t) then None else logged g a t)

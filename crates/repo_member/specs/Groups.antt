@@ -43,6 +43,13 @@ node_at group number = unwrap_or (slice_get group.members.names number) []
 abbrev pub key_at : GroupKeys → ℕ → List ℕ
 key_at group number = (unwrap_or (slice_get group.members.ring number) (pair [] [])).key
 
+-- the node name and the key of a client
+abbrev pub client_at : GroupKeys → ℕ → List Component
+client_at group client = unwrap_or (slice_get group.clients.names client) []
+
+abbrev pub client_key_at : GroupKeys → ℕ → List ℕ
+client_key_at group client = (unwrap_or (slice_get group.clients.ring client) (pair [] [])).key
+
 -- who a member publishes as
 abbrev pub publisher_at : GroupKeys → ℕ → Publisher
 publisher_at group number = publisher (node_at group number) group.name (key_at group number)

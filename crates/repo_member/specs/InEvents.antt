@@ -1,19 +1,24 @@
 -- Each change of a member by itself is what an event of its group makes of it.
-use Rattle.std.specs.Prelude.{◌≡◌, ℕ, ◌<◌, [], ◌∷◌, List, map, Some, None, length, slice_index, nat_lt, if◌then◌else◌}
+use Rattle.std.specs.Prelude.{◌≡◌, ℕ, ◌<◌, [], ◌∷◌, List, map, Some, None, Result, length, slice_index, nat_lt, if◌then◌else◌}
 use Rattle.svs_vector.specs.Vectors.{join_all, HaveSameVectors}
 use Rattle.repo_plan.specs.declared.part.Part.{Part}
 use Rattle.repo_plan.specs.Parts.{part_cmp}
 use Rattle.repo_plan.specs.SortedList.{contains}
 use Rattle.repo_plan.specs.Plan.{claim_of, unclaimed, first}
 use Rattle.repo_object.specs.Objects.{NamedContents}
+use Rattle.repo_command.specs.declared.command.Command.{Command}
 use Rattle.group_model.specs.Publications.{Logs}
 use Rattle.group_model.specs.Events.{SyncInterest, Came, Event}
 use Rattle.group_model.specs.World.{Outside, World, member, logs, sent_at, catalogue_at}
-use Rattle.group_model.specs.Steps.{drawn, open_at, passes_checks, came_from, came_as, planned_parts, fetched_parts, attempts_for, settled_vector, new_parts, after_gathering, after_event}
+use Rattle.group_model.specs.Steps.{drawn, open_at, passes_checks, came_from, came_as, planned_parts, fetched_parts, attempts_for, settled_vector, new_parts, block_at, after_gathering, after_event, reply_to}
+use Rattle.group_model.specs.Replies.{Reply}
+use Rattle.group_model.specs.Refusals.{refusal}
 use Rattle.repo_member.specs.Groups.{GroupKeys}
 use Rattle.repo_member.specs.Listed.{alone_catalogue}
-use Rattle.repo_member.specs.Alone.{Alone, Fetched, alone_plan, alone_publishes, alone_learns, alone_hears, alone_fires, alone_claims, alone_accepts, alone_takes, alone_ends_claims, alone_resets}
+use Rattle.repo_member.specs.Alone.{Alone, Fetched, alone_plan, alone_publishes, alone_learns, alone_hears, alone_fires, alone_claims, alone_accepts, alone_takes, alone_ends_claims, alone_resets, alone_restarts}
 use Rattle.repo_member.specs.InGroup.{in_group, StoresInOrder, AreLogs, StoresTruly, asked_for, that_came, AreTries}
+use Rattle.repo_member.specs.Commanded.{alone_obeys, after_order, answer_to, order_answer}
+use Rattle.repo_member.specs.Blocks.{alone_block, alone_blocks}
 
 -- The member of that number is this one.
 pub record IsMemberOf (w : World) (j : ℕ) (a : Alone) : Type 0 where
@@ -52,7 +57,7 @@ FireIsEvent = (out : Outside) (w : World) (j : ℕ) (a : Alone) → IsMemberOf w
 
 abbrev pub RestartIsEvent : Type 0
 RestartIsEvent = (out : Outside) (w : World) (j : ℕ) (a : Alone) → IsMemberOf w j a
-    → member (after_event out w (Event.Restart j)) j ≡ in_group (alone_resets w.moment (drawn out w j) (alone_ends_claims a))
+    → member (after_event out w (Event.Restart j)) j ≡ in_group (alone_restarts w.moment (drawn out w j) a)
 
 -- ---- what is claimed and comes
 
@@ -90,6 +95,42 @@ abbrev pub FetchIsEvent : Type 0
 FetchIsEvent = (out : Outside) (w : World) (j tries loss : ℕ) (xs : List Fetched) (a : Alone)
     → IsMemberOf w j a → StoresInOrder a → IsOutcomeIn out w j tries loss xs
     → member (after_event out w (Event.Fetch j tries loss)) j ≡ in_group (alone_takes xs a)
+
+-- ---- commands and blocks
+
+-- A command that a client made, or octets that are refused with this code.
+abbrev pub OrderIsEvent : Type 0
+OrderIsEvent = (out : Outside) (w : World) (j : ℕ) (order : Result (ℕ × Command) ℕ) (g : GroupKeys) (a : Alone)
+    → IsMemberOf w j a → IsTrueIn g w a
+    → member (after_event out w (Event.Order j order)) j ≡ in_group (after_order order a)
+
+abbrev pub OrderIsAnswered : Type 0
+OrderIsAnswered = (out : Outside) (w : World) (j : ℕ) (order : Result (ℕ × Command) ℕ) (g : GroupKeys) (a : Alone)
+    → IsMemberOf w j a → IsTrueIn g w a
+    → reply_to out w (Event.Order j order) ≡ Reply.Commanded (order_answer order a)
+
+-- A client makes a command and gives it to the member.
+abbrev pub IssueIsEvent : Type 0
+IssueIsEvent = (out : Outside) (w : World) (j client : ℕ) (command : Command) (g : GroupKeys) (a : Alone)
+    → IsMemberOf w j a → IsTrueIn g w a
+    → member (after_event out w (Event.Issue j client command)) j ≡ in_group (alone_obeys command a)
+
+abbrev pub IssueIsAnswered : Type 0
+IssueIsAnswered = (out : Outside) (w : World) (j client : ℕ) (command : Command) (g : GroupKeys) (a : Alone)
+    → IsMemberOf w j a → IsTrueIn g w a
+    → reply_to out w (Event.Issue j client command) ≡ Reply.Commanded (answer_to command a)
+
+-- A block comes to the same in both.
+abbrev pub BlockStatesAlike : Type 0
+BlockStatesAlike = (w : World) (j process index : ℕ) (content : List ℕ) (a : Alone) → IsMemberOf w j a
+    → block_at w j process index content ≡ alone_block a process index content
+
+-- One that is taken.
+abbrev pub BlockIsEvent : Type 0
+BlockIsEvent = (out : Outside) (w : World) (j process index : ℕ) (content : List ℕ) (g : GroupKeys) (a : Alone)
+    → IsMemberOf w j a → StoresInOrder a → refusal out w (Event.Block j process index content) ≡ None
+    → member (after_event out w (Event.Block j process index content)) j
+    ≡ in_group (alone_blocks g process index content w.moment (drawn out w j) a)
 
 -- ---- a settle
 

@@ -1,5 +1,5 @@
 -- A member by itself and the same member as its group has it.
-use Rattle.std.specs.Prelude.{◌≡◌, ℕ, ◌<◌, ◌≤◌, ◌↔◌, true, List, [], ◌∷◌, ◌++◌, map, filter, length, take, replicate, Option, Some, None, is_some, slice_index_or, slice_set}
+use Rattle.std.specs.Prelude.{◌≡◌, ℕ, ◌<◌, ◌≤◌, ◌↔◌, true, List, [], ◌∷◌, ◌++◌, map, filter, length, take, replicate, Option, Some, None, is_some, slice_index_or, slice_set, if◌then◌else◌}
 use Rattle.std.specs.List.{All}
 use Rattle.svs_vector.specs.Vectors.{join}
 use Rattle.svs_sync.specs.declared.fired.Fired.{Fired}
@@ -9,21 +9,27 @@ use Rattle.repo_plan.specs.declared.part.Part.{Part}
 use Rattle.repo_plan.specs.Parts.{part_cmp, pair_of}
 use Rattle.repo_plan.specs.SortedList.{keys, contains, value_of, Rises}
 use Rattle.repo_plan.specs.Plan.{wanted}
+use Rattle.ndn_name.specs.Names.{Component}
 use Rattle.repo_object.specs.Objects.{NamedContents, IsObject}
+use Rattle.repo_process.specs.Processes.{Process}
+use Rattle.repo_process.specs.Insertions.{next_number}
 use Rattle.repo_object.specs.Publication.{packet_at}
 use Rattle.group_model.specs.Publications.{Logs, object_at, last_of}
-use Rattle.group_model.specs.Member.{Member, member_holds, catalogue, gains, with_each_tried, member_without_claims}
+use Rattle.group_model.specs.Member.{Member, member_holds, catalogue, named, gains, member_hides_all, with_each_tried, member_without_claims}
 use Rattle.group_model.specs.Member as group_member
 use Rattle.group_model.specs.Sound.{IsPublished, IsSoundMember}
 use Rattle.group_model.specs.Wanted.{IsWantedPart}
 use Rattle.group_model.specs.Changes as group
 use Rattle.group_model.specs.World.{Outside, member, opening_world}
+use Rattle.group_model.specs.Steps.{can_start}
 use Rattle.repo_member.specs.Groups.{GroupKeys, IsGroup, publisher_at}
 use Rattle.repo_member.specs.Listed.{alone_catalogue}
-use Rattle.repo_member.specs.Alone.{Alone, Fetched, publication_limit, alone_plan, alone_opening, alone_publishes, alone_learns, alone_hears, alone_fires, alone_claims, alone_accepts, alone_takes, alone_ends_claims, alone_resets}
+use Rattle.repo_member.specs.Alone.{Alone, Fetched, publication_limit, alone_plan, alone_opening, alone_publishes, alone_learns, alone_hears, alone_fires, alone_claims, alone_accepts, alone_takes, alone_ends_claims, alone_resets, alone_restarts}
+use Rattle.repo_member.specs.Deleting.{alone_deletes}
+use Rattle.repo_member.specs.Commanded.{alone_starts}
+use Rattle.repo_member.specs.Blocks.{alone_keeps}
 
--- The member as its group has it: it holds the parts whose packets it stores. It takes no commands, so it has no
--- insertion processes.
+-- The member as its group has it: it holds the parts whose packets it stores.
 abbrev pub in_group : Alone → Member
 in_group a = record {
   log = a.log;
@@ -33,8 +39,8 @@ in_group a = record {
   claims = a.claims;
   attempts = a.attempts;
   machine = a.machine;
-  processes = [];
-  next_process = 1;
+  processes = a.insertions.processes;
+  next_process = a.insertions.next_process;
 }
 
 -- What is stored is in order of the parts, each once.
@@ -115,7 +121,18 @@ ResetsAlike = (moment draw : ℕ) (a : Alone)
 -- It starts again.
 abbrev pub RestartsAlike : Type 0
 RestartsAlike = (moment draw : ℕ) (a : Alone)
-    → in_group (alone_resets moment draw (alone_ends_claims a)) ≡ group.restarts draw moment (in_group a)
+    → in_group (alone_restarts moment draw a) ≡ group.restarts draw moment (in_group a)
+
+-- An insertion process begins, where there is a number for it.
+abbrev pub StartsAlike : Type 0
+StartsAlike = (name : List Component) (first last : ℕ) (a : Alone)
+    → in_group (alone_starts name first last a (next_number a.insertions))
+    ≡ (if can_start (in_group a) then group.starts name first last (in_group a) else in_group a)
+
+-- A block is kept.
+abbrev pub KeepsAlike : Type 0
+KeepsAlike = (number : ℕ) (p : Process) (a : Alone)
+    → in_group (alone_keeps number p a) ≡ group.with_process number p (in_group a)
 
 -- ---- what is stored and what was published
 
@@ -162,6 +179,11 @@ WantsAlike = (g : GroupKeys) (logs : Logs) (a : Alone) (t : Part) → AreLogs g 
 abbrev pub ListsAlike : Type 0
 ListsAlike = (g : GroupKeys) (logs : Logs) (a : Alone) → AreLogs g logs → StoresTruly g logs a
     → alone_catalogue a.store ≡ catalogue logs (in_group a)
+
+-- So the publications of a name that it hides are those that the group says.
+abbrev pub DeletesAlike : Type 0
+DeletesAlike = (g : GroupKeys) (logs : Logs) (name : List Component) (a : Alone) → AreLogs g logs → StoresTruly g logs a
+    → in_group (alone_deletes name a) ≡ member_hides_all (named logs (in_group a) name) (in_group a)
 
 -- ---- what lasts
 

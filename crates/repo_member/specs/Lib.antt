@@ -15,6 +15,11 @@ pub use Rattle.repo_object.specs.Verdict
 pub use Rattle.repo_store.specs.StoreList
 pub use Rattle.repo_store.specs.Served
 pub use Rattle.repo_catalog.specs.Entries
+pub use Rattle.repo_command.specs.Commands
+pub use Rattle.repo_command.specs.Answers
+pub use Rattle.repo_command.specs.Verdict as CommandVerdict
+pub use Rattle.repo_process.specs.Processes
+pub use Rattle.repo_process.specs.Insertions
 pub use Rattle.group_model.specs.Publications
 pub use Rattle.group_model.specs.Member
 pub use Rattle.group_model.specs.Changes
@@ -33,6 +38,9 @@ pub mod Fires
 pub mod Gaining
 pub mod Publishing
 pub mod Outcomes
+pub mod Deleting
+pub mod Commanded
+pub mod Blocks
 pub mod Members
 pub mod InGroup
 pub mod InEvents

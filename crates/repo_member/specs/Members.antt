@@ -1,5 +1,8 @@
 -- How a member is kept, and what holds of every member.
-use Rattle.std.specs.Prelude.{◌≡◌}
+use Rattle.std.specs.Prelude.{◌≡◌, ℕ, false, List, Some}
+use Rattle.std.specs.Ordering.{nat_cmp}
+use Rattle.repo_plan.specs.SortedList.{value_of}
+use Rattle.repo_process.specs.Processes.{Process, is_whole}
 use Rattle.repo_member.specs.declared.member.Member.TheInside.{Inside}
 use Rattle.repo_member.specs.Alone.{Alone, IsAlone}
 use Rattle.repo_member.specs.Gaining.{AreKept}
@@ -15,10 +18,17 @@ alone m = record {
   claims = m.plan.claims;
   attempts = m.plan.attempts;
   machine = m.machine;
+  insertions = m.processes;
 }
 
--- the plan knows the member's numbers, and plan and catalogue are those of what is stored
+-- each process misses a block until its object is published
+abbrev pub AreWaiting : List (ℕ × Process) → Type 0
+AreWaiting processes = (number : ℕ) (p : Process) → value_of nat_cmp processes number ≡ Some p → p.published ≡ false
+    → is_whole p ≡ false
+
+-- the plan knows the member's numbers, plan and catalogue are those of what is stored, and what is whole is published
 pub record IsMember (m : Inside) : Type 0 where
   pub alone : IsAlone (alone m)
   pub known : m.plan.known ≡ m.vector
   pub kept : AreKept m.plan m.store.packets m.catalogue.entries
+  pub waiting : AreWaiting m.processes.processes

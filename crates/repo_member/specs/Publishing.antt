@@ -13,10 +13,9 @@ use Rattle.repo_member.specs.Listed.{listed_shape}
 use Rattle.repo_member.specs.Alone.{Alone, next_seq}
 use Rattle.repo_member.specs.Verdicts.{sync_of}
 
--- an object, with all that its publication makes
-pub record IsPrepared (g : GroupKeys) (a : Alone) (object : NamedContents) (kept : NamedContents) (name : List Component)
+-- all that the publication of an object makes
+pub record IsPrepared (g : GroupKeys) (a : Alone) (object : NamedContents) (name : List Component)
     (made : List (List ℕ)) (sync : List ℕ) : Type 0 where
-  pub same : kept ≡ object
   pub named : name ≡ object.name
   pub packed : made ≡ packets (publisher_at g a.number) (next_seq a) object
   pub told : sync ≡ sync_of g a.number (slice_set a.known a.number (next_seq a))

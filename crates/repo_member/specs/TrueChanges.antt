@@ -3,11 +3,17 @@ use Rattle.std.specs.Prelude.{◌≡◌, ℕ, ◌<◌, true, List, [], ◌∷◌
 use Rattle.std.specs.List.{All}
 use Rattle.repo_plan.specs.declared.part.Part.{Part}
 use Rattle.repo_plan.specs.Plan.{claim_of, unclaimed, is_unclaimed, first}
+use Rattle.ndn_name.specs.Names.{Component}
 use Rattle.repo_object.specs.Objects.{NamedContents}
+use Rattle.repo_command.specs.declared.command.Command.{Command}
+use Rattle.repo_process.specs.Insertions.{Insertions}
 use Rattle.group_model.specs.Publications.{Logs, last_of}
 use Rattle.group_model.specs.Sound.{IsTrueVector}
 use Rattle.repo_member.specs.Groups.{GroupKeys}
-use Rattle.repo_member.specs.Alone.{Alone, Fetched, alone_plan, alone_opening, alone_publishes, alone_learns, alone_hears, alone_fires, alone_claims, alone_accepts, alone_takes, alone_ends_claims, alone_resets}
+use Rattle.repo_member.specs.Alone.{Alone, Fetched, alone_plan, alone_opening, alone_publishes, alone_learns, alone_hears, alone_fires, alone_claims, alone_accepts, alone_takes, alone_ends_claims, alone_resets, alone_restarts}
+use Rattle.repo_member.specs.Deleting.{alone_deletes}
+use Rattle.repo_member.specs.Commanded.{alone_obeys}
+use Rattle.repo_member.specs.Blocks.{alone_blocks}
 use Rattle.repo_member.specs.InGroup.{AreLogs, GrowInto, true_packet}
 use Rattle.repo_member.specs.TrueMembers.{IsTrueMember}
 
@@ -42,6 +48,28 @@ abbrev pub HearsTrue : Type 0
 HearsTrue = (g : GroupKeys) (logs : Logs) (told : List ℕ) (moment draw : ℕ) (a : Alone) → IsTrueVector logs told
     → IsTrueMember g logs a → IsTrueMember g logs (alone_hears told moment draw a)
 
+-- Insertion processes are its own affair.
+abbrev pub InsertsTrue : Type 0
+InsertsTrue = (g : GroupKeys) (logs : Logs) (insertions : Insertions) (a : Alone) → IsTrueMember g logs a
+    → IsTrueMember g logs (record a { insertions = insertions })
+
+-- A block comes; the last one publishes an object.
+abbrev pub BlocksTrue : Type 0
+BlocksTrue = (g : GroupKeys) (process index : ℕ) (content : List ℕ) (moment draw : ℕ) (logs : Logs) (a : Alone)
+    → IsTrueMember g logs a →
+    let later = alone_blocks g process index content moment draw a in
+    IsTrueMember g (slice_set logs a.number later.log) later
+
+-- It hides the publications of a name.
+abbrev pub DeletesTrue : Type 0
+DeletesTrue = (g : GroupKeys) (logs : Logs) (name : List Component) (a : Alone) → AreLogs g logs
+    → IsTrueMember g logs a → IsTrueMember g logs (alone_deletes name a)
+
+-- A command is answered.
+abbrev pub ObeysTrue : Type 0
+ObeysTrue = (g : GroupKeys) (logs : Logs) (command : Command) (a : Alone) → AreLogs g logs
+    → IsTrueMember g logs a → IsTrueMember g logs (alone_obeys command a)
+
 abbrev pub FiresTrue : Type 0
 FiresTrue = (g : GroupKeys) (logs : Logs) (moment draw : ℕ) (a : Alone) → IsTrueMember g logs a
     → IsTrueMember g logs (alone_fires moment draw a)
@@ -49,6 +77,10 @@ FiresTrue = (g : GroupKeys) (logs : Logs) (moment draw : ℕ) (a : Alone) → Is
 abbrev pub ResetsTrue : Type 0
 ResetsTrue = (g : GroupKeys) (logs : Logs) (moment draw : ℕ) (a : Alone) → IsTrueMember g logs a
     → IsTrueMember g logs (alone_resets moment draw a)
+
+abbrev pub RestartsTrue : Type 0
+RestartsTrue = (g : GroupKeys) (logs : Logs) (moment draw : ℕ) (a : Alone) → IsTrueMember g logs a
+    → IsTrueMember g logs (alone_restarts moment draw a)
 
 abbrev pub EndsClaimsTrue : Type 0
 EndsClaimsTrue = (g : GroupKeys) (logs : Logs) (a : Alone) → IsTrueMember g logs a

@@ -1,13 +1,15 @@
 ghost use Rattle.repo_plan.specs.Sound.{IsSound};
 ghost use Rattle.repo_plan.specs.Calls.{ClaimsOnce};
 ghost use Rattle.repo_member.specs.Alone.{IsAlone, IsOf, alone_plan};
-ghost use Rattle.repo_member.specs.InGroup.{BeginsAlike, PublishesAlike, HearsAlike, LearnsAlike, FiresAlike, ClaimsAlike, AcceptsAlike, TakesAlike, EndsClaimsAlike, ResetsAlike, RestartsAlike, SoundStoresTruly, PlansAlike, WantsAlike, ListsAlike, BeginsTruly, GrowsTruly, PublishesTruly, AcceptsTruly, TakesTruly, StaysTrue, LogsBegin, LogsGrow};
-ghost use Rattle.repo_member.specs.InEvents.{PublishIsEvent, DeliverIsEvent, HearIsEvent, FireIsEvent, RestartIsEvent, ClaimIsEvent, LoseIsEvent, AnswerIsEvent, FeedIsEvent, FetchIsEvent, LearnsAtOnce, LearnsWhatAllKnow, GatheringIsEvent, SettleIsEvent, OpenPartsAlike, CataloguesAlike};
+ghost use Rattle.repo_member.specs.Blocks.{AreWithinLimits};
+ghost use Rattle.repo_member.specs.InGroup.{BeginsAlike, PublishesAlike, HearsAlike, LearnsAlike, FiresAlike, ClaimsAlike, AcceptsAlike, TakesAlike, EndsClaimsAlike, ResetsAlike, RestartsAlike, StartsAlike, KeepsAlike, SoundStoresTruly, PlansAlike, WantsAlike, ListsAlike, DeletesAlike, BeginsTruly, GrowsTruly, PublishesTruly, AcceptsTruly, TakesTruly, StaysTrue, LogsBegin, LogsGrow};
+ghost use Rattle.repo_member.specs.InEvents.{PublishIsEvent, DeliverIsEvent, HearIsEvent, FireIsEvent, RestartIsEvent, ClaimIsEvent, LoseIsEvent, AnswerIsEvent, FeedIsEvent, FetchIsEvent, OrderIsEvent, OrderIsAnswered, IssueIsEvent, IssueIsAnswered, BlockIsEvent, BlockStatesAlike, LearnsAtOnce, LearnsWhatAllKnow, GatheringIsEvent, SettleIsEvent, OpenPartsAlike, CataloguesAlike};
 ghost use Rattle.repo_member.specs.Outcomes.{JobsArePlanned, PlannedJobsAreOutcomes};
 ghost use Rattle.repo_member.specs.TrueMembers.{TrueIsAlone, TrueIsOf, TrueStores, StoresThose, LogsThose, WantsPublished, WantsAreTrue, PacketsAreThere, PacketsPass, PacketsPassForMembers, AcceptsTheClaimed, TakesTheTrue};
-ghost use Rattle.repo_member.specs.TrueChanges.{BeginsTrue, PublishesTrue, OthersPublish, LogsHaveGrown, LearnsTrue, HearsTrue, FiresTrue, ResetsTrue, EndsClaimsTrue, ClaimsTrue, LosesTrue, AcceptsTrue, TakesTrue};
+ghost use Rattle.repo_member.specs.TrueChanges.{BeginsTrue, PublishesTrue, OthersPublish, LogsHaveGrown, LearnsTrue, HearsTrue, InsertsTrue, BlocksTrue, DeletesTrue, ObeysTrue, FiresTrue, ResetsTrue, RestartsTrue, EndsClaimsTrue, ClaimsTrue, LosesTrue, AcceptsTrue, TakesTrue};
 ghost use Rattle.repo_member.specs.TrueSyncs.{KeysAreFound, SyncsAreTold, SyncsAreTaken};
-ghost use Rattle.repo_member.specs.Calls.{LogsGoOn, PublicationsStay, LoggedPacketsStay, NumbersNeverFall, KnownIsTheJoin, InEveryMember, HeldPacketsStay, OthersPassed, OwnStored};
+ghost use Rattle.repo_member.specs.Commanded.{MadeOrdersAreTaken, OrdersBeyondAreMalformed};
+ghost use Rattle.repo_member.specs.Calls.{LogsGoOn, PublicationsStay, LoggedPacketsStay, NumbersNeverFall, KnownIsTheJoin, InEveryMember, HeldPacketsStay, HiddenForGood, HiddenIsGone, OthersPassed, OwnStored};
 
 /// A member by itself begins as its group has it, and each change of it is the group's change of that member.
 pub fn changes_are_the_groups()
@@ -22,6 +24,8 @@ pub fn changes_are_the_groups()
     ensures ends_claims { EndsClaimsAlike }
     ensures resets { ResetsAlike }
     ensures restarts { RestartsAlike }
+    ensures starts { StartsAlike }
+    ensures keeps { KeepsAlike }
 {}
 
 /// Where each stored packet is that of its part, a member's plan is its group's plan of it, and so it wants the same
@@ -32,9 +36,11 @@ pub fn members_want_what_the_group_says()
     ensures wants { WantsAlike }
 {}
 
-/// Where each stored packet is that of its part, a member's catalogue is its group's catalogue of it.
+/// Where each stored packet is that of its part, a member's catalogue is its group's catalogue of it, and so it hides the
+/// same publications of a name.
 pub fn members_list_what_the_group_says()
-    ensures { ListsAlike }
+    ensures lists { ListsAlike }
+    ensures deletes { DeletesAlike }
 {}
 
 /// Stored packets are those of their parts from the start on, and stay so: where others publish, where the member
@@ -63,12 +69,25 @@ pub fn calls_are_events()
     ensures answer { AnswerIsEvent }
     ensures feed { FeedIsEvent }
     ensures fetch { FetchIsEvent }
+    ensures order { OrderIsEvent }
+    ensures order_answer { OrderIsAnswered }
+    ensures issue { IssueIsEvent }
+    ensures issue_answer { IssueIsAnswered }
+    ensures block { BlockIsEvent }
+    ensures block_state { BlockStatesAlike }
     ensures learns { LearnsAtOnce }
     ensures learns_all { LearnsWhatAllKnow }
     ensures gathering { GatheringIsEvent }
     ensures settle { SettleIsEvent }
     ensures open_parts { OpenPartsAlike }
     ensures catalogue { CataloguesAlike }
+{}
+
+/// A command that a client of the group makes for a member is taken by it as that client's and that command, where it is
+/// within the limits of commands.
+pub fn made_orders_are_taken()
+    ensures taken { MadeOrdersAreTaken }
+    ensures beyond { OrdersBeyondAreMalformed }
 {}
 
 /// Whatever is called afterwards, a member's log has what it had as its front, a publication keeps its number, which
@@ -91,20 +110,29 @@ pub fn claims_differ()
     ensures { InEveryMember (λ g a. ClaimsOnce (alone_plan a)) }
 {}
 
-/// In every member that calls reach, a stored packet of another publisher's part passes for the want that the member
-/// has of that part now, which for a segment is of what the stored record lists. Of its own parts it stores those
-/// that it published, as they were published. What is stored stays, whatever is called.
+/// In every member that calls reach, a stored packet of another publisher's part passes for the want that the member has of
+/// that part now, which for a segment is of what the stored record lists. Of its own parts it stores those that it
+/// published and did not hide, as they were published. What is stored stays, whatever is called, as long as its publication
+/// is not hidden.
 pub fn held_parts_passed_their_checks()
     ensures others { InEveryMember OthersPassed }
     ensures own { InEveryMember OwnStored }
     ensures stay { HeldPacketsStay }
 {}
 
-/// Every member that calls reach is one of its group, knows all that it published, and has a sound plan.
+/// What a member hid stays hidden, whatever is called, and no part of it is wanted or stored, and so none is claimed or served.
+pub fn hidden_publications_are_gone()
+    ensures stay { HiddenForGood }
+    ensures gone { InEveryMember HiddenIsGone }
+{}
+
+/// Every member that calls reach is one of its group, knows all that it published, and has a sound plan. Its insertion
+/// processes are within the limits of objects.
 pub fn calls_keep_members_sound()
     ensures alone { InEveryMember (λ g a. IsAlone a) }
     ensures group { InEveryMember IsOf }
     ensures plan { InEveryMember (λ g a. IsSound (alone_plan a)) }
+    ensures insertions { InEveryMember (λ g a. AreWithinLimits a.insertions.processes) }
 {}
 
 /// A member as each is in a sound group, whose stored packets are those of their parts, is one by itself. It stores
@@ -142,8 +170,13 @@ pub fn true_members_stay_true()
     ensures grown { LogsHaveGrown }
     ensures learns { LearnsTrue }
     ensures hears { HearsTrue }
+    ensures inserts { InsertsTrue }
+    ensures blocks { BlocksTrue }
+    ensures deletes { DeletesTrue }
+    ensures obeys { ObeysTrue }
     ensures fires { FiresTrue }
     ensures resets { ResetsTrue }
+    ensures restarts { RestartsTrue }
     ensures ends_claims { EndsClaimsTrue }
     ensures claims { ClaimsTrue }
     ensures loses { LosesTrue }

@@ -4,20 +4,25 @@ ghost use Rattle.repo_plan.specs.SortedList.{value_of};
 ghost use Rattle.repo_plan.specs.Parts.{part_cmp};
 ghost use Rattle.repo_store.specs.Served.{served};
 ghost use Rattle.repo_member.specs.Listed.{alone_catalogue};
-ghost use Rattle.repo_member.specs.Alone.{IsAlone, alone_opening, alone_ends_claims, alone_resets};
+ghost use Rattle.repo_member.specs.Alone.{IsAlone, alone_opening, alone_ends_claims, alone_resets, alone_restarts};
 
+mod block;
+mod command;
 mod fetching;
 mod outcome;
 mod publishing;
 mod syncing;
 
 use crate::group::Group;
+pub use block::Blocked;
+pub use command::Answered;
 use ndn_name::PacketFault;
 pub use outcome::Kept;
 pub use publishing::Published;
 use repo_catalog::Catalogue;
 use repo_object::Object;
 use repo_plan::{Part, Plan};
+use repo_process::Processes;
 use repo_store::Store;
 use std::alloc::{AllocError, Global};
 use std::marker::Model;
@@ -26,7 +31,7 @@ use svs_vector::Vector;
 pub use syncing::Fire;
 
 /// One member of a group: its publications, the numbers that it knows, the packets that it holds, the claims of its
-/// sixteen fetchers, its suppression machine and its catalogue.
+/// sixteen fetchers, its suppression machine, its catalogue and its insertion processes.
 ///
 /// A call that is refused has changed nothing, want of memory included.
 #[derive(Drop)]
@@ -38,6 +43,7 @@ pub struct Member {
     plan: Plan,
     store: Store,
     catalogue: Catalogue,
+    processes: Processes,
 }
 
 // A member is seen as what it has. Its plan's held parts and its catalogue follow from the packets that it stores.
@@ -76,6 +82,7 @@ impl Member {
             plan: Plan::new(alloc, members)?,
             store: Store::new(alloc),
             catalogue: Catalogue::new(alloc),
+            processes: Processes::new(alloc),
         })
     }
 
@@ -149,14 +156,15 @@ impl Member {
         self.machine.reset(now, draw);
     }
 
-    /// The member starts again: claims end, and the machine is reset. What it published, knows, holds and hid stays, and
-    /// so do the attempts. It takes no memory.
+    /// The member starts again: claims and insertion processes end, and the machine is reset. What it published, knows,
+    /// holds and hid stays, and so do the attempts and the numbers of processes. It takes no memory.
     pub fn restart(&mut self, now: u64, draw: u32)
         requires early { now < 2 ^ 62 }
         requires few { self.old.machine.draws < 2 ^ 62 }
-        ensures { self.new ≡ alone_resets now draw (alone_ends_claims self.old) }
+        ensures { self.new ≡ alone_restarts now draw self.old }
     {
         self.end_claims();
+        self.processes.clear();
         self.reset(now, draw);
     }
 }

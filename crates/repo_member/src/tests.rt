@@ -1,6 +1,7 @@
 ghost use Rattle.std.specs.Prelude.{◌≡◌, length, IfOk};
 ghost use Rattle.repo_member.specs.Groups.{IsPlainNodeName, IsKey};
 
+mod commands;
 mod peer;
 mod play;
 mod worked;

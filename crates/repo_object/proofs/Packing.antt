@@ -27,6 +27,11 @@ only_memory_of_packet r len long short NoMemory is = refl
 pub content_is : (contents : List (Vec ℕ Global)) (i : ℕ) (content : Vec ℕ Global) → i < length contents → content ≡ get_or contents i content → get_or (map items contents) i content.items ≡ content.items
 content_is contents i content low is = get_or-map items contents i content content.items low ∙ ap items (sym is)
 
+-- contents are within their limits where their octets are
+pub are_contents : (contents : List (Vec ℕ Global)) → All IsContent (map items contents) → All (λ c. IsContent c.items) contents
+are_contents contents all i d low =
+    subst IsContent (get_or-map items contents i d d.items low) (all i d.items (omega (arith, length-map contents items)))
+
 -- the content at a place is within its limit
 pub content_at : (contents : List (Vec ℕ Global)) (i : ℕ) (content : Vec ℕ Global) → i < length contents → content ≡ get_or contents i content → All IsContent (map items contents) → IsContent content.items
 content_at contents i content low is all =

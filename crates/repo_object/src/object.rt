@@ -53,16 +53,33 @@ impl Object {
         ensures { IfOk result (λ object. object
             ≡ record { name = name.now; contents = map (λ c. c.items) contents.now }) }
     {
-        // Its clause says that the components are a name's.
-        let _octets = name.octets();
         let mut copies = Vec::with_capacity(alloc, contents.len())?;
         for content in contents {
             copies.push(content.to_vec(alloc)?)?;
         }
-        Ok(Object {
-            name: name.clone()?,
-            contents: copies,
-        })
+        Ok(Object::from_parts(name.clone()?, copies))
+    }
+
+    /// The object of this name and these contents, which are moved into it.
+    pub fn from_parts(name: Name, contents: Vec<Vec<u8>>) -> Object
+        requires name { IsTrue (is_object_name name) }
+        requires few { length contents.items ≤ segment_limit }
+        requires contents { All (λ c. IsContent c.items) contents.items }
+        ensures { result ≡ record { name = name; contents = map (λ c. c.items) contents.items } }
+    {
+        // Its clause says that the components are a name's.
+        let _octets = name.octets();
+        Object { name, contents }
+    }
+
+    /// The name and the contents, which are moved out of it.
+    pub fn into_parts(self) -> (Name, Vec<Vec<u8>>)
+        ensures name { result.0 ≡ self.name }
+        ensures contents { map (λ c. c.items) result.1.items ≡ self.contents }
+        ensures within { IsObject self }
+    {
+        let Object { name, contents } = self;
+        (name, contents)
     }
 
     pub fn name(&self) -> &Name

@@ -4,8 +4,8 @@ use Rattle.std.specs.Prelude.{slice_set}
 use Rattle.std.specs.Option.{option_map}
 use Rattle.std.specs.Ordering.{nat_cmp}
 use Rattle.std.specs.declared.cmp.Ordering.{Ordering}
-use Rattle.repo_plan.specs.SortedList.{by_order, value_of, with_value}
-use Rattle.repo_plan.proofs.Orders.{nat_itself}
+use Rattle.repo_plan.specs.SortedList.{by_order, keys, IsBefore, Rises, value_of, with_value}
+use Rattle.repo_plan.proofs.Orders.{nat_less, nat_itself}
 use Rattle.repo_process.specs.Fields.{numbered}
 use Rattle.repo_process.proofs.Numbers.{nat_greater, same_key, key_below, key_above}
 
@@ -51,3 +51,13 @@ module _ {A : Type 0} where
   slice_get-numbered first i [] = refl
   slice_get-numbered first zero (x ∷ xs) = rw (here first) refl
   slice_get-numbered first (suc i) (x ∷ xs) = rw (next first i) (slice_get-numbered (first + 1) i xs)
+
+-- ---- their order
+
+number_before : {A : Type 0} (k first : ℕ) (xs : List A) → k < first → IsBefore nat_cmp k (keys (numbered first xs))
+number_before k first [] below = tt
+number_before k first (x ∷ xs) below = (nat_less k first below, number_before k (first + 1) xs (omega (arith, below)))
+
+pub numbered_rise : {A : Type 0} (first : ℕ) (xs : List A) → Rises nat_cmp (keys (numbered first xs))
+numbered_rise first [] = tt
+numbered_rise first (x ∷ xs) = (number_before first (first + 1) xs (omega arith), numbered_rise (first + 1) xs)

@@ -1,7 +1,9 @@
 -- A process whose blocks stand in places, one for each index.
-use Rattle.std.proofs.Common.{◌≡◌, ℕ, zero, suc, ◌+◌, ◌-◌, ◌<◌, true, false, eqb, List, [], ◌∷◌, length, get_or, replicate, Option, Some, refl, sym, ap, ◌∙◌, arith}
+use Rattle.std.proofs.Common.{◌≡◌, ℕ, zero, suc, ◌+◌, ◌-◌, ◌<◌, Bool, true, false, cond, eqb, leb, List, [], ◌∷◌, length, get_or, replicate, Option, Some, refl, sym, ap, ◌∙◌, arith}
 use Rattle.std.specs.Prelude.{slice_set, is_some, unwrap_or}
 use Rattle.std.specs.Ordering.{nat_cmp}
+use Rattle.std.proofs.lemmas.Bool.{lt-leb, eqb-true}
+use Rattle.std.proofs.lemmas.List.{length-set}
 use Rattle.ndn_name.specs.Names.{Component}
 use Rattle.repo_plan.specs.SortedList.{value_of}
 use Rattle.repo_plan.specs.Parts.{numbers_from}
@@ -9,7 +11,7 @@ use Rattle.repo_object.specs.Objects.{NamedContents}
 use Rattle.repo_process.specs.Processes.{Process, starting, indexes, has_block, present, missing, is_whole, with_block, without_block, object_of}
 use Rattle.repo_process.specs.Arrivals.{whole_object}
 use Rattle.repo_process.specs.Fields.{blocks_from}
-use Rattle.repo_process.proofs.BlockLemmas.{come, missing_in, block_at, with_block_at, without_block_at, come_or_missing, all_come, come_again, contents_again, no_blocks}
+use Rattle.repo_process.proofs.BlockLemmas.{come, missing_in, other, block_at, with_block_at, without_block_at, come_or_missing, all_come, come_again, contents_again, no_blocks}
 
 pub length-numbers : (first n : ℕ) → length (numbers_from first n) ≡ n
 length-numbers first zero = refl
@@ -80,3 +82,44 @@ present-published p closed = rw closed (length-numbers p.first (p.last + 1 - p.f
 -- the object that is lent
 pub whole_is : (p : Process) (object : NamedContents) → p.published ≡ false → is_whole p ≡ true → object_of p ≡ object → whole_object (Some p) ≡ Some object
 whole_is p object unpublished whole same = rw (unpublished, whole, same) refl
+
+-- ---- the last block
+
+missing_set : (cs : List (List ℕ)) (j y : ℕ) (ys : List ℕ) → j < length cs → length (get_or cs j []) ≡ 0 → missing_in cs ≡ missing_in (slice_set cs j (y ∷ ys)) + 1
+missing_set [] j y ys within none = absurd (omega (arith, within))
+missing_set ([] ∷ cs) zero y ys within none = omega arith
+missing_set ((x ∷ xs) ∷ cs) zero y ys within none = absurd (omega (arith, none))
+missing_set ([] ∷ cs) (suc j) y ys within none = let rest = missing_set cs j y ys (omega (arith, within)) none in omega (arith, rest)
+missing_set ((x ∷ xs) ∷ cs) (suc j) y ys within none = missing_set cs j y ys (omega (arith, within)) none
+
+one_left : (n : ℕ) → eqb n 0 ≡ leb (n + 1) 1
+one_left zero = refl
+one_left (suc n) = other (suc n) 0 (λ e. omega arith) ∙ sym (lt-leb (suc n + 1) 1 (omega arith))
+
+none_left : (n : ℕ) → eqb n 0 ≡ leb n 0
+none_left zero = refl
+none_left (suc n) = other (suc n) 0 (λ e. omega arith) ∙ sym (lt-leb (suc n) 0 (omega arith))
+
+-- with a block no block is missing, where none but that one was
+module _ (name : List Component) (first last : ℕ) (cs : List (List ℕ)) (long : length cs ≡ last + 1 - first) (j : ℕ) (within : j < length cs) where
+  last_new : (content : List ℕ) → 0 < length content → length (get_or cs j []) ≡ 0 → is_whole (with_block (first + j) content (of_contents name first last cs)) ≡ leb (missing (of_contents name first last cs)) 1
+  last_new [] some none = absurd (omega (arith, some))
+  last_new (y ∷ ys) some none =
+      let set_long : length (slice_set cs j (y ∷ ys)) ≡ last + 1 - first = length-set cs j (y ∷ ys) ∙ long in
+      ap is_whole (with_block-new name first last cs long j (y ∷ ys) some within none)
+      ∙ whole-counted name first last (slice_set cs j (y ∷ ys)) set_long
+      ∙ one_left (missing_in (slice_set cs j (y ∷ ys)))
+      ∙ ap (λ (n : ℕ). leb n 1) (sym (missing-counted name first last cs long ∙ missing_set cs j y ys within none))
+
+  last_there : (content : List ℕ) → 0 < length (get_or cs j []) → is_whole (with_block (first + j) content (of_contents name first last cs)) ≡ leb (missing (of_contents name first last cs)) 0
+  last_there content some =
+      ap is_whole (with_block-there name first last cs long j content within some) ∙ whole-counted name first last cs long
+      ∙ none_left (missing_in cs) ∙ ap (λ (n : ℕ). leb n 0) (sym (missing-counted name first last cs long))
+
+  pub last_with : (content : List ℕ) (lacks : Bool) → 0 < length content → lacks ≡ eqb (length (get_or cs j [])) 0
+      → is_whole (with_block (first + j) content (of_contents name first last cs)) ≡ leb (missing (of_contents name first last cs)) (cond lacks 1 0)
+  last_with content true some is = last_new content some (eqb-true (length (get_or cs j [])) 0 (sym is))
+  last_with content false some is = last_there content (positive (length (get_or cs j [])) is) where
+    positive : (n : ℕ) → false ≡ eqb n 0 → 0 < n
+    positive zero e = absurd cc
+    positive (suc n) e = omega arith

@@ -1,5 +1,5 @@
 -- What a block makes of a process, what is told of it, and the object that a whole process is.
-use Rattle.std.specs.Prelude.{ℕ, not, ◌&&◌, List, Vec, map, Option, Some, None, if◌then◌else◌}
+use Rattle.std.specs.Prelude.{ℕ, Bool, true, false, not, ◌&&◌, List, Vec, map, Option, Some, None, if◌then◌else◌}
 use Rattle.std.specs.Borrow.{Bor}
 use Rattle.ndn_name.specs.Names.{Component}
 use Rattle.repo_object.specs.Objects.{NamedContents}
@@ -7,6 +7,7 @@ use Rattle.repo_process.specs.declared.block_state.BlockState as declared_state
 use Rattle.repo_process.specs.declared.block_state.BlockState.TheVariants as state
 use Rattle.repo_process.specs.Processes.{Process, BlockState, missing, is_whole, object_of}
 use Rattle.repo_process.specs.Processes.BlockState.{Unknown, Already, Waiting, Whole}
+use Rattle.repo_process.specs.Fields.{blocks_from}
 
 -- What is told of a block.
 abbrev pub told : BlockState → declared_state.BlockState
@@ -14,6 +15,11 @@ told Unknown = state.Unknown
 told Already = state.Complete
 told (Waiting p) = state.Kept (missing p)
 told (Whole p) = state.Complete
+
+-- No block is missing any more.
+abbrev pub is_last : BlockState → Bool
+is_last (Whole p) = true
+is_last _ = false
 
 -- The process afterwards.
 abbrev pub arrived : Process → BlockState → Process
@@ -26,6 +32,10 @@ arrived p (Whole q) = q
 abbrev pub whole_object : Option Process → Option NamedContents
 whole_object None = None
 whole_object (Some p) = if not p.published && is_whole p then Some (object_of p) else None
+
+-- A process that counts as unpublished again, with these contents as its blocks.
+abbrev pub reopened : List (List ℕ) → Process → Process
+reopened contents p = record p { blocks = blocks_from p.first contents; published = false }
 
 -- An object whose name and contents are lent, without where they lie in memory.
 abbrev pub lent_object : {A : Type 0} → Bor (List Component) × Bor (List (Vec ℕ A)) → NamedContents

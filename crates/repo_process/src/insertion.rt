@@ -1,7 +1,9 @@
-ghost use Rattle.std.specs.Prelude.{◌≡◌, ◌==◌, ◌-◌, ◌≤◌, ◌<◌, ◌↔◌, [], false, length, map, count_by, replicate, vec_len, IfOk, OnOk, OnErr, IsTrue, MatchOption, IfSome, None, Some};
+ghost use Rattle.std.specs.Prelude.{◌≡◌, ◌==◌, ◌+◌, ◌-◌, ◌≤◌, ◌<◌, ◌↔◌, ℕ, List, [], true, false, length, map, count_by, replicate, vec_len, IfOk, OnOk, OnErr, IsTrue, MatchOption, IfSome, None, Some};
+ghost use Rattle.std.specs.List.{All};
 ghost use Rattle.repo_object.specs.Objects.{is_object_name, IsContent, IsObject};
 ghost use Rattle.repo_process.specs.Processes.{Process, starting, has_index, has_block, present, missing, is_whole, with_block, without_block, object_of, closed, block_in};
-ghost use Rattle.repo_process.specs.Arrivals.{told, arrived, whole_object, lent_object};
+ghost use Rattle.repo_process.specs.Arrivals.{told, is_last, arrived, whole_object, lent_object, reopened};
+ghost use Rattle.repo_process.specs.Fields.{blocks_from};
 
 use crate::block_state::BlockState;
 use crate::blocks::Blocks;
@@ -118,11 +120,35 @@ impl Insertion {
         requires open { self.old.published ≡ false }
         requires whole { IsTrue (is_whole self.old) }
         ensures blocks { map (λ c. c.items) result.items ≡ (object_of self.old).contents }
+        ensures back { blocks_from self.old.first (map (λ c. c.items) result.items) ≡ self.old.blocks }
         ensures closed { self.new ≡ closed self.old }
     {
         let alloc = *self.contents.allocator();
         self.is_published = true;
         mem::replace(&mut self.contents, Vec::new(alloc))
+    }
+
+    /// The object counts as unpublished again, with these blocks.
+    pub(crate) fn reopen(&mut self, contents: Vec<Vec<u8>>)
+        requires closed { self.old.published ≡ true }
+        requires all { length contents.items ≡ self.old.last + 1 - self.old.first }
+        requires contents { All (λ c. IsContent c.items) contents.items }
+        ensures { self.new ≡ reopened (map (λ c. c.items) contents.items) self.old }
+    {
+        self.is_published = false;
+        self.contents = contents;
+    }
+
+    /// Whether a block of this index would be the last one that is missing.
+    pub(crate) fn completes(&self, index: u64) -> bool
+        ensures { (content : List ℕ) → IsContent content
+            → result ≡ is_last (block_in index content (Some self.now)) }
+    {
+        if !self.has_index(index) || self.is_published {
+            return false;
+        }
+        let lacks = self.contents[(index - self.first) as usize].is_empty();
+        self.missing() <= u64::from(lacks)
     }
 
     // Whether one of the blocks has this index.

@@ -1,9 +1,11 @@
-ghost use Rattle.std.specs.Prelude.{◌≡◌, ◌-◌, ◌≤◌, ◌<◌, ◌↔◌, [], None, Some, Err, false, length, map, option_map, slice_get, IsSomeAnd, IfOk, OnOk, OnErr, IsTrue, IsSome, MatchOption, IfSome};
+ghost use Rattle.std.specs.Prelude.{◌≡◌, ◌+◌, ◌-◌, ◌≤◌, ◌<◌, ◌↔◌, ℕ, List, [], true, None, Some, Err, false, length, map, option_map, slice_get, IsSomeAnd, IfOk, OnOk, OnErr, IsTrue, IsSome, MatchOption, IfSome};
+ghost use Rattle.std.specs.List.{All};
 ghost use Rattle.std.specs.Ordering.{nat_cmp};
-ghost use Rattle.repo_plan.specs.SortedList.{value_of};
+ghost use Rattle.repo_plan.specs.SortedList.{Rises, keys, value_of};
 ghost use Rattle.repo_object.specs.Objects.{is_object_name, IsContent, IsObject};
 ghost use Rattle.repo_process.specs.Processes.{Process, has_block, present, object_of, closed, block_state, without_block};
-ghost use Rattle.repo_process.specs.Arrivals.{told, whole_object, lent_object};
+ghost use Rattle.repo_process.specs.Arrivals.{told, is_last, whole_object, lent_object, reopened};
+ghost use Rattle.repo_process.specs.Fields.{blocks_from};
 ghost use Rattle.repo_process.specs.Insertions.{next_number, starts, blocks_process, changes_process};
 
 use crate::block_state::BlockState;
@@ -159,10 +161,37 @@ impl Processes {
         ensures blocks { option_map (λ o. o.contents)
             (whole_object (value_of nat_cmp self.old.processes process))
             ≡ Some (map (λ c. c.items) result.items) }
+        ensures back { IfSome (value_of nat_cmp self.old.processes process)
+            (λ p. blocks_from p.first (map (λ c. c.items) result.items) ≡ p.blocks) }
         ensures closed { self.new ≡ changes_process process closed self.old }
     {
         let place = self.place(u64::from(process)).unwrap();
         self.insertions[place].close()
+    }
+
+    /// The object of a process counts as unpublished again, with these blocks in order of index: for blocks that were handed
+    /// over in vain. It takes no memory.
+    pub fn reopen(&mut self, process: u32, contents: Vec<Vec<u8>>)
+        requires closed { IsSomeAnd (value_of nat_cmp self.old.processes process)
+            (λ p. (p.published ≡ true) × (length contents.items ≡ p.last + 1 - p.first)) }
+        requires contents { All (λ c. IsContent c.items) contents.items }
+        ensures { self.new
+            ≡ changes_process process (reopened (map (λ c. c.items) contents.items)) self.old }
+    {
+        let place = self.place(u64::from(process)).unwrap();
+        self.insertions[place].reopen(contents);
+    }
+
+    /// Whether a block of a process would be the last one that is missing. It takes no memory.
+    pub fn completes(&self, process: u32, index: u64) -> bool
+        ensures last { (content : List ℕ) → IsContent content
+            → result ≡ is_last (block_state self.now.processes process index content) }
+        ensures ordered { Rises nat_cmp (keys self.now.processes) }
+    {
+        match self.place(u64::from(process)) {
+            Some(place) => self.insertions[place].completes(index),
+            None => false,
+        }
     }
 
     /// Drops all processes. Numbers go on. It takes no memory.

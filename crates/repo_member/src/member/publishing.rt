@@ -1,4 +1,4 @@
-ghost use Rattle.std.specs.Prelude.{◌≡◌, ◌<◌, ◌≤◌, ◌^◌, ◌↔◌, ℕ, Err, IsTrue, IfOk, OnOk, OnErr, length, map, option_map, vec_len};
+ghost use Rattle.std.specs.Prelude.{◌≡◌, ◌<◌, ◌≤◌, ◌^◌, ◌↔◌, ℕ, Err, IsTrue, IfOk, IfErr, OnOk, OnErr, length, map, option_map, vec_len};
 ghost use Rattle.std.specs.List.{All};
 ghost use Rattle.repo_object.specs.Objects.{is_object_name, IsContent, IsObject, IsPublisher};
 ghost use Rattle.repo_member.specs.Groups.{publisher_at};
@@ -20,7 +20,7 @@ use repo_store::Store;
 use std::alloc::AllocError;
 
 /// How many objects a member may publish.
-const LOG_LIMIT: u32 = 65_535;
+pub(super) const LOG_LIMIT: u32 = 65_535;
 
 /// An object that was published.
 #[derive(Debug, Drop)]
@@ -31,10 +31,9 @@ pub struct Published {
     pub sync: Vec<u8>,
 }
 
-// An object that is to be published, with all that its publication makes.
+// All that the publication of an object makes.
 #[derive(Drop)]
 struct Prepared {
-    object: Object,
     name: Name,
     packets: Vec<Vec<u8>>,
     sync: Vec<u8>,
@@ -71,7 +70,34 @@ impl Member {
         if log >= LOG_LIMIT {
             return Err(PublishRefusal::NumbersSpent { log });
         }
-        let seq = log as u16 + 1;
+        let object = Object::new(*self.log.allocator(), name, contents)?;
+        match self.publish_object(g, object, now, draw) {
+            Ok(published) => Ok(published),
+            Err(_) => Err(PublishRefusal::NoMemory),
+        }
+    }
+
+    // Publishes an object under the next number, or gives it back where memory is wanting.
+    pub(super) fn publish_object(
+        &mut self,
+        g: &Group,
+        object: Object,
+        now: u64,
+        draw: u32,
+    ) -> Result<Published, Object>
+        requires group { IsOf g.now self.old }
+        requires numbers { length self.old.log < publication_limit }
+        requires early { now < 2 ^ 62 }
+        requires draws { self.old.machine.draws < 2 ^ 62 }
+        ensures ok { OnOk result (self.new ≡ alone_publishes g.now object now draw self.old) }
+        ensures object { OnOk result (IsObject object) }
+        ensures seq { IfOk result (λ published. published.seq ≡ next_seq self.old) }
+        ensures sync { IfOk result (λ published.
+            published.sync.items ≡ sync_of g.now self.old.number self.new.known) }
+        ensures back { IfErr result (λ back. back ≡ object) }
+        ensures err { OnErr result (self.new ≡ self.old) }
+    {
+        let seq = self.log_len() as u16 + 1;
         let number = self.number;
         let record = Part {
             publisher: number,
@@ -80,14 +106,20 @@ impl Member {
         };
         let held = self.plan.holds(record);
         prove!(!held);
-        let prepared = self.prepared(g, seq, name, contents)?;
-        self.log.reserve(1)?;
-        make_room(
+        let Ok(prepared) = self.prepared(g, seq, &object) else {
+            return Err(object);
+        };
+        let Ok(()) = self.log.reserve(1) else {
+            return Err(object);
+        };
+        let Ok(()) = make_room(
             &mut self.plan,
             &mut self.store,
             &mut self.catalogue,
             prepared.packets.len(),
-        )?;
+        ) else {
+            return Err(object);
+        };
         self.plan.raise(number, seq);
         gain_all(
             &mut self.plan,
@@ -104,7 +136,7 @@ impl Member {
             seq,
             prepared.name,
         );
-        self.log.push(prepared.object).unwrap();
+        self.log.push(object).unwrap();
         self.vector.raise(number, seq);
         self.machine.published(now, draw);
         Ok(Published {
@@ -130,36 +162,24 @@ impl Member {
         packet_of(alloc, object, part.seq, part.part, node, g.name(), key)
     }
 
-    // The object of this name and these contents, and all that its publication makes.
-    fn prepared(
-        &self,
-        g: &Group,
-        seq: u16,
-        name: &Name,
-        contents: &[Vec<u8>],
-    ) -> Result<Prepared, AllocError>
+    // All that the publication of an object makes.
+    fn prepared(&self, g: &Group, seq: u16, object: &Object) -> Result<Prepared, AllocError>
         requires group { IsOf g.now self.now }
-        requires name { IsTrue (is_object_name name.now) }
-        requires few { length contents.now ≤ 200 }
-        requires contents { All (λ c. IsContent c.items) contents.now }
         requires seq { seq ≡ next_seq self.now }
-        ensures within { IfOk result (λ prepared. IsObject prepared.object) }
+        ensures within { IfOk result (λ _. IsObject object.now) }
         ensures publisher { IfOk result (λ _. IsPublisher (publisher_at g.now self.now.number)) }
-        ensures prepared { IfOk result (λ prepared. IsPrepared g.now self.now
-            (record { name = name.now; contents = map (λ c. c.items) contents.now })
-            prepared.object prepared.name (map (λ p. p.items) prepared.packets.items) prepared.sync.items) }
+        ensures prepared { IfOk result (λ prepared. IsPrepared g.now self.now object.now
+            prepared.name (map (λ p. p.items) prepared.packets.items) prepared.sync.items) }
     {
         let alloc = *self.log.allocator();
-        let object = Object::new(alloc, name, contents)?;
         let node = g.roster().name(self.number);
         let key = g.members().key(self.number);
-        let packets = packets_of(alloc, &object, seq, node, g.name(), key)?;
+        let packets = packets_of(alloc, object, seq, node, g.name(), key)?;
         let mut vector = self.vector.copy(alloc)?;
         vector.raise(self.number, seq);
         let sync = sync_of(alloc, g, self.number, &vector)?;
-        let name = name.clone()?;
+        let name = object.name().clone()?;
         Ok(Prepared {
-            object,
             name,
             packets,
             sync,

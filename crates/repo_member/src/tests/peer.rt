@@ -162,6 +162,28 @@ impl<'g> Peer<'g> {
         Ok(self.member.take_outcome(self.g, &jobs, &parts, &attempts)?)
     }
 
+    pub(super) fn command(
+        &mut self,
+        rt: &impl Abort,
+        octets: &[u8],
+    ) -> Result<Answered, AllocError> {
+        self.ready(rt);
+        self.member.command(self.g, octets)
+    }
+
+    pub(super) fn block(
+        &mut self,
+        rt: &impl Abort,
+        process: u32,
+        index: u64,
+        content: &[u8],
+    ) -> Result<Blocked, PublishRefusal>
+        requires { IsContent content.now }
+    {
+        self.ready(rt);
+        self.member.block(self.g, process, index, content, 0, DRAW)
+    }
+
     pub(super) fn logged(
         &self,
         rt: &impl Abort,

@@ -1,4 +1,5 @@
 use Rattle.repo_member.proofs.EventLemmas.{publish_is_event, deliver_is_event, hear_is_event, fire_is_event, restart_is_event, claim_is_event, lose_is_event, answer_is_event, feed_is_event, fetch_is_event, learns_at_once, learns_what_all_know, gathering_is_event, settle_is_event, open_parts_alike, catalogues_alike}
+use Rattle.repo_member.proofs.CommandEvents.{order_is_event, order_is_answered, issue_is_event, issue_is_answered, block_is_event, block_states_alike}
 use Rattle.repo_member.proofs.laws.calls_are_events.Goals as goal
 
 pub returns-clause-publish : goal.returns-clause-publish
@@ -48,3 +49,21 @@ returns-clause-open_parts c = open_parts_alike
 
 pub returns-clause-catalogue : goal.returns-clause-catalogue
 returns-clause-catalogue c = catalogues_alike
+
+pub returns-clause-order : goal.returns-clause-order
+returns-clause-order c = order_is_event
+
+pub returns-clause-order_answer : goal.returns-clause-order_answer
+returns-clause-order_answer c = order_is_answered
+
+pub returns-clause-issue : goal.returns-clause-issue
+returns-clause-issue c = issue_is_event
+
+pub returns-clause-issue_answer : goal.returns-clause-issue_answer
+returns-clause-issue_answer c = issue_is_answered
+
+pub returns-clause-block : goal.returns-clause-block
+returns-clause-block c = block_is_event
+
+pub returns-clause-block_state : goal.returns-clause-block_state
+returns-clause-block_state c = block_states_alike

@@ -1,5 +1,6 @@
 use Rattle.repo_plan.specs.Sound.{IsSound}
 use Rattle.repo_member.specs.Alone.{IsAlone, IsOf, alone_plan}
+use Rattle.repo_member.specs.Blocks.{AreWithinLimits}
 use Rattle.repo_member.proofs.CallReach.{in_every_member}
 use Rattle.repo_member.proofs.laws.calls_keep_members_sound.Goals as goal
 
@@ -11,3 +12,6 @@ returns-clause-group c = in_every_member IsOf (λ g a r. r.of)
 
 pub returns-clause-plan : goal.returns-clause-plan
 returns-clause-plan c = in_every_member (λ g a. IsSound (alone_plan a)) (λ g a r. r.sound)
+
+pub returns-clause-insertions : goal.returns-clause-insertions
+returns-clause-insertions c = in_every_member (λ g a. AreWithinLimits a.insertions.processes) (λ g a r. r.insertions)

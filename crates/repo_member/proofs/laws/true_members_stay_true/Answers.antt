@@ -1,4 +1,4 @@
-use Rattle.repo_member.proofs.TrueChanges.{begins_true, publishes_true, others_publish, logs_have_grown, learns_true, hears_true, fires_true, resets_true, ends_claims_true, claims_true, loses_true, accepts_true, takes_true}
+use Rattle.repo_member.proofs.TrueChanges.{begins_true, publishes_true, others_publish, logs_have_grown, learns_true, hears_true, inserts_true, blocks_true, deletes_true, obeys_true, restarts_true, fires_true, resets_true, ends_claims_true, claims_true, loses_true, accepts_true, takes_true}
 use Rattle.repo_member.proofs.laws.true_members_stay_true.Goals as goal
 
 pub returns-clause-begins : goal.returns-clause-begins
@@ -39,3 +39,18 @@ returns-clause-accepts c = accepts_true
 
 pub returns-clause-takes : goal.returns-clause-takes
 returns-clause-takes c = takes_true
+
+pub returns-clause-inserts : goal.returns-clause-inserts
+returns-clause-inserts c = inserts_true
+
+pub returns-clause-blocks : goal.returns-clause-blocks
+returns-clause-blocks c = blocks_true
+
+pub returns-clause-deletes : goal.returns-clause-deletes
+returns-clause-deletes c = deletes_true
+
+pub returns-clause-obeys : goal.returns-clause-obeys
+returns-clause-obeys c = obeys_true
+
+pub returns-clause-restarts : goal.returns-clause-restarts
+returns-clause-restarts c = restarts_true

@@ -1,14 +1,15 @@
-use Rattle.std.proofs.Common.{arith, ◌≡◌, ◌<◌, ℕ, List, [], length, replicate, slice_index, true, sym, ap, ◌∙◌, subst}
+use Rattle.std.proofs.Common.{arith, ◌≡◌, ◌<◌, ℕ, List, length, slice_index, sym, ap, ◌∙◌, subst}
 use Rattle.std.proofs.lemmas.Bool.{true≢false}
 use Rattle.std.proofs.lemmas.List.{length-replicate, get_or-replicate}
 use Rattle.repo_plan.specs.SortedList.{Rises, keys, contains}
-use Rattle.repo_plan.specs.Parts.{Pair, part_cmp, pair_cmp}
-use Rattle.repo_plan.specs.Plan.{Holdings, opening}
+use Rattle.repo_plan.specs.Parts.{part_cmp, pair_cmp}
+use Rattle.repo_plan.specs.Plan.{Holdings}
 use Rattle.repo_store.specs.StoreList.{StoreList}
 use Rattle.repo_catalog.specs.Entries.{EntryList}
 use Rattle.svs_sync.specs.KeptVector.{Keeper}
 use Rattle.repo_member.specs.Listed.{alone_catalogue, shapes_in}
-use Rattle.repo_member.specs.Alone.{IsAlone}
+use Rattle.repo_process.specs.Insertions.{Insertions}
+use Rattle.repo_member.specs.Members.{AreWaiting}
 use Rattle.repo_member.proofs.member.Member.new.Goals as goal
 
 pub invariant_of-result : goal.invariant_of-result
@@ -36,4 +37,5 @@ invariant_of-result c =
         };
         listed = ap (λ (k : EntryList). k.entries) c.new-6.ensures ∙ sym (ap (λ (s : StoreList). alone_catalogue s.packets) c.new-5.ensures);
       };
+      waiting = subst (λ (i : Insertions). AreWaiting i.processes) (sym c.new-7.ensures) (λ number p found waits. absurd cc);
     }

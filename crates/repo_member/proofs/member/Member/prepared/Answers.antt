@@ -1,11 +1,7 @@
-use Rattle.std.proofs.Common.{◌<◌, length, ap, subst, arith}
-use Rattle.repo_object.specs.Objects.{IsObject}
+use Rattle.std.proofs.Common.{◌<◌, length, ap, arith}
 use Rattle.repo_member.specs.Alone.{Alone}
 use Rattle.repo_member.proofs.OwnLemmas.{is_publisher}
 use Rattle.repo_member.proofs.member.Member.prepared.Goals as goal
-
-pub returns-clause-within : goal.returns-clause-within
-returns-clause-within c = subst IsObject c.object.view_is c.object.invariant
 
 pub returns-clause-publisher : goal.returns-clause-publisher
 returns-clause-publisher c =

@@ -1,9 +1,10 @@
-use Rattle.std.proofs.Common.{List, ℕ, Some, Option, sym, ap, subst, ◌∙◌, arith}
-use Rattle.std.specs.Prelude.{IsSome}
+use Rattle.std.proofs.Common.{◌≡◌, map, List, ℕ, Some, Option, sym, ap, subst, ◌∙◌, arith}
+use Rattle.std.specs.Prelude.{IsSome, IfSome}
 use Rattle.std.specs.Option.{option_map}
 use Rattle.repo_object.specs.Objects.{NamedContents}
 use Rattle.repo_process.specs.Processes.{Process, closed}
 use Rattle.repo_process.specs.Arrivals.{whole_object}
+use Rattle.repo_process.specs.Fields.{blocks_from}
 use Rattle.repo_process.proofs.PlaceLemmas.{found, whole_of, change_replaced}
 use Rattle.repo_process.proofs.processes.Processes.hand_over.Goals as goal
 
@@ -46,3 +47,10 @@ returns-clause-closed c =
     let i = c.args.self.now in
     let at = found m i c.self.invariant c.self.view_is c.args.process c.unwrap-place.result (rw (c.unwrap-place.ensures, c.from.ensures) at c.place.ensures) in
     change_replaced m i c.self.invariant c.self.view_is c.args.process c.unwrap-place.result at c.index_mut.result.now c.close.new.self closed c.index_mut.ensures.value c.close.ensures.closed
+
+pub returns-clause-back : goal.returns-clause-back
+returns-clause-back c =
+    let m = c.self.inside in
+    let at = found m c.args.self.now c.self.invariant c.self.view_is c.args.process c.unwrap-place.result (rw (c.unwrap-place.ensures, c.from.ensures) at c.place.ensures) in
+    let P : Option Process → Type 0 = λ o. IfSome o (λ p. blocks_from p.first (map (λ v. v.items) c.close.result.items) ≡ p.blocks) in
+    subst P (sym (at.there c.index_mut.result.now c.index_mut.ensures.value)) c.close.ensures.back

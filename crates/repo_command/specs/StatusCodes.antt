@@ -1,0 +1,29 @@
+-- The status codes of answers, in this project's profile of the repo protocol.
+use Rattle.std.specs.Prelude.{ℕ}
+use Rattle.repo_command.specs.declared.command_refusal.CommandRefusal.{CommandRefusal}
+use Rattle.repo_command.specs.declared.command_refusal.CommandRefusal.TheVariants.{ParamsDigest, UnknownKey, BadSignature}
+
+abbrev pub Accepted : ℕ
+Accepted = 100
+
+abbrev pub Done : ℕ
+Done = 200
+
+abbrev pub InProgress : ℕ
+InProgress = 300
+
+abbrev pub NotValidated : ℕ
+NotValidated = 401
+
+abbrev pub Malformed : ℕ
+Malformed = 403
+
+abbrev pub NotFound : ℕ
+NotFound = 404
+
+-- What is answered to a command that is refused.
+abbrev pub refusal_code : CommandRefusal → ℕ
+refusal_code ParamsDigest = NotValidated
+refusal_code UnknownKey = NotValidated
+refusal_code BadSignature = NotValidated
+refusal_code _ = Malformed

@@ -1,0 +1,60 @@
+-- What a member makes of a block of an insertion.
+use Rattle.std.specs.Prelude.{◌≡◌, ◌≤◌, ℕ, List, Some, length, nat_lt, IsTrue, if◌then◌else◌}
+use Rattle.std.specs.Ordering.{nat_cmp}
+use Rattle.ndn_name.specs.Names.{IsName}
+use Rattle.repo_plan.specs.SortedList.{value_of}
+use Rattle.repo_object.specs.Objects.{is_object_name, IsContent}
+use Rattle.repo_process.specs.Processes.{Process, BlockState, indexes, object_of, closed, block_state}
+use Rattle.repo_process.specs.Processes.BlockState.{Unknown, Already, Waiting, Whole}
+use Rattle.repo_process.specs.Insertions.{with_process}
+use Rattle.repo_member.specs.declared.member.block.Blocked.{Blocked}
+use Rattle.repo_member.specs.declared.member.block.Blocked.TheVariants as blocked
+use Rattle.repo_member.specs.Groups.{GroupKeys}
+use Rattle.repo_member.specs.Alone.{Alone, publication_limit, next_seq, alone_publishes}
+use Rattle.repo_member.specs.Verdicts.{sync_of}
+
+-- ---- what every insertion process keeps
+
+-- it is of an object's name and of at most 200 blocks, and what has come of them are contents
+pub record IsWithinLimits (p : Process) : Type 0 where
+  pub name : IsName p.name
+  pub named : IsTrue (is_object_name p.name)
+  pub few : length (indexes p) ≤ 200
+  pub contents : (index : ℕ) (content : List ℕ) → value_of nat_cmp p.blocks index ≡ Some content → IsContent content
+
+abbrev pub AreWithinLimits : List (ℕ × Process) → Type 0
+AreWithinLimits processes = (number : ℕ) (p : Process) → value_of nat_cmp processes number ≡ Some p → IsWithinLimits p
+
+-- ---- a block
+
+-- what a block comes to
+abbrev pub alone_block : Alone → (process index : ℕ) → List ℕ → BlockState
+alone_block a process index content = block_state a.insertions.processes process index content
+
+abbrev pub alone_keeps : ℕ → Process → Alone → Alone
+alone_keeps number p a = record a { insertions = with_process number p a.insertions }
+
+-- A block that completes an object publishes it. Where numbers are spent it isn't taken.
+abbrev pub alone_publishes_whole : GroupKeys → (number moment draw : ℕ) → Process → Alone → Alone
+alone_publishes_whole g number moment draw p a =
+    if nat_lt (length a.log) publication_limit
+    then alone_publishes g (object_of p) moment draw (alone_keeps number (closed p) a) else a
+
+abbrev pub after_block : GroupKeys → (number moment draw : ℕ) → Alone → BlockState → Alone
+after_block g number moment draw a Unknown = a
+after_block g number moment draw a Already = a
+after_block g number moment draw a (Waiting p) = alone_keeps number p a
+after_block g number moment draw a (Whole p) = alone_publishes_whole g number moment draw p a
+
+abbrev pub alone_blocks : GroupKeys → (process index : ℕ) → List ℕ → (moment draw : ℕ) → Alone → Alone
+alone_blocks g process index content moment draw a =
+    after_block g process moment draw a (alone_block a process index content)
+
+-- What is told of a block is what it comes to.
+abbrev pub TellsBlock : GroupKeys → (old new : Alone) → BlockState → Blocked → Type 0
+TellsBlock g old new Unknown blocked.Unknown = Unit {0}
+TellsBlock g old new Already blocked.Already = Unit {0}
+TellsBlock g old new (Waiting p) blocked.Waiting = Unit {0}
+TellsBlock g old new (Whole p) (blocked.Published published) =
+    (published.seq ≡ next_seq old) × (published.sync.items ≡ sync_of g old.number new.known)
+TellsBlock g old new _ _ = ⊥

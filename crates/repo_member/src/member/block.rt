@@ -1,0 +1,81 @@
+ghost use Rattle.std.specs.Prelude.{◌≡◌, ◌<◌, ◌≤◌, ◌^◌, ◌↔◌, ℕ, Err, IfOk, OnOk, OnErr, IsTrue, length};
+ghost use Rattle.repo_object.specs.Objects.{IsContent};
+ghost use Rattle.repo_process.specs.Arrivals.{is_last};
+ghost use Rattle.repo_member.specs.Alone.{IsOf, publication_limit};
+ghost use Rattle.repo_member.specs.Blocks.{alone_block, alone_blocks, TellsBlock};
+
+use super::Member;
+use super::publishing::{LOG_LIMIT, Published};
+use crate::group::Group;
+use crate::refusals::PublishRefusal;
+use repo_object::Object;
+use repo_process::BlockState;
+
+/// What came of a block of an insertion.
+#[derive(Debug, Drop)]
+pub enum Blocked {
+    /// There is no such process, or none of its blocks has that index.
+    Unknown,
+    /// Another block is still missing.
+    Waiting,
+    /// The object was published before.
+    Already,
+    /// No other block was missing, and the object is published.
+    Published(Published),
+}
+
+impl Member {
+    /// Takes a block of an insertion, unless there is one of its index already. The last one that was missing publishes the
+    /// object, or isn't taken where that is refused.
+    pub fn block(
+        &mut self,
+        g: &Group,
+        process: u32,
+        index: u64,
+        content: &[u8],
+        now: u64,
+        draw: u32,
+    ) -> Result<Blocked, PublishRefusal>
+        requires group { IsOf g.now self.old }
+        requires content { IsContent content.now }
+        requires early { now < 2 ^ 62 }
+        requires draws { self.old.machine.draws < 2 ^ 62 }
+        ensures told { IfOk result (TellsBlock g.now self.old self.new
+            (alone_block self.old process index content.now)) }
+        ensures ok { OnOk result
+            (self.new ≡ alone_blocks g.now process index content.now now draw self.old) }
+        ensures spent { (log : ℕ) → (result ≡ Err (PublishRefusal.NumbersSpent log))
+            ↔ (IsTrue (is_last (alone_block self.old process index content.now))
+            × (log ≡ length self.old.log) × (publication_limit ≤ length self.old.log)) }
+        ensures err { OnErr result (self.new ≡ self.old) }
+    {
+        let is_last = self.processes.completes(process, index);
+        let log = self.log_len();
+        if is_last && log >= LOG_LIMIT {
+            return Err(PublishRefusal::NumbersSpent { log });
+        }
+        match self.processes.block(process, index, content)? {
+            BlockState::Unknown => return Ok(Blocked::Unknown),
+            BlockState::Kept { .. } => return Ok(Blocked::Waiting),
+            BlockState::Complete => {}
+        }
+        let Some((name, _)) = self.processes.whole(process) else {
+            return Ok(Blocked::Already);
+        };
+        let Ok(name) = name.clone() else {
+            self.processes.take_back(process, index);
+            return Err(PublishRefusal::NoMemory);
+        };
+        // The blocks are moved into the object, and back where it is not published.
+        let object = Object::from_parts(name, self.processes.hand_over(process));
+        match self.publish_object(g, object, now, draw) {
+            Ok(published) => Ok(Blocked::Published(published)),
+            Err(object) => {
+                let (_, contents) = object.into_parts();
+                self.processes.reopen(process, contents);
+                self.processes.take_back(process, index);
+                Err(PublishRefusal::NoMemory)
+            }
+        }
+    }
+}

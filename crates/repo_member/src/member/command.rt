@@ -1,0 +1,262 @@
+ghost use Rattle.std.specs.Prelude.{◌≡◌, ◌-◌, ◌<◌, ◌≤◌, true, false, length, option_map, IfOk, OnOk, OnErr, IsTrue};
+ghost use Rattle.std.specs.List.{All};
+ghost use Rattle.std.specs.Ordering.{nat_cmp};
+ghost use Rattle.repo_object.specs.Objects.{is_object_name};
+ghost use Rattle.repo_plan.specs.SortedList.{value_of};
+ghost use Rattle.repo_plan.specs.Plan.{knows, claims_part_in};
+ghost use Rattle.repo_command.specs.Commands.{is_command, IsSpelled};
+ghost use Rattle.repo_process.specs.Insertions.{next_number};
+ghost use Rattle.group_model.specs.Steps.{check_answer};
+ghost use Rattle.repo_member.specs.Gaining.{AreKept};
+ghost use Rattle.repo_member.specs.Alone.{IsOf, alone_plan};
+ghost use Rattle.repo_member.specs.Deleting.{catalogued, alone_deletes, dropped, outside_all, IsHiding};
+ghost use Rattle.repo_member.specs.Commanded.{order_of, after_order, order_answer, alone_obeys, alone_starts, answer_to, start_answer, delete_answer, reply_to, reply_named};
+
+use super::Member;
+use crate::group::Group;
+use ndn_data::write_signed;
+use ndn_interest::InterestView;
+use ndn_name::{Name, NameFault, NameView, PacketWriteFault};
+use repo_catalog::Catalogue;
+use repo_command::status_codes::{ACCEPTED, DONE, IN_PROGRESS, MALFORMED, NOT_FOUND};
+use repo_command::{Answer, Command, CommandRefusal, check_command, write_answer};
+use repo_object::key_name;
+use repo_plan::{Part, Plan};
+use repo_process::StartFault;
+use repo_store::Store;
+use std::alloc::AllocError;
+
+/// How many octets of value a name may have that a reply repeats.
+const REPLY_NAME_LIMIT: usize = 1_000;
+
+/// What a member answers to a command.
+#[derive(Debug, Drop)]
+pub struct Answered {
+    pub answer: Answer,
+    /// The packet that says it; `None` where the octets are no Interest, or one whose name has more than 1,000 octets of
+    /// value.
+    pub reply: Option<Vec<u8>>,
+}
+
+// The catalogued publications of the objects of a name, and how many packets they have together.
+#[derive(Drop)]
+struct Found {
+    publications: Vec<(u32, u16)>,
+    packets: usize,
+}
+
+impl Member {
+    /// Answers a command of the repo protocol, and does what it asks for, if it is one that a client of the group signed for
+    /// this member.
+    pub fn command(&mut self, g: &Group, octets: &[u8]) -> Result<Answered, AllocError>
+        requires group { IsOf g.now self.old }
+        ensures answer { IfOk result (λ answered. answered.answer
+            ≡ order_answer (order_of g.now self.old.number octets.now) self.old) }
+        ensures reply { IfOk result (λ answered. option_map (λ r. r.items) answered.reply
+            ≡ reply_to g.now self.old.number answered.answer octets.now) }
+        ensures ok { OnOk result
+            (self.new ≡ after_order (order_of g.now self.old.number octets.now) self.old) }
+        ensures spelled { OnOk result
+            (IfOk (order_of g.now self.old.number octets.now) (λ order. IsSpelled order.1)) }
+        ensures err { OnErr result (self.new ≡ self.old) }
+    {
+        let alloc = *self.log.allocator();
+        match check_command(alloc, octets, g.roster().name(self.number), g.clients()) {
+            Ok((_, command)) => self.obey(g, octets, command),
+            Err(CommandRefusal::NoMemory) => Err(AllocError),
+            Err(refusal) => self.answered(g, octets, Answer::only(refusal.status_code())),
+        }
+    }
+
+    // Does what a client asks for, and answers.
+    fn obey(&mut self, g: &Group, octets: &[u8], command: Command) -> Result<Answered, AllocError>
+        requires group { IsOf g.now self.old }
+        requires command { IsTrue (is_command command) }
+        ensures answer { IfOk result (λ answered. answered.answer ≡ answer_to command self.old) }
+        ensures reply { IfOk result (λ answered. option_map (λ r. r.items) answered.reply
+            ≡ reply_to g.now self.old.number answered.answer octets.now) }
+        ensures ok { OnOk result (self.new ≡ alone_obeys command self.old) }
+        ensures err { OnErr result (self.new ≡ self.old) }
+    {
+        match command {
+            Command::Insert { name, first, last } => self.insert(g, octets, &name, first, last),
+            Command::Check { process } => self.answered(g, octets, self.standing(process)),
+            Command::Delete { name } => self.delete(g, octets, &name),
+        }
+    }
+
+    // Starts an insertion, where there is a number for it.
+    fn insert(
+        &mut self,
+        g: &Group,
+        octets: &[u8],
+        name: &Name,
+        first: u64,
+        last: u64,
+    ) -> Result<Answered, AllocError>
+        requires group { IsOf g.now self.old }
+        requires name { IsTrue (is_object_name name.now) }
+        requires order { first ≤ last }
+        requires few { last - first < 200 }
+        ensures answer { IfOk result (λ answered. answered.answer
+            ≡ start_answer (next_number self.old.insertions)) }
+        ensures reply { IfOk result (λ answered. option_map (λ r. r.items) answered.reply
+            ≡ reply_to g.now self.old.number answered.answer octets.now) }
+        ensures ok { OnOk result
+            (self.new ≡ alone_starts name.now first last self.old (next_number self.old.insertions)) }
+        ensures err { OnErr result (self.new ≡ self.old) }
+    {
+        let Some(process) = self.processes.next() else {
+            return self.answered(g, octets, Answer::only(MALFORMED));
+        };
+        let answer = Answer {
+            process: Some(u64::from(process)),
+            ..Answer::only(ACCEPTED)
+        };
+        let answered = self.answered(g, octets, answer)?;
+        match self.processes.start(name, first, last) {
+            Ok(_) => Ok(answered),
+            Err(StartFault::Spent) => unreachable!(),
+            Err(StartFault::NoMemory) => Err(AllocError),
+        }
+    }
+
+    // How an insertion stands.
+    fn standing(&self, process: u64) -> Answer
+        ensures { result ≡ check_answer (value_of nat_cmp self.now.insertions.processes process) }
+    {
+        match self.processes.status(process) {
+            Some((blocks, published)) => {
+                let code = if published { DONE } else { IN_PROGRESS };
+                Answer {
+                    inserted: Some(blocks),
+                    ..Answer::only(code)
+                }
+            }
+            None => Answer::only(NOT_FOUND),
+        }
+    }
+
+    // Hides the catalogued publications of the objects of a name for good.
+    fn delete(&mut self, g: &Group, octets: &[u8], name: &Name) -> Result<Answered, AllocError>
+        requires group { IsOf g.now self.old }
+        ensures answer { IfOk result (λ answered. answered.answer ≡ delete_answer name.now self.old) }
+        ensures reply { IfOk result (λ answered. option_map (λ r. r.items) answered.reply
+            ≡ reply_to g.now self.old.number answered.answer octets.now) }
+        ensures ok { OnOk result (self.new ≡ alone_deletes name.now self.old) }
+        ensures err { OnErr result (self.new ≡ self.old) }
+    {
+        let found = self.found(name)?;
+        if found.publications.is_empty() {
+            return self.answered(g, octets, Answer::only(NOT_FOUND));
+        }
+        let answer = Answer {
+            deleted: Some(found.packets as u64),
+            ..Answer::only(DONE)
+        };
+        let answered = self.answered(g, octets, answer)?;
+        self.plan.reserve(found.publications.len())?;
+        hide_all(
+            &mut self.plan,
+            &mut self.store,
+            &mut self.catalogue,
+            &found.publications,
+        );
+        Ok(answered)
+    }
+
+    // The catalogued publications of the objects of a name. Their parts are held, so that no fetcher claims one.
+    fn found(&self, name: &Name) -> Result<Found, AllocError>
+        ensures publications { IfOk result (λ found. found.publications.items ≡ catalogued name.now self.now) }
+        ensures packets { IfOk result (λ found. found.packets ≡ dropped name.now self.now) }
+        ensures known { IfOk result (λ found.
+            All (λ pair. knows (alone_plan self.now) pair ≡ true) found.publications.items) }
+        ensures unclaimed { IfOk result (λ found.
+            All (λ pair. claims_part_in (alone_plan self.now) pair ≡ false) found.publications.items) }
+    {
+        let mut publications = Vec::new(*self.log.allocator());
+        let mut left = self.store.len();
+        for entry in self.catalogue.entries() {
+            if entry.name.view().compare(&name.view()).is_eq() {
+                let record = Part {
+                    publisher: entry.publisher,
+                    seq: entry.seq,
+                    part: 0,
+                };
+                let held = self.plan.holds(record);
+                prove!(held);
+                publications.push((entry.publisher, entry.seq))?;
+                left -= 1 + entry.segments as usize;
+            }
+        }
+        Ok(Found {
+            publications,
+            packets: self.store.len() - left,
+        })
+    }
+
+    // The answer, with the packet that says it.
+    fn answered(&self, g: &Group, octets: &[u8], answer: Answer) -> Result<Answered, AllocError>
+        requires group { IsOf g.now self.now }
+        ensures answer { IfOk result (λ answered. answered.answer ≡ answer) }
+        ensures reply { IfOk result (λ answered. option_map (λ r. r.items) answered.reply
+            ≡ reply_to g.now self.now.number answer octets.now) }
+    {
+        let reply = match InterestView::read(octets) {
+            Ok(interest) => self.reply(g, &interest.name, &answer)?,
+            Err(_) => None,
+        };
+        Ok(Answered { answer, reply })
+    }
+
+    // Data of this name that says the answer, unless the name is too long.
+    fn reply(
+        &self,
+        g: &Group,
+        name: &NameView<'_>,
+        answer: &Answer,
+    ) -> Result<Option<Vec<u8>>, AllocError>
+        requires group { IsOf g.now self.now }
+        ensures { IfOk result (λ reply. option_map (λ r. r.items) reply
+            ≡ reply_named g.now self.now.number answer.now name.now) }
+    {
+        if name.octets().len() > REPLY_NAME_LIMIT {
+            return Ok(None);
+        }
+        let alloc = *self.log.allocator();
+        let name = match Name::from_view(alloc, name) {
+            Ok(name) => name,
+            Err(NameFault::NameTooLong) => unreachable!(),
+            Err(_) => return Err(AllocError),
+        };
+        let content = write_answer(alloc, answer)?;
+        let key_name = key_name(g.roster().name(self.number))?;
+        let key = g.members().key(self.number);
+        match write_signed(alloc, &name, None, &content, &key_name, key) {
+            Ok(packet) => Ok(Some(packet)),
+            Err(PacketWriteFault::TooLong { .. }) => unreachable!(),
+            Err(PacketWriteFault::NoMemory) => Err(AllocError),
+        }
+    }
+}
+
+// These publications are hidden for good, for which room was made: none of their packets is held or listed any more.
+fn hide_all(
+    plan: &mut Plan,
+    store: &mut Store,
+    catalogue: &mut Catalogue,
+    publications: &[(u32, u16)],
+)
+    requires room { length publications.now ≤ plan.old.spare }
+    requires unclaimed { All (λ pair. claims_part_in plan.old pair ≡ false) publications.now }
+    requires kept { AreKept plan.old store.old.packets catalogue.old.entries }
+    ensures hidden { IsHiding publications.now plan.old plan.new }
+    ensures packets { store.new.packets ≡ outside_all publications.now store.old.packets }
+    ensures kept { AreKept plan.new store.new.packets catalogue.new.entries }
+{
+    for (publisher, seq) in publications {
+        plan.hide_reserved(*publisher, *seq);
+        store.drop_parts(*publisher, *seq);
+        catalogue.remove(*publisher, *seq);
+    }
+}
