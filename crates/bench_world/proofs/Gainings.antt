@@ -1,16 +1,20 @@
 -- What a fetch and a settle make of a world.
-use Rattle.std.proofs.Common.{◌≡◌, ℕ, zero, suc, ◌+◌, ◌-◌, ◌*◌, ◌≤◌, ◌<◌, ◌^◌, Bool, List, [], ◌∷◌, ◌++◌, map, length, get_or, refl, sym, ap, ◌∙◌, subst, arith}
+use Rattle.std.proofs.Common.{◌≡◌, inl, inr, Some, ℕ, zero, suc, ◌+◌, ◌-◌, ◌*◌, ◌≤◌, ◌<◌, ◌^◌, Bool, List, [], ◌∷◌, ◌++◌, map, length, get_or, refl, sym, ap, ◌∙◌, subst, arith}
 use Rattle.std.specs.Prelude.{sum_by}
 use Rattle.std.specs.List.{All}
-use Rattle.std.proofs.lemmas.List.{length-map, map-append}
+use Rattle.std.proofs.lemmas.Bool.{cases_lt}
+use Rattle.std.proofs.lemmas.List.{length-map, map-append, get_or_past}
+use Rattle.std.specs.Ordering.{nat_cmp}
+use Rattle.repo_plan.specs.SortedList.{value_of}
+use Rattle.group_model.specs.Processes.{Process, indexes}
 use Rattle.std.proofs.lemmas.List.Elements.{All-append}
 use Rattle.bench_net.specs.SentList.{SentPacket}
 use Rattle.svs_sync.specs.KeptVector.{Keeper}
 use Rattle.repo_plan.specs.declared.part.Part.{Part}
 use Rattle.group_model.specs.Publications.{Logs, no_object, published}
-use Rattle.group_model.specs.Member.{tries_of}
+use Rattle.group_model.specs.Member.{Member, tries_of}
 use Rattle.group_model.specs.Events.{SyncInterest, Event}
-use Rattle.group_model.specs.World.{Tally, World, Outside, member}
+use Rattle.group_model.specs.World.{Tally, World, Outside, no_member, member}
 use Rattle.group_model.specs.Laws.{NothingHidden, AllJoined}
 use Rattle.group_model.specs.Limits.{IsWithin, IsMemberWithin, IsTallyWithin}
 use Rattle.group_model.specs.Sound.{IsSoundGroup}
@@ -85,9 +89,17 @@ module _ (s : GroupState) (is : IsTrueState s) where
 
   -- ---- where memory was wanting
 
-  still_within : (mid : List Alone) (steps : ℕ) → s.steps ≤ steps → length mid ≡ length s.members → AreNumbered mid → AreTrueMembers s.keys (logs_around s.members) mid → AllCountsStay s.members mid
+  still_processes : (mid : List Alone) → ArePartlySettled (only s.members) (in_groups mid) → (j : ℕ) → (in_group (alone_at mid j)).processes ≡ (in_group (alone_at s.members j)).processes
+  still_processes mid p j = elim (cases_lt j (length (in_groups s.members))) [
+    | inl inside ↦ ap (λ (x : Member). x.processes) (sym (member_at mid j)) ∙ (p.each j inside).processes ∙ ap (λ (x : Member). x.processes) (member_at s.members j)
+    | inr past ↦
+        let len : length (in_groups mid) ≡ length (in_groups s.members) = p.len in
+        ap (λ (x : Member). x.processes) (sym (member_at mid j) ∙ get_or_past (in_groups mid) j no_member (omega (arith, past, len)) ∙ sym (get_or_past (in_groups s.members) j no_member past) ∙ member_at s.members j)
+  ]
+
+  still_within : (mid : List Alone) (steps : ℕ) → s.steps ≤ steps → length mid ≡ length s.members → AreNumbered mid → AreTrueMembers s.keys (logs_around s.members) mid → AllCountsStay s.members mid → ArePartlySettled (only s.members) (in_groups mid)
       → IsWithin s.steps (world_of (record s { members = mid; steps = steps }))
-  still_within mid steps more len numbers truly counts =
+  still_within mid steps more len numbers truly counts p =
       let same : logs_around mid ≡ logs_around s.members = logs_are s.keys (logs_around s.members) mid (len ∙ many s is) numbers truly in
       record {
         moment = is.within.moment;
@@ -97,17 +109,17 @@ module _ (s : GroupState) (is : IsTrueState s) where
         members = λ j. subst (IsMemberWithin s.steps) (sym (member_at mid j)) (record {
           draws = let a : (alone_at s.members j).machine.draws ≤ s.steps + 1 = (member_within s is j).draws in let e : (alone_at mid j).machine.draws ≡ (alone_at s.members j).machine.draws = ap (λ (k : Keeper). k.draws) (counts j).machine in omega (arith, a, e);
           tried = λ t. let a : tries_of (alone_at s.members j).attempts t ≤ s.steps * 16 = (member_within s is j).tried t in let e : tries_of (alone_at mid j).attempts t ≡ tries_of (alone_at s.members j).attempts t = ap (λ (xs : List (Part × ℕ)). tries_of xs t) (counts j).attempts in omega (arith, a, e);
-          blocks = λ i q e. absurd cc;
+          blocks = subst (λ (ps : List (ℕ × Process)). (n : ℕ) (q : Process) → value_of nat_cmp ps n ≡ Some q → length (indexes q) ≤ 200) (sym (still_processes mid p j)) (member_within s is j).blocks;
         });
         tally = is.within.tally;
       }
 
   module _ (few : s.steps < 100000) where
     -- A settle that wanted memory leaves the world sound.
-    pub failed_state : (mid : List Alone) → length mid ≡ length s.members → AreNumbered mid → AreTrueMembers s.keys (logs_around s.members) mid → AllCountsStay s.members mid → IsTrueState (record s { members = mid; steps = s.steps + 1 })
-    failed_state mid len numbers truly counts =
+    pub failed_state : (mid : List Alone) → length mid ≡ length s.members → AreNumbered mid → AreTrueMembers s.keys (logs_around s.members) mid → AllCountsStay s.members mid → ArePartlySettled (only s.members) (in_groups mid) → IsTrueState (record s { members = mid; steps = s.steps + 1 })
+    failed_state mid len numbers truly counts p =
         changed_state s is mid s.sent s.moment s.tally (s.steps + 1) len numbers truly is.sent (omega (arith, few))
-        (more_within s.steps (s.steps + 1) (world_of (record s { members = mid; steps = s.steps + 1 })) (omega arith) (still_within mid (s.steps + 1) (omega arith) len numbers truly counts))
+        (more_within s.steps (s.steps + 1) (world_of (record s { members = mid; steps = s.steps + 1 })) (omega arith) (still_within mid (s.steps + 1) (omega arith) len numbers truly counts p))
 
     pub partly : (mid : List Alone) → ArePartlySettled (only s.members) (in_groups mid) → HaveSettledPart s (record s { members = mid; steps = s.steps + 1 })
     partly mid p = record {

@@ -15,11 +15,11 @@ use Rattle.group_model.specs.Changes as group
 use Rattle.repo_member.specs.declared.member.syncing.Fire.{Fire}
 use Rattle.repo_member.specs.declared.member.syncing.Fire.TheVariants as does
 use Rattle.repo_member.specs.Fires.{TellsFire}
-use Rattle.repo_member.specs.Alone.{Alone, alone_fires, alone_resets, alone_ends_claims}
+use Rattle.repo_member.specs.Alone.{Alone, alone_fires, alone_restarts}
 use Rattle.repo_member.specs.InGroup.{in_group}
 use Rattle.repo_member.specs.Verdicts.{sync_of}
 use Rattle.repo_member.specs.TrueMembers.{IsTrueMember}
-use Rattle.repo_member.proofs.PublicLaws.{fire_is_event, fires_true, resets_true, ends_claims_true}
+use Rattle.repo_member.proofs.PublicLaws.{fire_is_event, fires_true, restarts_true}
 use Rattle.bench_world.specs.EventValues.{Told, fired_told}
 use Rattle.bench_world.specs.Timers.{after_firing, fire_told}
 use Rattle.bench_world.specs.Worlds.{GroupState, IsTrueState, IsTrueSync, in_groups, logs_around, sync_in, world_of, drawing}
@@ -60,7 +60,7 @@ module _ (s : GroupState) (is : IsTrueState s) (m : ℕ) (there : m < length s.m
 
     -- ---- a restart
 
-    module _ (b_is : b ≡ alone_resets s.moment n (alone_ends_claims old)) where
+    module _ (b_is : b ≡ alone_restarts s.moment n old) where
       pub restarted_world : world_of (record s { members = set s.members m b; steps = s.steps + 1 }) ≡ after_restart (drawing draw) (world_of s) m
       restarted_world =
           ap (λ (ms : List Member). let w : World = record (world_of s) { members = ms } in w)
@@ -70,7 +70,7 @@ module _ (s : GroupState) (is : IsTrueState s) (m : ℕ) (there : m < length s.m
       restarted_state few =
           stepped_at s is few (drawing draw) (λ t. omega arith) (Event.Restart m) tt m there b
           (ap (λ (a : Alone). a.number) b_is ∙ number_is s is m there old old_is)
-          (subst (IsTrueMember s.keys (logs_around s.members)) (sym b_is) (resets_true s.keys (logs_around s.members) s.moment n (alone_ends_claims old) (ends_claims_true s.keys (logs_around s.members) old (truly s is m there old old_is))))
+          (subst (IsTrueMember s.keys (logs_around s.members)) (sym b_is) (restarts_true s.keys (logs_around s.members) s.moment n old (truly s is m there old old_is)))
           s.sent s.moment s.tally is.sent restarted_world
 
     -- ---- a timer

@@ -12,7 +12,7 @@ use Rattle.group_model.specs.Sound.{IsTrueVector}
 use Rattle.group_model.specs.Limits.{IsWithin}
 use Rattle.group_model.specs.World.{Tally, World, Outside, logs_of}
 use Rattle.repo_member.specs.Groups.{GroupKeys}
-use Rattle.repo_member.specs.Alone.{Alone, alone_opening}
+use Rattle.repo_member.specs.Alone.{Alone, no_insertions, alone_opening}
 use Rattle.repo_member.specs.Verdicts.{sync_of}
 use Rattle.repo_member.specs.InGroup.{in_group, AreLogs}
 use Rattle.repo_member.specs.TrueMembers.{IsTrueMember}
@@ -37,6 +37,7 @@ nobody = record {
   claims = no_claims;
   attempts = [];
   machine = record { members = 0; heard = None; deadline = 0; draws = 0 };
+  insertions = no_insertions;
 }
 
 abbrev pub alone_at : List Alone → ℕ → Alone

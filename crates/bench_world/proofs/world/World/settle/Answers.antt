@@ -38,7 +38,7 @@ invariant_of-self-in-Err g c =
     let few = subst (λ (x : GroupState). x.steps < 100000) (sym c.self.view_is) c.requires.few in
     let same : c.reserve.new.self.packets ≡ s.sent = ap (λ x. x.packets) c.in_ok-reserve.ensures.ok in
     subst (λ (ps : List SentPacket). IsTrueState (record s { members = c.settle_members-settled.new.members.items; sent = ps; steps = s.steps + 1 })) (sym same)
-    (failed_state s c.self.invariant few c.settle_members-settled.new.members.items c.settle_members-settled.ensures.len c.settle_members-settled.ensures.numbers c.settle_members-settled.ensures.truly c.settle_members-settled.ensures.counts)
+    (failed_state s c.self.invariant few c.settle_members-settled.new.members.items c.settle_members-settled.ensures.len c.settle_members-settled.ensures.numbers c.settle_members-settled.ensures.truly c.settle_members-settled.ensures.counts c.in-Err.ensures.err)
 
 pub returns-in-Err-clause-err : goal.returns-in-Err-clause-err
 returns-in-Err-clause-err g c =
