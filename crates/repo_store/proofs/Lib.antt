@@ -4,6 +4,7 @@ pub mod IndexLemmas
 pub mod SearchLemmas
 pub mod WalkLemmas
 pub mod PlaceLemmas
+pub mod LayerLemmas
 pub mod NameLemmas
 pub mod StoreLemmas
 pub mod SlotLemmas

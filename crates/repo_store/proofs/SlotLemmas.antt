@@ -1,5 +1,5 @@
 -- Slots: what is kept once, what is still used, and what is dropped.
-use Rattle.std.proofs.Common.{◌≡◌, ◌≢◌, ℕ, zero, suc, ◌+◌, ◌<◌, ◌≤◌, Bool, true, false, cond, not, ◌⊎◌, inl, inr, List, [], ◌∷◌, map, length, get_or, take, drop, Option, Some, None, refl, sym, ap, subst, ◌∙◌, arith}
+use Rattle.std.proofs.Common.{◌≡◌, ◌≢◌, ℕ, zero, suc, ◌+◌, ◌<◌, ◌≤◌, Bool, true, false, cond, not, ◌⊎◌, inl, inr, List, [], ◌∷◌, ◌++◌, map, length, get_or, take, drop, Option, Some, None, refl, sym, ap, subst, ◌∙◌, arith}
 use Rattle.std.specs.Prelude.{IsSome, is_some, OnSome, IfNone}
 use Rattle.std.specs.List.{filter}
 use Rattle.std.proofs.lemmas.Bool.{true≢false, cases_eq}
@@ -8,11 +8,13 @@ use Rattle.repo_plan.specs.declared.part.Part.{Part}
 use Rattle.repo_plan.specs.SortedList.{IsBefore, Rises}
 use Rattle.repo_plan.specs.Parts.{Pair}
 use Rattle.repo_plan.specs.Plan.{is_in}
-use Rattle.repo_plan.proofs.Sets.{In, in_filter}
+use Rattle.repo_plan.proofs.Sets.{In, in_filter, in_append, append_left, append_right}
 use Rattle.repo_store.specs.declared.index.Held.{Held}
 use Rattle.repo_store.specs.declared.index.Order.{Order}
 use Rattle.repo_store.specs.declared.index.Order.TheVariants.{Names, FullNames}
-use Rattle.repo_store.specs.Indexes.{FullName, key_cmp, key_of, key_in, keys_in, IsData, IsIndexOf, IsSlotOf, GainsOne}
+use Rattle.repo_store.specs.Indexes.{FullName, key_cmp, key_of, key_in, keys_in, IsData, IsSlotOf, GainsOne}
+use Rattle.repo_store.specs.declared.layers.Layers.{Layers}
+use Rattle.repo_store.specs.Layers.{all_of, AreInOrder, HasSame, IsIndexOf}
 use Rattle.repo_store.specs.Places.{IsPacket}
 use Rattle.repo_store.specs.Slots.{IsHeldIn, AreSlots, KeepsOne, IsUsed, held_outside}
 use Rattle.repo_store.proofs.SearchLemmas.{in_one_more}
@@ -44,7 +46,7 @@ keep_new held old new octets slot none vacant updates = record {
   once = inr none;
 }
 
-pub slots_more : (old new : Slab (List ℕ)) (octets : List ℕ) (held more index : List Held) (h : Held) → IsPacket octets → AreSlots old held → IsIndexOf FullNames old held index → KeepsOne index octets old new h.slot → GainsOne h held more → AreSlots new more
+pub slots_more : (old new : Slab (List ℕ)) (octets : List ℕ) (held more : List Held) (index : Layers) (h : Held) → IsPacket octets → AreSlots old held → IsIndexOf FullNames old held index → KeepsOne (all_of index) octets old new h.slot → GainsOne h held more → AreSlots new more
 slots_more old new octets held more index h packet slots indexed keeps gains = record {
   kept = λ o i. elim (gains.only o i) [
     | inl e ↦ subst (λ (x : Held). IsSome (get new x.slot)) (sym e) new_there
@@ -76,11 +78,11 @@ slots_more old new octets held more index h packet slots indexed keeps gains = r
           | inr none ↦ let by : IsHeldIn held s = slots.used s there in absurd (none by.by (indexed.all_held by.by by.there) (ap (get old) by.at ∙ was))
         ]
 
-pub index_more : (order : Order) (packets : Slab (List ℕ)) (held more index indexed : List Held) (h : Held) → Rises key_cmp (keys_in order packets indexed) → ((o : Held) → In o index → In o held) → ((o : Held) → In o held → In o index) → GainsOne h held more → GainsOne h index indexed → IsIndexOf order packets more indexed
+pub index_more : (order : Order) (packets : Slab (List ℕ)) (held more : List Held) (index indexed : Layers) (h : Held) → AreInOrder order packets indexed → ((o : Held) → In o (all_of index) → In o held) → ((o : Held) → In o held → In o (all_of index)) → GainsOne h held more → GainsOne h (all_of index) (all_of indexed) → IsIndexOf order packets more indexed
 index_more order packets held more index indexed h rises only all gains gained = record {
   in_order = rises;
   held_only = λ o i. elim (gained.only o i) [ inl e ↦ subst (λ (x : Held). In x more) (sym e) gains.there | inr j ↦ gains.kept o (only o j) ];
-  all_held = λ o i. elim (gains.only o i) [ inl e ↦ subst (λ (x : Held). In x indexed) (sym e) gained.there | inr j ↦ gained.kept o (all o j) ];
+  all_held = λ o i. elim (gains.only o i) [ inl e ↦ subst (λ (x : Held). In x (all_of indexed)) (sym e) gained.there | inr j ↦ gained.kept o (all o j) ];
 }
 
 -- ---- use
@@ -118,7 +120,7 @@ pub record Dropping (old now : Slab (List ℕ)) (held : List Held) (pair : Pair)
 pub dropping_none : (old : Slab (List ℕ)) (held : List Held) (pair : Pair) → Dropping old old held pair 0
 dropping_none old held pair = record { kept = λ h i. refl; only = λ s k. refl; gone = λ h i. absurd i; room = λ n h. h }
 
-module _ (old now : Slab (List ℕ)) (held index : List Held) (pair : Pair) (i : ℕ) (d : Held) (within : i < length held) (slots : AreSlots old held) (indexed : IsIndexOf FullNames old (held_outside pair held) index) (dropping : Dropping old now held pair i) where
+module _ (old now : Slab (List ℕ)) (held : List Held) (index : Layers) (pair : Pair) (i : ℕ) (d : Held) (within : i < length held) (slots : AreSlots old held) (indexed : IsIndexOf FullNames old (held_outside pair held) index) (dropping : Dropping old now held pair i) where
   -- one that stays
   pub dropping_stays : (is_in pair (get_or held i d).part ≡ true → ContainsKey now (get_or held i d).slot → IsHeldIn (held_outside pair held) (get_or held i d).slot) → Dropping old now held pair (i + 1)
   dropping_stays stays = record {
@@ -136,7 +138,7 @@ module _ (old now : Slab (List ℕ)) (held index : List Held) (pair : Pair) (i :
   other_stays out = dropping_stays (λ inside k. absurd (true≢false (sym inside ∙ out)))
 
   -- what is used stays
-  pub used_stays : IsUsed now index (get_or held i d).slot true → Dropping old now held pair (i + 1)
+  pub used_stays : IsUsed now (all_of index) (get_or held i d).slot true → Dropping old now held pair (i + 1)
   used_stays used = dropping_stays (λ inside k.
       let o = used.0 in
       let there = indexed.held_only o used.1 in
@@ -146,7 +148,7 @@ module _ (old now : Slab (List ℕ)) (held index : List Held) (pair : Pair) (i :
       record { by = o; there = there; at = same })
 
   -- what nothing uses is dropped
-  pub unused_dropped : (new : Slab (List ℕ)) → IsUsed now index (get_or held i d).slot false → Updates now new (get_or held i d).slot None → ((n : ℕ) → HasRoomFor now n → HasRoomFor new n) → Dropping old new held pair (i + 1)
+  pub unused_dropped : (new : Slab (List ℕ)) → IsUsed now (all_of index) (get_or held i d).slot false → Updates now new (get_or held i d).slot None → ((n : ℕ) → HasRoomFor now n → HasRoomFor new n) → Dropping old new held pair (i + 1)
   unused_dropped new unused updates room = record {
     kept = λ h j. updates.others h.slot (λ e.
         let some = some_as (get now h.slot) (get old h.slot) (dropping.kept h j) (slots.kept h (from_outside pair held h j)) in
@@ -205,19 +207,50 @@ rises_outside order packets pair (x ∷ xs) r = go (rises_outside order packets 
   go s false = s
 
 -- an index without a publication's parts
-pub index_outside : (order : Order) (packets : Slab (List ℕ)) (pair : Pair) (held index : List Held) → IsIndexOf order packets held index → IsIndexOf order packets (held_outside pair held) (held_outside pair index)
-index_outside order packets pair held index indexed = record {
-  in_order = rises_outside order packets pair index indexed.in_order;
-  held_only = λ h i. let both = in_filtered out index h i in in_filter out held h (indexed.held_only h both.0) both.1;
-  all_held = λ h i. let both = in_filtered out held h i in in_filter out index h (indexed.all_held h both.0) both.1;
+pub index_outside : (order : Order) (packets : Slab (List ℕ)) (pair : Pair) (held : List Held) (index left : Layers) → left.settled.items ≡ held_outside pair index.settled.items → left.recent.items ≡ held_outside pair index.recent.items → IsIndexOf order packets held index → IsIndexOf order packets (held_outside pair held) left
+index_outside order packets pair held index left settled recent indexed = record {
+  in_order = record {
+    settled = subst (λ (xs : List Held). Rises key_cmp (keys_in order packets xs)) (sym settled) (rises_outside order packets pair index.settled.items indexed.in_order.settled);
+    recent = subst (λ (xs : List Held). Rises key_cmp (keys_in order packets xs)) (sym recent) (rises_outside order packets pair index.recent.items indexed.in_order.recent);
+    apart = λ h o i j. indexed.in_order.apart h o (from_outside pair index.settled.items h (subst (In h) settled i)) (from_outside pair index.recent.items o (subst (In o) recent j));
+  };
+  held_only = λ h i. elim (in_append left.settled.items left.recent.items h i) [
+    | inl j ↦ let both = in_filtered out index.settled.items h (subst (In h) settled j) in in_filter out held h (indexed.held_only h (append_left index.settled.items index.recent.items h both.0)) both.1
+    | inr j ↦ let both = in_filtered out index.recent.items h (subst (In h) recent j) in in_filter out held h (indexed.held_only h (append_right index.settled.items index.recent.items h both.0)) both.1
+  ];
+  all_held = λ h i.
+      let both = in_filtered out held h i in
+      elim (in_append index.settled.items index.recent.items h (indexed.all_held h both.0)) [
+        | inl j ↦ append_left left.settled.items left.recent.items h (subst (In h) (sym settled) (in_filter out index.settled.items h j both.1))
+        | inr j ↦ append_right left.settled.items left.recent.items h (subst (In h) (sym recent) (in_filter out index.recent.items h j both.1))
+      ];
 }
   where
     out : Held → Bool
     out = λ h. not (is_in pair h.part)
 
-pub index_same : (order : Order) (old new : Slab (List ℕ)) (held index : List Held) → ((h : Held) → In h held → get new h.slot ≡ get old h.slot) → IsIndexOf order old held index → IsIndexOf order new held index
+pub index_same : (order : Order) (old new : Slab (List ℕ)) (held : List Held) (index : Layers) → ((h : Held) → In h held → get new h.slot ≡ get old h.slot) → IsIndexOf order old held index → IsIndexOf order new held index
 index_same order old new held index same indexed = record {
-  in_order = subst (Rises key_cmp) (sym (keys_same order old new index (λ h i. same h (indexed.held_only h i)))) indexed.in_order;
+  in_order = record {
+    settled = subst (Rises key_cmp) (sym (keys_same order old new index.settled.items (λ h i. same h (indexed.held_only h (append_left index.settled.items index.recent.items h i))))) indexed.in_order.settled;
+    recent = subst (Rises key_cmp) (sym (keys_same order old new index.recent.items (λ h i. same h (indexed.held_only h (append_right index.settled.items index.recent.items h i))))) indexed.in_order.recent;
+    apart = indexed.in_order.apart;
+  };
   held_only = indexed.held_only;
   all_held = indexed.all_held;
 }
+
+-- an index whose layers have the same
+pub index_moved : (order : Order) (packets : Slab (List ℕ)) (held : List Held) (index moved : Layers) → HasSame index moved → IsIndexOf order packets held index → IsIndexOf order packets held moved
+index_moved order packets held index moved same indexed = record {
+  in_order = record {
+    settled = subst (λ (xs : List Held). Rises key_cmp (keys_in order packets xs)) (sym same.settled) indexed.in_order.settled;
+    recent = subst (λ (xs : List Held). Rises key_cmp (keys_in order packets xs)) (sym same.recent) indexed.in_order.recent;
+    apart = λ h o i j. indexed.in_order.apart h o (subst (In h) same.settled i) (subst (In o) same.recent j);
+  };
+  held_only = λ h i. indexed.held_only h (subst (In h) all i);
+  all_held = λ h i. subst (In h) (sym all) (indexed.all_held h i);
+}
+  where
+    all : all_of moved ≡ all_of index
+    all = ap (λ (xs : List Held). xs ++ moved.recent.items) same.settled ∙ ap (λ (xs : List Held). index.settled.items ++ xs) same.recent

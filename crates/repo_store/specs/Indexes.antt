@@ -65,12 +65,6 @@ IsInOrder i = Rises key_cmp (keys_of i)
 abbrev pub as_full_name : Key → FullName
 as_full_name key = (key.name.now, key.digest.now)
 
--- An index of what is held: the same, in order.
-pub record IsIndexOf (order : Order) (packets : Slab (List ℕ)) (held index : List Held) : Type 0 where
-  pub in_order : Rises key_cmp (keys_in order packets index)
-  pub held_only : (h : Held) → In h index → In h held
-  pub all_held : (h : Held) → In h held → In h index
-
 -- ---- searches
 
 -- As many keys come before this one.

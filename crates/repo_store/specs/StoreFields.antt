@@ -7,7 +7,7 @@ use Rattle.repo_store.specs.declared.index.Order.TheVariants.{Names, FullNames}
 use Rattle.repo_store.specs.declared.store.Store.TheInside.{Inside}
 use Rattle.repo_store.specs.StoreList.{IsSound}
 use Rattle.repo_store.specs.Kept.{entries_of}
-use Rattle.repo_store.specs.Indexes.{IsIndexOf}
+use Rattle.repo_store.specs.Layers.{HasRoom, IsIndexOf}
 use Rattle.repo_store.specs.Slots.{AreSlots}
 
 -- A publication has at most 256 parts.
@@ -20,9 +20,9 @@ pub record IsStored (s : Inside) : Type 0 where
   pub sound : IsSound (entries_of s.packets s.parts.items)
   pub small : ArePartsSmall (entries_of s.packets s.parts.items)
   pub slots : AreSlots s.packets s.parts.items
-  pub names : IsIndexOf Names s.packets s.parts.items s.names.items
-  pub full_names : IsIndexOf FullNames s.packets s.parts.items s.full_names.items
+  pub names : IsIndexOf Names s.packets s.parts.items s.names
+  pub full_names : IsIndexOf FullNames s.packets s.parts.items s.full_names
   pub room : s.spare + vec_len s.parts ≤ vec_capacity s.parts
-  pub room_of_names : s.spare + vec_len s.names ≤ vec_capacity s.names
-  pub room_of_full_names : s.spare + vec_len s.full_names ≤ vec_capacity s.full_names
+  pub room_of_names : HasRoom s.names s.spare
+  pub room_of_full_names : HasRoom s.full_names s.spare
   pub room_of_packets : HasRoomFor s.packets s.spare

@@ -9,11 +9,13 @@ ghost use Rattle.repo_plan.proofs.Sets.{In};
 ghost use Rattle.repo_store.specs.declared.index.Held as declared_held;
 ghost use Rattle.repo_store.specs.declared.index.Order.TheVariants.{Names, FullNames};
 ghost use Rattle.repo_store.specs.StoreList.{with_packet, packets_in, packets_outside, different_octets, IsSound};
-ghost use Rattle.repo_store.specs.Indexes.{key_cmp, keys_in, satisfies_held, IsData, IsFirstOf, IsIndexOf};
+ghost use Rattle.repo_store.specs.Indexes.{satisfies_held, IsData, IsFirstOf};
+ghost use Rattle.repo_store.specs.Layers.{all_of, AreInOrder, IsIndexOf};
 ghost use Rattle.repo_store.specs.Slots.{AreSlots, IsPlaceOf, KeepsOne, IsUsed, held_outside};
 ghost use Rattle.repo_store.specs.Served.{served};
 
-use crate::index::{self, Held, Index, Order};
+use crate::index::{Held, Order, lesser};
+use crate::layers::{Layers, drop_pair};
 use crate::packet::{Packet, Packets, octets_at};
 use ndn_interest::InterestView;
 use ndn_name::{NameView, PacketFault};
@@ -30,8 +32,8 @@ pub struct Store {
     // In order of the parts.
     parts: Vec<Held>,
     // The same in order of the packets' names and of their full names.
-    names: Vec<Held>,
-    full_names: Vec<Held>,
+    names: Layers,
+    full_names: Layers,
     spare: usize,
 }
 
@@ -57,8 +59,8 @@ impl Store {
         Store {
             packets: Slab::new(alloc),
             parts: Vec::new(alloc),
-            names: Vec::new(alloc),
-            full_names: Vec::new(alloc),
+            names: Layers::new(alloc),
+            full_names: Layers::new(alloc),
             spare: 0,
         }
     }
@@ -170,8 +172,8 @@ impl Store {
         let packet = Packet::of_data(octets, digest);
         let slot = keep(&mut self.packets, &self.full_names, packet);
         let held = Held { part, slot };
-        index::add(&mut self.names, Order::Names, &self.packets, held);
-        index::add(&mut self.full_names, Order::FullNames, &self.packets, held);
+        self.names.add(Order::Names, &self.packets, held);
+        self.full_names.add(Order::FullNames, &self.packets, held);
         self.parts.insert(place, held).unwrap();
         true
     }
@@ -211,8 +213,8 @@ impl Store {
         } }
     {
         let pair = (publisher, seq);
-        drop_pair(&mut self.names, pair);
-        drop_pair(&mut self.full_names, pair);
+        self.names.drop_pair(pair);
+        self.full_names.drop_pair(pair);
         drop_unused(&mut self.packets, &self.parts, &self.full_names, pair);
         drop_pair(&mut self.parts, pair) as u32
     }
@@ -229,73 +231,53 @@ fn place_of(parts: &[Held], part: Part) -> Result<usize, usize>
 // What is held of the least part whose packet satisfies an Interest of this name.
 fn first_for(
     packets: &Packets,
-    names: &[Held],
-    full_names: &[Held],
+    names: &Layers,
+    full_names: &Layers,
     name: &NameView<'_>,
     can_be_prefix: bool,
 ) -> Option<Held>
-    requires names { Rises key_cmp (keys_in Names packets.now names.now) }
-    requires full_names { Rises key_cmp (keys_in FullNames packets.now full_names.now) }
-    requires same { (h : declared_held.Held) → In h names.now ↔ In h full_names.now }
-    requires are_data { (h : declared_held.Held) → In h names.now → IsData (get packets.now h.slot) }
-    ensures { IsFirstOf names.now (satisfies_held packets.now name.now can_be_prefix) result }
+    requires names { AreInOrder Names packets.now names.now }
+    requires full_names { AreInOrder FullNames packets.now full_names.now }
+    requires same { (h : declared_held.Held) → In h (all_of names.now) ↔ In h (all_of full_names.now) }
+    requires are_data { (h : declared_held.Held) → In h (all_of names.now) → IsData (get packets.now h.slot) }
+    ensures { IsFirstOf (all_of names.now) (satisfies_held packets.now name.now can_be_prefix) result }
 {
     let asked = name.octets();
-    let names = Index {
-        order: Order::Names,
-        held: names,
-        packets,
-    };
-    let full_names = Index {
-        order: Order::FullNames,
-        held: full_names,
-        packets,
-    };
     let named = if can_be_prefix {
-        names.first_below(asked)
+        names.first_below(packets, asked)
     } else {
-        names.first_named(asked)
+        names.first_named(packets, asked)
     };
-    index::lesser(named, full_names.first_with_full_name(asked))
+    lesser(named, full_names.first_with_full_name(packets, asked))
 }
 
 // The slot of a packet, which is put into one where none has its octets.
-fn keep(packets: &mut Packets, full_names: &[Held], packet: Packet) -> usize
-    requires in_order { Rises key_cmp (keys_in FullNames packets.old full_names.now) }
-    requires kept { (h : declared_held.Held) → In h full_names.now → ContainsKey packets.old h.slot }
+fn keep(packets: &mut Packets, full_names: &Layers, packet: Packet) -> usize
+    requires in_order { AreInOrder FullNames packets.old full_names.now }
+    requires kept { (h : declared_held.Held) → In h (all_of full_names.now) → ContainsKey packets.old h.slot }
     requires room { HasRoomFor packets.old 1 }
-    ensures kept { KeepsOne full_names.now packet packets.old packets.new result }
+    ensures kept { KeepsOne (all_of full_names.now) packet packets.old packets.new result }
     ensures room { (n : ℕ) → HasRoomFor packets.old (n + 1) → HasRoomFor packets.new n }
 {
-    let index = Index {
-        order: Order::FullNames,
-        held: full_names,
-        packets,
-    };
-    match index.slot_of(&packet) {
+    match full_names.slot_of(packets, &packet) {
         Some(slot) => slot,
         None => packets.insert_reserved(packet),
     }
 }
 
 // Whether what an index holds has the packet in this slot.
-fn is_used(packets: &Packets, full_names: &[Held], slot: usize) -> bool
-    requires { Rises key_cmp (keys_in FullNames packets.now full_names.now) }
-    ensures { IsUsed packets.now full_names.now slot result }
+fn is_used(packets: &Packets, full_names: &Layers, slot: usize) -> bool
+    requires { AreInOrder FullNames packets.now full_names.now }
+    ensures { IsUsed packets.now (all_of full_names.now) slot result }
 {
     let Some(packet) = packets.get(slot) else {
         return false;
     };
-    let index = Index {
-        order: Order::FullNames,
-        held: full_names,
-        packets,
-    };
-    index.slot_of(packet).is_some()
+    full_names.slot_of(packets, packet).is_some()
 }
 
 // Drops the packets of a publication's parts that no other part uses.
-fn drop_unused(packets: &mut Packets, parts: &[Held], full_names: &[Held], pair: (u32, u16))
+fn drop_unused(packets: &mut Packets, parts: &[Held], full_names: &Layers, pair: (u32, u16))
     requires slots { AreSlots packets.old parts.now }
     requires index { IsIndexOf FullNames packets.old (held_outside pair parts.now) full_names.now }
     ensures slots { AreSlots packets.new (held_outside pair parts.now) }
@@ -309,16 +291,4 @@ fn drop_unused(packets: &mut Packets, parts: &[Held], full_names: &[Held], pair:
             let _ = packets.try_remove(held.slot);
         }
     }
-}
-
-// Drops a publication's parts, and gives their number.
-fn drop_pair(held: &mut Vec<Held>, pair: (u32, u16)) -> usize
-    ensures number { result + length held.new.items ≡ length held.old.items }
-    ensures dropped { held.new.items ≡ held_outside pair held.old.items }
-    ensures len { vec_len held.new ≤ vec_len held.old }
-    ensures capacity { vec_capacity held.new ≡ vec_capacity held.old }
-{
-    let before = held.len();
-    held.retain(|held| (held.part.publisher, held.part.seq) != pair);
-    before - held.len()
 }

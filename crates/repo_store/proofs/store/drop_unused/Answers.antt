@@ -2,14 +2,14 @@ use Rattle.std.proofs.Common.{ℕ, ◌+◌, List, subst, sym, ◌∙◌}
 use Rattle.slab.specs.Slab.{Slab}
 use Rattle.repo_plan.proofs.Changes.{pair_test}
 use Rattle.repo_store.specs.declared.index.Order.TheVariants.{FullNames}
-use Rattle.repo_store.proofs.SlotLemmas.{Dropping, keys_same, room_kept, other_stays, used_stays, unused_dropped, dropped_all}
+use Rattle.repo_store.specs.Slots.{held_outside}
+use Rattle.repo_store.proofs.SlotLemmas.{Dropping, index_same, room_kept, other_stays, used_stays, unused_dropped, dropped_all}
 use Rattle.repo_store.proofs.store.drop_unused.Goals as goal
 use Rattle.repo_store.proofs.store.drop_unused.Goals.{then-eq+then-not-is_used, else-eq, else-eq-via-then-eq+else-not-is_used, else-eq-via-else-eq}
 
 pub is_used-requires : goal.is_used-requires
 is_used-requires c =
-    let indexed = c.requires.index in
-    rw (keys_same FullNames c.args.packets.now c.loop-held.packets c.args.full_names.now (λ h i. c.loop-held.invariant.kept h (indexed.held_only h i))) indexed.in_order
+    (index_same FullNames c.args.packets.now c.loop-held.packets (held_outside c.args.pair c.args.parts.now) c.args.full_names.now c.loop-held.invariant.kept c.requires.index).in_order
 
 pub loop-held-preserved : goal.loop-held-preserved
 loop-held-preserved c =

@@ -15,6 +15,8 @@ use Rattle.repo_store.specs.Slots.{IsPlaceOf, KeepsOne}
 use Rattle.repo_store.proofs.IndexLemmas.{gains_one}
 use Rattle.repo_store.proofs.StoreLemmas.{parts_rise, part_there, missing_part, entries_same, put_there, with_missing, with_there, sound_more, small_more}
 use Rattle.repo_store.proofs.SlotLemmas.{slots_more, index_more, index_same}
+use Rattle.repo_store.proofs.StoredLemmas.{more_room, some_room}
+use Rattle.repo_store.specs.Layers.{all_of}
 use Rattle.repo_store.proofs.store.Store.put_reserved_with_digest.Goals as goal
 
 pub place_of-requires : goal.place_of-requires
@@ -34,7 +36,7 @@ returns-in_default-clause-put c =
 
 pub keep-slot-requires-clause-kept : goal.keep-slot-requires-clause-kept
 keep-slot-requires-clause-kept c h i =
-    c.self.invariant.slots.kept h (c.self.invariant.full_names.held_only h (subst (In h) c.deref-2.ensures.value i))
+    c.self.invariant.slots.kept h (c.self.invariant.full_names.held_only h i)
 
 pub add-requires-clause-in_order : goal.add-requires-clause-in_order
 add-requires-clause-in_order c =
@@ -43,9 +45,9 @@ add-requires-clause-in_order c =
     let at = subst (λ (h : List Held). IsPlaceOf h c.args.part (Err c.in-Err.place)) c.deref.ensures.value c.in-Err.ensures in
     let new = c.keep-slot.new.packets in
     let octets = c.args.octets.items in
-    let keeps = subst (λ (h : List Held). KeepsOne h octets old new c.keep-slot.result) c.deref-2.ensures.value (subst (λ (o : List ℕ). KeepsOne c.deref-2.result.now o old new c.keep-slot.result) c.of_data-packet.ensures.octets c.keep-slot.ensures.kept) in
+    let keeps = subst (λ (o : List ℕ). KeepsOne (all_of c.self.inside.full_names) o old new c.keep-slot.result) c.of_data-packet.ensures.octets c.keep-slot.ensures.kept in
     let same : (h : Held) → In h parts → get new h.slot ≡ get old h.slot = λ h i. keeps.others h.slot (c.self.invariant.slots.kept h i) in
-    (index_same Names old new parts c.self.inside.names.items same c.self.invariant.names).in_order
+    (index_same Names old new parts c.self.inside.names same c.self.invariant.names).in_order
 
 pub add-requires-clause-fresh : goal.add-requires-clause-fresh
 add-requires-clause-fresh c h i =
@@ -61,9 +63,9 @@ add-requires-2-clause-in_order c =
     let at = subst (λ (h : List Held). IsPlaceOf h c.args.part (Err c.in-Err.place)) c.deref.ensures.value c.in-Err.ensures in
     let new = c.keep-slot.new.packets in
     let octets = c.args.octets.items in
-    let keeps = subst (λ (h : List Held). KeepsOne h octets old new c.keep-slot.result) c.deref-2.ensures.value (subst (λ (o : List ℕ). KeepsOne c.deref-2.result.now o old new c.keep-slot.result) c.of_data-packet.ensures.octets c.keep-slot.ensures.kept) in
+    let keeps = subst (λ (o : List ℕ). KeepsOne (all_of c.self.inside.full_names) o old new c.keep-slot.result) c.of_data-packet.ensures.octets c.keep-slot.ensures.kept in
     let same : (h : Held) → In h parts → get new h.slot ≡ get old h.slot = λ h i. keeps.others h.slot (c.self.invariant.slots.kept h i) in
-    (index_same FullNames old new parts c.self.inside.full_names.items same c.self.invariant.full_names).in_order
+    (index_same FullNames old new parts c.self.inside.full_names same c.self.invariant.full_names).in_order
 
 pub add-requires-2-clause-fresh : goal.add-requires-2-clause-fresh
 add-requires-2-clause-fresh c h i =
@@ -79,25 +81,25 @@ invariant_of-self-2 c =
     let at = subst (λ (h : List Held). IsPlaceOf h c.args.part (Err c.in-Err.place)) c.deref.ensures.value c.in-Err.ensures in
     let new = c.keep-slot.new.packets in
     let octets = c.args.octets.items in
-    let keeps = subst (λ (h : List Held). KeepsOne h octets old new c.keep-slot.result) c.deref-2.ensures.value (subst (λ (o : List ℕ). KeepsOne c.deref-2.result.now o old new c.keep-slot.result) c.of_data-packet.ensures.octets c.keep-slot.ensures.kept) in
+    let keeps = subst (λ (o : List ℕ). KeepsOne (all_of c.self.inside.full_names) o old new c.keep-slot.result) c.of_data-packet.ensures.octets c.keep-slot.ensures.kept in
     let same : (h : Held) → In h parts → get new h.slot ≡ get old h.slot = λ h i. keeps.others h.slot (c.self.invariant.slots.kept h i) in
     let held : Held = record { part = c.args.part; slot = c.keep-slot.result } in
     let items : c.insert.new.self.items ≡ insert parts c.in-Err.place held = rw c.unwrap.ensures at c.insert.ensures.items in
     let gains = subst (GainsOne held parts) (sym items) (gains_one parts held c.in-Err.place) in
     let put = ap (entries_of new) items ∙ put_there new parts held octets c.in-Err.place keeps.there at ∙ ap (with_value part_cmp c.args.part octets) (entries_same old new parts same) in
-    let names = index_same Names old new parts c.self.inside.names.items same c.self.invariant.names in
-    let full_names = index_same FullNames old new parts c.self.inside.full_names.items same c.self.invariant.full_names in
+    let names = index_same Names old new parts c.self.inside.names same c.self.invariant.names in
+    let full_names = index_same FullNames old new parts c.self.inside.full_names same c.self.invariant.full_names in
     let spare : 0 < c.self.inside.spare = omega (arith, c.requires.spare, ap (λ (s : StoreList). s.spare) c.self.view_is) in
     let len : vec_len c.insert.new.self ≡ vec_len c.self.inside.parts + 1 = rw c.unwrap.ensures at c.insert.ensures.len in
     record {
       sound = subst IsSound (sym put) (sound_more c.args.part octets (entries_of old parts) c.requires.is_data c.self.invariant.sound);
       small = subst ArePartsSmall (sym put) (small_more c.args.part octets (entries_of old parts) (omega arith) c.self.invariant.small);
-      slots = slots_more old new octets parts c.insert.new.self.items c.self.inside.full_names.items held c.of_data-packet.ensures.named c.self.invariant.slots c.self.invariant.full_names keeps gains;
-      names = index_more Names new parts c.insert.new.self.items c.self.inside.names.items c.add.new.index.items held c.add.ensures.in_order names.held_only names.all_held gains c.add.ensures.gains;
-      full_names = index_more FullNames new parts c.insert.new.self.items c.self.inside.full_names.items c.add-2.new.index.items held c.add-2.ensures.in_order full_names.held_only full_names.all_held gains c.add-2.ensures.gains;
+      slots = slots_more old new octets parts c.insert.new.self.items c.self.inside.full_names held c.of_data-packet.ensures.named c.self.invariant.slots c.self.invariant.full_names keeps gains;
+      names = index_more Names new parts c.insert.new.self.items c.self.inside.names c.add.new.self held c.add.ensures.in_order names.held_only names.all_held gains c.add.ensures.gains;
+      full_names = index_more FullNames new parts c.insert.new.self.items c.self.inside.full_names c.add-2.new.self held c.add-2.ensures.in_order full_names.held_only full_names.all_held gains c.add-2.ensures.gains;
       room = omega (arith, spare, c.self.invariant.room, len, c.insert.ensures.capacity);
-      room_of_names = omega (arith, spare, c.self.invariant.room_of_names, c.add.ensures.len, c.add.ensures.capacity);
-      room_of_full_names = omega (arith, spare, c.self.invariant.room_of_full_names, c.add-2.ensures.len, c.add-2.ensures.capacity);
+      room_of_names = c.add.ensures.room (c.self.inside.spare - 1) (more_room c.self.inside.names c.self.inside.spare spare c.self.invariant.room_of_names);
+      room_of_full_names = c.add-2.ensures.room (c.self.inside.spare - 1) (more_room c.self.inside.full_names c.self.inside.spare spare c.self.invariant.room_of_full_names);
       room_of_packets = c.keep-slot.ensures.room (c.self.inside.spare - 1) (omega (arith, spare, c.self.invariant.room_of_packets));
     }
 
@@ -115,10 +117,16 @@ returns-clause-put c =
     let at = subst (λ (h : List Held). IsPlaceOf h c.args.part (Err c.in-Err.place)) c.deref.ensures.value c.in-Err.ensures in
     let new = c.keep-slot.new.packets in
     let octets = c.args.octets.items in
-    let keeps = subst (λ (h : List Held). KeepsOne h octets old new c.keep-slot.result) c.deref-2.ensures.value (subst (λ (o : List ℕ). KeepsOne c.deref-2.result.now o old new c.keep-slot.result) c.of_data-packet.ensures.octets c.keep-slot.ensures.kept) in
+    let keeps = subst (λ (o : List ℕ). KeepsOne (all_of c.self.inside.full_names) o old new c.keep-slot.result) c.of_data-packet.ensures.octets c.keep-slot.ensures.kept in
     let same : (h : Held) → In h parts → get new h.slot ≡ get old h.slot = λ h i. keeps.others h.slot (c.self.invariant.slots.kept h i) in
     let held : Held = record { part = c.args.part; slot = c.keep-slot.result } in
     let items : c.insert.new.self.items ≡ insert parts c.in-Err.place held = rw c.unwrap.ensures at c.insert.ensures.items in
     let put = ap (entries_of new) items ∙ put_there new parts held octets c.in-Err.place keeps.there at ∙ ap (with_value part_cmp c.args.part octets) (entries_same old new parts same) ∙ with_missing old parts c.args.part octets c.in-Err.place at in
     ap (λ (p : List (Part × List ℕ)). let s : StoreList = record { packets = p; spare = c.self.inside.spare - 1 } in s) put
     ∙ ap (λ (s : StoreList). let t : StoreList = record { packets = with_packet c.args.part octets s.packets; spare = s.spare - 1 } in t) c.self.view_is
+
+pub add-requires-clause-room : goal.add-requires-clause-room
+add-requires-clause-room c = some_room c.self.inside.names c.self.inside.spare (omega (arith, c.requires.spare, ap (λ (s : StoreList). s.spare) c.self.view_is)) c.self.invariant.room_of_names
+
+pub add-requires-2-clause-room : goal.add-requires-2-clause-room
+add-requires-2-clause-room c = some_room c.self.inside.full_names c.self.inside.spare (omega (arith, c.requires.spare, ap (λ (s : StoreList). s.spare) c.self.view_is)) c.self.invariant.room_of_full_names

@@ -9,8 +9,8 @@ invariant_of-self-in_err-reserve-2 c =
     record {
       packets = λ slot. ap (λ (p : Slab (List ℕ)). get p slot) c.reserve.ensures.rest_kept;
       parts = c.reserve-then-self-n.ensures.items;
-      names = refl;
-      full_names = refl;
+      names = record { settled = refl; recent = refl };
+      full_names = record { settled = refl; recent = refl };
     }
     ) (
     record {
@@ -27,13 +27,13 @@ invariant_of-self-in_err-reserve-3 c =
     record {
       packets = λ slot. ap (λ (p : Slab (List ℕ)). get p slot) c.reserve.ensures.rest_kept;
       parts = c.reserve-then-self-n.ensures.items;
-      names = c.reserve-then-self-n-2.ensures.items;
-      full_names = refl;
+      names = c.reserve-then-self-n-2.ensures.same;
+      full_names = record { settled = refl; recent = refl };
     }
     ) (
     record {
       parts = omega (arith, c.self.invariant.room, c.reserve-then-self-n.ensures.len, c.reserve-then-self-n.ensures.capacity);
-      names = omega (arith, c.self.invariant.room_of_names, c.reserve-then-self-n-2.ensures.len, c.reserve-then-self-n-2.ensures.capacity);
+      names = c.reserve-then-self-n-2.ensures.kept c.self.inside.spare c.self.invariant.room_of_names;
       full_names = c.self.invariant.room_of_full_names;
       packets = rw c.reserve.ensures.rest_kept (omega (arith, c.self.invariant.room_of_packets, c.reserve.ensures.capacity));
     }
@@ -45,14 +45,14 @@ invariant_of-self-in_err-reserve-4 c =
     record {
       packets = λ slot. ap (λ (p : Slab (List ℕ)). get p slot) c.reserve.ensures.rest_kept;
       parts = c.reserve-then-self-n.ensures.items;
-      names = c.reserve-then-self-n-2.ensures.items;
-      full_names = c.reserve-then-self-n-3.ensures.items;
+      names = c.reserve-then-self-n-2.ensures.same;
+      full_names = c.reserve-then-self-n-3.ensures.same;
     }
     ) (
     record {
       parts = omega (arith, c.self.invariant.room, c.reserve-then-self-n.ensures.len, c.reserve-then-self-n.ensures.capacity);
-      names = omega (arith, c.self.invariant.room_of_names, c.reserve-then-self-n-2.ensures.len, c.reserve-then-self-n-2.ensures.capacity);
-      full_names = omega (arith, c.self.invariant.room_of_full_names, c.reserve-then-self-n-3.ensures.len, c.reserve-then-self-n-3.ensures.capacity);
+      names = c.reserve-then-self-n-2.ensures.kept c.self.inside.spare c.self.invariant.room_of_names;
+      full_names = c.reserve-then-self-n-3.ensures.kept c.self.inside.spare c.self.invariant.room_of_full_names;
       packets = rw c.reserve.ensures.rest_kept (omega (arith, c.self.invariant.room_of_packets, c.reserve.ensures.capacity));
     }
     ) c.self.invariant
@@ -63,14 +63,32 @@ invariant_of-self-then-self-n c =
     record {
       packets = λ slot. ap (λ (p : Slab (List ℕ)). get p slot) c.reserve.ensures.rest_kept;
       parts = c.reserve-then-self-n.ensures.items;
-      names = c.reserve-then-self-n-2.ensures.items;
-      full_names = c.reserve-then-self-n-3.ensures.items;
+      names = c.reserve-then-self-n-2.ensures.same;
+      full_names = c.reserve-then-self-n-3.ensures.same;
     }
     ) (
     record {
       parts = omega (arith, c.reserve-then-self-n.ensures.len, c.in_ok-reserve-2.ensures.ok);
-      names = omega (arith, c.reserve-then-self-n-2.ensures.len, c.in_ok-reserve-3.ensures.ok);
-      full_names = omega (arith, c.reserve-then-self-n-3.ensures.len, c.in_ok-reserve-4.ensures.ok);
+      names = c.in_ok-reserve-3.ensures.room;
+      full_names = c.in_ok-reserve-4.ensures.room;
       packets = c.in_ok-reserve.ensures.room;
+    }
+    ) c.self.invariant
+
+pub invariant_of-self : goal.invariant_of-self
+invariant_of-self c =
+    stored_same c.self.inside _ (
+    record {
+      packets = λ slot. ap (λ (p : Slab (List ℕ)). get p slot) c.reserve.ensures.rest_kept;
+      parts = refl;
+      names = record { settled = refl; recent = refl };
+      full_names = record { settled = refl; recent = refl };
+    }
+    ) (
+    record {
+      parts = c.self.invariant.room;
+      names = c.self.invariant.room_of_names;
+      full_names = c.self.invariant.room_of_full_names;
+      packets = rw c.reserve.ensures.rest_kept (omega (arith, c.self.invariant.room_of_packets, c.reserve.ensures.capacity));
     }
     ) c.self.invariant

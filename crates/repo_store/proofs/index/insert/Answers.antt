@@ -4,7 +4,7 @@ use Rattle.repo_plan.specs.SortedList.{Rises}
 use Rattle.repo_store.specs.declared.index.Held.{Held}
 use Rattle.repo_store.specs.Indexes.{IsPlace, GainsOne, key_cmp, key_in, keys_in}
 use Rattle.repo_store.proofs.IndexLemmas.{rises_added, gains_one, keys_added, fresh_key}
-use Rattle.repo_store.proofs.index.add.Goals as goal
+use Rattle.repo_store.proofs.index.insert.Goals as goal
 
 pub returns-clause-in_order : goal.returns-clause-in_order
 returns-clause-in_order c =
