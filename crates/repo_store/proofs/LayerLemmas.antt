@@ -5,9 +5,9 @@ use Rattle.std.specs.declared.cmp.Ordering.{Ordering}
 use Rattle.std.specs.declared.cmp.Ordering.TheVariants.{Less, Equal, Greater}
 use Rattle.std.proofs.lemmas.Bool.{true≢false}
 use Rattle.std.proofs.lemmas.List.{take-append-drop, append-nil, length-map}
-use Rattle.slab.specs.Slab.{Slab, get}
+use Rattle.slab.specs.Slab.{Slab}
 use Rattle.repo_plan.specs.declared.part.Part.{Part}
-use Rattle.repo_plan.specs.SortedList.{Rises, IsBefore}
+use Rattle.repo_plan.specs.SortedList.{Rises}
 use Rattle.repo_plan.specs.Parts.{part_cmp}
 use Rattle.repo_plan.proofs.Orders.{exact_parts, greater_back}
 use Rattle.repo_plan.proofs.Sets.{In, each_before, before_each, in_append, append_left, append_right, in_map, from_map}

@@ -1,4 +1,3 @@
-pub mod Lookups
 pub mod Names
 pub mod IndexLemmas
 pub mod SearchLemmas
@@ -6,6 +5,7 @@ pub mod WalkLemmas
 pub mod PlaceLemmas
 pub mod LayerLemmas
 pub mod NameLemmas
+pub mod SlotMaps
 pub mod StoreLemmas
 pub mod SlotLemmas
 pub mod FindLemmas

@@ -1,6 +1,6 @@
 -- Indexes of packets: what is held, in order of names or full names and then of parts.
 use Rattle.std.specs.Prelude.{◌≡◌, ◌≢◌, ℕ, ◌<◌, ◌≤◌, Bool, true, false, List, [], ◌++◌, ◌⊎◌, map, take, drop, length, Option, Some, None, if◌then◌else◌}
-use Rattle.std.specs.List.{All, starts_with}
+use Rattle.std.specs.List.{starts_with}
 use Rattle.std.specs.Bool.{nat_eq}
 use Rattle.std.specs.Ordering.{nat_cmp, ordering_then, eq_by_cmp, is_gt}
 use Rattle.std.specs.Cmp.Lexicographic.{slice_cmp, pointwise}

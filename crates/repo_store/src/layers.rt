@@ -28,13 +28,19 @@ pub(crate) struct Layers {
 
 impl Layers {
     pub(crate) fn new(alloc: Global) -> Layers
-        ensures { all_of result ≡ [] }
+        ensures settled { result.settled.items ≡ [] }
+        ensures recent { result.recent.items ≡ [] }
+        ensures room { HasRoom result 0 }
     {
         Layers {
             settled: Vec::new(alloc),
             recent: Vec::new(alloc),
             merged: Vec::new(alloc),
         }
+    }
+
+    pub(crate) fn allocator(&self) -> Global {
+        *self.settled.allocator()
     }
 
     // Makes room for so many more.
@@ -155,7 +161,13 @@ impl Layers {
         ensures room { (n : ℕ) → HasRoom self.old n → HasRoom self.new n }
     {
         self.merged.clear();
-        merge(&mut self.merged, &self.settled, &self.recent, order, packets);
+        merge(
+            &mut self.merged,
+            &self.settled,
+            &self.recent,
+            order,
+            packets,
+        );
         mem::swap(&mut self.settled, &mut self.merged);
         self.recent.clear();
     }
@@ -189,13 +201,7 @@ fn is_behind(index: &[Held], order: Order, packets: &Packets, held: &Held) -> bo
 }
 
 // Two indexes are merged into one, for which there is room.
-fn merge(
-    merged: &mut Vec<Held>,
-    settled: &[Held],
-    recent: &[Held],
-    order: Order,
-    packets: &Packets,
-)
+fn merge(merged: &mut Vec<Held>, settled: &[Held], recent: &[Held], order: Order, packets: &Packets)
     requires empty { merged.old.items ≡ [] }
     requires settled { Rises key_cmp (keys_in order packets.now settled.now) }
     requires recent { Rises key_cmp (keys_in order packets.now recent.now) }

@@ -1,4 +1,4 @@
-use Rattle.std.proofs.Common.{◌≡◌, List, subst, sym, ap, ◌∙◌, cond, true, Bool}
+use Rattle.std.proofs.Common.{◌≡◌, List, subst, sym}
 use Rattle.std.specs.List.{insert}
 use Rattle.repo_plan.specs.SortedList.{Rises}
 use Rattle.repo_store.specs.declared.index.Held.{Held}

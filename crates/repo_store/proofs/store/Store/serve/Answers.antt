@@ -1,11 +1,9 @@
-use Rattle.std.proofs.Common.{◌≡◌, ℕ, Bool, List, Option, Some, None, Ok, Result, option_map, subst, sym, ap, ◌∙◌}
+use Rattle.std.proofs.Common.{ℕ, List, Option, Some, None, Ok, Result, option_map, sym, ap, ◌∙◌}
 use Rattle.std.specs.List.{find}
 use Rattle.repo_plan.specs.declared.part.Part.{Part}
-use Rattle.repo_plan.proofs.Sets.{In}
 use Rattle.ndn_name.specs.declared.fault.PacketFault.{PacketFault}
-use Rattle.repo_store.specs.declared.index.Held.{Held}
-use Rattle.repo_store.specs.Served.{served, satisfies}
-use Rattle.repo_store.specs.Kept.{octets_at, entries_of}
+use Rattle.repo_store.specs.Served.{satisfies}
+use Rattle.repo_store.specs.Kept.{held_of}
 use Rattle.repo_store.specs.StoreList.{StoreList}
 use Rattle.repo_store.specs.Indexes.{satisfies_held}
 use Rattle.repo_store.specs.Layers.{all_of}
@@ -29,7 +27,7 @@ pub returns-in-Some : goal.returns-in-Some
 returns-in-Some c =
     let interest = c.in_ok-interest.interest in
     let packets = c.self.inside.packets in
-    let parts = c.self.inside.parts.items in
+    let parts = (held_of c.self.inside.slots.entries) in
     let names = c.self.invariant.names in
     let test = satisfies_held packets interest.name interest.can_be_prefix in
     let among = first_of_same (all_of c.self.inside.names) parts test names.held_only names.all_held (Some c.in-Some.held) c.in-Some.ensures in
@@ -43,7 +41,7 @@ pub returns-in-None : goal.returns-in-None
 returns-in-None c =
     let interest = c.in_ok-interest.interest in
     let packets = c.self.inside.packets in
-    let parts = c.self.inside.parts.items in
+    let parts = (held_of c.self.inside.slots.entries) in
     let names = c.self.invariant.names in
     let test = satisfies_held packets interest.name interest.can_be_prefix in
     let among = first_of_same (all_of c.self.inside.names) parts test names.held_only names.all_held None c.in-None.ensures in
