@@ -117,7 +117,7 @@ module _ {K V : Type 0} {R : K → K → Ordering} (e : Exact R) where
   filter_in_order p es =
       let left = filter (λ (x : K × V). p x.0) es in
       same_maps (in_order R left) (filter (λ x. p x.0) (in_order R es)) (order_rises left) (rises_keys_filter e p (in_order R es) (order_rises es)) (λ q.
-          value_in_order (eq_by_cmp R) (λ x y. refl) left q
-          ∙ lookup-filter-keys (eq_by_cmp R q) p (p q) (λ k t. ap p (sym (eq_same e q k t))) es
-          ∙ ap (λ (o : Option V). cond (p q) o None) (sym (value_in_order (eq_by_cmp R) (λ x y. refl) es q))
-          ∙ sym (value_of-filter e p (in_order R es) q))
+      value_in_order (eq_by_cmp R) (λ x y. refl) left q
+      ∙ lookup-filter-keys (eq_by_cmp R q) p (p q) (λ k t. ap p (sym (eq_same e q k t))) es
+      ∙ ap (λ (o : Option V). cond (p q) o None) (sym (value_in_order (eq_by_cmp R) (λ x y. refl) es q))
+      ∙ sym (value_of-filter e p (in_order R es) q))

@@ -116,7 +116,11 @@ fn packets_in_falling_order_are_found(rt: HostRuntime) -> Result<(), Fail> {
     for i in [1_u16, 74, 75, 76, 77, 600, 1_100] {
         let name = named(alloc, i)?;
         let octets = numbered(alloc, &name)?;
-        let kept = if i == 76 { None } else { Some(octets.as_slice()) };
+        let kept = if i == 76 {
+            None
+        } else {
+            Some(octets.as_slice())
+        };
         assert_eq!(rt; store.get(part(0, i, 0)), kept);
         let mut interest = vec![in alloc; 0x05, 0x06, 0x07, 0x04]?;
         interest.extend_from_slice(name.octets())?;
