@@ -383,6 +383,21 @@ fn real_readers_and_writers(rt: HostRuntime) {
     assert_eq!(rt; sink.write(b"abc"), Ok(3));
 }
 
+// Runs the first script from a slice to a vector.
+#[test]
+fn slices_are_read_and_vectors_written(rt: HostRuntime) -> Result<(), Fail> {
+    let alloc = rt.alloc();
+    let words = words_of(alloc, "run")?;
+    let mut report = Vec::new(alloc);
+    let mut source = ReadSource::new(FIRST.as_bytes());
+    let mut sink = WriteSink::new(&mut report);
+    let (net, draws) = (OpenNet::new(), FixedDraws::new(100));
+    let answered = run(&rt, alloc, &words, &mut source, &mut sink, &net, &draws);
+    assert_eq!(rt; answered, Status::Done);
+    assert_eq!(rt; report.as_slice(), FIRST_REPORT.as_bytes());
+    Ok(())
+}
+
 #[test]
 fn statuses_have_their_codes(rt: HostRuntime) {
     let refused = Status::Refused {
