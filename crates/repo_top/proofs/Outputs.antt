@@ -1,5 +1,5 @@
 -- Outputs that gain texts one after another.
-use Rattle.std.proofs.Common.{◌≡◌, ℕ, ◌+◌, ◌-◌, List, [], ◌++◌, length, take, drop, Option, ◌≤◌, refl, sym, ap, subst, ◌∙◌, arith}
+use Rattle.std.proofs.Common.{◌≡◌, ℕ, ◌+◌, ◌-◌, List, [], ◌++◌, length, take, drop, Option, ◌≤◌, refl, sym, ap, subst, ◌∙◌, append_assoc, arith}
 use Rattle.std.proofs.KnownBytes.{Appends-nil, Appends-trans}
 use Rattle.std.proofs.lemmas.List.{append-nil, take_all, length-drop, drop-drop, take-append-drop}
 use Rattle.std.proofs.lemmas.Grind.{common_steps}
@@ -14,6 +14,22 @@ front_whole a b text p = front_so_far a b text [] text (sym (append-nil text)) p
 
 pub nothing_gained : (a : Option (List ℕ)) → Gains a a []
 nothing_gained a = Appends-nil a
+
+pub front_taken : (a b : Option (List ℕ)) (n : ℕ) (text : List ℕ) → Gains a b (take n text) → GainsFront a b text
+front_taken a b n text p = front_so_far a b (take n text) (drop n text) text (sym (take-append-drop n text)) p
+
+-- a front of a text is one of the text with more behind it
+pub front_longer : (a b : Option (List ℕ)) (text more : List ℕ) → GainsFront a b text → GainsFront a b (text ++ more)
+front_longer a b text more f =
+    front_so_far a b f.written (f.rest ++ more) (text ++ more)
+    (ap (λ (t : List ℕ). t ++ more) f.parts ∙ append_assoc f.written f.rest more) f.gained
+
+-- a text was gained, and then a front of another
+pub front_behind : (a b d : Option (List ℕ)) (text more : List ℕ) → Gains a b text → GainsFront b d more → GainsFront a d (text ++ more)
+front_behind a b d text more p f =
+    front_so_far a d (text ++ f.written) f.rest (text ++ more)
+    (ap (λ (t : List ℕ). text ++ t) f.parts ∙ sym (append_assoc text f.written f.rest))
+    (Appends-trans a b d text f.written p f.gained)
 
 pub front_none : (a : Option (List ℕ)) (text : List ℕ) → GainsFront a a text
 front_none a text = front_so_far a a [] text text refl (nothing_gained a)

@@ -96,6 +96,7 @@ fn run_form<S: Source, K: Sink>(form: Form, alloc: Global, source: &mut S, sink:
 }
 
 // Tells the story of the input, and writes its text.
+#[tactic(auto, using(crate::proofs::Outputs::front_taken))]
 fn write_story<K: Sink>(form: Form, alloc: Global, input: Vec<u8>, sink: &mut K) -> Status
     ensures ends { (result ≡ status_of (form_story form input.items).ending)
         ⊎ ((result ≡ Status.NoMemory) ⊎ (result ≡ Status.WriteFault)) }
