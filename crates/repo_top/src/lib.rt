@@ -1,16 +1,19 @@
 //! A run from a source to a sink: the script is read whole, its story is told over the plain world, and the report is
-//! written.
+//! written; or a script is generated.
 #![tactic(auto)]
 
+mod asked;
 mod declared_member;
 mod ending;
 mod event;
 mod failed;
 mod form;
+mod generator;
 mod inspection;
 mod laws;
 mod line;
 mod lines;
+mod measures;
 mod pieces;
 mod read_fault;
 mod read_source;
@@ -33,7 +36,7 @@ mod writing;
 pub use failed::Failed;
 pub use laws::{
     first_story, later_octets_change_nothing, lines_are_the_input, pieces_are_the_octets,
-    small_inspections, small_stories,
+    small_inspections, small_scripts, small_stories,
 };
 pub use read_source::ReadSource;
 pub use sink::Sink;

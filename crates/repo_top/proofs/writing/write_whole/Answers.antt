@@ -9,7 +9,7 @@ loop-written-preserved g c =
     let n = c.in-Ok.taken in
     let text = c.args.text.now in
     let room : place + n ≤ length text =
-        omega (arith, rw (piece_is text place) at c.in-Ok.ensures.count, length-drop place text) in
+    omega (arith, rw (piece_is text place) at c.in-Ok.ensures.count, length-drop place text) in
     record {
       room = room;
       so_far = more_gained (g.K.Sink.out c.args.sink.now) (g.K.Sink.out c.loop-written.sink)
