@@ -7,7 +7,7 @@ use Rattle.repo_top.specs.declared.form.Form.TheVariants.{Run, Inspect}
 use Rattle.repo_top.specs.Story.{Story, story_of}
 use Rattle.repo_top.specs.Inspection.{inspect_story}
 use Rattle.repo_top.specs.Words.{number_within}
-use Rattle.repo_top.specs.declared.measures.Measures.{Measures}
+use Rattle.repo_top.specs.declared.generator.Measures.{Measures}
 use Rattle.repo_top.specs.Generator.{gen_story}
 use Rattle.repo_top.specs.declared.asked.Asked.{Asked}
 use Rattle.repo_top.specs.declared.asked.Asked.TheVariants.{Read, Gen}

@@ -1,11 +1,11 @@
 ghost use Rattle.std.specs.Prelude.{◌≡◌, ◌<◌, map, string_bytes, Some, IfSome};
 ghost use Rattle.repo_top.specs.declared.asked.Asked.TheVariants.{Gen};
-ghost use Rattle.repo_top.specs.declared.measures.Measures.{Measures};
+ghost use Rattle.repo_top.specs.declared.generator.Measures.{Measures};
 ghost use Rattle.repo_top.specs.Forms.{asked_of, gen_of, measures_of};
 ghost use Rattle.repo_top.specs.Words.{number_within};
 
 use crate::form::{Form, form_of};
-use crate::measures::Measures;
+use crate::generator::Measures;
 use crate::words::number_within;
 
 // What the words of the command line ask for.

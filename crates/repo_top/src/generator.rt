@@ -3,10 +3,17 @@ ghost use Rattle.repo_top.specs.declared.generator.Unwritten.TheVariants.{Failed
 ghost use Rattle.repo_top.specs.Generator.{deliver_text, drawn, fetch_text, gen_text, member_text, next_state, object_text, octet_text, publish_text, texts, turn_text, turns_text};
 ghost use Rattle.repo_top.specs.Outside.{Gains, GainsFront, HasRisen};
 
-use crate::measures::Measures;
 use crate::sink::Sink;
 use crate::writing::{WriteFault, write_whole};
 use std::alloc::{AllocError, Global};
+
+// How many members and objects a generated script has, and where its draws begin.
+#[derive(Clone, Copy, Debug, PartialEq, Eq)]
+pub(crate) struct Measures {
+    pub(crate) members: u64,
+    pub(crate) objects: u64,
+    pub(crate) seed: u64,
+}
 
 // Why a script was not written whole.
 #[derive(Clone, Copy, Debug, PartialEq, Eq)]

@@ -13,7 +13,6 @@ mod inspection;
 mod laws;
 mod line;
 mod lines;
-mod measures;
 mod pieces;
 mod read_fault;
 mod read_source;

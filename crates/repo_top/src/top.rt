@@ -6,9 +6,8 @@ ghost use Rattle.repo_top.specs.Outside.{Gains, GainsFront, HasRisen};
 
 use crate::asked::{Asked, asked_of};
 use crate::form::Form;
-use crate::generator::{Unwritten, write_script};
+use crate::generator::{Measures, Unwritten, write_script};
 use crate::inspection::tell_inspection;
-use crate::measures::Measures;
 use crate::read_fault::ReadFault;
 use crate::reading::read_up_to;
 use crate::sink::Sink;
