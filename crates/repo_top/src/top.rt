@@ -48,7 +48,7 @@ pub fn run<R: Threads + Sync, S: Source, K: Sink, N: Net + Sync, D: Draws>(
     ensures read_to_end { result ≡ Status.Done → IsRead (asked_of (map string_bytes words.now))
         → IfSome (S.left source.old) (λ input. S.left source.new ≡ Some []) }
 
-    // `gen` reads nothing. It ends so where the sink does not fail and there is memory.
+    // `gen` reads nothing, and answers Done unless the sink fails or memory runs out.
     ensures unread { IsGenerated (asked_of (map string_bytes words.now)) → source.new ≡ source.old }
     ensures generated { IsGenerated (asked_of (map string_bytes words.now))
         → (result ≡ Status.Done) ⊎ ((result ≡ Status.NoMemory) ⊎ (result ≡ Status.WriteFault)) }
