@@ -69,8 +69,16 @@ answer-size a =
     let code = element 208 (number_field a.code) in
     let inserted = written_field 209 a.inserted in
     let deleted = written_field 210 a.deleted in
-    let long : length (response_value a) ≤ 40 = omega (arith, written-size 206 a.process (omega arith), number_element-size 208 a.code (omega arith), written-size 209 a.inserted (omega arith), written-size 210 a.deleted (omega arith),
-    length-append ((process ++ code) ++ inserted) deleted, length-append (process ++ code) inserted, length-append process code) in
+    let long : length (response_value a) ≤ 40 = omega (
+      arith,
+      written-size 206 a.process (omega arith),
+      number_element-size 208 a.code (omega arith),
+      written-size 209 a.inserted (omega arith),
+      written-size 210 a.deleted (omega arith),
+      length-append ((process ++ code) ++ inserted) deleted,
+      length-append (process ++ code) inserted,
+      length-append process code,
+    ) in
     omega (arith, long, element-at_most 207 (response_value a) (omega arith) (omega (arith, long)))
 
 -- ---- the packet

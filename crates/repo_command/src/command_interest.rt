@@ -6,9 +6,7 @@ ghost use Rattle.repo_command.specs.Verbs.{verb_of};
 
 use crate::command::Command;
 use crate::command_refusal::CommandRefusal;
-use crate::element_types::{
-    END_BLOCK_ID, PROCESS_ID, REPO_COMMAND_PARAMETER, START_BLOCK_ID,
-};
+use crate::element_types::{END_BLOCK_ID, PROCESS_ID, REPO_COMMAND_PARAMETER, START_BLOCK_ID};
 use crate::parameters::Parameters;
 use crate::signer::signer_of;
 use crate::verb::{Verb, command_name, verb_in};

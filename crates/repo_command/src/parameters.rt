@@ -6,9 +6,7 @@ ghost use Rattle.repo_command.specs.Parameters.{parameters, with_parameter, para
 
 use crate::command::Command;
 use crate::command_refusal::CommandRefusal;
-use crate::element_types::{
-    END_BLOCK_ID, PROCESS_ID, REPO_COMMAND_PARAMETER, START_BLOCK_ID,
-};
+use crate::element_types::{END_BLOCK_ID, PROCESS_ID, REPO_COMMAND_PARAMETER, START_BLOCK_ID};
 use crate::verb::Verb;
 use ndn_name::{Name, NameFault, NameView};
 use ndn_tlv::{Element, FieldReader, Place, Reader, read_number, types};

@@ -69,7 +69,6 @@ some_lent p open_ whole none = let both : Some (object_of p) ≡ None = sym (len
 
 module _ (before after : Insertions) (number index : ℕ) (content : List ℕ) (waiting : AreWaiting before.processes)
     (state : BlockState) (comes : block_state before.processes number index content ≡ state) (arrives : after ≡ with_arrival number before state) where
-
   -- another block is missing
   pub kept_waiting : (missing : ℕ) → told state ≡ Kept missing → AreWaiting after.processes
   kept_waiting missing h = go state comes arrives h where

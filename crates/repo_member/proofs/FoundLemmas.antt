@@ -127,7 +127,7 @@ module _ (p : Holdings) (packets : List Packet) (pair : Pair) (n : ℕ) (s : IsS
     differs : (f : ℕ) (t : Part) → slice_index_or p.claims f None ≡ Some t → is_in pair t ≡ false
     differs f t e = let w = wanted_parts p t (s.claimed f t e) in free t (is_in pair t) refl (w.asked, w.not_held)
 
--- ---- how many packets it has
+  -- ---- how many packets it has
 
   from_inside : (q : Part) → In q (filter (is_in pair) (keys packets)) → In q (parts_of pair n)
   from_inside q i =

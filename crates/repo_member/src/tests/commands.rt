@@ -2,7 +2,8 @@ ghost use Rattle.std.specs.Prelude.{◌≤◌};
 ghost use Rattle.repo_command.specs.Commands.{named_length};
 
 use super::*;
-use repo_command::{Answer, Command, KEY_NAME_LIMIT, make_command, status_codes::*};
+use repo_command::status_codes::*;
+use repo_command::{Answer, Command, KEY_NAME_LIMIT, make_command};
 use repo_object::{OBJECT_NAME_LIMIT, cut};
 
 // What carl asks alice for with his key "k4": to insert "/in", of the blocks 5 and 6.
@@ -90,10 +91,7 @@ fn blocks_publish_an_object(rt: HostRuntime) -> Result<(), Fail> {
     insert_in_two_blocks(&rt, &mut alice)
 }
 
-fn insert_in_two_blocks(
-    rt: &(impl Abort + AllocGlobal),
-    alice: &mut Peer<'_>,
-) -> Result<(), Fail> {
+fn insert_in_two_blocks(rt: &(impl Abort + AllocGlobal), alice: &mut Peer<'_>) -> Result<(), Fail> {
     let started = alice.command(rt, &INSERT)?;
     assert_eq!(rt; started.answer.code, ACCEPTED);
     assert_eq!(rt; started.reply.as_deref(), Some(ACCEPTED_1.as_slice()));
@@ -109,7 +107,10 @@ fn insert_in_two_blocks(
     assert_eq!(rt; published.seq, 1);
     assert_eq!(rt; stands(rt, alice)?, (DONE, 2));
     assert!(rt; matches!(alice.block(rt, 1, 6, b"c")?, Blocked::Already));
-    assert_eq!(rt; asks(rt, alice, &Command::Check { process: 9 })?, Answer::only(NOT_FOUND));
+    assert_eq!(rt;
+        asks(rt, alice, &Command::Check { process: 9 })?,
+        Answer::only(NOT_FOUND)
+    );
     assert_eq!(rt; alice.member.catalogue().totals(), (1, 2, 3));
     assert_eq!(rt; deletes(rt, alice, "/in")?, (DONE, Some(3)));
     assert_eq!(rt; deletes(rt, alice, "/in")?, (NOT_FOUND, None));
@@ -137,7 +138,10 @@ fn delete_for_good(rt: &(impl Abort + AllocGlobal), alice: &mut Peer<'_>) -> Res
     assert_eq!(rt; alice.member.claim(1), Ok(None));
     alice.restart(rt, 20);
     assert_eq!(rt; alice.publish(rt, &doc, &[], 30)?.seq, 2);
-    assert_eq!(rt; alice.member.catalogue().first_named(&doc.view()), Some((ALICE, 2)));
+    assert_eq!(rt;
+        alice.member.catalogue().first_named(&doc.view()),
+        Some((ALICE, 2))
+    );
     Ok(())
 }
 

@@ -74,31 +74,31 @@ loop-entry-preserved c =
     let named : has_name name e ≡ c.is_eq.result = sym (c.is_eq.ensures ∙ ap is_eq (c.compare.ensures ∙ ap (λ (n : List Component). canonical_cmp n c.view-in-loop-entry.result) c.view.ensures ∙ ap (canonical_cmp e.name) c.view-in-loop-entry.ensures)) in
     elim c.if-is_eq.branch [
       | then-is_eq+else-prove+in_ok-push w ↦
-      let at = entry_at_place c.self.inside name entries i e c.self.invariant w.holds-held.ensures.sound
-      c.entries-entry-items.ensures.entries c.entries-entry-items.ensures.ordered c.loop-entry-test.true c.entry-item.is in
-      let pushed : w.push.new.self.items ≡ c.loop-entry.publications.items ++ publication_of e ∷ [] = w.in_ok-push.ensures.items in
-      let more = named_more name entries i e true c.loop-entry-test.true c.entry-item.is (named ∙ w.if-is_eq.true) in
-      let store : List Packet = c.args.self.now.store in
-      let same = ap (λ (a : Alone). a.store) c.self.view_is in
-      let here : c.loop-entry.left ≡ length (outside_all (publications_named name (take i entries)) c.self.inside.store.packets) =
-      invariant.left ∙ ap (λ (pairs : List Pair). length (outside_all pairs store)) invariant.named ∙ ap (λ (stored : List Packet). length (outside_all (publications_named name (take i entries)) stored)) (sym same) in
-      let there : length (outside_all w.push.new.self.items store) ≡ length (outside_all (publications_named name (take i entries) ++ publication_of e ∷ []) c.self.inside.store.packets) =
-      ap (λ (pairs : List Pair). length (outside_all pairs store)) (pushed ∙ ap (λ (pairs : List Pair). pairs ++ publication_of e ∷ []) invariant.named)
-      ∙ ap (λ (stored : List Packet). length (outside_all (publications_named name (take i entries) ++ publication_of e ∷ []) stored)) (sym same) in
-      rw (w.publications-is, w.left-is) (record {
-        named = pushed ∙ ap (λ (pairs : List Pair). pairs ++ publication_of e ∷ []) invariant.named ∙ sym more;
-        left = omega (arith, here, there, at.fewer);
-        known = rw pushed (All-push (λ (pair : Pair). knows (alone_plan c.args.self.now) pair ≡ true) c.loop-entry.publications.items (publication_of e) invariant.known (known_alone c.self.inside c.args.self.now (publication_of e) c.self.invariant c.self.view_is at.known));
-        unclaimed = rw pushed (All-push (λ (pair : Pair). claims_part_in (alone_plan c.args.self.now) pair ≡ false) c.loop-entry.publications.items (publication_of e) invariant.unclaimed (unclaimed_alone c.self.inside c.args.self.now (publication_of e) c.self.view_is at.unclaimed));
-      })
+          let at = entry_at_place c.self.inside name entries i e c.self.invariant w.holds-held.ensures.sound
+          c.entries-entry-items.ensures.entries c.entries-entry-items.ensures.ordered c.loop-entry-test.true c.entry-item.is in
+          let pushed : w.push.new.self.items ≡ c.loop-entry.publications.items ++ publication_of e ∷ [] = w.in_ok-push.ensures.items in
+          let more = named_more name entries i e true c.loop-entry-test.true c.entry-item.is (named ∙ w.if-is_eq.true) in
+          let store : List Packet = c.args.self.now.store in
+          let same = ap (λ (a : Alone). a.store) c.self.view_is in
+          let here : c.loop-entry.left ≡ length (outside_all (publications_named name (take i entries)) c.self.inside.store.packets) =
+          invariant.left ∙ ap (λ (pairs : List Pair). length (outside_all pairs store)) invariant.named ∙ ap (λ (stored : List Packet). length (outside_all (publications_named name (take i entries)) stored)) (sym same) in
+          let there : length (outside_all w.push.new.self.items store) ≡ length (outside_all (publications_named name (take i entries) ++ publication_of e ∷ []) c.self.inside.store.packets) =
+          ap (λ (pairs : List Pair). length (outside_all pairs store)) (pushed ∙ ap (λ (pairs : List Pair). pairs ++ publication_of e ∷ []) invariant.named)
+          ∙ ap (λ (stored : List Packet). length (outside_all (publications_named name (take i entries) ++ publication_of e ∷ []) stored)) (sym same) in
+          rw (w.publications-is, w.left-is) (record {
+            named = pushed ∙ ap (λ (pairs : List Pair). pairs ++ publication_of e ∷ []) invariant.named ∙ sym more;
+            left = omega (arith, here, there, at.fewer);
+            known = rw pushed (All-push (λ (pair : Pair). knows (alone_plan c.args.self.now) pair ≡ true) c.loop-entry.publications.items (publication_of e) invariant.known (known_alone c.self.inside c.args.self.now (publication_of e) c.self.invariant c.self.view_is at.known));
+            unclaimed = rw pushed (All-push (λ (pair : Pair). claims_part_in (alone_plan c.args.self.now) pair ≡ false) c.loop-entry.publications.items (publication_of e) invariant.unclaimed (unclaimed_alone c.self.inside c.args.self.now (publication_of e) c.self.view_is at.unclaimed));
+          })
       | else-is_eq w ↦
-      let same = named_more name entries i e false c.loop-entry-test.true c.entry-item.is (named ∙ w.if-is_eq.false) in
-      rw (w.publications-is, w.left-is) (record {
-        named = invariant.named ∙ sym (same ∙ append-nil (publications_named name (take i entries)));
-        left = invariant.left;
-        known = invariant.known;
-        unclaimed = invariant.unclaimed;
-      })
+          let same = named_more name entries i e false c.loop-entry-test.true c.entry-item.is (named ∙ w.if-is_eq.false) in
+          rw (w.publications-is, w.left-is) (record {
+            named = invariant.named ∙ sym (same ∙ append-nil (publications_named name (take i entries)));
+            left = invariant.left;
+            known = invariant.known;
+            unclaimed = invariant.unclaimed;
+          })
     ]
 
 -- at the end
