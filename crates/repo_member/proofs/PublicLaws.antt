@@ -10,6 +10,7 @@ pub use Rattle.repo_member.proofs.TrueChanges.{begins_true, publishes_true, othe
 pub use Rattle.repo_member.proofs.TrueSyncs.{keys_are_found, syncs_are_told, syncs_are_taken}
 pub use Rattle.repo_member.proofs.EventLemmas.{publish_is_event, deliver_is_event, hear_is_event, fire_is_event, restart_is_event, claim_is_event, lose_is_event, answer_is_event, feed_is_event, fetch_is_event, learns_at_once, learns_what_all_know, gathering_is_event, settle_is_event, open_parts_alike, catalogues_alike}
 pub use Rattle.repo_member.proofs.CommandEvents.{starts_alike, keeps_alike, order_is_event, order_is_answered, issue_is_event, issue_is_answered, block_is_event, block_states_alike}
+pub use Rattle.repo_member.proofs.OrderLemmas.{made_orders_are_taken, orders_beyond}
 pub use Rattle.repo_member.proofs.OutcomeLemmas.{jobs_are_planned, planned_jobs_are_outcomes}
 pub use Rattle.repo_member.proofs.CallLogs.{logs_go_on, publications_stay, logged_packets_stay}
 pub use Rattle.repo_member.proofs.CallVectors.{numbers_never_fall, known_is_the_join}

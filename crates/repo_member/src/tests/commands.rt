@@ -1,6 +1,7 @@
-ghost use Rattle.std.specs.Prelude.{◌≤◌};
+ghost use Rattle.std.specs.Prelude.{◌≡◌, ◌≤◌, length, IfOk};
 ghost use Rattle.repo_command.specs.Commands.{named_length};
 
+use super::worked::ABC_DIGEST;
 use super::*;
 use repo_command::status_codes::*;
 use repo_command::{Answer, Command, KEY_NAME_LIMIT, make_command};
@@ -111,7 +112,7 @@ fn insert_in_two_blocks(rt: &(impl Abort + AllocGlobal), alice: &mut Peer<'_>) -
         asks(rt, alice, &Command::Check { process: 9 })?,
         Answer::only(NOT_FOUND)
     );
-    assert_eq!(rt; alice.member.catalogue().totals(), (1, 2, 3));
+    assert_eq!(rt; alice.member.catalogue().entries().len(), 1);
     assert_eq!(rt; deletes(rt, alice, "/in")?, (DONE, Some(3)));
     assert_eq!(rt; deletes(rt, alice, "/in")?, (NOT_FOUND, None));
     assert!(rt; alice.member.catalogue().entries().is_empty());
@@ -156,5 +157,135 @@ fn refuse(
     let answered = alice.command(rt, octets)?;
     assert_eq!(rt; answered.answer, Answer::only(code));
     assert_eq!(rt; answered.reply.is_some(), replied);
+    Ok(())
+}
+
+// Claims a part and accepts what another member holds of it, so many times.
+fn fetch_from(
+    rt: &impl Abort,
+    other: &Peer<'_>,
+    peer: &mut Peer<'_>,
+    parts: u32,
+) -> Result<(), Fail> {
+    for _ in 0..parts {
+        let Ok(Some(part)) = peer.member.claim(1) else {
+            return Err("nothing is claimed".into());
+        };
+        let packet = other.member.packet(part).ok_or("it is not held")?;
+        assert_eq!(rt; peer.accept(rt, 1, packet)?, part);
+    }
+    Ok(())
+}
+
+#[test]
+fn others_keep_what_was_deleted(rt: HostRuntime) -> Result<(), Fail> {
+    let g = with_carl(&rt)?;
+    let mut alice = Peer::new(&rt, &g, ALICE)?;
+    insert_and_tell(&rt, &g, &mut alice)
+}
+
+fn insert_and_tell(
+    rt: &(impl Abort + AllocGlobal),
+    g: &Group,
+    alice: &mut Peer<'_>,
+) -> Result<(), Fail>
+    requires { length g.now.members.names ≡ 3 }
+{
+    assert_eq!(rt; alice.command(rt, &INSERT)?.answer.code, ACCEPTED);
+    assert!(rt; matches!(alice.block(rt, 1, 6, b"c")?, Blocked::Waiting));
+    assert!(rt; matches!(alice.block(rt, 1, 5, b"ab")?, Blocked::Published(_)));
+    let mut bob = Peer::new(rt, g, BOB)?;
+    fetch_the_insertion(rt, alice, &mut bob)
+}
+
+fn fetch_the_insertion(
+    rt: &(impl Abort + AllocGlobal),
+    alice: &mut Peer<'_>,
+    bob: &mut Peer<'_>,
+) -> Result<(), Fail> {
+    assert_eq!(rt; bob.hear_vector(rt, alice, 0)?, Mode::Steady);
+    fetch_from(rt, alice, bob, 3)?;
+    assert_eq!(rt; deletes(rt, alice, "/in")?, (DONE, Some(3)));
+    assert_eq!(rt; bob.hear_vector(rt, alice, 0)?, Mode::Steady);
+    assert_eq!(rt; bob.member.claim(1), Ok(None));
+    assert!(rt; alice.member.catalogue().entries().is_empty());
+    let [entry] = bob.member.catalogue().entries() else {
+        return Err("one is listed".into());
+    };
+    assert_eq!(rt; (entry.publisher, entry.seq, entry.segments), (ALICE, 1, 2));
+    assert_eq!(rt; (entry.octets, entry.digest), (3, ABC_DIGEST));
+    Ok(())
+}
+
+#[test]
+fn nobody_holds_what_was_deleted_at_once(rt: HostRuntime) -> Result<(), Fail> {
+    let g = with_carl(&rt)?;
+    let mut alice = Peer::new(&rt, &g, ALICE)?;
+    delete_at_once(&rt, &g, &mut alice)
+}
+
+fn delete_at_once(
+    rt: &(impl Abort + AllocGlobal),
+    g: &Group,
+    alice: &mut Peer<'_>,
+) -> Result<(), Fail>
+    requires { length g.now.members.names ≡ 3 }
+{
+    let contents = cut(rt.alloc(), b"abc", 10)?;
+    let doc = Name::from_uri(rt.alloc(), "/doc")?;
+    assert_eq!(rt; alice.publish(rt, &doc, &contents, 0)?.seq, 1);
+    assert_eq!(rt; deletes(rt, alice, "/doc")?, (DONE, Some(2)));
+    let mut bob = Peer::new(rt, g, BOB)?;
+    want_what_nobody_holds(rt, alice, &mut bob)
+}
+
+fn want_what_nobody_holds(
+    rt: &impl Abort,
+    alice: &Peer<'_>,
+    bob: &mut Peer<'_>,
+) -> Result<(), Fail> {
+    assert_eq!(rt; bob.hear_vector(rt, alice, 0)?, Mode::Steady);
+    assert!(rt; bob.member.catalogue().entries().is_empty());
+    let record = part(ALICE, 1, 0);
+    assert_eq!(rt; bob.member.claim(1), Ok(Some(record)));
+    assert_eq!(rt; alice.member.packet(record), None);
+    Ok(())
+}
+
+#[test]
+fn parts_stay_in_a_restart(rt: HostRuntime) -> Result<(), Fail> {
+    let g = with_carl(&rt)?;
+    let mut alice = Peer::new(&rt, &g, ALICE)?;
+    publish_and_tell(&rt, &g, &mut alice)
+}
+
+fn publish_and_tell(
+    rt: &(impl Abort + AllocGlobal),
+    g: &Group,
+    alice: &mut Peer<'_>,
+) -> Result<(), Fail>
+    requires { length g.now.members.names ≡ 3 }
+{
+    let contents = cut(rt.alloc(), b"abc", 1)?;
+    let doc = Name::from_uri(rt.alloc(), "/doc")?;
+    assert_eq!(rt; alice.publish(rt, &doc, &contents, 0)?.seq, 1);
+    let mut bob = Peer::new(rt, g, BOB)?;
+    restart_between_parts(rt, alice, &mut bob)
+}
+
+fn restart_between_parts(
+    rt: &(impl Abort + AllocGlobal),
+    alice: &Peer<'_>,
+    bob: &mut Peer<'_>,
+) -> Result<(), Fail> {
+    assert_eq!(rt; bob.hear_vector(rt, alice, 0)?, Mode::Steady);
+    fetch_from(rt, alice, bob, 1)?;
+    bob.restart(rt, 0);
+    assert_eq!(rt; bob.member.claim(1), Ok(Some(part(ALICE, 1, 1))));
+    let b = Name::from_uri(rt.alloc(), "/b")?;
+    assert_eq!(rt;
+        bob.publish(rt, &b, &cut(rt.alloc(), b"abc", 10)?, 0)?.seq,
+        1
+    );
     Ok(())
 }
