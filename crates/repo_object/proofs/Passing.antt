@@ -1,7 +1,10 @@
 -- Octets pass for a want exactly where they pass every check.
-use Rattle.std.proofs.Common.{◌≡◌, ℕ, Bool, true, false, not, cond, ◌||◌, is_some, eqb, List, ◌++◌, Option, Some, None, Result, Ok, Err, IsOk, refl, sym, ap, subst, ◌∙◌, inl, inr}
+use Rattle.std.proofs.Common.{◌≡◌, ℕ, Bool, true, false, not, cond, ◌||◌, is_some, eqb, zero, suc, ◌<◌, ◌↔◌, List, [], ◌∷◌, ◌++◌, length, slice_get, Option, Some, None, option_map, Result, Ok, Err, IsOk, refl, sym, ap, subst, ◌∙◌, inl, inr, arith}
 use Rattle.std.specs.Prelude.{IfSome}
 use Rattle.std.proofs.lemmas.Bool.{and_parts, and_from, eqb-true, eq-eqb, cases_eq, ne_eqb}
+use Rattle.std.proofs.lemmas.Bool.Decides.{same_from_decides}
+use Rattle.std.proofs.lemmas.List.{append-nil}
+use Rattle.std.proofs.lemmas.Option.{same_Some}
 use Rattle.std.proofs.lemmas.Slice.Eq.{bytes_eq-Decides}
 use Rattle.std.specs.Str.{bytes_eq}
 use Rattle.sha2.specs.Sha256.{sha256}
@@ -11,12 +14,13 @@ use Rattle.ndn_name.specs.declared.fault.PacketFault.{PacketFault}
 use Rattle.ndn_name.specs.Names.{Component, encoding}
 use Rattle.ndn_tlv.proofs.Steps.{bind_ok}
 use Rattle.ndn_sign.specs.Hmac.{hmac}
+use Rattle.ndn_sign.specs.Ring.{Pair}
 use Rattle.ndn_data.specs.Data.{Data, data_of}
 use Rattle.repo_object.specs.declared.part_refusal.PartRefusal.{PartRefusal}
 use Rattle.repo_object.specs.declared.part_refusal.PartRefusal.TheVariants.{UnsignedOctets, OtherName, OtherDigest, UnknownKey, BadSignature, BadRecord}
 use Rattle.repo_object.specs.Records.{listing_of}
 use Rattle.repo_object.specs.Wants.{WantedPart}
-use Rattle.repo_object.specs.Verdict.{is_all_signed, has_name, has_digest, locates, names_key, is_signed_by, lists_if_record, packet_verdict, read_packet, part_verdict, Passes}
+use Rattle.repo_object.specs.Verdict.{is_all_signed, has_name, has_digest, locates, names_key, is_signed_by, lists_if_record, packet_verdict, read_packet, part_verdict, Passes, key_at}
 
 abbrev passed : Data → Result Data PartRefusal
 passed d = Ok d
@@ -58,11 +62,30 @@ all_pass a b c e f g d h = rw (h.all_signed, h.name, h.digest, h.key, h.signatur
 
 -- ---- what the tests mean
 
+abbrev is_mac : List ℕ → List ℕ → List ℕ → Bool
+is_mac key signed mac = bytes_eq (hmac key signed) mac
+
 equal : (a b : List ℕ) → bytes_eq a b ≡ true → a ≡ b
 equal a b = (bytes_eq-Decides a b).0
 
 pub same_bytes : (a b : List ℕ) → a ≡ b → bytes_eq a b ≡ true
 same_bytes a b = (bytes_eq-Decides a b).1
+
+-- a mac that the ring says is that of a message
+pub mac_is : (ring : List Pair) (n : ℕ) (signed mac : List ℕ) (b : Bool) → n < length ring
+    → ((b ≡ true) ↔ (option_map (λ (p : Pair). hmac p.key (signed ++ [])) (slice_get ring n) ≡ Some mac))
+    → b ≡ is_mac (key_at ring n).key signed mac
+mac_is [] n signed mac b low is = absurd (omega arith)
+mac_is (p ∷ ps) zero signed mac b low is =
+    let all = ap (hmac p.key) (append-nil signed) in
+    same_from_decides b (is_mac p.key signed mac) (
+      λ yes. sym all ∙ same_Some (hmac p.key (signed ++ [])) mac (is.0 yes),
+      λ e. is.1 (ap some_octets (all ∙ e)),
+    ) (bytes_eq-Decides (hmac p.key signed) mac)
+  where
+    some_octets : List ℕ → Option (List ℕ)
+    some_octets octets = Some octets
+mac_is (p ∷ ps) (suc n) signed mac b low is = mac_is ps n signed mac b (omega arith) is
 
 digest_is : (digest : Option (List ℕ)) (octets : List ℕ) → has_digest digest octets ≡ true → IfSome digest (λ d. sha256 octets ≡ d)
 digest_is None octets h = tt
@@ -78,12 +101,12 @@ located_at key_name None h = absurd cc
 located_at key_name (Some name) h = (name, refl, equal (encoding name) key_name h)
 
 record_lists : (part : ℕ) (b : Bool) → (not (eqb part 0) || b) ≡ true → part ≡ 0 → b ≡ true
-record_lists part b h zero = rw (eq-eqb part 0 zero) at h
+record_lists part b h first = rw (eq-eqb part 0 first) at h
 
 lists_record : (part : ℕ) (b : Bool) → (part ≡ 0 → b ≡ true) → (not (eqb part 0) || b) ≡ true
 lists_record part b h =
     elim (cases_eq part 0) [
-      | inl zero ↦ rw (eq-eqb part 0 zero) (h zero)
+      | inl first ↦ rw (eq-eqb part 0 first) (h first)
       | inr other ↦ rw (ne_eqb part 0 other) refl
     ]
 
@@ -126,3 +149,10 @@ verdict_of want key_name key octets d p =
 
 pub passing_is_ok : (want : WantedPart) (key_name key octets : List ℕ) (d : Data) → Passes want key_name key octets d → IsOk (part_verdict want key_name key octets)
 passing_is_ok want key_name key octets d p = rw (verdict_of want key_name key octets d p) refl
+
+-- the digest of octets that pass, where the want tells it
+pub passing_digest : (want : WantedPart) (key_name key octets : List ℕ) → IsOk (part_verdict want key_name key octets) → IfSome want.digest (λ digest. sha256 octets ≡ digest)
+passing_digest want key_name key octets = go (part_verdict want key_name key octets) refl where
+  go : (r : Result Data PartRefusal) → part_verdict want key_name key octets ≡ r → IsOk r → IfSome want.digest (λ digest. sha256 octets ≡ digest)
+  go (Ok d) e ok = (passes want key_name key octets d e).digest
+  go (Err refusal) e ok = absurd cc

@@ -95,9 +95,12 @@ pub record CheckedPart : Type 0 where
 abbrev pub IsChecked : CheckedPart → Type 0
 IsChecked c = IsOk (part_verdict c.want c.key_name c.key c.octets)
 
--- The key of the want's publisher, by its number in the ring.
+-- The key of a number in the ring, and so that of the want's publisher.
+abbrev pub key_at : List Pair → ℕ → Pair
+key_at ring number = unwrap_or (slice_get ring number) (pair [] [])
+
 abbrev pub publisher_key : List Pair → WantedPart → Pair
-publisher_key ring want = unwrap_or (slice_get ring want.part.publisher) (pair [] [])
+publisher_key ring want = key_at ring want.part.publisher
 
 abbrev pub checked_part : WantedPart → List Pair → List ℕ → CheckedPart
 checked_part want ring octets =

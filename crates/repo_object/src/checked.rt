@@ -1,4 +1,5 @@
-ghost use Rattle.std.specs.Prelude.{◌≡◌, ◌<◌, length, MatchResult, IfOk, IsOk, Err};
+ghost use Rattle.std.specs.Prelude.{◌≡◌, ◌<◌, length, option_map, MatchResult, IfOk, IfSome, IsOk, Err};
+ghost use Rattle.sha2.specs.Sha256.{sha256};
 ghost use Rattle.repo_object.specs.Verdict.{ring_verdict, checked_part, IsChecked};
 
 use crate::part_refusal::PartRefusal;
@@ -68,6 +69,14 @@ impl<'p> Checked<'p> {
         ensures passed { IsChecked self.now }
     {
         self.octets
+    }
+
+    /// The packet's digest, where the want tells it, as of segments: the check compared it.
+    pub fn digest(&self) -> Option<&'p [u8; 32]>
+        ensures same { option_map (λ digest. digest.now) result ≡ self.now.want.digest }
+        ensures digest { IfSome result (λ digest. digest.now ≡ sha256 self.now.octets) }
+    {
+        self.want.expected().digest()
     }
 
     pub fn part(&self) -> Part

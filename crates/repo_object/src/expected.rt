@@ -1,4 +1,4 @@
-ghost use Rattle.std.specs.Prelude.{◌≡◌, ◌-◌, ◌<◌, ◌≤◌, length, IfOk, IsOk, MatchResult, Some, Err};
+ghost use Rattle.std.specs.Prelude.{◌≡◌, ◌-◌, ◌<◌, ◌≤◌, length, option_map, IfOk, IsOk, MatchResult, Some, Err};
 ghost use Rattle.ndn_name.specs.Names.{encoding};
 ghost use Rattle.ndn_data.specs.Data.{packet};
 ghost use Rattle.repo_object.specs.Limits.{node_name_limit, object_name_limit};
@@ -88,15 +88,15 @@ impl Expected {
             (λ _. IsOk (ring_verdict self.now ring.now octets.now))
             (λ refusal. ring_verdict self.now ring.now octets.now ≡ Err refusal) }
     {
-        let publisher = self.part.publisher;
         let data = DataView::read(octets)?;
-        judge(
-            self,
-            ring.name(publisher),
-            ring.key(publisher),
-            octets,
-            &data,
-        )
+        judge(self, ring, self.part.publisher, octets, &data)
+    }
+
+    /// The packet's digest, where it is known: of segments it is.
+    pub fn digest(&self) -> Option<&[u8; 32]>
+        ensures { option_map (λ digest. digest.now) result ≡ self.now.digest }
+    {
+        self.digest.as_ref()
     }
 
     // The Interest that asks for the packet.

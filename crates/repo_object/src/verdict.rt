@@ -1,6 +1,6 @@
-ghost use Rattle.std.specs.Prelude.{◌≡◌, MatchResult, Ok, Err};
+ghost use Rattle.std.specs.Prelude.{◌≡◌, ◌<◌, length, MatchResult, Ok, Err};
 ghost use Rattle.ndn_data.specs.Data.{packet};
-ghost use Rattle.repo_object.specs.Verdict.{is_all_signed, locates, names_key, is_signed_by, lists_if_record, packet_verdict};
+ghost use Rattle.repo_object.specs.Verdict.{is_all_signed, locates, names_key, is_signed_by, lists_if_record, packet_verdict, key_at};
 
 use crate::expected::Expected;
 use crate::listing::is_record;
@@ -8,20 +8,21 @@ use crate::part_refusal::PartRefusal;
 use ndn_data::DataView;
 use ndn_name::NameView;
 use ndn_packet::SIGNATURE_HMAC_WITH_SHA256;
-use ndn_sign::hmac;
+use ndn_sign::KeyRing;
 
-// Whether octets that are this packet are what is expected, under the publisher's key of that name.
+// Whether octets that are this packet are what is expected, under the key that the ring has at that number.
 pub(crate) fn judge(
     expected: &Expected,
-    key_name: &[u8],
-    key: &[u8],
+    ring: &KeyRing,
+    number: u32,
     octets: &[u8],
     view: &DataView<'_>,
 ) -> Result<(), PartRefusal>
+    requires { number < length ring.now }
     ensures { MatchResult result
-        (λ _. packet_verdict expected.now key_name.now key.now octets.now (packet view.now)
+        (λ _. packet_verdict expected.now (key_at ring.now number).name (key_at ring.now number).key octets.now (packet view.now)
         ≡ Ok (packet view.now))
-        (λ refusal. packet_verdict expected.now key_name.now key.now octets.now (packet view.now)
+        (λ refusal. packet_verdict expected.now (key_at ring.now number).name (key_at ring.now number).key octets.now (packet view.now)
         ≡ Err refusal) }
 {
     if !is_all_signed(view) {
@@ -33,10 +34,10 @@ pub(crate) fn judge(
     if !expected.has_digest(octets) {
         return Err(PartRefusal::OtherDigest);
     }
-    if !names_key(key_name, view) {
+    if !names_key(ring.name(number), view) {
         return Err(PartRefusal::UnknownKey);
     }
-    if !is_signed_by(key, view) {
+    if !is_signed_by(ring, number, view) {
         return Err(PartRefusal::BadSignature);
     }
     if !lists_if_record(expected, view) {
@@ -68,11 +69,12 @@ fn locates(key_name: &[u8], locator: &Option<NameView<'_>>) -> bool
     }
 }
 
-// Whether the signature is the mac of what is signed.
-fn is_signed_by(key: &[u8], view: &DataView<'_>) -> bool
-    ensures { result ≡ is_signed_by key.now (packet view.now) }
+// Whether the signature is the mac of what is signed, under the key of that number.
+fn is_signed_by(ring: &KeyRing, number: u32, view: &DataView<'_>) -> bool
+    requires { number < length ring.now }
+    ensures { result ≡ is_signed_by (key_at ring.now number).key (packet view.now) }
 {
-    hmac(key, view.signed_portion(), &[]).as_slice() == view.signature
+    ring.check_mac(number, view.signed_portion(), &[], view.signature)
 }
 
 // Whether the content is a record, where a record is expected.

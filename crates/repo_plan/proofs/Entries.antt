@@ -1,11 +1,12 @@
 -- A hash map's entries in order of their keys.
-use Rattle.std.proofs.Common.{◌≡◌, Bool, true, false, not, cond, List, [], ◌∷◌, Option, Some, None, refl, sym, ap, ◌∙◌, subst}
-use Rattle.std.specs.List.{filter}
-use Rattle.std.specs.Map.{lookup}
+use Rattle.std.proofs.Common.{◌≡◌, Bool, true, false, ℕ, ◌+◌, not, cond, List, [], ◌∷◌, length, Option, Some, None, refl, sym, ap, ◌∙◌, subst, arith}
+use Rattle.std.specs.List.{filter, AllByRecursion, IsDistinct}
+use Rattle.std.specs.Map.{lookup, keys_of}
+use Rattle.std.proofs.lemmas.Map.Entries.{lookup-filter-keys}
 use Rattle.std.specs.Ordering.{eq_by_cmp, is_eq}
 use Rattle.std.specs.declared.cmp.Ordering.{Ordering}
 use Rattle.std.specs.declared.cmp.Ordering.TheVariants.{Less, Equal, Greater}
-use Rattle.repo_plan.specs.SortedList.{keys, IsBefore, Rises, value_of, with_value, in_order}
+use Rattle.repo_plan.specs.SortedList.{by_order, keys, IsBefore, Rises, value_of, with_value, in_order}
 use Rattle.repo_plan.proofs.Orders.{Exact, greater_back}
 use Rattle.repo_plan.proofs.Sets.{before_more, eq_same, eq_itself, rises_with_value, rises_keys_filter, value_of-with_value, value_of-filter}
 use Rattle.repo_plan.proofs.MapChanges.{none_value}
@@ -88,3 +89,35 @@ module _ {K V : Type 0} {R : K → K → Ordering} (e : Exact R) where
             flipped : (b : Bool) (o : Option V) → cond b None o ≡ cond (not b) o None
             flipped true o = refl
             flipped false o = refl
+
+  -- ---- how many there are, and those that pass a test
+
+  length-added : (k : K) (v : V) (es : List (K × V)) → value_of R es k ≡ None → length (with_value R k v es) ≡ length es + 1
+  length-added k v [] none = refl
+  length-added k v (x ∷ xs) none = go (R k x.0) none (length-added k v xs) where
+    go : (o : Ordering) → cond (is_eq o) (Some x.1) (value_of R xs k) ≡ None → (value_of R xs k ≡ None → length (with_value R k v xs) ≡ length xs + 1)
+        → length (by_order o ((k, v) ∷ x ∷ xs) ((k, v) ∷ xs) (x ∷ with_value R k v xs)) ≡ length (x ∷ xs) + 1
+    go Less none rest = omega arith
+    go Equal none rest = absurd cc
+    go Greater none rest = omega (arith, rest none)
+
+  module _ (eq : K → K → Bool) (ties : (x y : K) → eq x y ≡ eq_by_cmp R x y) where
+    lookup_none : (k : K) (es : List (K × V)) → AllByRecursion (λ y. eq k y ≡ false) (keys_of es) → lookup (eq k) es ≡ None
+    lookup_none k [] all = refl
+    lookup_none k (x ∷ xs) all = ap (λ (b : Bool). cond b (Some x.1) (lookup (eq k) xs)) all.0 ∙ lookup_none k xs all.1
+
+    pub length-in_order : (es : List (K × V)) → IsDistinct eq (keys_of es) → length (in_order R es) ≡ length es
+    unfolding IsDistinct
+    length-in_order [] distinct = refl
+    length-in_order (x ∷ xs) distinct =
+        let none = value_in_order eq ties xs x.0 ∙ lookup_none x.0 xs distinct.0 in
+        omega (arith, length-added x.0 x.1 (in_order R xs) none, length-in_order xs distinct.1)
+
+  pub filter_in_order : (p : K → Bool) (es : List (K × V)) → in_order R (filter (λ x. p x.0) es) ≡ filter (λ x. p x.0) (in_order R es)
+  filter_in_order p es =
+      let left = filter (λ (x : K × V). p x.0) es in
+      same_maps (in_order R left) (filter (λ x. p x.0) (in_order R es)) (order_rises left) (rises_keys_filter e p (in_order R es) (order_rises es)) (λ q.
+      value_in_order (eq_by_cmp R) (λ x y. refl) left q
+      ∙ lookup-filter-keys (eq_by_cmp R q) p (p q) (λ k t. ap p (sym (eq_same e q k t))) es
+      ∙ ap (λ (o : Option V). cond (p q) o None) (sym (value_in_order (eq_by_cmp R) (λ x y. refl) es q))
+      ∙ sym (value_of-filter e p (in_order R es) q))

@@ -7,7 +7,7 @@ mod part;
 mod plan;
 mod runs;
 mod sorted_map;
-mod table;
+pub mod table;
 
 pub use laws::{
     calls_keep_plans_sound, claims_are_wanted_once, least_unclaimed_parts_are_claimed,

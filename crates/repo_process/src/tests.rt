@@ -103,6 +103,9 @@ fn published_processes_keep_no_blocks(rt: HostRuntime) -> Result<(), Fail> {
 fn a_block_is_taken_back(rt: HostRuntime) -> Result<(), Fail> {
     let mut processes = Processes::new(rt.alloc());
     processes.start(&object_name(rt.alloc())?, 5, 5)?;
+    assert!(rt; processes.completes(1, 5));
+    assert!(rt; !processes.completes(1, 6));
+    assert!(rt; !processes.completes(2, 5));
     processes.block(1, 5, b"a")?;
     processes.take_back(1, 5);
     assert_eq!(rt; processes.status(1), Some((0, false)));

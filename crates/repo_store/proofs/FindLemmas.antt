@@ -1,7 +1,7 @@
 -- The first packet that satisfies an Interest, by the tests of names and full names.
-use Rattle.std.proofs.Common.{◌≡◌, ◌≢◌, ℕ, Bool, true, false, cond, ◌⊎◌, inl, inr, ◌||◌, List, [], ◌∷◌, ◌++◌, map, length, drop, Option, Some, None, option_map, Result, Ok, Err, refl, sym, ap, subst, ◌∙◌}
+use Rattle.std.proofs.Common.{◌≡◌, ◌≢◌, ℕ, Bool, true, false, cond, ◌⊎◌, inl, inr, ◌||◌, List, [], ◌∷◌, ◌++◌, map, length, drop, Option, Some, None, option_map, refl, sym, ap, subst, ◌∙◌}
 use Rattle.std.specs.Prelude.{unwrap_or}
-use Rattle.std.specs.Bool.{Decides, nat_eq}
+use Rattle.std.specs.Bool.{nat_eq}
 use Rattle.std.specs.List.{find, starts_with}
 use Rattle.std.specs.Ordering.{is_eq, is_gt}
 use Rattle.std.specs.Cmp.{unsigned_Decides}
@@ -17,10 +17,9 @@ use Rattle.ndn_name.specs.CanonicalOrder.{IsPrefix}
 use Rattle.ndn_name.proofs.Encodings.{encoding-same}
 use Rattle.ndn_name.proofs.Prefixes.{prefix-octets, prefix-encoding}
 use Rattle.ndn_data.specs.FullName.{full_name}
-use Rattle.repo_plan.specs.declared.part.Part.{Part}
 use Rattle.repo_plan.specs.SortedList.{Rises}
 use Rattle.repo_plan.specs.Parts.{part_cmp}
-use Rattle.repo_plan.proofs.Orders.{exact_parts, equal_from_is_eq, less_back, greater_back}
+use Rattle.repo_plan.proofs.Orders.{exact_parts, equal_from_is_eq, greater_back}
 use Rattle.repo_plan.proofs.Sets.{In, each_before, in_map}
 use Rattle.repo_store.specs.declared.index.Held.{Held}
 use Rattle.repo_store.specs.declared.index.Order.TheVariants.{Names}

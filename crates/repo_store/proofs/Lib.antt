@@ -1,10 +1,11 @@
-pub mod Lookups
 pub mod Names
 pub mod IndexLemmas
 pub mod SearchLemmas
 pub mod WalkLemmas
 pub mod PlaceLemmas
+pub mod LayerLemmas
 pub mod NameLemmas
+pub mod SlotMaps
 pub mod StoreLemmas
 pub mod SlotLemmas
 pub mod FindLemmas

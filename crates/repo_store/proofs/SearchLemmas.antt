@@ -1,32 +1,26 @@
 -- What walks along an index find: the slot of a packet, a full name, and the least part below a name.
-use Rattle.std.proofs.Common.{◌≡◌, ◌≢◌, ℕ, zero, suc, ◌+◌, ◌-◌, ◌<◌, ◌≤◌, Bool, true, false, cond, ◌⊎◌, inl, inr, List, [], ◌∷◌, ◌++◌, length, length-append, get_or, take, drop, Option, Some, None, refl, sym, ap, subst, ◌∙◌, arith}
-use Rattle.std.specs.Bool.{Decides, nat_eq}
-use Rattle.std.specs.Ordering.{nat_cmp, ordering_then, is_eq, is_gt}
+use Rattle.std.proofs.Common.{◌≡◌, ◌≢◌, ℕ, zero, suc, ◌+◌, ◌<◌, ◌≤◌, Bool, true, false, ◌⊎◌, inl, inr, List, [], ◌∷◌, ◌++◌, length, length-append, get_or, take, drop, Option, Some, None, refl, sym, ap, subst, ◌∙◌, arith}
+use Rattle.std.specs.Bool.{Decides}
+use Rattle.std.specs.Ordering.{is_eq}
 use Rattle.std.specs.Cmp.{unsigned_Decides}
-use Rattle.std.specs.Cmp.Lexicographic.{slice_cmp, pointwise}
-use Rattle.std.specs.List.{starts_with}
-use Rattle.std.specs.declared.cmp.Ordering.{Ordering}
-use Rattle.std.specs.declared.cmp.Ordering.TheVariants.{Less, Equal, Greater}
 use Rattle.std.proofs.lemmas.Bool.{true≢false}
 use Rattle.std.proofs.lemmas.Bool.Decides.{same_from_decides}
-use Rattle.std.proofs.lemmas.Slice.Eq.{slice_eq-Decides, starts_is}
-use Rattle.std.proofs.lemmas.List.{drop-map, take_at}
+use Rattle.std.proofs.lemmas.Slice.Eq.{slice_eq-Decides}
+use Rattle.std.proofs.lemmas.List.{drop-map}
 use Rattle.slab.specs.Slab.{Slab, get}
 use Rattle.sha2.specs.Sha256.{sha256}
 use Rattle.sha2.proofs.Facts256.{length-sha256}
 use Rattle.ndn_tlv.specs.Spelling.{element}
-use Rattle.repo_plan.specs.declared.part.Part.{Part}
 use Rattle.repo_plan.specs.SortedList.{Rises}
-use Rattle.repo_plan.specs.Parts.{part_cmp}
-use Rattle.repo_plan.proofs.Orders.{exact_parts, equal_from_is_eq, less_back, greater_back, nat_same, nat_itself}
-use Rattle.repo_plan.proofs.Sets.{In, each_before, in_map}
+use Rattle.repo_plan.proofs.Orders.{equal_from_is_eq}
+use Rattle.repo_plan.proofs.Sets.{In}
 use Rattle.repo_store.specs.declared.index.Held.{Held}
 use Rattle.repo_store.specs.declared.index.Order.{Order}
-use Rattle.repo_store.specs.declared.index.Order.TheVariants.{Names, FullNames}
+use Rattle.repo_store.specs.declared.index.Order.TheVariants.{FullNames}
 use Rattle.repo_store.specs.Kept.{name_of}
-use Rattle.repo_store.specs.Indexes.{FullName, digest_in, names_cmp, key_cmp, key_of, key_in, keys_in, has_key, is_full_name, has_full_name, begins_with, lesser, first_part, IsFrom, IsBehind, IsFirstOf, IsLeastOf, IsSlotOf}
+use Rattle.repo_store.specs.Indexes.{FullName, digest_in, names_cmp, key_cmp, key_of, key_in, keys_in, has_key, is_full_name, has_full_name, IsFrom, IsFirstOf, IsSlotOf}
 use Rattle.repo_store.proofs.NameLemmas.{digest_element, append-same}
-use Rattle.repo_store.proofs.IndexLemmas.{exact_names, exact_keys, exact_octets, first_part_least, rises_drop, in_split, in_at, lacks_before, lack_behind}
+use Rattle.repo_store.proofs.IndexLemmas.{exact_names, rises_drop, in_split, in_at, lacks_before, lack_behind}
 
 -- ---- the slot of a packet
 

@@ -1,32 +1,27 @@
 -- What searches and edits make of what is held, and of the packets.
-use Rattle.std.proofs.Common.{◌≡◌, ◌≢◌, ℕ, zero, suc, ◌+◌, ◌-◌, ◌^◌, inl, inr, ◌<◌, ◌≤◌, Bool, true, false, cond, not, List, [], ◌∷◌, ◌++◌, map, length, length-append, length-take, length-drop, get_or, Option, Some, None, Result, Ok, Err, refl, sym, ap, subst, ◌∙◌, arith}
-use Rattle.std.specs.Prelude.{IsOk, is_ok, drop, take, unwrap_or}
-use Rattle.std.specs.List.{All, HoldsAt, filter, insert}
-use Rattle.std.specs.List.Sorted.{IsSearchInRange, IsBinarySearchResult}
+use Rattle.std.proofs.Common.{◌≡◌, ℕ, ◌+◌, ◌-◌, ◌^◌, inl, inr, ◌<◌, ◌≤◌, Bool, true, false, cond, not, List, [], ◌∷◌, map, length, Option, refl, sym, ap, subst, ◌∙◌, arith}
+use Rattle.std.specs.Prelude.{IsOk, unwrap_or}
+use Rattle.std.specs.List.{All, filter}
 use Rattle.std.specs.Ordering.{nat_cmp, ordering_then}
 use Rattle.std.specs.declared.cmp.Ordering.{Ordering}
 use Rattle.std.specs.declared.cmp.Ordering.TheVariants.{Less, Equal, Greater}
 use Rattle.std.proofs.lemmas.Bool.Decides.{nat_tests}
-use Rattle.std.proofs.lemmas.List.{get_or-map, map-append, take-map, drop-map, length-map}
-use Rattle.std.proofs.lemmas.List.Elements.{All-cons, All-head, All-tail, All-filter, filter_passes}
+use Rattle.std.proofs.lemmas.List.{length-map}
+use Rattle.std.proofs.lemmas.List.Elements.{All-nil, All-cons, All-head, All-tail, All-filter, filter_passes}
 use Rattle.std.proofs.lemmas.List.Filters.{length-filter_both}
 use Rattle.slab.specs.Slab.{Slab, get}
 use Rattle.repo_plan.specs.declared.part.Part.{Part}
-use Rattle.repo_plan.specs.SortedList.{by_order, keys, Rises, contains, value_of, with_value}
+use Rattle.repo_plan.specs.SortedList.{by_order, keys, Rises, with_value}
 use Rattle.repo_plan.specs.Parts.{Pair, part_cmp, pair_of}
 use Rattle.repo_plan.specs.Plan.{is_in}
 use Rattle.repo_plan.proofs.Orders.{exact_pairs, exact_parts, nat_itself, then_second}
-use Rattle.repo_plan.proofs.Search.{Found, at_key, at_gap, found, with_value_between}
-use Rattle.repo_store.proofs.Lookups.{contains_found, value_at, no_value_between}
 use Rattle.repo_plan.proofs.Sets.{In, eq_same, rises_with_value, rises_keys_filter}
 use Rattle.ndn_data.specs.Data.{data_of}
 use Rattle.repo_store.specs.declared.index.Held.{Held}
-use Rattle.repo_store.specs.StoreList.{with_packet, packets_in, packets_outside, IsSound}
+use Rattle.repo_store.specs.StoreList.{packets_in, packets_outside, IsSound}
 use Rattle.repo_store.specs.Kept.{octets_at, entries_of}
-use Rattle.repo_store.specs.Indexes.{LacksPart}
-use Rattle.repo_store.specs.Slots.{IsPlaceOf, held_outside}
+use Rattle.repo_store.specs.Slots.{held_outside}
 use Rattle.repo_store.specs.StoreFields.{ArePartsSmall}
-use Rattle.repo_store.proofs.IndexLemmas.{in_split, in_front, in_back}
 
 -- ---- what is held, with its packets
 
@@ -57,76 +52,10 @@ entries-filter p packets (h ∷ held) = go (entries-filter p packets held) (p h.
 pub entries-outside : (pair : Pair) (packets : Slab (List ℕ)) (held : List Held) → entries_of packets (held_outside pair held) ≡ packets_outside pair (entries_of packets held)
 entries-outside pair packets held = entries-filter (λ t. not (is_in pair t)) packets held
 
-entries-insert : (packets : Slab (List ℕ)) (held : List Held) (i : ℕ) (h : Held) → entries_of packets (insert held i h) ≡ insert (entries_of packets held) i (h.part, octets_at packets h.slot)
-entries-insert packets held i h =
-    let f : Held → Part × List ℕ = λ h. (h.part, octets_at packets h.slot) in
-    map-append f (take i held) (h ∷ drop i held) ∙ ap (λ (xs : List (Part × List ℕ)). xs ++ (f h ∷ map f (drop i held))) (sym (take-map f i held)) ∙ ap (λ (xs : List (Part × List ℕ)). take i (map f held) ++ (f h ∷ xs)) (sym (drop-map f i held))
-
--- ---- searches
-
--- a search by a key of what the elements stand for
-found_mapped : {X Y K : Type 0} {R : K → K → Ordering} (f : X → Y) (key : Y → K) (xs : List X) (k : K) (r : Result ℕ ℕ) → Found R (λ x. key (f x)) xs k r → Found R key (map f xs) k r
-found_mapped f key [] k (Ok i) (at_key j l h) = absurd (omega arith)
-found_mapped f key [] k (Err i) (at_gap j l below above) = at_gap j l (λ n d a b. absurd (omega arith)) (λ n d a b. absurd (omega arith))
-found_mapped {X} {Y} {K} {R} f key (x ∷ xs) k (Ok i) (at_key j l h) =
-    at_key j (omega (arith, length-map xs f)) (λ e. subst (λ (y : Y). R (key y) k ≡ Equal) (sym (get_or-map f (x ∷ xs) j x e l)) (h x))
-found_mapped {X} {Y} {K} {R} f key (x ∷ xs) k (Err i) (at_gap j l below above) =
-    at_gap j (omega (arith, length-map xs f))
-    (λ n e a b. subst (λ (y : Y). R (key y) k ≡ Less) (sym (get_or-map f (x ∷ xs) n x e (omega arith))) (below n x a b))
-    (λ n e a b. let within : n < length (x ∷ xs) = omega (arith, length-map xs f) in subst (λ (y : Y). R (key y) k ≡ Greater) (sym (get_or-map f (x ∷ xs) n x e within)) (above n x a within))
-
--- what a search for a part finds
-pub placed_part : (held : List Held) (part : Part) (r : Result ℕ ℕ) → Rises part_cmp (map (λ (h : Held). h.part) held) → IsSearchInRange r (length held) → IsBinarySearchResult (λ (h : Held). part_cmp h.part part) held r → IsPlaceOf held part r
-placed_part held part r rises bound position = go r (found exact_parts.total (λ (h : Held). h.part) held part r rises bound position) where
-  go : (r : Result ℕ ℕ) → Found part_cmp (λ (h : Held). h.part) held part r → IsPlaceOf held part r
-  go (Ok i) (at_key j l h) = (l, h)
-  go (Err i) (at_gap j l below above) = (l, below, above)
-
-found_part : (held : List Held) (part : Part) (r : Result ℕ ℕ) → IsPlaceOf held part r → Found part_cmp (λ (h : Held). h.part) held part r
-found_part held part (Ok i) place = at_key i place.0 place.1
-found_part held part (Err i) place = at_gap i place.0 place.1 place.2
-
-found_entry : (packets : Slab (List ℕ)) (held : List Held) (part : Part) (r : Result ℕ ℕ) → IsPlaceOf held part r → Found part_cmp (λ e. e.0) (entries_of packets held) part r
-found_entry packets held part r place = found_mapped (λ (h : Held). (h.part, octets_at packets h.slot)) (λ (e : Part × List ℕ). e.0) held part r (found_part held part r place)
-
--- whether a part is there
-pub part_there : (packets : Slab (List ℕ)) (held : List Held) (part : Part) (r : Result ℕ ℕ) → IsPlaceOf held part r → contains part_cmp (keys (entries_of packets held)) part ≡ is_ok r
-part_there packets held part r place =
-    sym (contains_found exact_parts.total (keys (entries_of packets held)) part r (found_mapped (λ (e : Part × List ℕ). e.0) (λ (t : Part). t) (entries_of packets held) part r (found_entry packets held part r place)))
-
--- nothing is held of a missing part
-pub missing_part : (held : List Held) (part : Part) (place : ℕ) → IsPlaceOf held part (Err place) → LacksPart part held
-missing_part held part place at h i same =
-    let tied = exact_parts.itself part in
-    elim (in_split place held h i) [
-      | inl a ↦ let less = ap (λ (t : Part). part_cmp t part) (sym same) ∙ in_front (λ (x : Held). part_cmp x.part part ≡ Less) held place at.0 at.1 h a in absurd cc
-      | inr b ↦ let more = ap (λ (t : Part). part_cmp t part) (sym same) ∙ in_back (λ (x : Held). part_cmp x.part part ≡ Greater) held place at.2 h b in absurd cc
-    ]
-
-pub value_there : (packets : Slab (List ℕ)) (held : List Held) (part : Part) (place : ℕ) (d : Held) → Rises part_cmp (keys (entries_of packets held)) → IsPlaceOf held part (Ok place) → value_of part_cmp (entries_of packets held) part ≡ Some (octets_at packets (get_or held place d).slot)
-value_there packets held part place d rises at =
-    let f : Held → Part × List ℕ = λ h. (h.part, octets_at packets h.slot) in
-    value_at exact_parts.total (entries_of packets held) part place rises (found_entry packets held part (Ok place) at) (f d)
-    ∙ ap (λ (x : Part × List ℕ). Some x.1) (get_or-map f held place d (f d) at.0)
-
-pub value_missing : (packets : Slab (List ℕ)) (held : List Held) (part : Part) (place : ℕ) → IsPlaceOf held part (Err place) → None ≡ value_of part_cmp (entries_of packets held) part
-value_missing packets held part place at = sym (no_value_between exact_parts.total (entries_of packets held) part place (found_entry packets held part (Err place) at))
-
--- what an insertion at a missing part's place makes of the packets
-pub put_there : (packets : Slab (List ℕ)) (held : List Held) (h : Held) (octets : List ℕ) (place : ℕ) → get packets h.slot ≡ Some octets → IsPlaceOf held h.part (Err place) → entries_of packets (insert held place h) ≡ with_value part_cmp h.part octets (entries_of packets held)
-put_there packets held h octets place there at =
-    entries-insert packets held place h
-    ∙ ap (λ (o : List ℕ). insert (entries_of packets held) place (h.part, o)) (ap (λ (v : Option (List ℕ)). unwrap_or v []) there)
-    ∙ sym (with_value_between exact_parts.total (entries_of packets held) h.part octets place (found_entry packets held h.part (Err place) at))
-
--- of a missing part a packet is put
-pub with_missing : (packets : Slab (List ℕ)) (held : List Held) (part : Part) (octets : List ℕ) (place : ℕ) → IsPlaceOf held part (Err place) → with_value part_cmp part octets (entries_of packets held) ≡ with_packet part octets (entries_of packets held)
-with_missing packets held part octets place at =
-    sym (ap (λ (b : Bool). cond b (entries_of packets held) (with_value part_cmp part octets (entries_of packets held))) (part_there packets held part (Err place) at))
-
-pub with_there : (packets : Slab (List ℕ)) (held : List Held) (part : Part) (octets : List ℕ) (place : ℕ) → IsPlaceOf held part (Ok place) → entries_of packets held ≡ with_packet part octets (entries_of packets held)
-with_there packets held part octets place at =
-    sym (ap (λ (b : Bool). cond b (entries_of packets held) (with_value part_cmp part octets (entries_of packets held))) (part_there packets held part (Ok place) at))
+pub small_held : (packets : Slab (List ℕ)) (held : List Held) → ArePartsSmall (entries_of packets held) → All (λ (h : Held). h.part.part < 2 ^ 8) held
+small_held packets [] small = All-nil (λ (h : Held). h.part.part < 2 ^ 8)
+small_held packets (h ∷ held) small =
+    All-cons (λ (h : Held). h.part.part < 2 ^ 8) h held (All-head (λ e. e.0.part < 2 ^ 8) (h.part, octets_at packets h.slot) (entries_of packets held) small) (small_held packets held (All-tail (λ e. e.0.part < 2 ^ 8) (h.part, octets_at packets h.slot) (entries_of packets held) small))
 
 -- ---- a packet more
 

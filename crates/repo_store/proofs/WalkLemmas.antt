@@ -1,5 +1,5 @@
 -- What a walk along the names below a front finds.
-use Rattle.std.proofs.Common.{◌≡◌, ◌≢◌, ℕ, zero, suc, ◌+◌, ◌-◌, ◌<◌, ◌≤◌, Bool, true, false, cond, ◌⊎◌, inl, inr, List, [], ◌∷◌, ◌++◌, map, length, length-drop, get_or, take, drop, Option, Some, None, refl, sym, ap, subst, ◌∙◌, arith}
+use Rattle.std.proofs.Common.{◌≡◌, ◌≢◌, ℕ, ◌<◌, ◌≤◌, Bool, true, false, cond, ◌⊎◌, inl, inr, List, [], ◌∷◌, ◌++◌, length, length-drop, get_or, drop, Option, Some, None, refl, sym, ap, subst, ◌∙◌, arith}
 use Rattle.std.specs.Prelude.{IfSome, slice_get}
 use Rattle.std.specs.Bool.{nat_eq}
 use Rattle.std.specs.Ordering.{nat_cmp, ordering_then, is_gt}
@@ -19,7 +19,7 @@ use Rattle.repo_plan.proofs.Orders.{exact_parts, less_back, greater_back, nat_sa
 use Rattle.repo_plan.proofs.Sets.{In, each_before, in_map}
 use Rattle.repo_store.specs.declared.index.Held.{Held}
 use Rattle.repo_store.specs.declared.index.Order.TheVariants.{Names}
-use Rattle.repo_store.specs.Indexes.{FullName, key_cmp, key_of, key_in, keys_in, begins_with, lesser, first_part, IsFrom, IsBehind, IsFirstOf, IsLeastOf}
+use Rattle.repo_store.specs.Indexes.{key_cmp, key_of, key_in, keys_in, begins_with, lesser, first_part, IsFrom, IsBehind, IsFirstOf}
 use Rattle.repo_store.proofs.IndexLemmas.{exact_keys, exact_octets, first_part_least, rises_drop, in_split, in_drop, in_front, pairs_rise}
 
 -- ---- octets in order

@@ -1,6 +1,6 @@
 -- Indexes of packets: what is held, in order of names or full names and then of parts.
 use Rattle.std.specs.Prelude.{◌≡◌, ◌≢◌, ℕ, ◌<◌, ◌≤◌, Bool, true, false, List, [], ◌++◌, ◌⊎◌, map, take, drop, length, Option, Some, None, if◌then◌else◌}
-use Rattle.std.specs.List.{All, starts_with}
+use Rattle.std.specs.List.{starts_with}
 use Rattle.std.specs.Bool.{nat_eq}
 use Rattle.std.specs.Ordering.{nat_cmp, ordering_then, eq_by_cmp, is_gt}
 use Rattle.std.specs.Cmp.Lexicographic.{slice_cmp, pointwise}
@@ -64,12 +64,6 @@ IsInOrder i = Rises key_cmp (keys_of i)
 -- What is searched for.
 abbrev pub as_full_name : Key → FullName
 as_full_name key = (key.name.now, key.digest.now)
-
--- An index of what is held: the same, in order.
-pub record IsIndexOf (order : Order) (packets : Slab (List ℕ)) (held index : List Held) : Type 0 where
-  pub in_order : Rises key_cmp (keys_in order packets index)
-  pub held_only : (h : Held) → In h index → In h held
-  pub all_held : (h : Held) → In h held → In h index
 
 -- ---- searches
 

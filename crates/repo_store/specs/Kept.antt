@@ -1,10 +1,12 @@
 -- How packets are kept, each different one once, in slots.
-use Rattle.std.specs.Prelude.{◌≡◌, ℕ, List, [], map, unwrap_or, Result, Ok, Err}
+use Rattle.std.specs.Prelude.{ℕ, List, [], map, unwrap_or, Result, Ok, Err}
 use Rattle.slab.specs.Slab.{Slab, get}
 use Rattle.ndn_name.specs.declared.fault.PacketFault.{PacketFault}
 use Rattle.ndn_name.specs.Names.{encoding}
 use Rattle.ndn_data.specs.Data.{Data, data_of}
 use Rattle.repo_plan.specs.declared.part.Part.{Part}
+use Rattle.repo_plan.specs.SortedList.{in_order}
+use Rattle.repo_plan.specs.Parts.{part_cmp}
 use Rattle.repo_store.specs.declared.index.Held.{Held}
 
 -- The value of the name of what was read as Data.
@@ -19,6 +21,14 @@ name_of octets = name_octets (data_of octets)
 -- The octets in a slot.
 abbrev pub octets_at : Slab (List ℕ) → ℕ → List ℕ
 octets_at packets slot = unwrap_or (get packets slot) []
+
+-- What is held, by the slots of parts.
+abbrev pub held_list : List (Part × ℕ) → List Held
+held_list slots = map (λ e. record { part = e.0; slot = e.1 }) slots
+
+-- The same, in order of the parts, where the slots come in any.
+abbrev pub held_of : List (Part × ℕ) → List Held
+held_of slots = held_list (in_order part_cmp slots)
 
 -- The parts that are held, each with its packet.
 abbrev pub entries_of : Slab (List ℕ) → List Held → List (Part × List ℕ)

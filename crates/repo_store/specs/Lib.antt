@@ -9,5 +9,6 @@ pub mod Answers
 pub mod Places
 pub mod Kept
 pub mod Indexes
+pub mod Layers
 pub mod Slots
 pub mod StoreFields

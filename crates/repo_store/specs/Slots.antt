@@ -1,10 +1,8 @@
 -- Which slots packets are kept in.
-use Rattle.std.specs.Prelude.{◌≡◌, ◌≢◌, ℕ, ◌+◌, ◌<◌, ◌≤◌, Bool, true, false, not, ◌⊎◌, List, length, map, Option, Some, None, Result, Ok, Err}
-use Rattle.std.specs.List.{HoldsAt, AllWithin, filter}
-use Rattle.std.specs.declared.cmp.Ordering.TheVariants.{Less, Equal, Greater}
+use Rattle.std.specs.Prelude.{◌≡◌, ◌≢◌, ℕ, Bool, true, false, not, ◌⊎◌, List, Some}
+use Rattle.std.specs.List.{filter}
 use Rattle.slab.specs.Slab.{Slab, get, ContainsKey}
-use Rattle.repo_plan.specs.declared.part.Part.{Part}
-use Rattle.repo_plan.specs.Parts.{Pair, part_cmp}
+use Rattle.repo_plan.specs.Parts.{Pair}
 use Rattle.repo_plan.specs.Plan.{is_in}
 use Rattle.repo_plan.proofs.Sets.{In}
 use Rattle.repo_store.specs.declared.index.Held.{Held}
@@ -23,14 +21,6 @@ pub record AreSlots (packets : Slab (List ℕ)) (held : List Held) : Type 0 wher
   pub used : (slot : ℕ) → ContainsKey packets slot → IsHeldIn held slot
   pub different : (a b : ℕ) → ContainsKey packets a → ContainsKey packets b
       → get packets a ≡ get packets b → a ≡ b
-
--- A search for a part ends at its place, or between those before it and those behind it.
-abbrev pub IsPlaceOf : List Held → Part → Result ℕ ℕ → Type 0
-IsPlaceOf held part (Ok place) =
-    (place < length held) × HoldsAt (λ h. part_cmp h.part part ≡ Equal) held place
-IsPlaceOf held part (Err place) =
-    (place ≤ length held) × AllWithin (λ h. part_cmp h.part part ≡ Less) held 0 place
-    × AllWithin (λ h. part_cmp h.part part ≡ Greater) held place (length held)
 
 -- Octets are kept in this slot; they were there, or what is held had none of the same octets.
 pub record KeepsOne (held : List Held) (octets : List ℕ) (old new : Slab (List ℕ)) (slot : ℕ) : Type 0 where

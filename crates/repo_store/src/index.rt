@@ -112,8 +112,16 @@ impl Index<'_> {
             .partition_point(|held| self.cmp(held, key, part).is_lt())
     }
 
+    // By what the index is in order of.
+    pub(crate) fn cmp_held(&self, held: &Held, other: &Held) -> Ordering
+        ensures { result ≡ key_cmp (key_in self.now.order self.now.packets.now held.now)
+            (key_in self.now.order self.now.packets.now other.now) }
+    {
+        self.cmp(held, &self.key(other), other.part)
+    }
+
     // How much of what is held comes before this.
-    fn place_of(&self, held: &Held) -> usize
+    pub(crate) fn place_of(&self, held: &Held) -> usize
         requires { IsInOrder self.now }
         ensures { IsPlace (keys_of self.now)
             (key_in self.now.order self.now.packets.now held.now) result }
@@ -250,8 +258,8 @@ pub(crate) fn lesser(a: Option<Held>, b: Option<Held>) -> Option<Held>
     }
 }
 
-// An index gains what is held too, in its place.
-pub(crate) fn add(index: &mut Vec<Held>, order: Order, packets: &Packets, held: Held)
+// What is in order of an index gains one more, in its place.
+pub(crate) fn insert(index: &mut Vec<Held>, order: Order, packets: &Packets, held: Held)
     requires in_order { Rises key_cmp (keys_in order packets.now index.old.items) }
     requires fresh { LacksPart held.part index.old.items }
     requires room { vec_len index.old < vec_capacity index.old }

@@ -4,6 +4,7 @@
 
 mod index;
 mod laws;
+mod layers;
 mod packet;
 mod store;
 

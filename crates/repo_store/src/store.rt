@@ -1,37 +1,42 @@
-ghost use Rattle.std.specs.Prelude.{◌≡◌, ◌↔◌, ℕ, ◌+◌, ◌-◌, ◌<◌, ◌≤◌, [], length, max, not, map, option_map, Ok, Err, IsOk, IfOk, OnOk, OnErr, MatchResult, vec_len, vec_capacity};
-ghost use Rattle.std.specs.List.{find};
+ghost use Rattle.std.specs.Prelude.{◌≡◌, ◌↔◌, ℕ, ◌+◌, ◌-◌, ◌<◌, ◌≤◌, ◌^◌, [], length, max, not, option_map, Ok, Err, IsOk, IfOk, OnOk, OnErr, MatchResult};
+ghost use Rattle.std.specs.List.{All};
+ghost use Rattle.std.specs.HashMap.{spare};
 ghost use Rattle.slab.specs.Slab.{get, ContainsKey, HasRoomFor};
 ghost use Rattle.sha2.specs.Sha256.{sha256};
 ghost use Rattle.ndn_data.specs.Data.{data_of};
-ghost use Rattle.repo_plan.specs.SortedList.{Rises, keys, contains, value_of};
+ghost use Rattle.repo_plan.specs.SortedList.{keys, contains, value_of};
 ghost use Rattle.repo_plan.specs.Parts.{part_cmp};
 ghost use Rattle.repo_plan.proofs.Sets.{In};
 ghost use Rattle.repo_store.specs.declared.index.Held as declared_held;
 ghost use Rattle.repo_store.specs.declared.index.Order.TheVariants.{Names, FullNames};
 ghost use Rattle.repo_store.specs.StoreList.{with_packet, packets_in, packets_outside, different_octets, IsSound};
-ghost use Rattle.repo_store.specs.Indexes.{key_cmp, keys_in, satisfies_held, IsData, IsFirstOf, IsIndexOf};
-ghost use Rattle.repo_store.specs.Slots.{AreSlots, IsPlaceOf, KeepsOne, IsUsed, held_outside};
+ghost use Rattle.repo_store.specs.Indexes.{satisfies_held, IsData, IsFirstOf};
+ghost use Rattle.repo_store.specs.Layers.{all_of, AreInOrder, IsIndexOf};
+ghost use Rattle.repo_store.specs.Slots.{AreSlots, KeepsOne, IsUsed, held_outside};
+ghost use Rattle.repo_store.specs.Kept.{held_of};
 ghost use Rattle.repo_store.specs.Served.{served};
 
-use crate::index::{self, Held, Index, Order};
+use crate::index::{Held, Order, lesser};
+use crate::layers::Layers;
 use crate::packet::{Packet, Packets, octets_at};
 use ndn_interest::InterestView;
 use ndn_name::{NameView, PacketFault};
 use ndn_sign::digest;
-use repo_plan::Part;
+use repo_plan::{Part, table};
 use slab::Slab;
 use std::alloc::{AllocError, Global};
+use std::collections::HashMap;
 use std::marker::Model;
 
 /// The packets of parts, each part once, and room for more. Packets of the same octets are kept once.
 #[derive(Drop)]
 pub struct Store {
     packets: Packets,
-    // In order of the parts.
-    parts: Vec<Held>,
+    // By part, the slot of its packet.
+    slots: HashMap<Part, usize>,
     // The same in order of the packets' names and of their full names.
-    names: Vec<Held>,
-    full_names: Vec<Held>,
+    names: Layers,
+    full_names: Layers,
     spare: usize,
 }
 
@@ -42,10 +47,10 @@ impl Model for Store {
 
     ghost Value = { StoreList };
 
-    ghost use Rattle.repo_store.specs.Kept.{entries_of};
+    ghost use Rattle.repo_store.specs.Kept.{entries_of, held_of};
     ghost use Rattle.repo_store.specs.StoreFields.{IsStored};
 
-    ghost view = { λ s. record { packets = entries_of s.packets s.parts.items; spare = s.spare } };
+    ghost view = { λ s. record { packets = entries_of s.packets (held_of s.slots.entries); spare = s.spare } };
 
     ghost invariant = { IsStored };
 }
@@ -56,9 +61,9 @@ impl Store {
     {
         Store {
             packets: Slab::new(alloc),
-            parts: Vec::new(alloc),
-            names: Vec::new(alloc),
-            full_names: Vec::new(alloc),
+            slots: HashMap::new(alloc),
+            names: Layers::new(alloc),
+            full_names: Layers::new(alloc),
             spare: 0,
         }
     }
@@ -70,7 +75,7 @@ impl Store {
         ensures number { result ≡ length self.now.packets }
         ensures sound { IsSound self.now.packets }
     {
-        self.parts.len()
+        table::len(&self.slots)
     }
 
     /// How many different packets there are: those of the same octets count once.
@@ -86,10 +91,8 @@ impl Store {
             ≡ value_of part_cmp self.now.packets part }
         ensures sound { IsSound self.now.packets }
     {
-        match place_of(&self.parts, part) {
-            Ok(place) => Some(octets_at(&self.packets, self.parts[place].slot)),
-            Err(_) => None,
-        }
+        let slot = table::value_of(&self.slots, part)?;
+        Some(octets_at(&self.packets, slot))
     }
 
     /// Puts a packet that reads as Data under its part. What is spare stays so.
@@ -104,10 +107,10 @@ impl Store {
         }) }
         ensures err { OnErr result (self.new ≡ self.old) }
     {
-        if place_of(&self.parts, part).is_ok() {
+        if table::value_of(&self.slots, part).is_some() {
             return Ok(false);
         }
-        let octets = octets.to_vec(*self.parts.allocator())?;
+        let octets = octets.to_vec(self.names.allocator())?;
         let Some(room) = self.spare.checked_add(1) else {
             return Err(AllocError);
         };
@@ -122,7 +125,7 @@ impl Store {
     {
         if self.spare < n {
             self.packets.reserve(n)?;
-            self.parts.reserve(n)?;
+            table::reserve(&mut self.slots, n)?;
             self.names.reserve(n)?;
             self.full_names.reserve(n)?;
             self.spare = n;
@@ -164,15 +167,15 @@ impl Store {
         } }
     {
         self.spare -= 1;
-        let Err(place) = place_of(&self.parts, part) else {
+        if table::value_of(&self.slots, part).is_some() {
             return false;
-        };
+        }
         let packet = Packet::of_data(octets, digest);
         let slot = keep(&mut self.packets, &self.full_names, packet);
         let held = Held { part, slot };
-        index::add(&mut self.names, Order::Names, &self.packets, held);
-        index::add(&mut self.full_names, Order::FullNames, &self.packets, held);
-        self.parts.insert(place, held).unwrap();
+        self.names.add(Order::Names, &self.packets, held);
+        self.full_names.add(Order::FullNames, &self.packets, held);
+        table::set_value(&mut self.slots, part, slot);
         true
     }
 
@@ -211,114 +214,96 @@ impl Store {
         } }
     {
         let pair = (publisher, seq);
-        drop_pair(&mut self.names, pair);
-        drop_pair(&mut self.full_names, pair);
-        drop_unused(&mut self.packets, &self.parts, &self.full_names, pair);
-        drop_pair(&mut self.parts, pair) as u32
+        self.names.drop_pair(pair);
+        self.full_names.drop_pair(pair);
+        drop_unused(&mut self.packets, &self.slots, &self.full_names, pair);
+        drop_slots(&mut self.slots, pair) as u32
     }
-}
-
-// The place of a part, or else the place where it would stand.
-fn place_of(parts: &[Held], part: Part) -> Result<usize, usize>
-    requires { Rises part_cmp (map (λ h. h.part) parts.now) }
-    ensures { IsPlaceOf parts.now part result }
-{
-    parts.binary_search_by_key(&part, |held| held.part)
 }
 
 // What is held of the least part whose packet satisfies an Interest of this name.
 fn first_for(
     packets: &Packets,
-    names: &[Held],
-    full_names: &[Held],
+    names: &Layers,
+    full_names: &Layers,
     name: &NameView<'_>,
     can_be_prefix: bool,
 ) -> Option<Held>
-    requires names { Rises key_cmp (keys_in Names packets.now names.now) }
-    requires full_names { Rises key_cmp (keys_in FullNames packets.now full_names.now) }
-    requires same { (h : declared_held.Held) → In h names.now ↔ In h full_names.now }
-    requires are_data { (h : declared_held.Held) → In h names.now → IsData (get packets.now h.slot) }
-    ensures { IsFirstOf names.now (satisfies_held packets.now name.now can_be_prefix) result }
+    requires names { AreInOrder Names packets.now names.now }
+    requires full_names { AreInOrder FullNames packets.now full_names.now }
+    requires same { (h : declared_held.Held) → In h (all_of names.now) ↔ In h (all_of full_names.now) }
+    requires are_data { (h : declared_held.Held) → In h (all_of names.now) → IsData (get packets.now h.slot) }
+    ensures { IsFirstOf (all_of names.now) (satisfies_held packets.now name.now can_be_prefix) result }
 {
     let asked = name.octets();
-    let names = Index {
-        order: Order::Names,
-        held: names,
-        packets,
-    };
-    let full_names = Index {
-        order: Order::FullNames,
-        held: full_names,
-        packets,
-    };
     let named = if can_be_prefix {
-        names.first_below(asked)
+        names.first_below(packets, asked)
     } else {
-        names.first_named(asked)
+        names.first_named(packets, asked)
     };
-    index::lesser(named, full_names.first_with_full_name(asked))
+    lesser(named, full_names.first_with_full_name(packets, asked))
 }
 
 // The slot of a packet, which is put into one where none has its octets.
-fn keep(packets: &mut Packets, full_names: &[Held], packet: Packet) -> usize
-    requires in_order { Rises key_cmp (keys_in FullNames packets.old full_names.now) }
-    requires kept { (h : declared_held.Held) → In h full_names.now → ContainsKey packets.old h.slot }
+fn keep(packets: &mut Packets, full_names: &Layers, packet: Packet) -> usize
+    requires in_order { AreInOrder FullNames packets.old full_names.now }
+    requires kept { (h : declared_held.Held) → In h (all_of full_names.now) → ContainsKey packets.old h.slot }
     requires room { HasRoomFor packets.old 1 }
-    ensures kept { KeepsOne full_names.now packet packets.old packets.new result }
+    ensures kept { KeepsOne (all_of full_names.now) packet packets.old packets.new result }
     ensures room { (n : ℕ) → HasRoomFor packets.old (n + 1) → HasRoomFor packets.new n }
 {
-    let index = Index {
-        order: Order::FullNames,
-        held: full_names,
-        packets,
-    };
-    match index.slot_of(&packet) {
+    match full_names.slot_of(packets, &packet) {
         Some(slot) => slot,
         None => packets.insert_reserved(packet),
     }
 }
 
 // Whether what an index holds has the packet in this slot.
-fn is_used(packets: &Packets, full_names: &[Held], slot: usize) -> bool
-    requires { Rises key_cmp (keys_in FullNames packets.now full_names.now) }
-    ensures { IsUsed packets.now full_names.now slot result }
+fn is_used(packets: &Packets, full_names: &Layers, slot: usize) -> bool
+    requires { AreInOrder FullNames packets.now full_names.now }
+    ensures { IsUsed packets.now (all_of full_names.now) slot result }
 {
     let Some(packet) = packets.get(slot) else {
         return false;
     };
-    let index = Index {
-        order: Order::FullNames,
-        held: full_names,
-        packets,
-    };
-    index.slot_of(packet).is_some()
+    full_names.slot_of(packets, packet).is_some()
 }
 
 // Drops the packets of a publication's parts that no other part uses.
-fn drop_unused(packets: &mut Packets, parts: &[Held], full_names: &[Held], pair: (u32, u16))
-    requires slots { AreSlots packets.old parts.now }
-    requires index { IsIndexOf FullNames packets.old (held_outside pair parts.now) full_names.now }
-    ensures slots { AreSlots packets.new (held_outside pair parts.now) }
-    ensures same { (h : declared_held.Held) → In h (held_outside pair parts.now) → get packets.new h.slot ≡ get packets.old h.slot }
+fn drop_unused(
+    packets: &mut Packets,
+    slots: &HashMap<Part, usize>,
+    full_names: &Layers,
+    pair: (u32, u16),
+)
+    requires slots { AreSlots packets.old (held_of slots.now.entries) }
+    requires small { All (λ h. h.part.part < 2 ^ 8) (held_of slots.now.entries) }
+    requires index { IsIndexOf FullNames packets.old (held_outside pair (held_of slots.now.entries)) full_names.now }
+    ensures slots { AreSlots packets.new (held_outside pair (held_of slots.now.entries)) }
+    ensures same { (h : declared_held.Held) → In h (held_outside pair (held_of slots.now.entries)) → get packets.new h.slot ≡ get packets.old h.slot }
     ensures room { (n : ℕ) → HasRoomFor packets.old n → HasRoomFor packets.new n }
 {
-    for held in parts {
-        if (held.part.publisher, held.part.seq) == pair
-            && !is_used(packets, full_names, held.slot)
-        {
-            let _ = packets.try_remove(held.slot);
+    for x in 0..256_u16 {
+        let part = Part {
+            publisher: pair.0,
+            seq: pair.1,
+            part: x as u8,
+        };
+        if let Some(slot) = table::value_of(slots, part) {
+            if !is_used(packets, full_names, slot) {
+                let _ = packets.try_remove(slot);
+            }
         }
     }
 }
 
 // Drops a publication's parts, and gives their number.
-fn drop_pair(held: &mut Vec<Held>, pair: (u32, u16)) -> usize
-    ensures number { result + length held.new.items ≡ length held.old.items }
-    ensures dropped { held.new.items ≡ held_outside pair held.old.items }
-    ensures len { vec_len held.new ≤ vec_len held.old }
-    ensures capacity { vec_capacity held.new ≡ vec_capacity held.old }
+fn drop_slots(slots: &mut HashMap<Part, usize>, pair: (u32, u16)) -> usize
+    ensures number { result + length (held_of slots.new.entries) ≡ length (held_of slots.old.entries) }
+    ensures dropped { held_of slots.new.entries ≡ held_outside pair (held_of slots.old.entries) }
+    ensures room { spare slots.old ≤ spare slots.new }
 {
-    let before = held.len();
-    held.retain(|held| (held.part.publisher, held.part.seq) != pair);
-    before - held.len()
+    let before = table::len(slots);
+    slots.retain(|part, _| (part.publisher, part.seq) != pair);
+    before - table::len(slots)
 }

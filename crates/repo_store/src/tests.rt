@@ -1,8 +1,8 @@
 mod worked;
 
 use super::*;
-use ndn_data::DataView;
-use ndn_name::{Field, PacketFault};
+use ndn_data::{DataView, write_signed};
+use ndn_name::{Field, Name, PacketFault};
 use repo_plan::Part;
 use std::alloc::Global;
 use std::test::*;
@@ -83,6 +83,49 @@ fn equal_packets_are_kept_once(rt: HostRuntime) -> Result<(), Fail> {
     assert_eq!(rt; store.drop_parts(0, 1), 2);
     assert_eq!(rt; (store.len(), store.kept()), (2, 2));
     assert_eq!(rt; store.serve(&FULL_ASKED)?, Some(SEGMENT.as_slice()));
+    Ok(())
+}
+
+// A packet whose name is this number.
+fn numbered(alloc: Global, name: &Name) -> Result<Vec<u8>, Fail> {
+    Ok(write_signed(alloc, name, None, b"content", name, b"key")?)
+}
+
+fn named(alloc: Global, i: u16) -> Result<Name, Fail> {
+    let mut name = Name::new(alloc);
+    name.push(8, &i.to_be_bytes())?;
+    Ok(name)
+}
+
+// More than may be recent, in falling order of the names.
+fn put_falling(alloc: Global, store: &mut Store) -> Result<(), Fail> {
+    for i in 0..1_100_u16 {
+        let number = 1_100 - i;
+        let octets = numbered(alloc, &named(alloc, number)?)?;
+        put(store, part(0, number, 0), &octets)?;
+    }
+    Ok(())
+}
+
+#[test]
+fn packets_in_falling_order_are_found(rt: HostRuntime) -> Result<(), Fail> {
+    let alloc = rt.alloc();
+    let mut store = Store::new(alloc);
+    put_falling(alloc, &mut store)?;
+    assert_eq!(rt; (store.len(), store.drop_parts(0, 76)), (1_100, 1));
+    for i in [1_u16, 74, 75, 76, 77, 600, 1_100] {
+        let name = named(alloc, i)?;
+        let octets = numbered(alloc, &name)?;
+        let kept = if i == 76 {
+            None
+        } else {
+            Some(octets.as_slice())
+        };
+        assert_eq!(rt; store.get(part(0, i, 0)), kept);
+        let mut interest = vec![in alloc; 0x05, 0x06, 0x07, 0x04]?;
+        interest.extend_from_slice(name.octets())?;
+        assert_eq!(rt; store.serve(&interest)?, kept);
+    }
     Ok(())
 }
 

@@ -6,4 +6,5 @@ pub mod Stories
 pub mod Fronts
 pub mod Inspections
 pub mod Runs
+pub mod Scripts
 pub mod CutLaws

@@ -1,5 +1,6 @@
 -- Outputs that gain texts one after another.
-use Rattle.std.proofs.Common.{◌≡◌, ℕ, ◌+◌, ◌-◌, List, [], ◌++◌, length, take, drop, Option, Some, None, ◌≤◌, refl, sym, ap, ◌∙◌, append_assoc, arith}
+use Rattle.std.proofs.Common.{◌≡◌, ℕ, ◌+◌, ◌-◌, List, [], ◌++◌, length, take, drop, Option, ◌≤◌, refl, sym, ap, subst, ◌∙◌, append_assoc, arith}
+use Rattle.std.proofs.KnownBytes.{Appends-nil, Appends-trans}
 use Rattle.std.proofs.lemmas.List.{append-nil, take_all, length-drop, drop-drop, take-append-drop}
 use Rattle.std.proofs.lemmas.Grind.{common_steps}
 use Rattle.std.proofs.Math.Seq.{take-add}
@@ -12,8 +13,23 @@ pub front_whole : (a b : Option (List ℕ)) (text : List ℕ) → Gains a b text
 front_whole a b text p = front_so_far a b text [] text (sym (append-nil text)) p
 
 pub nothing_gained : (a : Option (List ℕ)) → Gains a a []
-nothing_gained None = refl
-nothing_gained (Some o) = ap (λ (t : List ℕ). Some t) (sym (append-nil o))
+nothing_gained a = Appends-nil a
+
+pub front_taken : (a b : Option (List ℕ)) (n : ℕ) (text : List ℕ) → Gains a b (take n text) → GainsFront a b text
+front_taken a b n text p = front_so_far a b (take n text) (drop n text) text (sym (take-append-drop n text)) p
+
+-- a front of a text is one of the text with more behind it
+pub front_longer : (a b : Option (List ℕ)) (text more : List ℕ) → GainsFront a b text → GainsFront a b (text ++ more)
+front_longer a b text more f =
+    front_so_far a b f.written (f.rest ++ more) (text ++ more)
+    (ap (λ (t : List ℕ). t ++ more) f.parts ∙ append_assoc f.written f.rest more) f.gained
+
+-- a text was gained, and then a front of another
+pub front_behind : (a b d : Option (List ℕ)) (text more : List ℕ) → Gains a b text → GainsFront b d more → GainsFront a d (text ++ more)
+front_behind a b d text more p f =
+    front_so_far a d (text ++ f.written) f.rest (text ++ more)
+    (ap (λ (t : List ℕ). text ++ t) f.parts ∙ sym (append_assoc text f.written f.rest))
+    (Appends-trans a b d text f.written p f.gained)
 
 pub front_none : (a : Option (List ℕ)) (text : List ℕ) → GainsFront a a text
 front_none a text = front_so_far a a [] text text refl (nothing_gained a)
@@ -24,9 +40,10 @@ piece_is text at = take_all (length text - at) (drop at text) (omega (arith, len
 
 -- a front was gained, and then a front of what follows it
 pub more_gained : (a b d : Option (List ℕ)) (text : List ℕ) (at n : ℕ) → Gains a b (take at text) → Gains b d (take n (take (length text - at) (drop at text))) → Gains a d (take (at + n) text)
-more_gained None b d text at n p q = q ∙ rw p refl
-more_gained (Some o) b d text at n p q =
-    q ∙ rw (p, piece_is text at) (ap (λ (t : List ℕ). Some t) (append_assoc o (take at text) (take n (drop at text)) ∙ ap (λ (t : List ℕ). o ++ t) (sym (take-add at n text))))
+more_gained a b d text at n p q =
+    let joined : take at text ++ take n (take (length text - at) (drop at text)) ≡ take (at + n) text =
+    rw (piece_is text at) (sym (take-add at n text)) in
+    subst (Gains a d) joined (Appends-trans a b d (take at text) (take n (take (length text - at) (drop at text))) p q)
 
 -- what was copied to the front of a buffer is what is no longer left
 pub front_left : (octets copied more : List ℕ) (at n : ℕ) → n ≤ length (take (length octets - at) (drop at octets)) → copied ≡ take n (take (length octets - at) (drop at octets)) → drop at octets ≡ take n (copied ++ more) ++ drop (at + n) octets

@@ -1,5 +1,5 @@
 -- What was read decides the story of the whole input.
-use Rattle.std.proofs.Common.{◌≡◌, ◌≢◌, ℕ, ◌+◌, ◌<◌, ◌≤◌, List, [], ◌++◌, length, Option, Some, None, ◌⊎◌, inl, inr, refl, sym, ap, subst, arith, IfSome}
+use Rattle.std.proofs.Common.{◌≡◌, ◌≢◌, ℕ, ◌+◌, ◌<◌, ◌≤◌, List, [], ◌++◌, length, Option, Some, None, ◌⊎◌, inl, inr, refl, sym, ap, subst, arith, IfSome, ◌∙◌}
 use Rattle.std.proofs.lemmas.List.{append-nil}
 use Rattle.std.proofs.lemmas.Bool.Decides.{leb_tells}
 use Rattle.repo_top.specs.declared.ending.Ending.{Ending}
@@ -7,7 +7,7 @@ use Rattle.repo_top.specs.declared.ending.Ending.TheVariants as ending
 use Rattle.repo_top.specs.declared.status.Status.{Status}
 use Rattle.repo_top.specs.declared.status.Status.TheVariants.{Done, NoMemory, WriteFault}
 use Rattle.repo_top.specs.Answers.{IsTold, status_of}
-use Rattle.repo_top.specs.Outside.{with_left}
+use Rattle.std.specs.Io.KnownBytes.{IsAtEnd, Keeps, prepend_known}
 use Rattle.repo_top.specs.declared.form.Form.{Form}
 use Rattle.repo_top.specs.declared.form.Form.TheVariants.{Run, Inspect}
 use Rattle.repo_top.specs.Forms.{form_story, known_story, most_octets}
@@ -17,7 +17,7 @@ use Rattle.repo_top.proofs.Inspections.{same_inspection, inspection_takes_whole}
 
 -- nothing is left behind so few octets
 abbrev pub IsWhole : Form → List ℕ → Option (List ℕ) → Type 0
-IsWhole form read left = length read < most_octets form + 1 → IfSome left (λ rest. rest ≡ [])
+IsWhole form read left = length read < most_octets form + 1 → IsAtEnd left
 
 -- what stands behind the octet past the limit changes nothing
 same_story : (form : Form) (octets more : List ℕ) → most_octets form < length octets → form_story form (octets ++ more) ≡ form_story form octets
@@ -33,9 +33,11 @@ story_of_both form read rest whole =
     elim (leb_tells (length read) (most_octets form)) [ inl few ↦ rw (whole (omega (arith, few.1)), append-nil read) refl | inr more ↦ same_story form read rest more.1 ]
 
 -- what holds of the story of what was read holds of the story of the input
-pub by_story : (form : Form) (Q : Story → Type 0) (before left : Option (List ℕ)) (read : List ℕ) → before ≡ with_left read left → IsWhole form read left → Q (form_story form read) → IfSome (known_story form before) Q
-by_story form Q before None read e whole q = let P : Option (List ℕ) → Type 0 = λ o. IfSome (known_story form o) Q in subst P (sym e) tt
-by_story form Q before (Some rest) read e whole q = let P : Option (List ℕ) → Type 0 = λ o. IfSome (known_story form o) Q in subst P (sym e) (subst Q (sym (story_of_both form read rest whole)) q)
+pub by_story : (form : Form) (Q : Story → Type 0) (before left : Option (List ℕ)) (read : List ℕ) → Keeps before (prepend_known read left) → IsWhole form read left → Q (form_story form read) → IfSome (known_story form before) Q
+by_story form Q None left read e whole q = tt
+by_story form Q (Some input) None read e whole q = absurd e
+by_story form Q (Some input) (Some rest) read e whole q =
+    subst Q (sym (story_of_both form read rest whole) ∙ ap (form_story form) e) q
 
 -- how a report that was begun may end
 abbrev pub EndsSo : Status → Ending → Type 0
@@ -55,10 +57,9 @@ is_done : (e : Ending) → Done ≡ status_of e → e ≡ ending.Done
 is_done ending.Done h = refl
 is_done (ending.Refused line number) h = cc
 
-pub none_left : (form : Form) (before left : Option (List ℕ)) (read : List ℕ) → before ≡ with_left read left → IsWhole form read left → Done ≡ status_of (form_story form read).ending → IfSome before (λ input. left ≡ Some [])
-none_left form before None read e whole done = let P : Option (List ℕ) → Type 0 = λ o. IfSome o (λ input. let none : Option (List ℕ) = None in none ≡ Some []) in subst P (sym e) tt
-none_left form before (Some rest) read e whole done =
+pub none_left : (form : Form) (before left : Option (List ℕ)) (read : List ℕ) → Keeps before (prepend_known read left) → IsWhole form read left → Done ≡ status_of (form_story form read).ending → IfSome before (λ input. left ≡ Some [])
+none_left form None left read e whole done = tt
+none_left form (Some input) None read e whole done = absurd e
+none_left form (Some input) (Some rest) read e whole done =
     let few = is_taken_whole form read (is_done (form_story form read).ending done) in
-    let nothing : rest ≡ [] = whole (omega (arith, few)) in
-    let P : Option (List ℕ) → Type 0 = λ o. IfSome o (λ input. let some : Option (List ℕ) = Some rest in some ≡ Some []) in
-    subst P (sym e) (ap (λ (t : List ℕ). Some t) nothing)
+    ap (λ (t : List ℕ). Some t) (whole (omega (arith, few)))

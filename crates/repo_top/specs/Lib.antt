@@ -10,5 +10,6 @@ pub mod Report
 pub mod Story
 pub mod Events
 pub mod Inspection
+pub mod Generator
 pub mod Forms
 pub mod Answers

@@ -1,18 +1,14 @@
 -- What a run gets from its source and gives to its sink.
 use Rattle.std.specs.Prelude.{◌≡◌, ◌<◌, ℕ, List, ◌++◌, Option, ◌⊎◌}
-use Rattle.std.specs.Option.{option_map}
+use Rattle.std.specs.Io.KnownBytes.{Appends}
 
 -- A count of faults rose. It stays at the greatest number that 64 bits hold, so there it counts as risen.
 abbrev pub HasRisen : ℕ → ℕ → Type 0
 HasRisen old new = (old < new) ⊎ (new ≡ 18446744073709551615)
 
--- What was read before, and then what is left, where that is known.
-abbrev pub with_left : List ℕ → Option (List ℕ) → Option (List ℕ)
-with_left read left = option_map (λ rest. read ++ rest) left
-
 -- An output gained a text at its end, where it is known.
 abbrev pub Gains : Option (List ℕ) → Option (List ℕ) → List ℕ → Type 0
-Gains old new text = new ≡ option_map (λ out. out ++ text) old
+Gains old new text = Appends old new text
 
 -- An output gained a front of the text, and nothing else.
 pub record GainsFront (old new : Option (List ℕ)) (text : List ℕ) : Type 0 where

@@ -1,6 +1,7 @@
-ghost use Rattle.std.specs.Prelude.{◌≡◌, ◌≢◌, ◌+◌, ◌<◌, ◌≤◌, ℕ, List, [], ◌∷◌, ◌++◌, All, length, codes};
+ghost use Rattle.std.specs.Prelude.{◌≡◌, ◌≢◌, ◌+◌, ◌<◌, ◌≤◌, ℕ, List, [], ◌∷◌, ◌++◌, All, length, Some, None, codes};
 ghost use Rattle.std.specs.List.{flat_map};
 ghost use Rattle.repo_top.specs.declared.ending.Ending.TheVariants.{Done, Refused};
+ghost use Rattle.repo_top.specs.Forms.{asked_of, asked_story};
 ghost use Rattle.repo_top.specs.Inspection.{inspect_story};
 ghost use Rattle.repo_top.specs.Lines.{IsLine, with_feed, lines};
 ghost use Rattle.repo_top.specs.Pieces.{pieces, with_separator};
@@ -50,6 +51,28 @@ pub fn small_inspections()
         ≡ record { text = codes "07 Name 2\nfault Truncated 3\n"; ending = Refused 1 12 } }
     ensures syntax { inspect_story (codes "0g")
         ≡ record { text = codes "refused 1 1 Syntax\n"; ending = Refused 1 1 } }
+{}
+
+/// The scripts that few words ask for, worked out.
+pub fn small_scripts()
+    ensures two_members { asked_story (asked_of (codes "gen" ∷ codes "2" ∷ codes "1" ∷ codes "1" ∷ [])) None
+        ≡ Some (record {
+          text = codes "group /g\nmember m1 /n/1 6b01\nmember m2 /n/2 6b02\n"
+              ++ codes "publish m1 /o/1 100 fill:400:111\nsettle 4\nsummary\n";
+          ending = Done;
+        }) }
+    ensures ten_objects { asked_story (asked_of (codes "gen" ∷ codes "1" ∷ codes "10" ∷ codes "0" ∷ [])) None
+        ≡ Some (record {
+          text = codes "group /g\nmember m1 /n/1 6b01\npublish m1 /o/1 100 fill:300:123\n"
+              ++ codes "publish m1 /o/2 100 fill:200:238\npublish m1 /o/3 100 fill:200:120\n"
+              ++ codes "publish m1 /o/4 100 fill:300:26\npublish m1 /o/5 100 fill:300:76\n"
+              ++ codes "publish m1 /o/6 100 fill:100:127\npublish m1 /o/7 100 fill:200:147\n"
+              ++ codes "publish m1 /o/8 100 fill:400:119\npublish m1 /o/9 100 fill:500:91\n"
+              ++ codes "publish m1 /o/10 100 fill:400:233\ndeliver 10 m1\nfetch m1 4 3 200\n"
+              ++ codes "settle 4\nsummary\n";
+          ending = Done;
+        }) }
+    ensures no_script { asked_of (codes "gen" ∷ codes "17" ∷ codes "1" ∷ codes "1" ∷ []) ≡ None }
 {}
 
 /// The story of one publication that reaches two catalogues, worked out.

@@ -1,12 +1,14 @@
 //! A run from a source to a sink: the script is read whole, its story is told over the plain world, and the report is
-//! written.
+//! written; or a script is generated.
 #![tactic(auto)]
 
+mod asked;
 mod declared_member;
 mod ending;
 mod event;
 mod failed;
 mod form;
+mod generator;
 mod inspection;
 mod laws;
 mod line;
@@ -33,7 +35,7 @@ mod writing;
 pub use failed::Failed;
 pub use laws::{
     first_story, later_octets_change_nothing, lines_are_the_input, pieces_are_the_octets,
-    small_inspections, small_stories,
+    small_inspections, small_scripts, small_stories,
 };
 pub use read_source::ReadSource;
 pub use sink::Sink;

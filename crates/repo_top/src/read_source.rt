@@ -1,6 +1,5 @@
-ghost use Rattle.std.specs.Prelude.{◌≡◌, ◌<◌, ◌≤◌, ◌++◌, [], None, Ok, length, take, is_ok, IfOk, IfSome, OnErr, if◌then◌else◌};
-ghost use Rattle.std.specs.Option.{option_map};
-ghost use Rattle.std.specs.Io.KnownBytes.{ReadConsumes};
+ghost use Rattle.std.specs.Prelude.{◌≡◌, ◌<◌, ◌≤◌, Ok, length, take, is_ok, IfOk, OnErr, if◌then◌else◌};
+ghost use Rattle.std.specs.Io.KnownBytes.{Consumes, IsAtEnd, Keeps};
 ghost use Rattle.repo_top.specs.InMemory.{one_more};
 ghost use Rattle.repo_top.specs.Outside.{HasRisen};
 
@@ -9,7 +8,7 @@ use crate::source::Source;
 use std::io::Read;
 use std::marker::Model;
 
-/// A source over a reader, as standard input. It tells nothing of its octets.
+/// A source over a reader. It tells what the reader tells of its octets: a slice all of them, standard input nothing.
 #[derive(Debug, Drop)]
 pub struct ReadSource<R: Read> {
     reader: R,
@@ -33,16 +32,19 @@ impl<R: Read> ReadSource<R> {
 }
 
 impl<R: Read> Source for ReadSource<R> {
-    ghost left = { λ _. None };
+    ghost left = { λ s. R.remaining s.inner };
 
     ghost faults = { λ s. s.faults };
 
-    // What the trait says, and: the octets are the reader's, and the count rises at each fault of it.
+    // What the trait says, and: the count rises at each fault of the reader, and then alone.
     fn read(&mut self, buf: &mut [u8]) -> Result<usize, Failed>
         ensures count { IfOk result (λ n. n ≤ length buf.old) }
+        ensures taken { IfOk result (λ n. Consumes (R.remaining self.old.inner) (R.remaining self.new.inner)
+            (take n buf.new)) }
+        ensures end { result ≡ Ok 0 → 0 < length buf.old → IsAtEnd (R.remaining self.new.inner) }
+        ensures failed { OnErr result (Keeps (R.remaining self.old.inner) (R.remaining self.new.inner)) }
         ensures risen { OnErr result (HasRisen self.old.faults self.new.faults) }
         ensures faults { self.old.faults ≤ self.new.faults }
-        ensures bytes { ReadConsumes (R.remaining self.old.inner) (R.remaining self.new.inner) result buf.new }
         ensures counted { self.new.faults
             ≡ (if is_ok result then self.old.faults else one_more self.old.faults) }
     {

@@ -1,5 +1,6 @@
-ghost use Rattle.std.specs.Prelude.{◌≡◌, ◌<◌, ◌≤◌, ◌+◌, [], length, Err, IfOk, IfSome, OnOk, OnErr};
-ghost use Rattle.repo_top.specs.Outside.{HasRisen, with_left};
+ghost use Rattle.std.specs.Prelude.{◌≡◌, ◌<◌, ◌≤◌, ◌+◌, length, Err, IfOk, OnOk, OnErr};
+ghost use Rattle.std.specs.Io.KnownBytes.{IsAtEnd, Keeps, prepend_known};
+ghost use Rattle.repo_top.specs.Outside.{HasRisen};
 
 use crate::failed::Failed;
 use crate::read_fault::ReadFault;
@@ -16,10 +17,10 @@ pub(crate) fn read_up_to<S: Source>(
     most: usize,
 ) -> Result<Vec<u8>, ReadFault>
     ensures taken { IfOk result
-        (λ octets. S.left source.old ≡ with_left octets.items (S.left source.new)) }
+        (λ octets. Keeps (S.left source.old) (prepend_known octets.items (S.left source.new))) }
     ensures most { IfOk result (λ octets. length octets.items ≤ most) }
     ensures whole { IfOk result (λ octets. length octets.items < most
-        → IfSome (S.left source.new) (λ rest. rest ≡ [])) }
+        → IsAtEnd (S.left source.new)) }
     ensures risen { result ≡ Err ReadFault.Failed
         → HasRisen (S.faults source.old) (S.faults source.new) }
 {
@@ -40,11 +41,11 @@ fn read_some<S: Source>(
     room: usize,
 ) -> Result<usize, ReadFault>
     requires { 0 < room }
-    ensures taken { OnOk result (with_left octets.old.items (S.left source.old)
-        ≡ with_left octets.new.items (S.left source.new)) }
+    ensures taken { OnOk result (Keeps (prepend_known octets.old.items (S.left source.old))
+        (prepend_known octets.new.items (S.left source.new))) }
     ensures count { IfOk result
         (λ n. (n ≤ room) × (length octets.new.items ≡ length octets.old.items + n)) }
-    ensures end { IfOk result (λ n. n ≡ 0 → IfSome (S.left source.new) (λ rest. rest ≡ [])) }
+    ensures end { IfOk result (λ n. n ≡ 0 → IsAtEnd (S.left source.new)) }
     ensures risen { result ≡ Err ReadFault.Failed
         → HasRisen (S.faults source.old) (S.faults source.new) }
     ensures faults { S.faults source.old ≤ S.faults source.new }

@@ -2,6 +2,7 @@ ghost use Rattle.std.specs.Prelude.{◌≤◌};
 
 use super::*;
 use bench_net::{FixedDraws, OpenNet};
+use sha2::{Digest, Sha256};
 use std::alloc::{AllocError, Global};
 use std::process::Abort;
 use std::test::*;
@@ -158,8 +159,95 @@ fn expect_usage<R: Threads + Sync + AllocGlobal + Abort>(
 fn other_words_touch_nothing(rt: HostRuntime) -> Result<(), Fail> {
     expect_usage(&rt, "")?;
     expect_usage(&rt, "run x")?;
-    expect_usage(&rt, "gen 0 1 1")?;
     expect_usage(&rt, "inspect run")?;
+    for words in [
+        "gen",
+        "gen 1 1",
+        "gen 1 1 1 1",
+        "run 1 1 1",
+        "gen 0 1 1",
+        "gen 17 1 1",
+        "gen 1 0 1",
+        "gen 1 2001 1",
+        "gen 1 1 1000000000000000000",
+        "gen 01 1 1",
+        "gen 1 1 00",
+        "gen 1 1 +1",
+        "gen 1 1 x",
+    ] {
+        expect_usage(&rt, words)?;
+    }
+    Ok(())
+}
+
+const GENERATED: &str = "group /g\n\
+    member m1 /n/1 6b01\n\
+    publish m1 /o/1 100 fill:300:123\n\
+    publish m1 /o/2 100 fill:200:238\n\
+    publish m1 /o/3 100 fill:200:120\n\
+    publish m1 /o/4 100 fill:300:26\n\
+    publish m1 /o/5 100 fill:300:76\n\
+    publish m1 /o/6 100 fill:100:127\n\
+    publish m1 /o/7 100 fill:200:147\n\
+    publish m1 /o/8 100 fill:400:119\n\
+    publish m1 /o/9 100 fill:500:91\n\
+    publish m1 /o/10 100 fill:400:233\n\
+    deliver 10 m1\n\
+    fetch m1 4 3 200\n\
+    settle 4\n\
+    summary\n";
+
+// Generates a script where one call of the sink fails. The source would fail if it were read.
+fn generated<R: Threads + Sync + AllocGlobal>(
+    rt: &R,
+    words: &str,
+    piece: usize,
+    fails: u64,
+) -> Result<(Status, Vec<u8>), AllocError>
+    requires { 1 ≤ piece }
+{
+    let alloc = rt.alloc();
+    let mut source = VecSource::new(Vec::new(alloc), 1, vec![in alloc; 1]?);
+    let mut sink = VecSink::new(alloc, piece, vec![in alloc; fails]?);
+    let answered = status(rt, &words_of(alloc, words)?, &mut source, &mut sink);
+    Ok((answered, sink.octets().to_vec(alloc)?))
+}
+
+#[test]
+fn a_script_is_generated(rt: HostRuntime) -> Result<(), Fail> {
+    for piece in [1, 7, 5_000] {
+        let (answered, script) = generated(&rt, "gen 1 10 0", piece, 0)?;
+        assert_eq!(rt; answered, Status::Done);
+        assert_eq!(rt; script.as_slice(), GENERATED.as_bytes());
+    }
+    // A line in each call: the second call fails behind the group's line.
+    let (answered, script) = generated(&rt, "gen 1 10 0", 5_000, 2)?;
+    assert_eq!(rt; answered, Status::WriteFault);
+    assert_eq!(rt; script.as_slice(), b"group /g\n".as_slice());
+    // Pieces of seven octets: the third call fails inside the member's line.
+    let (answered, script) = generated(&rt, "gen 1 10 0", 7, 4)?;
+    assert_eq!(rt; answered, Status::WriteFault);
+    assert_eq!(rt; script.as_slice(), b"group /g\nmember ".as_slice());
+    Ok(())
+}
+
+#[test]
+fn the_largest_script_is_generated(rt: HostRuntime) -> Result<(), Fail> {
+    for (words, digest) in [
+        (
+            "gen 16 2000 1",
+            "2ddfc47cc744808d56eb818ec68aa272c75c7f5dc07a2f35fae077c2d2d7f9a9",
+        ),
+        (
+            "gen 16 2000 999999999999999999",
+            "a12db5b014876cc23a2a33bcd6859bd8f40404b47be304eeaf029e63de77dd75",
+        ),
+    ] {
+        let (answered, script) = generated(&rt, words, 5_000, 0)?;
+        assert_eq!(rt; answered, Status::Done);
+        let digits = hex::encode(rt.alloc(), Sha256::digest(&script).as_slice())?;
+        assert_eq!(rt; digits.as_str(), digest);
+    }
     Ok(())
 }
 
@@ -381,6 +469,21 @@ fn real_readers_and_writers(rt: HostRuntime) {
     assert_eq!(rt; source.read(&mut octets), Ok(0));
     let mut sink = WriteSink::new(Vec::<u8>::new(rt.alloc()));
     assert_eq!(rt; sink.write(b"abc"), Ok(3));
+}
+
+// Runs the first script from a slice to a vector.
+#[test]
+fn slices_are_read_and_vectors_written(rt: HostRuntime) -> Result<(), Fail> {
+    let alloc = rt.alloc();
+    let words = words_of(alloc, "run")?;
+    let mut report = Vec::new(alloc);
+    let mut source = ReadSource::new(FIRST.as_bytes());
+    let mut sink = WriteSink::new(&mut report);
+    let (net, draws) = (OpenNet::new(), FixedDraws::new(100));
+    let answered = run(&rt, alloc, &words, &mut source, &mut sink, &net, &draws);
+    assert_eq!(rt; answered, Status::Done);
+    assert_eq!(rt; report.as_slice(), FIRST_REPORT.as_bytes());
+    Ok(())
 }
 
 #[test]

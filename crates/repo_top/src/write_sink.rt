@@ -1,5 +1,5 @@
-ghost use Rattle.std.specs.Prelude.{◌≡◌, ◌<◌, ◌≤◌, None, length, is_ok, IfOk, OnErr, if◌then◌else◌};
-ghost use Rattle.std.specs.Io.KnownBytes.{WriteAppends};
+ghost use Rattle.std.specs.Prelude.{◌≡◌, ◌<◌, ◌≤◌, length, take, is_ok, IfOk, OnErr, if◌then◌else◌};
+ghost use Rattle.std.specs.Io.KnownBytes.{Appends, Keeps};
 ghost use Rattle.repo_top.specs.InMemory.{one_more};
 ghost use Rattle.repo_top.specs.Outside.{HasRisen};
 
@@ -8,7 +8,7 @@ use crate::sink::Sink;
 use std::io::Write;
 use std::marker::Model;
 
-/// A sink over a writer, as standard output. It tells nothing of its octets.
+/// A sink over a writer. It tells what the writer tells of its octets: a vector all of them, standard output nothing.
 #[derive(Debug, Drop)]
 pub struct WriteSink<W: Write> {
     writer: W,
@@ -32,7 +32,7 @@ impl<W: Write> WriteSink<W> {
 }
 
 impl<W: Write> Sink for WriteSink<W> {
-    ghost out = { λ _. None };
+    ghost out = { λ k. W.contents k.inner };
 
     ghost faults = { λ k. k.faults };
 
@@ -40,9 +40,11 @@ impl<W: Write> Sink for WriteSink<W> {
     fn write(&mut self, piece: &[u8]) -> Result<usize, Failed>
         ensures count { IfOk result (λ n. n ≤ length piece.now) }
         ensures taken { IfOk result (λ n. 0 < length piece.now → 0 < n) }
+        ensures given { IfOk result (λ n. Appends (W.contents self.old.inner) (W.contents self.new.inner)
+            (take n piece.now)) }
+        ensures failed { OnErr result (Keeps (W.contents self.old.inner) (W.contents self.new.inner)) }
         ensures risen { OnErr result (HasRisen self.old.faults self.new.faults) }
         ensures faults { self.old.faults ≤ self.new.faults }
-        ensures bytes { WriteAppends (W.contents self.old.inner) (W.contents self.new.inner) result piece.now }
         ensures counted { self.new.faults
             ≡ (if is_ok result then self.old.faults else one_more self.old.faults) }
     {

@@ -1,20 +1,30 @@
-ghost use Rattle.std.specs.Prelude.{◌≤◌, OnOk, OnErr};
-ghost use Rattle.repo_top.specs.Outside.{Gains, GainsFront, HasRisen};
+ghost use Rattle.std.specs.Prelude.{◌<◌, ◌≤◌, length, take, IfErr, OnOk, OnErr};
+ghost use Rattle.repo_top.specs.Outside.{Gains, HasRisen};
 
-use crate::failed::Failed;
 use crate::sink::Sink;
 
+// A text was not written whole: so many octets of it were, and the next was not.
+#[derive(Clone, Copy, Debug, PartialEq, Eq)]
+pub(crate) struct WriteFault {
+    pub(crate) written: usize,
+}
+
 // Writes the text whole, or a front of it.
-pub(crate) fn write_whole<K: Sink>(sink: &mut K, text: &[u8]) -> Result<(), Failed>
+pub(crate) fn write_whole<K: Sink>(sink: &mut K, text: &[u8]) -> Result<(), WriteFault>
     ensures whole { OnOk result (Gains (K.out sink.old) (K.out sink.new) text.now) }
-    ensures front { OnErr result (GainsFront (K.out sink.old) (K.out sink.new) text.now) }
+    ensures front { IfErr result (λ fault.
+        Gains (K.out sink.old) (K.out sink.new) (take fault.written text.now)) }
+    ensures missing { IfErr result (λ fault. fault.written < length text.now) }
     ensures risen { OnErr result (HasRisen (K.faults sink.old) (K.faults sink.new)) }
+    ensures faults { K.faults sink.old ≤ K.faults sink.new }
 {
     let mut written = 0;
     while written < text.len() {
-        let taken = sink.write(&text[written..])?;
+        let Ok(taken) = sink.write(&text[written..]) else {
+            return Err(WriteFault { written });
+        };
         if taken == 0 {
-            return Err(Failed);
+            return Err(WriteFault { written });
         }
         written += taken;
     }

@@ -3,6 +3,7 @@ ghost use Rattle.std.specs.List.{All, filter};
 ghost use Rattle.repo_plan.specs.Plan.{claim_of, unclaimed, first, is_after, is_asked, is_wanted};
 ghost use Rattle.repo_plan.specs.Parts.{pair_of};
 ghost use Rattle.repo_plan.specs.Calls.{IsFetcher};
+ghost use Rattle.sha2.specs.Sha256.{sha256};
 ghost use Rattle.ndn_data.specs.Data.{data_of};
 ghost use Rattle.repo_object.specs.Verdict.{listing_in, ring_verdict};
 ghost use Rattle.repo_member.specs.Alone.{IsOf, alone_plan, alone_claims, want_of, alone_accepts};
@@ -12,7 +13,7 @@ ghost use Rattle.repo_member.specs.Listed.{listing_at};
 ghost use Rattle.repo_member.specs.Outcomes.{job_for, IsCheckedFor};
 
 use super::Member;
-use crate::gaining::{Arrival, gain_listed, make_room};
+use crate::gaining::{Arrival, Digested, gain_listed, make_room};
 use crate::group::Group;
 use crate::listing::owned_name;
 use crate::refusals::{AcceptRefusal, WantFault};
@@ -100,7 +101,7 @@ impl Member {
         let Some(part) = self.claimed(f) else {
             return Err(AcceptRefusal::FetcherIdle);
         };
-        let arrival = self.arrived(part, checked.octets())?;
+        let arrival = self.arrived(part, checked.octets(), checked.digest())?;
         self.gain_claimed(f, part, arrival)?;
         Ok(part)
     }
@@ -110,8 +111,8 @@ impl Member {
         requires fetcher { IsFetcher f }
         requires claimed { claim_of (alone_plan self.old) f ≡ Some part }
         requires wanted { is_wanted (alone_plan self.old) part ≡ true }
-        requires arrival { IsArrival self.old.store part arrival.octets.items arrival.segments arrival.name }
-        ensures ok { OnOk result (self.new ≡ alone_accepts f part arrival.octets.items self.old) }
+        requires arrival { IsArrival self.old.store part arrival.octets arrival.segments arrival.name }
+        ensures ok { OnOk result (self.new ≡ alone_accepts f part arrival.octets self.old) }
         ensures err { OnErr result (self.new ≡ self.old) }
     {
         make_room(&mut self.plan, &mut self.store, &mut self.catalogue, 1)?;
@@ -216,29 +217,35 @@ impl Member {
         requires asked { is_asked (alone_plan self.now) part ≡ true }
         ensures passed { IfOk result (λ _. passed part (ring_verdict (want_of g.now self.now.store part)
             g.now.members.ring octets.now) ≡ Ok part) }
-        ensures octets { IfOk result (λ arrival. arrival.octets.items ≡ octets.now) }
+        ensures octets { IfOk result (λ arrival. arrival.octets ≡ octets.now) }
         ensures arrival { IfOk result (λ arrival.
-            IsArrival self.now.store part arrival.octets.items arrival.segments arrival.name) }
+            IsArrival self.now.store part arrival.octets arrival.segments arrival.name) }
         ensures refused { IfErr result (λ refusal. (refusal ≡ AcceptRefusal.NoMemory)
             ⊎ (passed part (ring_verdict (want_of g.now self.now.store part)
             g.now.members.ring octets.now) ≡ Err refusal)) }
     {
         let expected = self.expected(*self.log.allocator(), g, part)?;
         expected.check(octets, g.members())?;
-        Ok(self.arrived(part, octets)?)
+        Ok(self.arrived(part, octets, expected.digest())?)
     }
 
-    // The packet that came for a part and passed for it.
-    pub(super) fn arrived(&self, part: Part, octets: &[u8]) -> Result<Arrival, AllocError>
+    // The packet that came for a part and passed for it, with its digest, if that is known.
+    pub(super) fn arrived(
+        &self,
+        part: Part,
+        octets: &[u8],
+        digest: Option<&[u8; 32]>,
+    ) -> Result<Arrival, AllocError>
         requires data { IsOk (data_of octets.now) }
+        requires digest { IfSome digest (λ digest. digest.now ≡ sha256 octets.now) }
         requires record_part { part.part ≡ 0 → IsSome (listing_in octets.now) }
         requires asked { is_asked (alone_plan self.now) part ≡ true }
-        ensures octets { IfOk result (λ arrival. arrival.octets.items ≡ octets.now) }
+        ensures octets { IfOk result (λ arrival. arrival.octets ≡ octets.now) }
         ensures arrival { IfOk result (λ arrival.
-            IsArrival self.now.store part arrival.octets.items arrival.segments arrival.name) }
+            IsArrival self.now.store part arrival.octets arrival.segments arrival.name) }
     {
         let alloc = *self.log.allocator();
-        let copy = octets.to_vec(alloc)?;
+        let copy = Digested::new(octets.to_vec(alloc)?, digest);
         if part.part == 0 {
             let record = RecordView::in_packet(octets);
             return Ok(Arrival {

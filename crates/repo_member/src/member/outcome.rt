@@ -78,7 +78,7 @@ impl Member {
         for ((job, checked), tries) in jobs.iter().zip(parts).zip(attempts) {
             let part = job.want.part();
             let arrival = match checked {
-                Some(checked) => Some(self.arrived(part, checked.octets())?),
+                Some(checked) => Some(self.arrived(part, checked.octets(), checked.digest())?),
                 None => None,
             };
             all.push(Tried {
@@ -131,7 +131,7 @@ fn take_one(
     ensures attempts { plan.new.attempts ≡ with_tries tried.part tried.attempts plan.old.attempts }
     ensures others { KeepsButTries plan.old plan.new }
     ensures kept { AreKept plan.new store.new.packets catalogue.new.entries }
-    ensures came { result ≡ option_map (λ a. length a.octets.items) tried.arrival }
+    ensures came { result ≡ option_map (λ a. length a.octets) tried.arrival }
 {
     let Tried {
         part,

@@ -1,6 +1,7 @@
 use Rattle.std.proofs.Common.{Bool, Option, subst, sym}
 use Rattle.repo_store.specs.declared.index.Held.{Held}
 use Rattle.repo_store.specs.Indexes.{lesser, has_full_name, satisfies_held, IsFirstOf}
+use Rattle.repo_store.specs.Layers.{all_of}
 use Rattle.repo_store.proofs.FindLemmas.{first_of_same, plain_found, front_found}
 use Rattle.repo_store.proofs.store.first_for.Goals as goal
 use Rattle.repo_store.proofs.store.first_for.Goals.{then-can_be_prefix, else-can_be_prefix}
@@ -8,9 +9,9 @@ use Rattle.repo_store.proofs.store.first_for.Goals.{then-can_be_prefix, else-can
 pub returns : goal.returns
 returns c =
     let packets = c.args.packets.now in
-    let names = c.args.names.now in
+    let names = all_of c.args.names.now in
     let asked = c.octets-asked.result.now in
-    let full = first_of_same c.args.full_names.now names (has_full_name packets asked) (λ h. (c.requires.same h).1) (λ h. (c.requires.same h).0) c.first_with_full_name.result c.first_with_full_name.ensures in
+    let full = first_of_same (all_of c.args.full_names.now) names (has_full_name packets asked) (λ h. (c.requires.same h).1) (λ h. (c.requires.same h).0) c.first_with_full_name.result c.first_with_full_name.ensures in
     let Found = λ (p : Bool) (named : Option Held). IsFirstOf names (satisfies_held packets c.args.name.now p) (lesser named c.first_with_full_name.result) in
     rw c.lesser.ensures (elim c.if-can_be_prefix.branch [
       | then-can_be_prefix w ↦

@@ -1,7 +1,6 @@
 use Rattle.std.proofs.Common.{sym, subst, rules}
 use Rattle.std.proofs.lemmas.List.Sorted.{IsPartitionPoint-from_clause}
-use Rattle.repo_store.specs.declared.index.Order.TheVariants.{Names}
-use Rattle.repo_store.specs.Indexes.{key_cmp, keys_in, IsBehind}
+use Rattle.repo_store.specs.Indexes.{IsBehind}
 use Rattle.repo_store.proofs.WalkLemmas.{named, named_parted, behind_named}
 use Rattle.repo_store.proofs.index.Index.behind.Goals as goal
 

@@ -1,4 +1,4 @@
-use Rattle.std.proofs.Common.{◌≡◌, ℕ, ◌<◌, List, [], length, drop, Option, subst, sym, ap, ◌∙◌, arith}
+use Rattle.std.proofs.Common.{◌≡◌, ◌<◌, [], length, drop, Option, subst, sym, ap, ◌∙◌, arith}
 use Rattle.std.specs.Prelude.{IfSome}
 use Rattle.slab.specs.Slab.{get}
 use Rattle.repo_plan.specs.SortedList.{Rises}
@@ -6,7 +6,7 @@ use Rattle.repo_store.specs.declared.index.Held.{Held}
 use Rattle.repo_store.specs.declared.index.Order.{Order}
 use Rattle.repo_store.specs.Indexes.{key_cmp, key_of, keys_in, IsFrom}
 use Rattle.repo_store.proofs.IndexLemmas.{none_first, some_first}
-use Rattle.repo_store.proofs.WalkLemmas.{Walk, name_at, walk_start, walk_lacks, walk_more, walk_end}
+use Rattle.repo_store.proofs.WalkLemmas.{name_at, walk_start, walk_lacks, walk_more, walk_end}
 use Rattle.repo_store.proofs.index.Index.first_below.Goals as goal
 
 pub loop-first-init : goal.loop-first-init

@@ -1,13 +1,12 @@
-use Rattle.std.proofs.Common.{◌≡◌, ℕ, Bool, List, Option, Some, None, Ok, Result, option_map, subst, sym, ap, ◌∙◌}
+use Rattle.std.proofs.Common.{ℕ, List, Option, Some, None, Ok, Result, option_map, sym, ap, ◌∙◌}
 use Rattle.std.specs.List.{find}
 use Rattle.repo_plan.specs.declared.part.Part.{Part}
-use Rattle.repo_plan.proofs.Sets.{In}
 use Rattle.ndn_name.specs.declared.fault.PacketFault.{PacketFault}
-use Rattle.repo_store.specs.declared.index.Held.{Held}
-use Rattle.repo_store.specs.Served.{served, satisfies}
-use Rattle.repo_store.specs.Kept.{octets_at, entries_of}
+use Rattle.repo_store.specs.Served.{satisfies}
+use Rattle.repo_store.specs.Kept.{held_of}
 use Rattle.repo_store.specs.StoreList.{StoreList}
-use Rattle.repo_store.specs.Indexes.{satisfies_held, IsFirstOf}
+use Rattle.repo_store.specs.Indexes.{satisfies_held}
+use Rattle.repo_store.specs.Layers.{all_of}
 use Rattle.repo_store.proofs.StoreLemmas.{parts_rise}
 use Rattle.repo_store.proofs.ServedLemmas.{served_found}
 use Rattle.repo_store.proofs.FindLemmas.{first_of_same, found_is}
@@ -17,22 +16,21 @@ pub first_for-found-requires-clause-same : goal.first_for-found-requires-clause-
 first_for-found-requires-clause-same c h =
     let names = c.self.invariant.names in
     let full_names = c.self.invariant.full_names in
-    rw (c.deref.ensures.value, c.deref-2.ensures.value) (λ i. full_names.all_held h (names.held_only h i), λ i. names.all_held h (full_names.held_only h i))
+    (λ i. full_names.all_held h (names.held_only h i), λ i. names.all_held h (full_names.held_only h i))
 
 pub first_for-found-requires-clause-are_data : goal.first_for-found-requires-clause-are_data
 first_for-found-requires-clause-are_data c h i =
     let slots = c.self.invariant.slots in
-    slots.named h.slot (slots.kept h (c.self.invariant.names.held_only h (subst (In h) c.deref.ensures.value i)))
+    slots.named h.slot (slots.kept h (c.self.invariant.names.held_only h i))
 
 pub returns-in-Some : goal.returns-in-Some
 returns-in-Some c =
     let interest = c.in_ok-interest.interest in
     let packets = c.self.inside.packets in
-    let parts = c.self.inside.parts.items in
+    let parts = (held_of c.self.inside.slots.entries) in
     let names = c.self.invariant.names in
     let test = satisfies_held packets interest.name interest.can_be_prefix in
-    let first = subst (λ (h : List Held). IsFirstOf h test (Some c.in-Some.held)) c.deref.ensures.value c.in-Some.ensures in
-    let among = first_of_same c.self.inside.names.items parts test names.held_only names.all_held (Some c.in-Some.held) first in
+    let among = first_of_same (all_of c.self.inside.names) parts test names.held_only names.all_held (Some c.in-Some.held) c.in-Some.ensures in
     let found = found_is packets (satisfies interest.name interest.can_be_prefix) parts (Some c.in-Some.held) (parts_rise packets parts c.self.invariant.sound) among in
     let is = ap (λ (s : StoreList). s.packets) c.self.view_is in
     record {
@@ -43,11 +41,10 @@ pub returns-in-None : goal.returns-in-None
 returns-in-None c =
     let interest = c.in_ok-interest.interest in
     let packets = c.self.inside.packets in
-    let parts = c.self.inside.parts.items in
+    let parts = (held_of c.self.inside.slots.entries) in
     let names = c.self.invariant.names in
     let test = satisfies_held packets interest.name interest.can_be_prefix in
-    let first = subst (λ (h : List Held). IsFirstOf h test (None)) c.deref.ensures.value c.in-None.ensures in
-    let among = first_of_same c.self.inside.names.items parts test names.held_only names.all_held (None) first in
+    let among = first_of_same (all_of c.self.inside.names) parts test names.held_only names.all_held None c.in-None.ensures in
     let found = found_is packets (satisfies interest.name interest.can_be_prefix) parts (None) (parts_rise packets parts c.self.invariant.sound) among in
     let is = ap (λ (s : StoreList). s.packets) c.self.view_is in
     record {

@@ -3,7 +3,7 @@ use Rattle.std.proofs.lemmas.Fn.{filter_same}
 use Rattle.repo_plan.specs.Plan.{is_in}
 use Rattle.repo_plan.proofs.Changes.{pair_test}
 use Rattle.repo_store.specs.declared.index.Held.{Held}
-use Rattle.repo_store.proofs.store.drop_pair.Goals as goal
+use Rattle.repo_store.proofs.layers.drop_pair.Goals as goal
 
 pub returns-clause-dropped : goal.returns-clause-dropped
 returns-clause-dropped c =

@@ -1,10 +1,10 @@
-use Rattle.std.proofs.Common.{◌≡◌, List, subst, sym, ap, ◌∙◌, cond, true, Bool}
+use Rattle.std.proofs.Common.{◌≡◌, List, subst, sym}
 use Rattle.std.specs.List.{insert}
 use Rattle.repo_plan.specs.SortedList.{Rises}
 use Rattle.repo_store.specs.declared.index.Held.{Held}
 use Rattle.repo_store.specs.Indexes.{IsPlace, GainsOne, key_cmp, key_in, keys_in}
 use Rattle.repo_store.proofs.IndexLemmas.{rises_added, gains_one, keys_added, fresh_key}
-use Rattle.repo_store.proofs.index.add.Goals as goal
+use Rattle.repo_store.proofs.index.insert.Goals as goal
 
 pub returns-clause-in_order : goal.returns-clause-in_order
 returns-clause-in_order c =

@@ -1,7 +1,0 @@
-use Rattle.repo_member.proofs.GainingLemmas.{tied_too}
-use Rattle.repo_member.proofs.gaining.gain.Goals as goal
-
-pub returns-clause-tied : goal.returns-clause-tied
-returns-clause-tied c =
-    let tied = tied_too _ _ c.args.part c.args.octets.items c.args.segments c.requires.tied c.requires.not_held c.requires.segments c.requires.told in
-    rw (c.hold_reserved.ensures.new, c.put_reserved.ensures.put) (record { in_order = tied.in_order; held = tied.held; shapes = tied.shapes })

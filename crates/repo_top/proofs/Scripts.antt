@@ -1,0 +1,68 @@
+-- Scripts that are written text by text.
+use Rattle.std.proofs.Common.{◌≡◌, ℕ, zero, suc, ◌+◌, ◌<◌, ◌≤◌, ◌≢◌, List, [], ◌∷◌, ◌++◌, length, Option, None, refl, sym, subst, arith, inl, inr}
+use Rattle.std.proofs.KnownBytes.{Appends-trans}
+use Rattle.std.proofs.lemmas.Bool.Decides.{leb_tells}
+use Rattle.repo_top.specs.Outside.{Gains, GainsFront}
+use Rattle.repo_top.specs.Forms.{gen_of}
+use Rattle.repo_top.specs.Generator.{next_state, state, texts}
+use Rattle.repo_top.proofs.Outputs.{front_behind, front_longer, front_whole, nothing_gained}
+
+-- five texts that are written one after another, and the fronts that faults leave
+module _ (a b : Option (List ℕ)) (v w x y z : List ℕ) where
+  pub fourth_front : GainsFront a b (v ++ w ++ x ++ y) → GainsFront a b (v ++ w ++ x ++ y ++ z)
+  fourth_front f = front_longer a b (v ++ w ++ x ++ y) z f
+
+  pub third_front : GainsFront a b (v ++ w ++ x) → GainsFront a b (v ++ w ++ x ++ y ++ z)
+  third_front f = fourth_front (front_longer a b (v ++ w ++ x) y f)
+
+  pub second_front : GainsFront a b (v ++ w) → GainsFront a b (v ++ w ++ x ++ y ++ z)
+  second_front f = third_front (front_longer a b (v ++ w) x f)
+
+  pub first_front : GainsFront a b v → GainsFront a b (v ++ w ++ x ++ y ++ z)
+  first_front f = second_front (front_longer a b v w f)
+
+-- a front of fewer texts is one of more
+pub front_of_texts : (a b : Option (List ℕ)) (text : ℕ → List ℕ) (k n : ℕ) → k ≤ n → GainsFront a b (texts text k) → GainsFront a b (texts text n)
+unfolding texts
+front_of_texts a b text k zero le f = let e : k ≡ zero = omega (arith, le) in subst (λ (i : ℕ). GainsFront a b (texts text i)) e f
+front_of_texts a b text k (suc n) le f =
+    elim (leb_tells k n) [
+      | inl few ↦ front_longer a b (texts text n) (text (suc n)) (front_of_texts a b text k n few.1 f)
+      | inr more ↦
+          let e : k ≡ suc n = omega (arith, le, more.1) in
+          subst (λ (i : ℕ). GainsFront a b (texts text i)) e f
+    ]
+
+module _ (text : ℕ → List ℕ) where
+  pub no_texts : (a : Option (List ℕ)) → Gains a a (texts text 0)
+  unfolding texts
+  no_texts a = nothing_gained a
+
+  texts_more : (k : ℕ) → texts text (k + 1) ≡ texts text k ++ text (k + 1)
+  unfolding texts
+  texts_more k = let e : k + 1 ≡ suc k = omega arith in rw e refl
+
+  pub one_text_more : (a b d : Option (List ℕ)) (k : ℕ) → Gains a b (texts text k) → Gains b d (text (k + 1)) → Gains a d (texts text (k + 1))
+  one_text_more a b d k p q =
+      subst (Gains a d) (sym (texts_more k)) (Appends-trans a b d (texts text k) (text (k + 1)) p q)
+
+  pub front_so_many : (a b : Option (List ℕ)) (k n : ℕ) → k ≤ n → Gains a b (texts text k) → GainsFront a b (texts text n)
+  front_so_many a b k n le p = front_of_texts a b text k n le (front_whole a b (texts text k) p)
+
+  pub front_in_next : (a b d : Option (List ℕ)) (k n : ℕ) → k < n → Gains a b (texts text k) → GainsFront b d (text (k + 1)) → GainsFront a d (texts text n)
+  front_in_next a b d k n lt p f =
+      let one = front_behind a b d (texts text k) (text (k + 1)) p f in
+      front_of_texts a d text (k + 1) n (omega (arith, lt)) (subst (GainsFront a d) (sym (texts_more k)) one)
+
+pub state_more : (seed k : ℕ) → state seed (k + 1) ≡ next_state (state seed k)
+unfolding state
+state_more seed k = let e : k + 1 ≡ suc k = omega arith in rw e refl
+
+-- words that are not four ask for no script
+pub no_script : (words : List (List ℕ)) → length words ≢ 4 → gen_of words ≡ None
+no_script [] other = refl
+no_script (a ∷ []) other = refl
+no_script (a ∷ b ∷ []) other = refl
+no_script (a ∷ b ∷ d ∷ []) other = refl
+no_script (a ∷ b ∷ d ∷ e ∷ []) other = absurd (other refl)
+no_script (a ∷ b ∷ d ∷ e ∷ f ∷ words) other = refl

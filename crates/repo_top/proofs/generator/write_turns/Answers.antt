@@ -1,0 +1,24 @@
+use Rattle.std.proofs.Common.{arith}
+use Rattle.repo_top.specs.Generator.{turn_text}
+use Rattle.repo_top.proofs.Scripts.{front_in_next, no_texts, one_text_more}
+use Rattle.repo_top.proofs.generator.write_turns.Goals as goal
+
+pub loop-before-init : goal.loop-before-init
+loop-before-init g c = record {
+  so_far = no_texts (turn_text c.args.object) (g.K.Sink.out c.args.sink.now);
+  faults = omega arith;
+}
+
+pub returns-in_err-write_turn-clause-front : goal.returns-in_err-write_turn-clause-front
+returns-in_err-write_turn-clause-front g c =
+    rw c.if-object-ne0.false (front_in_next (turn_text c.args.object) (g.K.Sink.out c.args.sink.now) (g.K.Sink.out c.loop-before.sink)
+    (g.K.Sink.out c.write_turn.new.sink) c.loop-before.before c.args.members c.loop-before-test.true
+    c.loop-before.invariant.so_far c.write_turn.ensures.front)
+
+pub loop-before-preserved : goal.loop-before-preserved
+loop-before-preserved g c = record {
+  so_far = one_text_more (turn_text c.args.object) (g.K.Sink.out c.args.sink.now) (g.K.Sink.out c.loop-before.sink)
+      (g.K.Sink.out c.write_turn.new.sink) c.loop-before.before c.loop-before.invariant.so_far
+      c.in_ok-write_turn.ensures.whole;
+  faults = omega (arith, c.loop-before.invariant.faults, c.write_turn.ensures.faults);
+}

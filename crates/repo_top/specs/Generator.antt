@@ -1,0 +1,70 @@
+-- The script that `gen` writes.
+use Rattle.std.specs.Prelude.{ℕ, zero, suc, ◌+◌, ◌*◌, ◌/◌, ◌%◌, false, List, [], ◌++◌, codes, decimal, nat_lt, ◌==◌, if◌then◌else◌}
+use Rattle.std.specs.Fmt.{digits}
+use Rattle.repo_top.specs.declared.generator.Measures.{Measures}
+use Rattle.repo_top.specs.declared.ending.Ending.TheVariants.{Done}
+use Rattle.repo_top.specs.Story.{Story}
+
+-- A state follows another by a linear congruential generator modulo 2 ^ 64.
+abbrev pub next_state : ℕ → ℕ
+next_state state = (state * 6364136223846793005 + 1442695040888963407) % 18446744073709551616
+
+-- The state behind so many others; the seed is the first.
+unfoldable pub state : ℕ → ℕ → ℕ
+state seed zero = seed
+state seed (suc n) = next_state (state seed n)
+
+-- The upper 31 bits of a state decide on an object.
+abbrev pub drawn : ℕ → ℕ
+drawn state = state / 8589934592
+
+-- The texts of the numbers from 1 to `n`.
+unfoldable pub texts : (ℕ → List ℕ) → ℕ → List ℕ
+texts text zero = []
+texts text (suc n) = texts text n ++ text (suc n)
+
+-- An octet as two hexadecimal digits.
+abbrev pub octet_text : ℕ → List ℕ
+octet_text octet = (if nat_lt octet 16 then codes "0" else []) ++ digits 16 false octet
+
+-- The `member`th member is `m` and its number. The second octet of its key is the number.
+unfoldable pub member_text : ℕ → List ℕ
+member_text member =
+    codes "member m" ++ decimal member ++ codes " /n/" ++ decimal member ++ codes " 6b"
+    ++ octet_text member ++ codes "\n"
+
+-- One of so many members publishes the `object`th object, of 100 to 500 equal octets.
+unfoldable pub publish_text : ℕ → ℕ → ℕ → List ℕ
+publish_text members object draw =
+    codes "publish m" ++ decimal (1 + draw % members) ++ codes " /o/" ++ decimal object
+    ++ codes " 100 fill:" ++ decimal (100 * (1 + draw / 16 % 5)) ++ codes ":"
+    ++ decimal (draw / 128 % 256) ++ codes "\n"
+
+-- A member hears of the `object`th object, and fetches what it lacks.
+unfoldable pub deliver_text : ℕ → ℕ → List ℕ
+deliver_text object member =
+    codes "deliver " ++ decimal object ++ codes " m" ++ decimal member ++ codes "\n"
+
+unfoldable pub fetch_text : ℕ → List ℕ
+fetch_text member = codes "fetch m" ++ decimal member ++ codes " 4 3 200\n"
+
+abbrev pub turn_text : ℕ → ℕ → List ℕ
+turn_text object member = deliver_text object member ++ fetch_text member
+
+-- So do all members at every tenth object.
+abbrev pub turns_text : ℕ → ℕ → List ℕ
+turns_text members object = if object % 10 == 0 then texts (turn_text object) members else []
+
+abbrev pub object_text : ℕ → ℕ → ℕ → List ℕ
+object_text members seed object =
+    publish_text members object (drawn (state seed object)) ++ turns_text members object
+
+-- The script of so many members and objects: the group and its members, the objects, and a settle at
+-- the end.
+unfoldable pub gen_text : Measures → List ℕ
+gen_text m =
+    codes "group /g\n" ++ texts member_text m.members
+    ++ texts (object_text m.members m.seed) m.objects ++ codes "settle 4\n" ++ codes "summary\n"
+
+abbrev pub gen_story : Measures → Story
+gen_story m = record { text = gen_text m; ending = Done }

@@ -1,0 +1,53 @@
+ghost use Rattle.std.specs.Prelude.{◌≡◌, ◌<◌, map, string_bytes, Some, IfSome};
+ghost use Rattle.repo_top.specs.declared.asked.Asked.TheVariants.{Gen};
+ghost use Rattle.repo_top.specs.declared.generator.Measures.{Measures};
+ghost use Rattle.repo_top.specs.Forms.{asked_of, gen_of, measures_of};
+ghost use Rattle.repo_top.specs.Words.{number_within};
+
+use crate::form::{Form, form_of};
+use crate::generator::Measures;
+use crate::words::number_within;
+
+// What the words of the command line ask for.
+#[derive(Clone, Copy, Debug, PartialEq, Eq)]
+pub(crate) enum Asked {
+    // What is made of the input.
+    Read(Form),
+    // A script of so many members and objects.
+    Gen(Measures),
+}
+
+// What the words ask for.
+pub(crate) fn asked_of(words: &[String]) -> Option<Asked>
+    ensures value { result ≡ asked_of (map string_bytes words.now) }
+    ensures some { (measures : Measures) → result ≡ Some (Gen measures) → 0 < measures.members }
+{
+    match form_of(words) {
+        Some(form) => Some(Asked::Read(form)),
+        None => gen_of(words).map(Asked::Gen),
+    }
+}
+
+fn gen_of(words: &[String]) -> Option<Measures>
+    ensures value { result ≡ gen_of (map string_bytes words.now) }
+    ensures some { IfSome result (λ measures. 0 < measures.members) }
+{
+    match words {
+        [word, members, objects, seed] if word.as_str() == "gen" => {
+            measures_of(members, objects, seed)
+        }
+        _ => None,
+    }
+}
+
+fn measures_of(members: &str, objects: &str, seed: &str) -> Option<Measures>
+    ensures value { result ≡ measures_of (number_within 1 16 members.now) (number_within 1 2000 objects.now)
+        (number_within 0 999999999999999999 seed.now) }
+    ensures some { IfSome result (λ measures. 0 < measures.members) }
+{
+    Some(Measures {
+        members: number_within(1, 16, members.as_bytes())?,
+        objects: number_within(1, 2_000, objects.as_bytes())?,
+        seed: number_within(0, 999_999_999_999_999_999, seed.as_bytes())?,
+    })
+}

@@ -1,0 +1,224 @@
+ghost use Rattle.std.specs.Prelude.{◌≡◌, ◌<◌, ◌≤◌, ◌++◌, Err, OnOk, string_bytes};
+ghost use Rattle.repo_top.specs.declared.generator.Unwritten.TheVariants.{Failed, NoMemory};
+ghost use Rattle.repo_top.specs.Generator.{deliver_text, drawn, fetch_text, gen_text, member_text, next_state, object_text, octet_text, publish_text, texts, turn_text, turns_text};
+ghost use Rattle.repo_top.specs.Outside.{Gains, GainsFront, HasRisen};
+
+use crate::sink::Sink;
+use crate::writing::{WriteFault, write_whole};
+use std::alloc::{AllocError, Global};
+
+// How many members and objects a generated script has, and where its draws begin.
+#[derive(Clone, Copy, Debug, PartialEq, Eq)]
+pub(crate) struct Measures {
+    pub(crate) members: u64,
+    pub(crate) objects: u64,
+    pub(crate) seed: u64,
+}
+
+// Why a script was not written whole.
+#[derive(Clone, Copy, Debug, PartialEq, Eq)]
+pub(crate) enum Unwritten {
+    Failed,
+    NoMemory,
+}
+
+impl From<WriteFault> for Unwritten {
+    ghost from_gives = { λ _ fault. fault ≡ Failed };
+
+    fn from(_fault: WriteFault) -> Unwritten {
+        Unwritten::Failed
+    }
+}
+
+impl From<AllocError> for Unwritten {
+    ghost from_gives = { λ _ fault. fault ≡ NoMemory };
+
+    fn from(_error: AllocError) -> Unwritten {
+        Unwritten::NoMemory
+    }
+}
+
+// Each call writes its text, or a front of it. `line` is the room of one line.
+
+// Writes the script line by line.
+pub(crate) fn write_script<K: Sink>(
+    alloc: Global,
+    sink: &mut K,
+    measures: Measures,
+) -> Result<(), Unwritten>
+    requires { 0 < measures.members }
+    ensures whole { OnOk result (Gains (K.out sink.old) (K.out sink.new) (gen_text measures)) }
+    ensures front { GainsFront (K.out sink.old) (K.out sink.new) (gen_text measures) }
+    ensures risen { result ≡ Err Failed → HasRisen (K.faults sink.old) (K.faults sink.new) }
+{
+    let mut line = String::new(alloc);
+    write_line(sink, "group /g\n")?;
+    write_members(sink, &mut line, measures.members)?;
+    write_objects(sink, &mut line, measures)?;
+    write_line(sink, "settle 4\n")?;
+    write_line(sink, "summary\n")?;
+    Ok(())
+}
+
+fn write_members<K: Sink>(sink: &mut K, line: &mut String, members: u64) -> Result<(), Unwritten>
+    ensures whole { OnOk result (Gains (K.out sink.old) (K.out sink.new) (texts member_text members)) }
+    ensures front { GainsFront (K.out sink.old) (K.out sink.new) (texts member_text members) }
+    ensures risen { result ≡ Err Failed → HasRisen (K.faults sink.old) (K.faults sink.new) }
+    ensures faults { K.faults sink.old ≤ K.faults sink.new }
+{
+    for before in 0..members {
+        put_member(line, before + 1)?;
+        write_line(sink, line)?;
+    }
+    Ok(())
+}
+
+fn write_objects<K: Sink>(
+    sink: &mut K,
+    line: &mut String,
+    measures: Measures,
+) -> Result<(), Unwritten>
+    requires { 0 < measures.members }
+    ensures whole { OnOk result (Gains (K.out sink.old) (K.out sink.new)
+        (texts (object_text measures.members measures.seed) measures.objects)) }
+    ensures front { GainsFront (K.out sink.old) (K.out sink.new)
+        (texts (object_text measures.members measures.seed) measures.objects) }
+    ensures risen { result ≡ Err Failed → HasRisen (K.faults sink.old) (K.faults sink.new) }
+    ensures faults { K.faults sink.old ≤ K.faults sink.new }
+{
+    let mut state = measures.seed;
+    for before in 0..measures.objects {
+        state = next_state(state);
+        write_object(sink, line, measures.members, before + 1, state >> 33)?;
+    }
+    Ok(())
+}
+
+fn next_state(state: u64) -> u64
+    ensures { result ≡ next_state state }
+{
+    state
+        .wrapping_mul(6_364_136_223_846_793_005)
+        .wrapping_add(1_442_695_040_888_963_407)
+}
+
+fn write_object<K: Sink>(
+    sink: &mut K,
+    line: &mut String,
+    members: u64,
+    object: u64,
+    draw: u64,
+) -> Result<(), Unwritten>
+    requires { 0 < members }
+    ensures whole { OnOk result (Gains (K.out sink.old) (K.out sink.new)
+        (publish_text members object draw ++ turns_text members object)) }
+    ensures front { GainsFront (K.out sink.old) (K.out sink.new)
+        (publish_text members object draw ++ turns_text members object) }
+    ensures risen { result ≡ Err Failed → HasRisen (K.faults sink.old) (K.faults sink.new) }
+    ensures faults { K.faults sink.old ≤ K.faults sink.new }
+{
+    put_publish(line, members, object, draw)?;
+    write_line(sink, line)?;
+    write_turns(sink, line, members, object)
+}
+
+fn write_turns<K: Sink>(
+    sink: &mut K,
+    line: &mut String,
+    members: u64,
+    object: u64,
+) -> Result<(), Unwritten>
+    ensures whole { OnOk result (Gains (K.out sink.old) (K.out sink.new) (turns_text members object)) }
+    ensures front { GainsFront (K.out sink.old) (K.out sink.new) (turns_text members object) }
+    ensures risen { result ≡ Err Failed → HasRisen (K.faults sink.old) (K.faults sink.new) }
+    ensures faults { K.faults sink.old ≤ K.faults sink.new }
+{
+    if object % 10 != 0 {
+        return Ok(());
+    }
+    for before in 0..members {
+        write_turn(sink, line, object, before + 1)?;
+    }
+    Ok(())
+}
+
+fn write_turn<K: Sink>(
+    sink: &mut K,
+    line: &mut String,
+    object: u64,
+    member: u64,
+) -> Result<(), Unwritten>
+    ensures whole { OnOk result (Gains (K.out sink.old) (K.out sink.new) (turn_text object member)) }
+    ensures front { GainsFront (K.out sink.old) (K.out sink.new) (turn_text object member) }
+    ensures risen { result ≡ Err Failed → HasRisen (K.faults sink.old) (K.faults sink.new) }
+    ensures faults { K.faults sink.old ≤ K.faults sink.new }
+{
+    put_deliver(line, object, member)?;
+    write_line(sink, line)?;
+    put_fetch(line, member)?;
+    write_line(sink, line)
+}
+
+#[tactic(auto, using(crate::proofs::Outputs::front_taken))]
+fn write_line<K: Sink>(sink: &mut K, line: &str) -> Result<(), Unwritten>
+    ensures whole { OnOk result (Gains (K.out sink.old) (K.out sink.new) line.now) }
+    ensures front { GainsFront (K.out sink.old) (K.out sink.new) line.now }
+    ensures risen { result ≡ Err Failed → HasRisen (K.faults sink.old) (K.faults sink.new) }
+    ensures faults { K.faults sink.old ≤ K.faults sink.new }
+{
+    write_whole(sink, line.as_bytes())?;
+    Ok(())
+}
+
+// Each call puts one line into the room of a line.
+
+#[tactic(auto, unfolding(crate::specs::Generator::member_text))]
+fn put_member(line: &mut String, member: u64) -> Result<(), AllocError>
+    ensures { OnOk result (string_bytes line.new ≡ member_text member) }
+{
+    line.clear();
+    write!(line, "member m{member} /n/{member} 6b")?;
+    put_octet(line, member)?;
+    line.push_str("\n")
+}
+
+// Appends two digits.
+fn put_octet(line: &mut String, octet: u64) -> Result<(), AllocError>
+    ensures { OnOk result (string_bytes line.new ≡ string_bytes line.old ++ octet_text octet) }
+{
+    if octet < 16 {
+        line.push_str("0")?;
+    }
+    write!(line, "{octet:x}")
+}
+
+#[tactic(auto, unfolding(crate::specs::Generator::publish_text))]
+fn put_publish(line: &mut String, members: u64, object: u64, draw: u64) -> Result<(), AllocError>
+    requires { 0 < members }
+    ensures { OnOk result (string_bytes line.new ≡ publish_text members object draw) }
+{
+    let publisher = 1 + draw % members;
+    let octets = 100 * (1 + draw / 16 % 5);
+    let octet = draw / 128 % 256;
+    line.clear();
+    write!(
+        line,
+        "publish m{publisher} /o/{object} 100 fill:{octets}:{octet}\n"
+    )
+}
+
+#[tactic(auto, unfolding(crate::specs::Generator::deliver_text))]
+fn put_deliver(line: &mut String, object: u64, member: u64) -> Result<(), AllocError>
+    ensures { OnOk result (string_bytes line.new ≡ deliver_text object member) }
+{
+    line.clear();
+    write!(line, "deliver {object} m{member}\n")
+}
+
+#[tactic(auto, unfolding(crate::specs::Generator::fetch_text))]
+fn put_fetch(line: &mut String, member: u64) -> Result<(), AllocError>
+    ensures { OnOk result (string_bytes line.new ≡ fetch_text member) }
+{
+    line.clear();
+    write!(line, "fetch m{member} 4 3 200\n")
+}
