@@ -13,3 +13,4 @@ mod Objects
 mod Coming
 mod TakenOut
 mod Asked
+mod Answerable

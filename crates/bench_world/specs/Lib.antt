@@ -14,3 +14,4 @@ pub mod Timers
 pub mod Others
 pub mod Answering
 pub mod Hearing
+pub mod Answerable

@@ -9,6 +9,7 @@ mod answering;
 mod event;
 mod hearing;
 mod holding;
+mod laws;
 mod log;
 mod numbers;
 mod others;
@@ -17,6 +18,7 @@ mod plain_world;
 mod world;
 
 pub use event::{Event, Happened, StepFault};
+pub use laws::claimed_parts_can_be_answered;
 pub use plain_entry::PlainEntry;
 pub use plain_world::PlainWorld;
 pub use world::World;
