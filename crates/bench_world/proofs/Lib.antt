@@ -10,6 +10,9 @@ mod Claims
 mod Deliveries
 mod Timers
 mod Objects
+mod Readers
+mod Answered
+mod Hearings
 mod Coming
 mod TakenOut
 mod Asked

@@ -31,6 +31,12 @@ numbers_more f n made more a is one e =
     e ∙ ap (λ xs. xs ++ a ∷ []) is ∙ ap (λ b. map f (numbers_from 0 n) ++ b ∷ []) (one ∙ ap f (sym last))
     ∙ sym (map-append f (numbers_from 0 n) ((0 + n) ∷ [])) ∙ ap (map f) (sym (numbers_push 0 n)) ∙ ap (λ (k : ℕ). map f (numbers_from 0 k)) next
 
+pub next_number : (n : ℕ) (made more : List ℕ) → made ≡ numbers_from 0 n → more ≡ made ++ n ∷ [] → more ≡ numbers_from 0 (n + 1)
+next_number n made more is e =
+    let last : 0 + n ≡ n = omega arith in
+    let next : suc n ≡ n + 1 = omega arith in
+    e ∙ (λ i. is i ++ sym last i ∷ []) ∙ sym (numbers_push 0 n) ∙ ap (numbers_from 0) next
+
 number_at : (s n i : ℕ) → i < n → get_or (numbers_from s n) i 0 ≡ s + i
 number_at s zero i l = absurd (omega (arith, l))
 number_at s (suc n) zero l = omega arith

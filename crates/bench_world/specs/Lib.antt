@@ -15,3 +15,4 @@ pub mod Others
 pub mod Answering
 pub mod Hearing
 pub mod Answerable
+pub mod Replying

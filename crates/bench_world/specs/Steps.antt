@@ -1,19 +1,13 @@
 -- When an event can be carried out, what comes of it, and lists of events.
-use Rattle.std.specs.Prelude.{ℕ, ◌≡◌, ◌<◌, ◌≤◌, IsTrue, List, ◌++◌, map, take, length, slice_index_or, Option, Some, None}
+use Rattle.std.specs.Prelude.{ℕ, ◌≡◌, ◌<◌, ◌≤◌, IsTrue, length, Option, Some, None}
+use Rattle.repo_plan.specs.Parts.{numbers_from}
 use Rattle.repo_plan.specs.Calls.{IsFetcher}
 use Rattle.repo_object.specs.Objects.{is_object_name}
 use Rattle.repo_object.specs.Cuts.{pieces}
-use Rattle.group_model.specs.Events as group
-use Rattle.group_model.specs.Refusals.{Refusal, refusal, AreTaken}
-use Rattle.group_model.specs.World.{Outside, World}
-use Rattle.group_model.specs.Steps.{after_events}
-use Rattle.group_model.specs.Laws.{NothingHidden, NothingWanted, AllJoined, TellsAll}
-use Rattle.repo_member.specs.Groups.{GroupKeys}
-use Rattle.bench_world.specs.declared.event.Event.{Event}
+use Rattle.group_model.specs.Refusals.{Refusal}
 use Rattle.bench_world.specs.declared.event.StepFault.{StepFault}
 use Rattle.bench_world.specs.declared.event.StepFault.TheVariants as fault
-use Rattle.bench_world.specs.EventValues.{EventValue, event_value, group_event}
-use Rattle.bench_world.specs.Worlds.{GroupState}
+use Rattle.bench_world.specs.EventValues.{EventValue, Told, group_event}
 
 -- There are so many members; the members and fetchers that an event names are there, and what is said is within its
 -- limits.
@@ -52,3 +46,10 @@ abbrev pub IsFaultOf : Option Refusal → StepFault → Type 0
 IsFaultOf refusal fault.NoMemory = Unit {0}
 IsFaultOf None _ = ⊥
 IsFaultOf (Some refusal) told = told ≡ fault_of refusal
+
+-- All members are named, each with a number, or with its sums.
+abbrev pub NamesAll : ℕ → Told → Type 0
+NamesAll n (Told.Vector m members numbers) = (members ≡ numbers_from 0 n) × (length numbers ≡ n)
+NamesAll n (Told.Summary members entries segments octets) =
+    (members ≡ numbers_from 0 n) × (length entries ≡ n) × (length segments ≡ n) × (length octets ≡ n)
+NamesAll n _ = Unit {0}

@@ -1,4 +1,4 @@
-ghost use Rattle.std.specs.Prelude.{◌≡◌, ◌<◌, length, IfOk};
+ghost use Rattle.std.specs.Prelude.{◌≡◌, ◌+◌, ◌<◌, length, IfOk};
 ghost use Rattle.group_model.specs.World.{opening_world, member, catalogue_at};
 ghost use Rattle.group_model.specs.Sound.{IsSoundGroup};
 ghost use Rattle.repo_member.specs.Listed.{alone_catalogue};
@@ -7,7 +7,7 @@ ghost use Rattle.bench_world.specs.Worlds.{world_of, alone_at, drawing, begun_al
 mod claiming;
 mod publishing;
 mod reading;
-
+mod serving;
 mod syncing;
 
 use bench_net::{Draws, Sent, Tally};
@@ -121,6 +121,16 @@ impl World {
         ensures { result ≡ length (member (world_of self.now) m).log }
     {
         self.members[m as usize].log_len()
+    }
+
+    // One step more was made, which changed nothing else.
+    fn count(&mut self)
+        requires { self.old.steps < 100000 }
+        ensures world { world_of self.new ≡ world_of self.old }
+        ensures steps { self.new.steps ≡ self.old.steps + 1 }
+        ensures keys { self.new.keys ≡ self.old.keys }
+    {
+        self.steps += 1;
     }
 
     /// How many members there are.

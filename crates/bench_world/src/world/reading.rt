@@ -1,9 +1,7 @@
 // What is read of a world.
-ghost use Rattle.std.specs.Prelude.{◌≡◌, ◌+◌, ◌<◌, ◌≤◌, ◌^◌, None, length, map, sum_by, option_map, IfOk, IfErr, OnOk, OnErr};
-ghost use Rattle.repo_plan.specs.Parts.{numbers_from};
-ghost use Rattle.group_model.specs.Steps.{after_event};
-ghost use Rattle.group_model.specs.Refusals.{refusal};
-ghost use Rattle.repo_member.specs.Listed.{alone_catalogue};
+ghost use Rattle.std.specs.Prelude.{◌≡◌, ◌+◌, ◌<◌, length, IfOk, OnOk, OnErr};
+ghost use Rattle.repo_plan.specs.Parts.{numbers_from, part_cmp};
+ghost use Rattle.repo_plan.specs.SortedList.{value_of};
 ghost use Rattle.bench_world.specs.Serving.{keyed};
 ghost use Rattle.bench_world.specs.Worlds.{world_of};
 ghost use Rattle.bench_world.specs.EventValues.{EventValue, told_value, telling, dump_told};
@@ -11,6 +9,7 @@ ghost use Rattle.bench_world.specs.EventValues.{EventValue, told_value, telling,
 use super::World;
 use crate::event::{Happened, StepFault};
 use repo_catalog::Entry;
+use repo_member::Member;
 use repo_plan::Part;
 use std::alloc::{AllocError, Global};
 
@@ -32,7 +31,7 @@ impl World {
             numbers.push(u64::from(vector.get(publisher)))?;
         }
         let members = self.numbered()?;
-        self.steps += 1;
+        self.count();
         Ok(Happened::Vector {
             m,
             members,
@@ -52,7 +51,7 @@ impl World {
         ensures err { OnErr result (self.new ≡ self.old) }
     {
         let entries = copied(self.alloc, self.member(m).catalogue().entries())?;
-        self.steps += 1;
+        self.count();
         Ok(Happened::Catalogue {
             m,
             count: entries.len() as u64,
@@ -70,7 +69,7 @@ impl World {
         ensures keys { self.new.keys ≡ self.old.keys }
     {
         let tally = self.tally();
-        self.steps += 1;
+        self.count();
         Happened::Traffic {
             syncs: tally.syncs,
             delivered: tally.delivered,
@@ -97,8 +96,8 @@ impl World {
             seq: s as u16,
             part: x as u8,
         };
-        let happened = dumped(self.alloc, m, self.members[m as usize].packet(part))?;
-        self.steps += 1;
+        let happened = dumped(self.alloc, m, &self.members[m as usize], part)?;
+        self.count();
         Ok(happened)
     }
 
@@ -134,11 +133,10 @@ fn copied(alloc: Global, entries: &[Entry]) -> Result<Vec<Entry>, AllocError>
 }
 
 // What is told of a packet that a member holds or doesn't.
-fn dumped(alloc: Global, m: u32, packet: Option<&[u8]>) -> Result<Happened, AllocError>
-    ensures { IfOk result (λ happened. told_value happened
-        ≡ dump_told m (option_map (λ octets. octets.now) packet.entry)) }
+fn dumped(alloc: Global, m: u32, member: &Member, part: Part) -> Result<Happened, AllocError>
+    ensures { IfOk result (λ happened. told_value happened ≡ dump_told m (value_of part_cmp member.now.store part)) }
 {
-    match packet {
+    match member.packet(part) {
         Some(octets) => Ok(Happened::DumpHex {
             m,
             octets: octets.to_vec(alloc)?,

@@ -15,9 +15,16 @@ same_part h = cc
 
 pub is_its_packet-requires : goal.is_its_packet-requires
 is_its_packet-requires g c =
-    let r = c.requires in
-    (r.0, (r.1.0, (r.1.1.0 ∙ ap (λ (t : Part). t.publisher) (sym c.part.ensures),
-    subst (IsPublishedPart g.logs) (sym c.part.ensures) (claim_published c.args.g.now g.logs c.args.asker.now r.0 r.1.1.1.0 c.args.f c.args.want.now.part r.1.1.1.1.1.0))))
+    let r = c.requires in (
+      r.0,
+      (
+        r.1.0,
+        (
+          r.1.1.0 ∙ ap (λ (t : Part). t.publisher) (sym c.part.ensures),
+          subst (IsPublishedPart g.logs) (sym c.part.ensures) (claim_published c.args.g.now g.logs c.args.asker.now r.0 r.1.1.1.0 c.args.f c.args.want.now.part r.1.1.1.1.1.0),
+        ),
+      ),
+    )
 
 pub accept_checked-requires-clause-checked : goal.accept_checked-requires-clause-checked
 accept_checked-requires-clause-checked g c =

@@ -26,5 +26,5 @@ pub returns-clause-told : goal.returns-clause-told
 returns-clause-told c =
     let s = state c.self.inside in
     let at = there s.sent c.args.k c.in-Some.octets.now c.in-Some.ensures in
-    ap (Told.Sync c.args.k) (c.in_ok-octets.ensures.items_if_clones_equal (λ x y e. e) ∙ at.octets ∙ octets_are s c.self.invariant c.args.k at.first at.last)
+    ap (λ k. Told.Sync k c.in_ok-octets.octets.items) c.from.ensures ∙ ap (Told.Sync c.args.k) (c.in_ok-octets.ensures.items_if_clones_equal (λ x y e. e) ∙ at.octets ∙ octets_are s c.self.invariant c.args.k at.first at.last)
     ∙ ap (λ (x : GroupState). Told.Sync c.args.k (sync_of x.keys (sent_at (world_of x) c.args.k).sender (sent_at (world_of x) c.args.k).vector)) c.self.view_is

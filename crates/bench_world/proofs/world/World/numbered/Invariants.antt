@@ -1,0 +1,6 @@
+use Rattle.std.proofs.Common.{◌≡◌}
+use Rattle.repo_plan.specs.Parts.{numbers_from}
+use Rattle.bench_world.proofs.world.World.numbered.Given as goal
+
+abbrev pub invariant-loop-number : goal.invariant-loop-number
+invariant-loop-number l = l.numbers.items ≡ numbers_from 0 l.number

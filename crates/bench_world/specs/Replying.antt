@@ -1,0 +1,14 @@
+-- What is told and counted of octets that came for a claim.
+use Rattle.std.specs.Prelude.{ℕ, Option, Some, None}
+use Rattle.bench_world.specs.declared.answering.Fed.{Fed}
+use Rattle.bench_world.specs.declared.answering.Fed.TheVariants.{Kept, Refused}
+use Rattle.bench_world.specs.EventValues.{Told}
+
+abbrev pub fed_reply : ℕ → ℕ → Fed → Told
+fed_reply m f Kept = Told.FeedKept m f
+fed_reply m f (Refused refusal) = Told.FeedRefused m f refusal
+
+-- How many parts come to be held, where so many octets are kept, or none.
+abbrev pub parts_kept : Option ℕ → ℕ
+parts_kept None = 0
+parts_kept (Some octets) = 1

@@ -1,0 +1,238 @@
+// What comes for claims, from other members and from outside, and what octets from outside are told.
+ghost use Rattle.std.specs.Prelude.{◌≡◌, ◌+◌, ◌<◌, None, length, IfOk, IfErr, OnOk, OnErr};
+ghost use Rattle.group_model.specs.Steps.{after_event};
+ghost use Rattle.group_model.specs.Refusals.{refusal};
+ghost use Rattle.repo_plan.specs.Calls.{IsFetcher};
+ghost use Rattle.repo_store.specs.Served.{served};
+ghost use Rattle.bench_world.specs.Serving.{keyed};
+ghost use Rattle.bench_world.specs.Worlds.{world_of, drawing};
+ghost use Rattle.bench_world.specs.Answering.{kept_of};
+ghost use Rattle.bench_world.specs.Replying.{fed_reply, parts_kept};
+ghost use Rattle.bench_world.specs.EventValues.{EventValue, group_event, told_value, telling, answer_told, ask_told, mode_told};
+ghost use Rattle.bench_world.specs.Steps.{IsFaultOf};
+
+use super::World;
+use crate::answering::{Fed, ask, feed};
+use crate::event::{Happened, StepFault};
+use crate::hearing::{hear_sent, told_by};
+use bench_net::Draws;
+use repo_member::{HearRefusal, Member};
+use std::alloc::{AllocError, Global};
+use svs_sync::Mode;
+
+impl World {
+    /// A member's fetcher asks another member for what it claims.
+    ///
+    /// The answer is foreign where what came passes for the part and isn't its publisher's packet.
+    pub(crate) fn answer(&mut self, m: u32, f: u32, q: u32) -> Result<Happened, StepFault>
+        requires there { m < length self.old.members }
+        requires fetcher { IsFetcher f }
+        requires other { q < length self.old.members }
+        requires few { self.old.steps < 100000 }
+        ensures taken { OnOk result (refusal (keyed self.old.keys) (world_of self.old)
+            (group_event self.old.keys (EventValue.Answer m f q)) ≡ None) }
+        ensures world { OnOk result (world_of self.new ≡ after_event (keyed self.old.keys) (world_of self.old)
+            (group_event self.old.keys (EventValue.Answer m f q))) }
+        ensures told { IfOk result (λ happened. told_value happened
+            ≡ telling self.old.keys (keyed self.old.keys) (world_of self.old) (EventValue.Answer m f q)) }
+        ensures steps { OnOk result (self.new.steps ≡ self.old.steps + 1) }
+        ensures keys { self.new.keys ≡ self.old.keys }
+        ensures refused { IfErr result (IsFaultOf (refusal (keyed self.old.keys) (world_of self.old)
+            (group_event self.old.keys (EventValue.Answer m f q)))) }
+        ensures err { OnErr result (self.new ≡ self.old) }
+    {
+        let kept = match ask(self.alloc, &self.group, &mut self.members, m, f as u8, q) {
+            Ok(kept) => kept,
+            Err(fault) => return Err(fault),
+        };
+        self.attempts += 1;
+        self.parts += parts_of(kept);
+        self.octets += kept.unwrap_or(0);
+        self.steps += 1;
+        Ok(answered(m, u64::from(f), kept.is_some()))
+    }
+
+    /// Octets come as a packet of what a member's fetcher claims.
+    ///
+    /// They are foreign where they pass for the part and aren't its publisher's packet.
+    pub(crate) fn feed(&mut self, m: u32, f: u32, octets: &[u8]) -> Result<Happened, StepFault>
+        requires there { m < length self.old.members }
+        requires fetcher { IsFetcher f }
+        requires few { self.old.steps < 100000 }
+        ensures taken { OnOk result (refusal (keyed self.old.keys) (world_of self.old)
+            (group_event self.old.keys (EventValue.Feed m f octets.now)) ≡ None) }
+        ensures world { OnOk result (world_of self.new ≡ after_event (keyed self.old.keys) (world_of self.old)
+            (group_event self.old.keys (EventValue.Feed m f octets.now))) }
+        ensures told { IfOk result (λ happened. told_value happened
+            ≡ telling self.old.keys (keyed self.old.keys) (world_of self.old) (EventValue.Feed m f octets.now)) }
+        ensures steps { OnOk result (self.new.steps ≡ self.old.steps + 1) }
+        ensures keys { self.new.keys ≡ self.old.keys }
+        ensures refused { IfErr result (IsFaultOf (refusal (keyed self.old.keys) (world_of self.old)
+            (group_event self.old.keys (EventValue.Feed m f octets.now)))) }
+        ensures err { OnErr result (self.new ≡ self.old) }
+    {
+        let fed = match feed(
+            self.alloc,
+            &self.group,
+            &mut self.members,
+            m,
+            f as u8,
+            octets,
+        ) {
+            Ok(fed) => fed,
+            Err(fault) => return Err(fault),
+        };
+        let kept = kept_octets(fed, octets);
+        self.parts += parts_of(kept);
+        self.octets += kept.unwrap_or(0);
+        self.steps += 1;
+        Ok(fed_happened(m, u64::from(f), fed))
+    }
+
+    /// What a member answers to octets as an Interest: the packet of the least part that satisfies it.
+    pub(crate) fn ask(&mut self, m: u32, octets: &[u8]) -> Result<Happened, AllocError>
+        requires there { m < length self.old.members }
+        requires few { self.old.steps < 100000 }
+        ensures world { OnOk result (world_of self.new ≡ world_of self.old) }
+        ensures told { IfOk result (λ happened. told_value happened
+            ≡ telling self.old.keys (keyed self.old.keys) (world_of self.old) (EventValue.Ask m octets.now)) }
+        ensures steps { OnOk result (self.new.steps ≡ self.old.steps + 1) }
+        ensures keys { self.new.keys ≡ self.old.keys }
+        ensures err { OnErr result (self.new ≡ self.old) }
+    {
+        let happened = asked(self.alloc, m, &self.members[m as usize], octets)?;
+        self.count();
+        Ok(happened)
+    }
+
+    /// A member hears octets as a sync Interest, as it hears one that was sent.
+    ///
+    /// They are foreign where they pass, and nobody of the group sent a sync Interest of that signer and vector.
+    pub(crate) fn hear<D: Draws>(
+        &mut self,
+        m: u32,
+        octets: &[u8],
+        draws: &D,
+    ) -> Result<Happened, StepFault>
+        requires there { m < length self.old.members }
+        requires few { self.old.steps < 100000 }
+        ensures taken { OnOk result (refusal (drawing (D.draw draws.now)) (world_of self.old)
+            (group_event self.old.keys (EventValue.Hear m octets.now)) ≡ None) }
+        ensures world { OnOk result (world_of self.new ≡ after_event (drawing (D.draw draws.now)) (world_of self.old)
+            (group_event self.old.keys (EventValue.Hear m octets.now))) }
+        ensures told { IfOk result (λ happened. told_value happened ≡ telling self.old.keys
+            (drawing (D.draw draws.now)) (world_of self.old) (EventValue.Hear m octets.now)) }
+        ensures steps { OnOk result (self.new.steps ≡ self.old.steps + 1) }
+        ensures keys { self.new.keys ≡ self.old.keys }
+        ensures refused { IfErr result (IsFaultOf (refusal (drawing (D.draw draws.now)) (world_of self.old)
+            (group_event self.old.keys (EventValue.Hear m octets.now)))) }
+        ensures err { OnErr result (self.new ≡ self.old) }
+    {
+        let (signer, vector) = match told_by(
+            self.alloc,
+            &self.group,
+            &self.members[m as usize],
+            m,
+            octets,
+        ) {
+            Ok(told) => told,
+            Err(HearRefusal::NoMemory) => return Err(StepFault::NoMemory),
+            Err(HearRefusal::Sync(refusal)) => {
+                self.count();
+                return Ok(Happened::HearRefused {
+                    m,
+                    refusal: HearRefusal::Sync(refusal),
+                });
+            }
+            Err(HearRefusal::OwnNumberAhead { own, told }) => {
+                self.count();
+                return Ok(Happened::HearRefused {
+                    m,
+                    refusal: HearRefusal::OwnNumberAhead { own, told },
+                });
+            }
+        };
+        let member = &mut self.members[m as usize];
+        let draw = draws.draw(m, member.next_draw());
+        let mode = match hear_sent(
+            self.alloc,
+            &self.sent,
+            member,
+            signer,
+            &vector,
+            self.moment,
+            draw,
+        ) {
+            Ok(mode) => mode,
+            Err(fault) => return Err(fault),
+        };
+        self.delivered += 1;
+        self.steps += 1;
+        Ok(heard(m, mode))
+    }
+}
+
+// What is told of an answer.
+fn answered(m: u32, f: u64, kept: bool) -> Happened
+    ensures { told_value result ≡ answer_told m f kept }
+{
+    if kept {
+        Happened::AnswerKept { m, f }
+    } else {
+        Happened::AnswerNone { m, f }
+    }
+}
+
+// How many parts come to be held, where so many octets are kept, or none.
+fn parts_of(kept: Option<u64>) -> u64
+    ensures { result ≡ parts_kept kept }
+{
+    match kept {
+        Some(_) => 1,
+        None => 0,
+    }
+}
+
+// How many octets are kept, if they are.
+fn kept_octets(fed: Fed, octets: &[u8]) -> Option<u64>
+    ensures { result ≡ kept_of octets.now fed }
+{
+    match fed {
+        Fed::Kept => Some(octets.len() as u64),
+        Fed::Refused { .. } => None,
+    }
+}
+
+// What is told of octets for a claim.
+fn fed_happened(m: u32, f: u64, fed: Fed) -> Happened
+    ensures { told_value result ≡ fed_reply m f fed }
+{
+    match fed {
+        Fed::Kept => Happened::FeedKept { m, f },
+        Fed::Refused { refusal } => Happened::FeedRefused { m, f, refusal },
+    }
+}
+
+// What is told of what a member answers to an Interest.
+fn asked(alloc: Global, m: u32, member: &Member, octets: &[u8]) -> Result<Happened, AllocError>
+    ensures { IfOk result (λ happened. told_value happened ≡ ask_told m (served octets.now member.now.store)) }
+{
+    match member.serve(octets) {
+        Ok(Some(packet)) => Ok(Happened::AskFound {
+            m,
+            octets: packet.to_vec(alloc)?,
+        }),
+        Ok(None) => Ok(Happened::AskNone { m }),
+        Err(refusal) => Ok(Happened::AskRefused { m, refusal }),
+    }
+}
+
+// What is told of a vector that a member heard, by its mode afterwards.
+fn heard(m: u32, mode: Mode) -> Happened
+    ensures { told_value result ≡ mode_told m mode }
+{
+    match mode {
+        Mode::Steady => Happened::HearSteady { m },
+        Mode::Suppressed => Happened::HearSuppressed { m },
+    }
+}
