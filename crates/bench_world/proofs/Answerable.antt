@@ -1,7 +1,6 @@
 -- Who holds a part gives its packet to one that asks for it, where segments' packets are told by their names and digests.
-use Rattle.std.proofs.Common.{◌≡◌, ◌≢◌, ◌⊎◌, inl, inr, ℕ, zero, suc, ◌+◌, ◌-◌, ◌^◌, ◌<◌, ◌≤◌, ◌==◌, Bool, true, false, cond, List, [], ◌∷◌, ◌++◌, length, length-append, get_or, Option, Some, None, option_map, refl, sym, ap, ◌∙◌, subst, arith}
-use Rattle.std.specs.Prelude.{slice_get, unwrap_or, is_some, IfSome, IsOk, Result, Ok, Err}
-use Rattle.std.specs.Str.{bytes_eq}
+use Rattle.std.proofs.Common.{◌≡◌, ◌≢◌, ◌⊎◌, inl, inr, ℕ, ◌-◌, ◌^◌, ◌<◌, ◌==◌, Bool, true, false, cond, List, [], ◌∷◌, ◌++◌, length, length-append, get_or, Option, Some, None, option_map, refl, sym, ap, ◌∙◌, subst, arith}
+use Rattle.std.specs.Prelude.{unwrap_or, is_some, IfSome, Result, Ok}
 use Rattle.std.proofs.lemmas.Bool.{true≢false, cases_eq, cases_lt, eq-eqb, eqb-true}
 use Rattle.std.proofs.lemmas.List.{length-map}
 use Rattle.std.proofs.lemmas.Map.Keys.{apart_from_distinct}
@@ -30,9 +29,8 @@ use Rattle.repo_object.proofs.Asking.{record_interest, segment_interest}
 use Rattle.repo_object.proofs.Publications.{some_is, SegmentPacket, listing_within_limits, record_read, record_again, segment_is, segment_read}
 use Rattle.repo_object.proofs.Telling.{records_differ, records_are_no_segments}
 use Rattle.repo_store.specs.Served.{satisfies, first_served, served_entry, served, served_part}
-use Rattle.repo_store.specs.Answers.{IsAnswer}
 use Rattle.repo_store.proofs.LawLemmas.{satisfies-Decides, served_least, served_of_part, has_value}
-use Rattle.group_model.specs.Publications.{Logs, no_object, object_at, last_of}
+use Rattle.group_model.specs.Publications.{Logs, no_object, object_at}
 use Rattle.group_model.specs.Sound.{IsPublished, IsPublishedPart}
 use Rattle.group_model.specs.Member.{Member, member_holds, member_hides, plan_of}
 use Rattle.group_model.specs.Events.{Came}
@@ -41,11 +39,11 @@ use Rattle.group_model.specs.World.{member}
 use Rattle.group_model.specs.Steps.{claim_at, came_from, passes_checks}
 use Rattle.group_model.specs.Refusals.{if_idle_or_foreign}
 use Rattle.group_model.proofs.PublicLaws.{publisher_holds}
-use Rattle.repo_member.specs.Groups.{GroupKeys, IsPlainNodeName, node_at, key_at, publisher_at}
+use Rattle.repo_member.specs.Groups.{GroupKeys, IsPlainNodeName, node_at, publisher_at}
 use Rattle.repo_member.specs.Records.{Packet}
 use Rattle.repo_member.specs.Alone.{Alone, alone_plan}
 use Rattle.repo_member.specs.InGroup.{in_group, AreLogs, true_packet}
-use Rattle.repo_member.specs.TrueMembers.{IsTrueMember, true_want, true_packets}
+use Rattle.repo_member.specs.TrueMembers.{IsTrueMember, true_want}
 use Rattle.repo_member.proofs.PublicLaws.{stores_those}
 use Rattle.bench_world.specs.Worlds.{GroupState, IsTrueState, alone_at, in_groups, logs_around, world_of}
 use Rattle.bench_world.specs.Serving.{judged, found, came_of, keyed}

@@ -1,5 +1,5 @@
 -- What comes of a claim of a member among others, which is taken out and put back.
-use Rattle.std.proofs.Common.{◌≡◌, ◌≢◌, ◌⊎◌, inl, inr, ℕ, ◌<◌, List, [], length, get_or, set, Option, Some, None, option_map, refl, sym, ap, ◌∙◌, subst, arith}
+use Rattle.std.proofs.Common.{◌≡◌, ◌≢◌, ◌⊎◌, inl, inr, ℕ, ◌<◌, List, length, set, Option, Some, None, option_map, sym, ap, ◌∙◌, subst, arith}
 use Rattle.std.specs.Prelude.{IfOk, IfErr, OnOk, OnErr, Result, Ok, Err}
 use Rattle.std.specs.List.{remove, insert}
 use Rattle.repo_plan.specs.declared.part.Part.{Part}
@@ -20,7 +20,7 @@ use Rattle.repo_member.specs.TrueMembers.{IsTrueMember, true_want, true_packets}
 use Rattle.repo_member.proofs.PublicLaws.{stores_those}
 use Rattle.bench_world.specs.declared.event.StepFault.{StepFault}
 use Rattle.bench_world.specs.declared.answering.Fed.{Fed}
-use Rattle.bench_world.specs.Worlds.{nobody, alone_at, AreTrueMembers, AreNumbered}
+use Rattle.bench_world.specs.Worlds.{alone_at, AreTrueMembers, AreNumbered}
 use Rattle.bench_world.specs.Serving.{octets_as, judged, found}
 use Rattle.bench_world.specs.Answering.{answered, claim_in, came_in, came_for, fed_as, kept_of, after_claim, after_claimed}
 use Rattle.bench_world.proofs.Coming.{claim_published, claim_of_another, publisher_there}

@@ -1,6 +1,6 @@
 -- Packets that come for what fetchers claim.
-use Rattle.std.proofs.Common.{◌≡◌, ◌≢◌, ◌⊎◌, inl, inr, ℕ, ◌+◌, ◌-◌, ◌≤◌, ◌<◌, Bool, true, false, cond, ◌==◌, List, [], length, get_or, set, Option, Some, None, option_map, refl, sym, ap, ◌∙◌, subst, arith}
-use Rattle.std.specs.Prelude.{unwrap_or, is_ok, IsOk, IsSomeAnd, IsErrAnd, IfSome, IfErr, Result, Ok, Err}
+use Rattle.std.proofs.Common.{◌≡◌, ◌≢◌, ◌⊎◌, inl, inr, ℕ, ◌-◌, ◌≤◌, ◌<◌, Bool, true, false, cond, ◌==◌, List, [], length, get_or, Option, Some, None, refl, sym, ap, ◌∙◌, subst, arith}
+use Rattle.std.specs.Prelude.{unwrap_or, is_ok, IsOk, IsSomeAnd, IfSome, Result, Ok, Err}
 use Rattle.std.specs.Str.{bytes_eq}
 use Rattle.std.proofs.lemmas.Bool.{true≢false}
 use Rattle.std.proofs.lemmas.Bool.{cases_lt}
@@ -10,14 +10,14 @@ use Rattle.ndn_name.specs.Names.{Component, encoding}
 use Rattle.ndn_data.specs.Data.{Data}
 use Rattle.ndn_sign.specs.Ring.{Pair}
 use Rattle.repo_plan.specs.declared.part.Part.{Part}
-use Rattle.repo_plan.specs.SortedList.{keys, value_of, contains}
+use Rattle.repo_plan.specs.SortedList.{value_of}
 use Rattle.repo_plan.specs.Parts as parts
 use Rattle.repo_plan.specs.Parts.{part_cmp, pair_of, part_of}
 use Rattle.repo_plan.specs.Plan.{Holdings, claim_of, is_wanted}
 use Rattle.repo_object.specs.declared.part_refusal.PartRefusal.{PartRefusal}
 use Rattle.repo_object.specs.Wants.{WantedPart}
 use Rattle.repo_object.specs.Verdict.{ring_verdict, CheckedPart, checked_part}
-use Rattle.group_model.specs.Publications.{Logs, count, all_parts, object_at}
+use Rattle.group_model.specs.Publications.{Logs, count, object_at}
 use Rattle.group_model.specs.Member.{member_holds, member_hides}
 use Rattle.group_model.specs.Sound.{IsPublished, IsPublishedPart}
 use Rattle.group_model.specs.Wanted.{IsWantedPart}
@@ -31,15 +31,15 @@ use Rattle.repo_member.specs.Groups.{GroupKeys, HaveKeys, node_at, publisher_at}
 use Rattle.repo_member.specs.Alone.{Alone, alone_plan, want_of, alone_accepts}
 use Rattle.repo_member.specs.InGroup.{in_group, AreLogs, true_packet}
 use Rattle.repo_member.specs.TrueMembers.{IsTrueMember, true_want}
-use Rattle.repo_member.proofs.PublicLaws.{true_stores, plans_alike, wants_published, wants_are_true, packets_are_there, packets_pass, logs_those}
+use Rattle.repo_member.proofs.PublicLaws.{true_stores, plans_alike, wants_published, wants_are_true, packets_are_there, packets_pass}
 use Rattle.repo_object.specs.Verdict.{publisher_key}
 use Rattle.repo_member.specs.Outcomes.{IsCheckedFor}
 use Rattle.bench_world.specs.declared.event.StepFault.{StepFault}
 use Rattle.bench_world.specs.declared.answering.Fed.{Fed}
 use Rattle.bench_world.specs.declared.answering.Fed.TheVariants.{Kept}
 use Rattle.bench_world.specs.Sizes.{size_of}
-use Rattle.bench_world.specs.Serving.{octets_as, judged}
-use Rattle.bench_world.specs.Answering.{answered, fed_by, fed_as, kept_of, after_claim}
+use Rattle.bench_world.specs.Serving.{octets_as}
+use Rattle.bench_world.specs.Answering.{answered, fed_by, fed_as, after_claim}
 
 -- There are as many keys as members.
 ring_length : (g : GroupKeys) → HaveKeys g.members → length g.members.ring ≡ length g.members.names

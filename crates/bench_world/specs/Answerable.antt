@@ -6,7 +6,7 @@ use Rattle.repo_object.specs.Published.{Published, Clear}
 use Rattle.group_model.specs.Publications.{Logs, object_at}
 use Rattle.group_model.specs.Member.{member_holds, member_hides}
 use Rattle.group_model.specs.Events as group
-use Rattle.group_model.specs.World.{World, member, logs}
+use Rattle.group_model.specs.World.{member, logs}
 use Rattle.group_model.specs.Steps.{claim_at}
 use Rattle.group_model.specs.Refusals.{refusal}
 use Rattle.repo_member.specs.Groups.{GroupKeys, publisher_at}

@@ -1,5 +1,5 @@
 -- What comes to a fetcher for what it claims, and what it makes of its member.
-use Rattle.std.specs.Prelude.{ℕ, List, [], length, Option, Some, None, option_map, unwrap_or, Result, Ok, Err}
+use Rattle.std.specs.Prelude.{ℕ, List, [], length, Option, Some, None, unwrap_or, Result, Ok, Err}
 use Rattle.ndn_data.specs.Data.{Data}
 use Rattle.repo_plan.specs.declared.part.Part.{Part}
 use Rattle.repo_plan.specs.SortedList.{keys}
