@@ -4,6 +4,19 @@ pub mod Entries
 pub mod Settles
 pub mod Additions
 pub mod Publishes
+pub mod SetSums
+pub mod NextParts
+pub mod Attempts
+pub mod Brought
+pub mod OneByOne
+pub mod KnownByAll
+pub mod Phases
+pub mod Gathers
+pub mod Gathered
+pub mod PutBack
+pub mod GatheredAll
+pub mod Learnt
+pub mod GroupFetches
 mod States
 mod Openings
 mod Claims

@@ -7,6 +7,10 @@ pub mod Kept
 pub mod Truth
 pub mod Sizes
 pub mod Serving
+pub mod Lending
+pub mod Gathering
+pub mod Fetching
+pub mod Settling
 pub mod Readings
 pub mod EventValues
 pub mod Steps

@@ -7,14 +7,20 @@
 
 mod answering;
 mod event;
+mod exchange;
+mod fetch;
+mod gather;
 mod hearing;
 mod holding;
 mod laws;
+mod lending;
 mod log;
 mod numbers;
 mod others;
 mod plain_entry;
 mod plain_world;
+mod settling;
+mod telling;
 mod world;
 
 pub use event::{Event, Happened, StepFault};

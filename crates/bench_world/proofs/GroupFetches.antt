@@ -1,0 +1,207 @@
+-- What a member fetches is what comes to it in the group's fetch.
+use Rattle.std.proofs.Common.{◌≡◌, inl, inr, ℕ, suc, zero, ◌+◌, ◌<◌, Bool, true, false, cond, ◌||◌, List, [], ◌∷◌, map, length, get_or, set, take, Option, Some, None, refl, sym, ap, ◌∙◌, subst, arith}
+use Rattle.std.specs.Prelude.{is_some, unwrap_or, find, filter, sum, sum_by, IfSome}
+use Rattle.std.specs.List.{All}
+use Rattle.std.proofs.lemmas.Bool.{cases_eq}
+use Rattle.std.proofs.lemmas.List.{get_or-set_same, get_or-set_other, length-set, length-map, map-set}
+use Rattle.std.proofs.lemmas.List.Sums.{sum_by-cons}
+use Rattle.repo_plan.specs.declared.part.Part.{Part}
+use Rattle.repo_plan.specs.SortedList.{value_of}
+use Rattle.repo_plan.specs.Parts.{part_cmp, numbers_from}
+use Rattle.repo_plan.specs.Plan.{unclaimed, attempts_of}
+use Rattle.repo_plan.proofs.Sets.{In, from_map}
+use Rattle.repo_plan.proofs.Scans.{behind_none}
+use Rattle.group_model.specs.Member.{Member}
+use Rattle.group_model.specs.Events.{Event}
+use Rattle.group_model.specs.World.{World, Outside, no_member, member, logs, someone_holds}
+use Rattle.group_model.specs.Steps.{others_of, planned_parts, attempt, fetched_parts, attempts_for, attempts_made, fetches, after_fetch, after_event}
+use Rattle.repo_member.specs.Groups.{GroupKeys}
+use Rattle.repo_member.specs.Alone.{Alone, Fetched, alone_plan, alone_takes}
+use Rattle.repo_member.specs.InGroup.{in_group, AreLogs, asked_for, that_came, AreTries}
+use Rattle.repo_member.specs.InEvents.{IsMemberOf, IsTrueIn, IsOutcomeIn}
+use Rattle.repo_member.specs.TrueMembers.{IsTrueMember}
+use Rattle.repo_member.specs.TrueChanges.{IsTrueArrival}
+use Rattle.repo_member.proofs.PublicLaws.{open_parts_alike, fetch_is_event, true_stores, true_is_alone, takes_true}
+use Rattle.bench_world.specs.Lending.{lent, lends, comes}
+use Rattle.bench_world.specs.Gathering.{next_parts}
+use Rattle.bench_world.specs.Fetching.{attempt_at, fetched_one, fetched_all}
+use Rattle.bench_world.specs.Serving.{outside}
+use Rattle.bench_world.specs.Truth.{stores}
+use Rattle.bench_world.specs.Worlds.{nobody, alone_at, others_than, in_groups, AreTrueMembers, AreNumbered}
+use Rattle.bench_world.proofs.Brought.{lends_true}
+use Rattle.bench_world.proofs.Gathered.{lends_held}
+use Rattle.bench_world.proofs.GatheredAll.{member_of}
+use Rattle.bench_world.proofs.NextParts.{all_from_in, next_unclaimed}
+use Rattle.bench_world.proofs.PutBack.{others_true}
+
+module _ (passes : Part → ℕ → Bool) (others : List Alone) (tries : ℕ) (a : Alone) where
+  asked_same : (ts : List Part) → asked_for (fetched_all passes others tries a ts) ≡ ts
+  asked_same [] = refl
+  asked_same (t ∷ ts) = ap (λ (us : List Part). t ∷ us) (asked_same ts)
+
+  came_some : (t : Part) → is_some (fetched_one passes others tries a t).packet ≡ is_some (attempt_at passes others tries a t)
+  came_some t = go (lent others t) (find (λ n. passes t (attempts_of (alone_plan a) t + n)) (numbers_from 1 tries)) where
+    go : (l : Option (List ℕ)) (e : Option ℕ) → is_some (cond (is_some (cond (is_some l) e None)) l None) ≡ is_some (cond (is_some l) e None)
+    go None e = refl
+    go (Some o) None = refl
+    go (Some o) (Some n) = refl
+
+  came_same : (ts : List Part) → that_came (fetched_all passes others tries a ts) ≡ filter (λ t. is_some (attempt_at passes others tries a t)) ts
+  came_same [] = refl
+  came_same (t ∷ ts) = go (is_some (fetched_one passes others tries a t).packet) (is_some (attempt_at passes others tries a t)) (came_some t) (came_same ts) where
+    go : (b c : Bool) → b ≡ c → that_came (fetched_all passes others tries a ts) ≡ filter (λ u. is_some (attempt_at passes others tries a u)) ts
+        → asked_for (cond b (fetched_one passes others tries a t ∷ filter (λ (x : Fetched). is_some x.packet) (fetched_all passes others tries a ts)) (filter (λ (x : Fetched). is_some x.packet) (fetched_all passes others tries a ts)))
+        ≡ cond c (t ∷ filter (λ u. is_some (attempt_at passes others tries a u)) ts) (filter (λ u. is_some (attempt_at passes others tries a u)) ts)
+    go b c e h = subst (λ (x : Bool). asked_for (cond b (fetched_one passes others tries a t ∷ filter (λ (y : Fetched). is_some y.packet) (fetched_all passes others tries a ts)) (filter (λ (y : Fetched). is_some y.packet) (fetched_all passes others tries a ts)))
+        ≡ cond x (t ∷ filter (λ u. is_some (attempt_at passes others tries a u)) ts) (filter (λ u. is_some (attempt_at passes others tries a u)) ts)) e (same b h)
+      where
+        same : (b : Bool) → that_came (fetched_all passes others tries a ts) ≡ filter (λ u. is_some (attempt_at passes others tries a u)) ts
+            → asked_for (cond b (fetched_one passes others tries a t ∷ filter (λ (x : Fetched). is_some x.packet) (fetched_all passes others tries a ts)) (filter (λ (x : Fetched). is_some x.packet) (fetched_all passes others tries a ts)))
+            ≡ cond b (t ∷ filter (λ u. is_some (attempt_at passes others tries a u)) ts) (filter (λ u. is_some (attempt_at passes others tries a u)) ts)
+        same true h = ap (λ (us : List Part). t ∷ us) h
+        same false h = h
+
+-- ---- all but one member
+
+-- Someone holds a part among all but one as where that one is nobody.
+pub removed : (members : List Alone) (j : ℕ) (t : Part) → someone_holds (in_groups (others_than j members)) t ≡ someone_holds (set (in_groups members) j no_member) t
+removed [] zero t = refl
+removed [] (suc j) t = refl
+removed (a ∷ members) zero t = refl
+removed (a ∷ members) (suc j) t = ap (λ (b : Bool). stores a t || b) (removed members j t)
+
+filter_same : {A : Type 0} (p q : A → Bool) (xs : List A) → ((x : A) → p x ≡ q x) → filter p xs ≡ filter q xs
+filter_same p q [] e = refl
+filter_same p q (x ∷ xs) e = (λ i. cond (e x i) (x ∷ filter_same p q xs e i) (filter_same p q xs e i))
+
+-- Sums of attempts that were counted part by part.
+tried_sum : (f : Part → ℕ) (xs : List Fetched) → All (λ x. x.attempts ≡ f x.part) xs → sum (map (λ (x : Fetched). x.attempts) xs) ≡ sum_by f (asked_for xs)
+tried_sum f [] all = refl
+tried_sum f (x ∷ xs) all =
+    let head : x.attempts ≡ f x.part = all 0 x (omega arith) in
+    let rest = tried_sum f xs (λ k d l. all (suc k) d (omega (arith, l))) in
+    let one = sum_by-cons (λ (n : ℕ). n) x.attempts (map (λ (y : Fetched). y.attempts) xs) in
+    let two = sum_by-cons f x.part (asked_for xs) in
+    one ∙ (λ i. head i + rest i) ∙ sym two
+
+module _ (passes : ℕ → ℕ → ℕ → ℕ → ℕ → ℕ → Bool) (draw : ℕ → ℕ → ℕ) (g : GroupKeys) (w : World) (are : AreLogs g (logs w)) (members : List Alone) (begun : in_groups members ≡ w.members) (numbers : AreNumbered members) (truly : AreTrueMembers g (logs w) members)
+    (j : ℕ) (there : j < length members) (tries loss : ℕ) where
+  abbrev pub out : Outside
+  out = outside g draw passes
+
+  abbrev pub way : Part → ℕ → Bool
+  way = comes passes j (Some loss)
+
+  abbrev pub others : List Alone
+  others = others_than j members
+
+  abbrev pub here : Alone
+  here = alone_at members j
+
+  abbrev pub fetched : List Fetched
+  fetched = fetched_all (comes passes j (Some loss)) (others_than j members) tries (alone_at members j) (next_parts None (alone_at members j))
+
+  member_is : member w j ≡ in_group (alone_at members j)
+  member_is = ap (λ (ms : List Member). get_or ms j no_member) (sym begun) ∙ member_of members j there
+
+  is_member : IsMemberOf w j (alone_at members j)
+  is_member = record { there = let e : length w.members ≡ length members = sym (ap length begun) ∙ length-map members in_group in omega (arith, there, e); number = numbers j there; same = member_is }
+
+  is_true : IsTrueIn g w (alone_at members j)
+  is_true = record { published = are; stores = true_stores g (logs w) (alone_at members j) (truly j there) }
+
+  lends_same : (t : Part) → lends (others_than j members) t ≡ someone_holds (others_of w j) t
+  lends_same t = lends_held (others_than j members) t ∙ removed members j t ∙ ap (λ (ms : List Member). someone_holds (set ms j no_member) t) begun
+
+  attempt_same : (t : Part) → attempt_at (comes passes j (Some loss)) (others_than j members) tries (alone_at members j) t ≡ attempt (outside g draw passes) w j tries loss t
+  attempt_same t =
+      let tried : (alone_at members j).attempts ≡ (member w j).attempts = ap (λ (m : Member). m.attempts) (sym member_is) in
+      ap (λ (b : Bool). cond b (find (λ n. passes j t.publisher t.seq t.part (unwrap_or (value_of part_cmp (alone_at members j).attempts t) 0 + n) loss) (numbers_from 1 tries)) None) (lends_same t)
+      ∙ (λ i. cond (someone_holds (others_of w j) t) (find (λ n. passes j t.publisher t.seq t.part (unwrap_or (value_of part_cmp (tried i) t) 0 + n) loss) (numbers_from 1 tries)) None)
+
+  planned_same : next_parts None (alone_at members j) ≡ planned_parts w j
+  planned_same = ap (take 4096) (behind_none (unclaimed (alone_plan (alone_at members j))) ∙ sym (open_parts_alike w j g (alone_at members j) is_member is_true))
+
+  pub planned_are : length (next_parts None (alone_at members j)) ≡ length (planned_parts w j)
+  planned_are = ap length planned_same
+
+  pub came_are : that_came (fetched_all (comes passes j (Some loss)) (others_than j members) tries (alone_at members j) (next_parts None (alone_at members j))) ≡ fetched_parts (outside g draw passes) w j tries loss
+  came_are =
+      came_same (comes passes j (Some loss)) (others_than j members) tries (alone_at members j) (next_parts None (alone_at members j))
+      ∙ filter_same (λ t. is_some (attempt_at (comes passes j (Some loss)) (others_than j members) tries (alone_at members j) t)) (λ t. is_some (attempt (outside g draw passes) w j tries loss t)) (next_parts None (alone_at members j)) (λ t. ap is_some (attempt_same t))
+      ∙ ap (filter (λ t. is_some (attempt (outside g draw passes) w j tries loss t))) planned_same
+
+  tried_are : AreTries (attempts_for (outside g draw passes) w j tries loss) (fetched_all (comes passes j (Some loss)) (others_than j members) tries (alone_at members j) (next_parts None (alone_at members j)))
+  tried_are = all_from_in (λ (x : Fetched). x.attempts ≡ attempts_for (outside g draw passes) w j tries loss x.part) (fetched_all (comes passes j (Some loss)) (others_than j members) tries (alone_at members j) (next_parts None (alone_at members j))) (λ x i.
+      let r = from_map (fetched_one (comes passes j (Some loss)) (others_than j members) tries (alone_at members j)) (next_parts None (alone_at members j)) x i in
+      subst (λ (y : Fetched). y.attempts ≡ attempts_for (outside g draw passes) w j tries loss y.part) (sym r.2) (ap (λ (o : Option ℕ). unwrap_or o tries) (attempt_same r.0)))
+
+  outcome : IsOutcomeIn (outside g draw passes) w j tries loss (fetched_all (comes passes j (Some loss)) (others_than j members) tries (alone_at members j) (next_parts None (alone_at members j)))
+  outcome = record {
+    asked = asked_same (comes passes j (Some loss)) (others_than j members) tries (alone_at members j) (next_parts None (alone_at members j)) ∙ planned_same;
+    came = came_are;
+    tried = tried_are;
+  }
+
+  pub attempts_are : sum (map (λ (x : Fetched). x.attempts) (fetched_all (comes passes j (Some loss)) (others_than j members) tries (alone_at members j) (next_parts None (alone_at members j)))) ≡ attempts_made (outside g draw passes) w j tries loss
+  attempts_are =
+      tried_sum (attempts_for (outside g draw passes) w j tries loss) (fetched_all (comes passes j (Some loss)) (others_than j members) tries (alone_at members j) (next_parts None (alone_at members j))) tried_are
+      ∙ ap (sum_by (attempts_for (outside g draw passes) w j tries loss)) outcome.asked
+
+  -- The member afterwards is what the event makes of it.
+  fetched_in : member (after_event (outside g draw passes) w (Event.Fetch j tries loss)) j ≡ in_group (alone_takes (fetched_all (comes passes j (Some loss)) (others_than j members) tries (alone_at members j) (next_parts None (alone_at members j))) (alone_at members j))
+  fetched_in = fetch_is_event (outside g draw passes) w j tries loss (fetched_all (comes passes j (Some loss)) (others_than j members) tries (alone_at members j) (next_parts None (alone_at members j))) (alone_at members j) is_member (true_is_alone g (logs w) (alone_at members j) (truly j there)).in_order outcome
+
+  fetched_member : in_group (alone_takes (fetched_all (comes passes j (Some loss)) (others_than j members) tries (alone_at members j) (next_parts None (alone_at members j))) (alone_at members j)) ≡ fetches (outside g draw passes) w j tries loss (member w j)
+  fetched_member = sym fetched_in ∙ get_or-set_same w.members j (fetches (outside g draw passes) w j tries loss (member w j)) no_member is_member.there
+
+  from_packet : (b : Bool) (o : Option (List ℕ)) (octets : List ℕ) → cond b o None ≡ Some octets → o ≡ Some octets
+  from_packet true o octets e = e
+  from_packet false o octets e = absurd cc
+
+  fetched_truly : IsTrueMember g (logs w) (alone_takes (fetched_all (comes passes j (Some loss)) (others_than j members) tries (alone_at members j) (next_parts None (alone_at members j))) (alone_at members j))
+  fetched_truly =
+      takes_true g (logs w) (fetched_all (comes passes j (Some loss)) (others_than j members) tries (alone_at members j) (next_parts None (alone_at members j))) (alone_at members j) are
+      (all_from_in (λ (x : Fetched). IfSome x.packet (IsTrueArrival g (logs w) (alone_at members j) x.part)) (fetched_all (comes passes j (Some loss)) (others_than j members) tries (alone_at members j) (next_parts None (alone_at members j))) (λ x i. one x i x.packet refl)) (truly j there) where
+        one : (x : Fetched) → In x (fetched_all (comes passes j (Some loss)) (others_than j members) tries (alone_at members j) (next_parts None (alone_at members j))) → (o : Option (List ℕ)) → x.packet ≡ o → IfSome o (IsTrueArrival g (logs w) (alone_at members j) x.part)
+        one x i None e = tt
+        one x i (Some octets) e =
+            let r = from_map (fetched_one (comes passes j (Some loss)) (others_than j members) tries (alone_at members j)) (next_parts None (alone_at members j)) x i in
+            subst (λ (t : Part). IsTrueArrival g (logs w) (alone_at members j) t octets) (sym (ap (λ (y : Fetched). y.part) r.2))
+            (record {
+              unclaimed = next_unclaimed (alone_at members j) None r.0 r.1;
+              packet = lends_true g (logs w) (others_than j members) (others_true g (logs w) members (others_than j members) j truly refl) r.0 octets
+                  (from_packet (is_some (attempt_at (comes passes j (Some loss)) (others_than j members) tries (alone_at members j) r.0)) (lent (others_than j members) r.0) octets (sym (ap (λ (y : Fetched). y.packet) r.2) ∙ e));
+            })
+
+  module _ (new : List Alone) (new_is : new ≡ set members j (alone_takes (fetched_all (comes passes j (Some loss)) (others_than j members) tries (alone_at members j) (next_parts None (alone_at members j))) (alone_at members j))) where
+    pub members_are : in_groups new ≡ (after_fetch (outside g draw passes) w j tries loss).members
+    members_are =
+        ap in_groups new_is
+        ∙ map-set in_group members j (alone_takes (fetched_all (comes passes j (Some loss)) (others_than j members) tries (alone_at members j) (next_parts None (alone_at members j))) (alone_at members j))
+        ∙ (λ i. set (begun i) j (fetched_member i))
+
+    new_len : length new ≡ length members
+    new_len = ap length new_is ∙ length-set members j _
+
+    taker_number : (xs : List Fetched) (a : Alone) → (alone_takes xs a).number ≡ a.number
+    taker_number [] a = refl
+    taker_number (x ∷ xs) a = taker_number xs _
+
+    at_here : alone_at new j ≡ alone_takes (fetched_all (comes passes j (Some loss)) (others_than j members) tries (alone_at members j) (next_parts None (alone_at members j))) (alone_at members j)
+    at_here = ap (λ (ms : List Alone). alone_at ms j) new_is ∙ get_or-set_same members j _ nobody there
+
+    elsewhere : (i : ℕ) → (i ≡ j → ⊥) → alone_at new i ≡ alone_at members i
+    elsewhere i other = ap (λ (ms : List Alone). alone_at ms i) new_is ∙ get_or-set_other members j i _ nobody other
+
+    pub fetched_all_truly : AreTrueMembers g (logs w) new
+    fetched_all_truly i l = elim (cases_eq i j) [
+      | inl same ↦ subst (λ (k : ℕ). IsTrueMember g (logs w) (alone_at new k)) (sym same) (subst (IsTrueMember g (logs w)) (sym at_here) fetched_truly)
+      | inr other ↦ subst (IsTrueMember g (logs w)) (sym (elsewhere i other)) (truly i (omega (arith, l, new_len)))
+    ]
+
+    pub fetched_numbers : AreNumbered new
+    fetched_numbers i l = elim (cases_eq i j) [
+      | inl same ↦ ap (λ (k : ℕ). (alone_at new k).number) same ∙ ap (λ (a : Alone). a.number) at_here ∙ taker_number (fetched_all (comes passes j (Some loss)) (others_than j members) tries (alone_at members j) (next_parts None (alone_at members j))) (alone_at members j) ∙ numbers j there ∙ sym same
+      | inr other ↦ ap (λ (a : Alone). a.number) (elsewhere i other) ∙ numbers i (omega (arith, l, new_len))
+    ]

@@ -1,0 +1,55 @@
+use Rattle.std.proofs.Common.{arith}
+use Rattle.bench_world.proofs.Gathers.{few_held, few_octets, tried_still}
+use Rattle.bench_world.proofs.gather.gather.Goals as goal
+
+pub gain_round-requires : goal.gain_round-requires
+gain_round-requires g c κs within = (
+  within.0,
+  (
+    within.1,
+    (
+      c.requires.1.1.0,
+      (
+        c.requires.1.1.1.0,
+        (
+          c.requires.1.1.1.1.0,
+          (
+            c.requires.1.1.1.1.1.0,
+            (
+              c.requires.1.1.1.1.1.1.0,
+              (
+                c.requires.1.1.1.1.1.1.1.0,
+                (
+                  c.rounds.invariant.gains.truly,
+                  tried_still c.args.g.now g.logs c.args.link.now.others.now c.args.member.now c.rounds.member c.rounds.invariant.gains c.requires.1.1.1.1.1.1.1.1.1,
+                ),
+              ),
+            ),
+          ),
+        ),
+      ),
+    ),
+  ),
+)
+
+pub overflow_add-kept : goal.overflow_add-kept
+overflow_add-kept g c =
+    let most = few_held c.args.g.now g.logs c.requires.1.1.1.1.1.0.are c.gain_round.new.member c.gain_round.ensures.gains.truly in
+    let few = c.requires.1.1.1.1.1.0.few in
+    let one = c.in_ok-came.ensures.parts in
+    let before = c.rounds.invariant.parts in
+    omega (arith, most, few, one, before)
+
+pub overflow_add-kept-in-rounds : goal.overflow_add-kept-in-rounds
+overflow_add-kept-in-rounds g c =
+    let most = few_octets c.args.g.now g.logs c.requires.1.1.1.1.1.0.are c.gain_round.new.member c.gain_round.ensures.gains.truly in
+    let few = c.requires.1.1.1.1.1.0.few in
+    let one = c.in_ok-came.ensures.octets in
+    let before = c.rounds.invariant.octets in
+    omega (arith, most, few, one, before)
+
+pub rounds-smaller : goal.rounds-smaller
+rounds-smaller g c =
+    let most = few_held c.args.g.now g.logs c.requires.1.1.1.1.1.0.are c.gain_round.new.member c.gain_round.ensures.gains.truly in
+    let one = c.in_ok-came.ensures.parts in
+    omega (arith, most, one, c.if-came-eq0.false)

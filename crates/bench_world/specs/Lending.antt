@@ -1,0 +1,41 @@
+-- Packets that members lend to one that asks for parts.
+use Rattle.std.specs.Prelude.{ℕ, Bool, true, false, List, [], ◌∷◌, Option, Some, None, is_some, slice_get}
+use Rattle.repo_plan.specs.declared.part.Part.{Part}
+use Rattle.repo_plan.specs.SortedList.{value_of}
+use Rattle.repo_plan.specs.Parts.{part_cmp}
+use Rattle.repo_member.specs.Alone.{Alone}
+use Rattle.bench_world.specs.Others.{place_of}
+
+abbrev pub or_else : Option (List ℕ) → Option (List ℕ) → Option (List ℕ)
+or_else None other = other
+or_else (Some octets) other = Some octets
+
+-- The packet of the first of these members that stores the part's.
+abbrev pub lent : List Alone → Part → Option (List ℕ)
+lent [] t = None
+lent (a ∷ others) t = or_else (value_of part_cmp a.store t) (lent others t)
+
+-- One of them stores it.
+abbrev pub lends : List Alone → Part → Bool
+lends others t = is_some (lent others t)
+
+-- ---- the publisher first
+
+abbrev pub lent_at : Option Alone → Part → Option (List ℕ)
+lent_at None t = None
+lent_at (Some a) t = value_of part_cmp a.store t
+
+-- The packet that the part's publisher stores of it, or else the first of the others that stores it.
+abbrev pub lent_first : List Alone → ℕ → Part → Option (List ℕ)
+lent_first others asker t = or_else (lent_at (slice_get others (place_of asker t.publisher)) t) (lent others t)
+
+-- ---- the way of attempts
+
+-- Which attempts at parts come through: where there is no loss, every one.
+abbrev pub comes : (ℕ → ℕ → ℕ → ℕ → ℕ → ℕ → Bool) → ℕ → Option ℕ → Part → ℕ → Bool
+comes passes asker None t attempt = true
+comes passes asker (Some loss) t attempt = passes asker t.publisher t.seq t.part attempt loss
+
+abbrev pub if_comes : Bool → Option (List ℕ) → Option (List ℕ)
+if_comes true octets = octets
+if_comes false octets = None

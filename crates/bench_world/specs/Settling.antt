@@ -1,0 +1,71 @@
+-- What a settle makes of all members, and what it leaves where memory was wanting.
+use Rattle.std.specs.Prelude.{ℕ, ◌≡◌, ◌≤◌, ◌<◌, ◌⊎◌, true, List, length, map, slice_index, sum_by}
+use Rattle.repo_plan.specs.declared.part.Part.{Part}
+use Rattle.repo_plan.specs.Plan.{no_claims}
+use Rattle.group_model.specs.Member.{Member, member_holds}
+use Rattle.group_model.specs.Settles.{IsGathering}
+use Rattle.group_model.specs.Sound.{IsSoundGroup}
+use Rattle.group_model.specs.World.{World, member, logs, someone_holds}
+use Rattle.group_model.specs.Steps.{settled_vector, settled_member, new_parts}
+use Rattle.repo_member.specs.Groups.{GroupKeys}
+use Rattle.repo_member.specs.Alone.{Alone}
+use Rattle.repo_member.specs.InGroup.{in_group}
+use Rattle.bench_net.specs.SentList.{SentPacket, sent_packet}
+use Rattle.bench_world.specs.Truth.{AllTriedFew}
+use Rattle.bench_world.specs.Worlds.{alone_at, in_groups, AllCountsStay, AreTrueMembers, AreNumbered}
+use Rattle.bench_world.specs.declared.telling.Told.{Told}
+
+-- What a member tells, as it is kept.
+abbrev pub told_of : Told → SentPacket
+told_of t = sent_packet t.sender t.vector.items t.octets.items
+
+-- How many parts come to all members, and how many octets, where each part counts as `weight` says.
+abbrev pub gain_sum : (Part → ℕ) → World → List Member → ℕ
+gain_sum weight w ms = sum_by (λ m. sum_by weight (new_parts w m)) ms
+
+-- ---- where memory was wanting
+
+-- A member that has come a part of the way from what it was to what a settle makes of it.
+pub record IsPartlySettled (w : World) (old new : Member) : Type 0 where
+  pub log : new.log ≡ old.log
+  pub hidden : new.hidden ≡ old.hidden
+  pub attempts : new.attempts ≡ old.attempts
+  pub machine : new.machine ≡ old.machine
+  pub processes : new.processes ≡ old.processes
+  pub next_process : new.next_process ≡ old.next_process
+  pub claims : (new.claims ≡ old.claims) ⊎ (new.claims ≡ no_claims)
+  pub width : length new.known ≡ length old.known
+  pub known_more : (p : ℕ) → slice_index old.known p ≤ slice_index new.known p
+  pub known_less : (p : ℕ) → slice_index new.known p ≤ slice_index (settled_vector w) p
+  pub kept : (t : Part) → member_holds old t ≡ true → member_holds new t ≡ true
+  pub came : (t : Part) → member_holds new t ≡ true → member_holds (settled_member w old) t ≡ true
+
+-- So has each member. Nothing was sent.
+pub record ArePartlySettled (w : World) (new : List Member) : Type 0 where
+  pub len : length new ≡ length w.members
+  pub each : (j : ℕ) → j < length w.members → IsPartlySettled w (member w j) (member (record w { members = new }) j)
+
+-- ---- one member after another
+
+-- Each member is gathering, or has gathered.
+pub record AreGathering (g : GroupKeys) (w : World) (begun members : List Alone) : Type 0 where
+  pub len : length members ≡ length begun
+  pub truly : AreTrueMembers g (logs w) members
+  pub numbers : AreNumbered members
+  pub tried : AllTriedFew members
+  pub each : (i : ℕ) → i < length members → IsGathering w (member w i) (in_group (alone_at members i))
+  pub someones : (t : Part) → someone_holds (in_groups members) t ≡ someone_holds w.members t
+  pub counts : AllCountsStay begun members
+
+-- The first so many have gathered, and the others not yet.
+pub record GatheredSoFar (g : GroupKeys) (w : World) (begun : List Alone) (j : ℕ) (members : List Alone) : Type 0 where
+  pub all : AreGathering g w begun members
+  pub done : (i : ℕ) → i < j → in_group (alone_at members i) ≡ settled_member w (member w i)
+  pub still : (i : ℕ) → j ≤ i → alone_at members i ≡ alone_at begun i
+
+-- ---- again
+
+-- A settle that then succeeds makes of the members what the one that failed would have made of them.
+abbrev pub SettlesAgain : Type 0
+SettlesAgain = (w : World) (new : List Member) → IsSoundGroup w → IsSoundGroup (record w { members = new }) → ArePartlySettled w new
+    → map (settled_member (record w { members = new })) new ≡ map (settled_member w) w.members

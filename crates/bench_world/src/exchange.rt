@@ -1,0 +1,152 @@
+// What a member gets of the others in a settle or a fetch.
+ghost use Rattle.std.specs.Prelude.{◌≡◌, ◌<◌, ◌≤◌, length, map, slice_set, IfOk, OnOk, OnErr};
+ghost use Rattle.std.specs.List.{sum_by};
+ghost use Rattle.group_model.specs.Publications.{Logs};
+ghost use Rattle.group_model.specs.World.{World, logs};
+ghost use Rattle.group_model.specs.Sound.{IsSoundGroup};
+ghost use Rattle.group_model.specs.Settles.{learnt_member};
+ghost use Rattle.group_model.specs.Steps.{settled_member, settle_gains, planned_parts, fetched_parts, attempts_made, after_fetch};
+ghost use Rattle.bench_world.specs.Gathering.{one_each, Counts, Gains, NothingLeft};
+ghost use Rattle.bench_world.specs.Serving.{outside};
+ghost use Rattle.bench_world.specs.Settling.{gain_sum, ArePartlySettled};
+ghost use Rattle.bench_world.specs.Sizes.{size_of};
+ghost use Rattle.bench_world.specs.Truth.{AreFewLogs, AllTriedFew};
+ghost use Rattle.bench_world.specs.Worlds.{alone_at, others_than, in_groups, AllCountsStay, AreTrueMembers, AreNumbered};
+
+use crate::fetch::{FetchCounts, fetch};
+use crate::gather::gather;
+use crate::lending::MemberLink;
+use bench_net::Net;
+use repo_member::{Group, Kept, Member};
+use std::alloc::{AllocError, Global};
+use std::thread::Threads;
+
+// One member gathers of the others: what came.
+fn gather_at<N: Net + Sync, R: Threads + Sync>(
+    rt: &R,
+    alloc: Global,
+    g: &Group,
+    net: &N,
+    workers: u32,
+    members: &mut Vec<Member>,
+    j: u32,
+) -> Result<Kept, AllocError>
+    ghost logs: { Logs }
+    requires workers { (1 ≤ workers) × (workers ≤ 16) }
+    requires there { j < length members.old.items }
+    requires logs { AreFewLogs g.now logs }
+    requires members { AreTrueMembers g.now logs members.old.items }
+    requires tried { AllTriedFew members.old.items }
+    ensures others { members.new.items ≡ slice_set members.old.items j (alone_at members.new.items j) }
+    ensures gains { Gains g.now logs (others_than j members.old.items)
+        (alone_at members.old.items j) (alone_at members.new.items j) }
+    ensures parts { IfOk result (λ kept.
+        Counts one_each kept.parts (alone_at members.old.items j) (alone_at members.new.items j)) }
+    ensures octets { IfOk result (λ kept.
+        Counts (size_of g.now logs) kept.octets (alone_at members.old.items j) (alone_at members.new.items j)) }
+    ensures left { OnOk result (NothingLeft (others_than j members.old.items) (alone_at members.new.items j)) }
+{
+    let mut member = members.remove(j as usize);
+    let link = MemberLink {
+        others: members.as_slice(),
+        net,
+        asker: j,
+        loss: None,
+    };
+    let kept = gather(rt, alloc, g, &link, workers, &mut member);
+    // There is room where the member stood.
+    let Ok(()) = members.insert(j as usize, member) else {
+        unreachable!()
+    };
+    kept
+}
+
+/// Each member gathers of the others, one after another: how many parts came, and how many octets.
+pub(crate) fn gather_all<N: Net + Sync, R: Threads + Sync>(
+    rt: &R,
+    alloc: Global,
+    g: &Group,
+    net: &N,
+    workers: u32,
+    members: &mut Vec<Member>,
+) -> Result<(u64, u64), AllocError>
+    ghost begun: { World }
+    requires workers { (1 ≤ workers) × (workers ≤ 16) }
+    requires logs { AreFewLogs g.now (logs begun) }
+    requires group { IsSoundGroup begun }
+    requires learnt { in_groups members.old.items ≡ map (learnt_member begun) begun.members }
+    requires truly { AreTrueMembers g.now (logs begun) members.old.items }
+    requires numbers { AreNumbered members.old.items }
+    requires tried { AllTriedFew members.old.items }
+    ensures parts { IfOk result (λ r. r.0 ≡ settle_gains begun) }
+    ensures octets { IfOk result (λ r. r.1 ≡ gain_sum (size_of g.now (logs begun)) begun begun.members) }
+    ensures members { OnOk result (in_groups members.new.items ≡ map (settled_member begun) begun.members) }
+    ensures len { length members.new.items ≡ length members.old.items }
+    ensures truly { AreTrueMembers g.now (logs begun) members.new.items }
+    ensures numbers { AreNumbered members.new.items }
+    ensures counts { AllCountsStay members.old.items members.new.items }
+    ensures err { OnErr result (ArePartlySettled begun (in_groups members.new.items)) }
+{
+    let count = members.len() as u32;
+    let mut parts = 0;
+    let mut octets = 0;
+    for j in 0..count {
+        let came = gather_at(rt, alloc, g, net, workers, members, j)?;
+        parts += u64::from(came.parts);
+        octets += came.octets;
+    }
+    Ok((parts, octets))
+}
+
+/// One member fetches of the others.
+pub(crate) fn fetch_at<N: Net + Sync, R: Threads + Sync>(
+    rt: &R,
+    alloc: Global,
+    g: &Group,
+    net: &N,
+    workers: u32,
+    members: &mut Vec<Member>,
+    j: u32,
+    tries: u32,
+    loss: u32,
+) -> Result<FetchCounts, AllocError>
+    ghost begun: { World }
+    requires workers { (1 ≤ workers) × (workers ≤ 16) }
+    requires tries { (1 ≤ tries) × (tries ≤ 16) }
+    requires there { j < length members.old.items }
+    requires logs { AreFewLogs g.now (logs begun) }
+    requires begun { in_groups members.old.items ≡ begun.members }
+    requires numbers { AreNumbered members.old.items }
+    requires truly { AreTrueMembers g.now (logs begun) members.old.items }
+    requires tried { AllTriedFew members.old.items }
+    ensures members { OnOk result (in_groups members.new.items
+        ≡ (after_fetch (outside g.now (λ _ _. 0) (N.passes net.now)) begun j tries loss).members) }
+    ensures planned { IfOk result (λ r. r.planned ≡ length (planned_parts begun j)) }
+    ensures parts { IfOk result (λ r. r.kept.parts
+        ≡ length (fetched_parts (outside g.now (λ _ _. 0) (N.passes net.now)) begun j tries loss)) }
+    ensures octets { IfOk result (λ r. r.kept.octets ≡ sum_by (size_of g.now (logs begun))
+        (fetched_parts (outside g.now (λ _ _. 0) (N.passes net.now)) begun j tries loss)) }
+    ensures attempts { IfOk result (λ r. r.attempts
+        ≡ attempts_made (outside g.now (λ _ _. 0) (N.passes net.now)) begun j tries loss) }
+    ensures len { length members.new.items ≡ length members.old.items }
+    ensures truly { AreTrueMembers g.now (logs begun) members.new.items }
+    ensures numbers { AreNumbered members.new.items }
+    ensures err { OnErr result (members.new.items ≡ members.old.items) }
+{
+    let mut member = members.remove(j as usize);
+    let link = MemberLink {
+        others: members.as_slice(),
+        net,
+        asker: j,
+        loss: Some(loss),
+    };
+    let fetched = fetch(rt, alloc, g, &link, workers, tries, &mut member);
+    // There is room where the member stood.
+    let Ok(()) = members.insert(j as usize, member) else {
+        unreachable!()
+    };
+    match fetched {
+        Ok(counts) => Ok(counts),
+        Err(error) => Err(error),
+    }
+}

@@ -1,0 +1,132 @@
+// What a member gathers of others in a settle.
+ghost use Rattle.std.specs.Prelude.{◌≡◌, ◌≤◌, None, IfOk, OnOk, OnErr, length};
+ghost use Rattle.std.specs.List.{filter, sum_by};
+ghost use Rattle.group_model.specs.Publications.{Logs};
+ghost use Rattle.repo_member.specs.Alone.{alone_takes};
+ghost use Rattle.repo_member.specs.TrueMembers.{IsTrueMember};
+ghost use Rattle.bench_world.specs.Lending.{lends};
+ghost use Rattle.bench_world.specs.Sizes.{size_of};
+ghost use Rattle.bench_world.specs.Truth.{AreFewLogs, TriedFew};
+ghost use Rattle.bench_world.specs.Worlds.{AreTrueMembers};
+ghost use Rattle.bench_world.specs.Gathering.{next_parts, lent_all, one_each, Counts, IsPlaceIn, Gains, NothingLeft};
+
+use crate::lending::MemberLink;
+use bench_net::Net;
+use fetch_work::phase;
+use repo_member::{Group, Kept, Member};
+use repo_plan::Part;
+use std::alloc::{AllocError, Global};
+use std::thread::Threads;
+
+/// How many parts a phase asks for at most.
+pub(crate) const PHASE_LIMIT: usize = 4096;
+
+// Nothing came.
+const NOTHING: Kept = Kept {
+    parts: 0,
+    octets: 0,
+};
+
+// One phase, of the parts behind a place: the last part that was asked for, if one was, and what came.
+fn gain_phase<N: Net + Sync, R: Threads + Sync>(
+    rt: &R,
+    alloc: Global,
+    g: &Group,
+    link: &MemberLink<'_, N>,
+    workers: u32,
+    member: &mut Member,
+    after: Option<Part>,
+) -> Result<(Option<Part>, Kept), AllocError>
+    ghost logs: { Logs }
+    requires workers { (1 ≤ workers) × (workers ≤ 16) }
+    requires logs { AreFewLogs g.now logs }
+    requires others { AreTrueMembers g.now logs link.now.others.now }
+    requires loss { link.now.loss ≡ None }
+    requires truly { IsTrueMember g.now logs member.old }
+    requires tried { TriedFew member.old }
+    ensures new { OnOk result (member.new
+        ≡ alone_takes (lent_all link.now.others.now (next_parts after member.old)) member.old) }
+    ensures place { IfOk result (λ r. IsPlaceIn (next_parts after member.old) r.0) }
+    ensures parts { IfOk result (λ r. r.1.parts
+        ≡ length (filter (lends link.now.others.now) (next_parts after member.old))) }
+    ensures octets { IfOk result (λ r. r.1.octets
+        ≡ sum_by (size_of g.now logs) (filter (lends link.now.others.now) (next_parts after member.old))) }
+    ensures err { OnErr result (member.new ≡ member.old) }
+{
+    let jobs = member.plan(alloc, g, after, PHASE_LIMIT)?;
+    let Some(last) = jobs.last() else {
+        return Ok((None, NOTHING));
+    };
+    let place = last.want.part();
+    let outcome = phase(rt, alloc, &*link, &jobs, g.members(), 1, workers)?;
+    // A settle counts no attempt.
+    let attempts = vec![in alloc; 0; jobs.len()]?;
+    let kept = member.take_outcome(g, &jobs, &outcome.parts, &attempts)?;
+    Ok((Some(place), kept))
+}
+
+// Phases from the first wanted part to the last: what came.
+fn gain_round<N: Net + Sync, R: Threads + Sync>(
+    rt: &R,
+    alloc: Global,
+    g: &Group,
+    link: &MemberLink<'_, N>,
+    workers: u32,
+    member: &mut Member,
+) -> Result<Kept, AllocError>
+    ghost logs: { Logs }
+    requires workers { (1 ≤ workers) × (workers ≤ 16) }
+    requires logs { AreFewLogs g.now logs }
+    requires others { AreTrueMembers g.now logs link.now.others.now }
+    requires loss { link.now.loss ≡ None }
+    requires truly { IsTrueMember g.now logs member.old }
+    requires tried { TriedFew member.old }
+    ensures gains { Gains g.now logs link.now.others.now member.old member.new }
+    ensures parts { IfOk result (λ kept. Counts one_each kept.parts member.old member.new) }
+    ensures octets { IfOk result (λ kept. Counts (size_of g.now logs) kept.octets member.old member.new) }
+    ensures left { IfOk result (λ kept. kept.parts ≡ 0 → NothingLeft link.now.others.now member.new) }
+{
+    let mut kept = NOTHING;
+    let mut after = None;
+    'phases: loop {
+        let (place, came) = gain_phase(rt, alloc, g, link, workers, member, after)?;
+        kept.parts += came.parts;
+        kept.octets += came.octets;
+        let Some(last) = place else {
+            return Ok(kept);
+        };
+        after = Some(last);
+    }
+}
+
+/// Rounds until one brings nothing: what came.
+pub(crate) fn gather<N: Net + Sync, R: Threads + Sync>(
+    rt: &R,
+    alloc: Global,
+    g: &Group,
+    link: &MemberLink<'_, N>,
+    workers: u32,
+    member: &mut Member,
+) -> Result<Kept, AllocError>
+    ghost logs: { Logs }
+    requires workers { (1 ≤ workers) × (workers ≤ 16) }
+    requires logs { AreFewLogs g.now logs }
+    requires others { AreTrueMembers g.now logs link.now.others.now }
+    requires loss { link.now.loss ≡ None }
+    requires truly { IsTrueMember g.now logs member.old }
+    requires tried { TriedFew member.old }
+    ensures gains { Gains g.now logs link.now.others.now member.old member.new }
+    ensures parts { IfOk result (λ kept. Counts one_each kept.parts member.old member.new) }
+    ensures octets { IfOk result (λ kept. Counts (size_of g.now logs) kept.octets member.old member.new) }
+    ensures left { OnOk result (NothingLeft link.now.others.now member.new) }
+{
+    let mut kept = NOTHING;
+    'rounds: loop {
+        let came = gain_round(rt, alloc, g, link, workers, member)?;
+        kept.parts += came.parts;
+        kept.octets += came.octets;
+        if came.parts == 0 {
+            return Ok(kept);
+        }
+    }
+}

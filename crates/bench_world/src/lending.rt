@@ -1,0 +1,83 @@
+// Members that lend their packets to one that asks for parts.
+ghost use Rattle.std.specs.Prelude.{◌≡◌, option_map};
+ghost use Rattle.bench_world.specs.Lending.{comes, lent, lent_first};
+
+use bench_net::Net;
+use fetch_work::{Link, Reply};
+use repo_member::Member;
+use repo_object::Want;
+use repo_plan::Part;
+
+/// The members that one asks for parts, and the network that its attempts go through.
+#[derive(Drop)]
+pub(crate) struct MemberLink<'w, N> {
+    /// All but the asking one, in order.
+    pub(crate) others: &'w [Member],
+    pub(crate) net: &'w N,
+    pub(crate) asker: u32,
+    /// How lossy the way is. Without it every attempt comes through, whatever the network says.
+    pub(crate) loss: Option<u32>,
+}
+
+impl<'w, N: Net> Link for MemberLink<'w, N> {
+    ghost use Rattle.bench_world.specs.Lending.{comes, lent_first, if_comes};
+
+    ghost answer = { λ l want attempt. if_comes
+        (comes (N.passes l.net.now) l.asker l.loss want.part attempt) (lent_first l.others.now l.asker want.part) };
+
+    fn ask<'a>(&'a self, want: &Want, attempt: u32) -> Reply<'a> {
+        let part = want.part();
+        if !comes_through(self, part, attempt) {
+            return Reply::Lost;
+        }
+        match lent(self.others, self.asker, part) {
+            Some(octets) => Reply::Came(octets),
+            None => Reply::Lost,
+        }
+    }
+}
+
+// Whether the attempt at a part comes through.
+fn comes_through<'w, N: Net>(link: &MemberLink<'w, N>, part: Part, attempt: u32) -> bool
+    ensures { result ≡ comes (N.passes link.now.net.now) link.now.asker link.now.loss part attempt }
+{
+    let passes = link.net.passes(
+        link.asker,
+        part.publisher,
+        u32::from(part.seq),
+        u32::from(part.part),
+        attempt,
+        link.loss.unwrap_or(0),
+    );
+    link.loss.is_none() || passes
+}
+
+// The packet that is lent for a part. Its publisher is asked first, so that most parts are found at once.
+fn lent<'w>(others: &'w [Member], asker: u32, part: Part) -> Option<&'w [u8]>
+    ensures { option_map (λ octets. octets.now) result ≡ lent_first others.now asker part }
+{
+    let publisher = part.publisher;
+    let place = if publisher < asker {
+        publisher
+    } else {
+        publisher.saturating_sub(1)
+    };
+    if let Some(member) = others.get(place as usize) {
+        if let Some(packet) = member.packet(part) {
+            return Some(packet);
+        }
+    }
+    lent_by(others, part)
+}
+
+// The packet of the first of these members that stores the part's.
+fn lent_by<'w>(members: &'w [Member], part: Part) -> Option<&'w [u8]>
+    ensures { option_map (λ octets. octets.now) result ≡ lent members.now part }
+{
+    for member in members {
+        if let Some(packet) = member.packet(part) {
+            return Some(packet);
+        }
+    }
+    None
+}

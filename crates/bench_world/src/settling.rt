@@ -1,0 +1,79 @@
+// What a settle makes of all members.
+ghost use Rattle.std.specs.Prelude.{◌≡◌, ◌+◌, ◌++◌, ◌≤◌, ◌<◌, ◌^◌, ℕ, length, map, IfOk, OnOk, OnErr, vec_len};
+ghost use Rattle.group_model.specs.World.{World, logs};
+ghost use Rattle.group_model.specs.Sound.{IsSoundGroup};
+ghost use Rattle.group_model.specs.Steps.{settled_member, settle_gains};
+ghost use Rattle.repo_member.specs.Alone.{alone_resets};
+ghost use Rattle.bench_world.specs.Sizes.{size_of};
+ghost use Rattle.bench_world.specs.Truth.{AreFewLogs, AllTriedFew};
+ghost use Rattle.bench_world.specs.Worlds.{alone_at, in_groups, tells, AllCountsStay, AreTrueMembers, AreNumbered};
+ghost use Rattle.bench_world.specs.Settling.{told_of, gain_sum, ArePartlySettled};
+
+use crate::exchange::gather_all;
+use crate::telling::{Told, all_known, learn_all, tell_all};
+use bench_net::{Draws, Net, Sent};
+use repo_member::{Group, Member};
+use std::alloc::{AllocError, Global};
+use std::thread::Threads;
+
+/// All claims end, each member tells what it knows and learns what all know, and each gathers what the others store: what
+/// was told, how many parts came, and how many octets.
+pub(crate) fn settle_members<N: Net + Sync, R: Threads + Sync>(
+    rt: &R,
+    alloc: Global,
+    g: &Group,
+    net: &N,
+    workers: u32,
+    members: &mut Vec<Member>,
+) -> Result<(Vec<Told>, u64, u64), AllocError>
+    ghost begun: { World }
+    requires workers { (1 ≤ workers) × (workers ≤ 16) }
+    requires logs { AreFewLogs g.now (logs begun) }
+    requires begun { in_groups members.old.items ≡ begun.members }
+    requires numbers { AreNumbered members.old.items }
+    requires truly { AreTrueMembers g.now (logs begun) members.old.items }
+    requires sound { IsSoundGroup begun }
+    requires tried { AllTriedFew members.old.items }
+    ensures told { IfOk result (λ r. map told_of r.0.items ≡ map (tells g.now) members.old.items) }
+    ensures parts { IfOk result (λ r. r.1 ≡ settle_gains begun) }
+    ensures octets { IfOk result (λ r. r.2 ≡ gain_sum (size_of g.now (logs begun)) begun begun.members) }
+    ensures members { OnOk result (in_groups members.new.items ≡ map (settled_member begun) begun.members) }
+    ensures len { length members.new.items ≡ length members.old.items }
+    ensures truly { AreTrueMembers g.now (logs begun) members.new.items }
+    ensures numbers { AreNumbered members.new.items }
+    ensures counts { AllCountsStay members.old.items members.new.items }
+    // After want of memory each member has come a part of the way.
+    ensures err { OnErr result (ArePartlySettled begun (in_groups members.new.items)) }
+{
+    let told = tell_all(alloc, g, members.as_slice())?;
+    let known = all_known(alloc, members.as_slice())?;
+    learn_all(&known, members);
+    let (parts, octets) = gather_all(rt, alloc, g, net, workers, members)?;
+    Ok((told, parts, octets))
+}
+
+/// What was told is sent, for which room was made.
+pub(crate) fn send_all(sent: &mut Sent, told: Vec<Told>)
+    requires room { vec_len told ≤ sent.old.spare }
+    requires few { length sent.old.packets + vec_len told < 4294967295 }
+    ensures { sent.new.packets ≡ sent.old.packets ++ map told_of told.items }
+{
+    for one in told {
+        sent.add_reserved(one.sender, one.vector, one.octets);
+    }
+}
+
+/// Each machine starts again, with its member's next draw.
+pub(crate) fn reset_all<D: Draws>(members: &mut Vec<Member>, moment: u64, draws: &D)
+    requires few { length members.old.items ≤ 16 }
+    requires early { moment < 2 ^ 62 }
+    requires draws { (j : ℕ) → (alone_at members.old.items j).machine.draws < 2 ^ 62 }
+    ensures len { length members.new.items ≡ length members.old.items }
+    ensures each { (j : ℕ) → j < length members.old.items → alone_at members.new.items j
+        ≡ alone_resets moment (D.draw draws.now j (alone_at members.old.items j).machine.draws) (alone_at members.old.items j) }
+{
+    for (j, member) in members.iter_mut().enumerate() {
+        let draw = draws.draw(j as u32, member.next_draw());
+        member.reset(moment, draw);
+    }
+}

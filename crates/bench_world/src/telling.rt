@@ -1,0 +1,79 @@
+// What members tell each other in a settle.
+ghost use Rattle.std.specs.Prelude.{◌≡◌, ◌≤◌, ◌<◌, ℕ, length, map, slice_index, IfOk};
+ghost use Rattle.svs_vector.specs.Vectors.{join_all};
+ghost use Rattle.group_model.specs.Publications.{Logs};
+ghost use Rattle.repo_member.specs.Alone.{alone_learns, alone_ends_claims};
+ghost use Rattle.repo_member.specs.InGroup.{AreLogs};
+ghost use Rattle.bench_world.specs.Worlds.{alone_at, tells, AreTrueMembers, AreNumbered};
+ghost use Rattle.bench_world.specs.Settling.{told_of};
+
+use crate::numbers::numbers;
+use repo_member::{Group, Member};
+use std::alloc::{AllocError, Global};
+use svs_vector::Vector;
+
+/// A member's sync Interest, with the vector that it tells.
+#[derive(Drop)]
+pub(crate) struct Told {
+    pub(crate) sender: u32,
+    pub(crate) vector: Vec<u16>,
+    pub(crate) octets: Vec<u8>,
+}
+
+/// What each member tells now.
+pub(crate) fn tell_all(
+    alloc: Global,
+    g: &Group,
+    members: &[Member],
+) -> Result<Vec<Told>, AllocError>
+    ghost logs: { Logs }
+    requires logs { AreLogs g.now logs }
+    requires numbers { AreNumbered members.now }
+    requires members { AreTrueMembers g.now logs members.now }
+    ensures { IfOk result (λ told. map told_of told.items ≡ map (tells g.now) members.now) }
+{
+    let mut told = Vec::with_capacity(alloc, members.len())?;
+    let mut sender = 0;
+    for member in members {
+        let vector = numbers(alloc, member.vector())?;
+        let octets = member.sync(alloc, g)?;
+        told.push(Told {
+            sender,
+            vector,
+            octets,
+        })?;
+        sender += 1;
+    }
+    Ok(told)
+}
+
+/// What all members know together.
+pub(crate) fn all_known(alloc: Global, members: &[Member]) -> Result<Vector, AllocError>
+    requires { (j : ℕ) → j < length members.now → length (alone_at members.now j).known ≡ length members.now }
+    ensures { IfOk result (λ all. all ≡ join_all (map (λ a. a.known) members.now)) }
+{
+    let mut all = Vector::new(alloc, members.len())?;
+    for member in members {
+        all.join(member.vector());
+    }
+    Ok(all)
+}
+
+/// All claims end, and every member learns what all know. It takes no memory.
+pub(crate) fn learn_all(known: &Vector, members: &mut Vec<Member>)
+    requires few { length known.now ≤ 16 }
+    requires width { (j : ℕ) → j < length members.old.items → length (alone_at members.old.items j).known ≡ length known.now }
+    requires own { (j : ℕ) → j < length members.old.items
+        → slice_index known.now (alone_at members.old.items j).number ≤ length (alone_at members.old.items j).log }
+    ensures len { length members.new.items ≡ length members.old.items }
+    ensures each { (j : ℕ) → j < length members.old.items
+        → alone_at members.new.items j ≡ alone_learns known.now (alone_ends_claims (alone_at members.old.items j)) }
+{
+    for member in members.iter_mut() {
+        member.end_claims();
+        // What all know tells of no publication of a member that it didn't make.
+        let Ok(_) = member.join_vector(known) else {
+            unreachable!()
+        };
+    }
+}
