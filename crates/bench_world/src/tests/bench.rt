@@ -121,4 +121,19 @@ impl<'n, N: Net + Sync> Bench<'n, N> {
             _ => Ok(Vec::new(rt.alloc())),
         }
     }
+
+    // The packet that a member answers with to octets as an Interest.
+    pub(super) fn asked<R: Threads + Abort + AllocGlobal + Sync>(
+        &mut self,
+        rt: &R,
+        m: u32,
+        octets: &[u8],
+    ) -> Result<Vec<u8>, Fail> {
+        let octets = octets.to_vec(rt.alloc())?;
+        let event = Event::Ask { m, octets };
+        match self.world.step(rt, &event, self.net, &self.draws)? {
+            Happened::AskFound { octets, .. } => Ok(octets),
+            _ => Ok(Vec::new(rt.alloc())),
+        }
+    }
 }

@@ -341,3 +341,35 @@ fn a_claim_is_fed(rt: HostRuntime) -> Result<(), Fail> {
         ],
     )
 }
+
+// The record's name asks for it, unless it must be fresh.
+#[test]
+fn a_member_is_asked(rt: HostRuntime) -> Result<(), Fail> {
+    let net = OpenNet::new();
+    let mut bench = Bench::new(&rt, 2, &net)?;
+    bench.tells(
+        &rt,
+        &[
+            (publish(&rt, ALICE, "/doc", 10, "abc")?, "publish alice 1 segments 1 sync 1"),
+            (Event::Settle { workers: 2 }, "settle syncs 2 kept 2"),
+            (Event::Traffic, "traffic syncs 3 delivered 2 attempts 0 parts 2 octets 197"),
+        ],
+    )?;
+    let record = bench.dump(&rt, BOB, (ALICE, 1, 0))?;
+    let found = bench.asked(&rt, BOB, b"\x05\x0f\x07\x0d\x08\x05alice\x08\x01g\x3a\x01\x01")?;
+    assert_eq!(&rt; found.len(), 118);
+    assert_eq!(&rt; found.as_slice(), record.as_slice());
+    let ask = |octets: &[u8]| -> Result<Event, Fail> {
+        Ok(Event::Ask {
+            m: BOB,
+            octets: octets.to_vec(rt.alloc())?,
+        })
+    };
+    bench.tells(
+        &rt,
+        &[
+            (ask(b"\x05\x11\x07\x0d\x08\x05alice\x08\x01g\x3a\x01\x01\x12\x00")?, "ask bob none"),
+            (ask(b"\x05\x00")?, "ask bob refused Missing"),
+        ],
+    )
+}
