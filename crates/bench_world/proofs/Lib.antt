@@ -26,6 +26,7 @@ mod Objects
 mod Readers
 mod Answered
 mod Hearings
+mod Summaries
 mod Coming
 mod TakenOut
 mod Asked

@@ -37,7 +37,7 @@ next_number n made more is e =
     let next : suc n ≡ n + 1 = omega arith in
     e ∙ (λ i. is i ++ sym last i ∷ []) ∙ sym (numbers_push 0 n) ∙ ap (numbers_from 0) next
 
-number_at : (s n i : ℕ) → i < n → get_or (numbers_from s n) i 0 ≡ s + i
+pub number_at : (s n i : ℕ) → i < n → get_or (numbers_from s n) i 0 ≡ s + i
 number_at s zero i l = absurd (omega (arith, l))
 number_at s (suc n) zero l = omega arith
 number_at s (suc n) (suc i) l = number_at (s + 1) n i (omega (arith, l)) ∙ (let e : s + 1 + i ≡ s + suc i = omega arith in e)

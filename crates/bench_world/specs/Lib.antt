@@ -20,3 +20,4 @@ pub mod Answering
 pub mod Hearing
 pub mod Answerable
 pub mod Replying
+pub mod Sums

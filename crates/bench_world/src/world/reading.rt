@@ -1,9 +1,10 @@
 // What is read of a world.
-ghost use Rattle.std.specs.Prelude.{◌≡◌, ◌+◌, ◌<◌, length, IfOk, OnOk, OnErr};
+ghost use Rattle.std.specs.Prelude.{◌≡◌, ◌+◌, ◌<◌, ℕ, length, map, IfOk, OnOk, OnErr};
 ghost use Rattle.repo_plan.specs.Parts.{numbers_from, part_cmp};
 ghost use Rattle.repo_plan.specs.SortedList.{value_of};
 ghost use Rattle.bench_world.specs.Serving.{keyed};
-ghost use Rattle.bench_world.specs.Worlds.{world_of};
+ghost use Rattle.bench_world.specs.Worlds.{world_of, alone_at};
+ghost use Rattle.bench_world.specs.Sums.{totals_in, HasFewTotals};
 ghost use Rattle.bench_world.specs.EventValues.{EventValue, told_value, telling, dump_told};
 
 use super::World;
@@ -79,6 +80,27 @@ impl World {
         }
     }
 
+    /// What all catalogues come to.
+    pub(crate) fn summary(&mut self) -> Result<Happened, AllocError>
+        requires few { self.old.steps < 100000 }
+        ensures world { OnOk result (world_of self.new ≡ world_of self.old) }
+        ensures told { IfOk result (λ happened. told_value happened
+            ≡ telling self.old.keys (keyed self.old.keys) (world_of self.old) EventValue.Summary) }
+        ensures steps { OnOk result (self.new.steps ≡ self.old.steps + 1) }
+        ensures keys { self.new.keys ≡ self.old.keys }
+        ensures err { OnErr result (self.new ≡ self.old) }
+    {
+        let members = self.numbered()?;
+        let sums = add_up(self.alloc, self.members.as_slice())?;
+        self.count();
+        Ok(Happened::Summary {
+            members,
+            entries: sums.entries,
+            segments: sums.segments,
+            octets: sums.octets,
+        })
+    }
+
     /// Which octets the packet of a part has, if the member holds it.
     pub(crate) fn dump(&mut self, m: u32, p: u32, s: u32, x: u32) -> Result<Happened, AllocError>
         requires there { m < length self.old.members }
@@ -112,6 +134,35 @@ impl World {
         }
         Ok(numbers)
     }
+}
+
+// What catalogues come to, one after another.
+#[derive(Drop)]
+struct Sums {
+    entries: Vec<u64>,
+    segments: Vec<u64>,
+    octets: Vec<u64>,
+}
+
+// What each member's catalogue comes to.
+fn add_up(alloc: Global, members: &[Member]) -> Result<Sums, AllocError>
+    requires { (j : ℕ) → j < length members.now → HasFewTotals (totals_in (alone_at members.now j)) }
+    ensures entries { IfOk result (λ sums. sums.entries.items ≡ map (λ a. (totals_in a).entries) members.now) }
+    ensures segments { IfOk result (λ sums. sums.segments.items ≡ map (λ a. (totals_in a).segments) members.now) }
+    ensures octets { IfOk result (λ sums. sums.octets.items ≡ map (λ a. (totals_in a).octets) members.now) }
+{
+    let mut sums = Sums {
+        entries: Vec::with_capacity(alloc, members.len())?,
+        segments: Vec::with_capacity(alloc, members.len())?,
+        octets: Vec::with_capacity(alloc, members.len())?,
+    };
+    for member in members {
+        let (entries, segments, octets) = member.catalogue().totals();
+        sums.entries.push(u64::from(entries))?;
+        sums.segments.push(segments)?;
+        sums.octets.push(octets)?;
+    }
+    Ok(sums)
 }
 
 // Copies of entries.

@@ -1,0 +1,101 @@
+-- Lists of events that are carried out one after another.
+use Rattle.std.proofs.Common.{◌≡◌, ℕ, ◌+◌, ◌<◌, List, [], ◌∷◌, ◌++◌, None, map, length, get_or, take, refl, sym, ap, ◌∙◌, subst, arith}
+use Rattle.std.proofs.lemmas.List.{length-map, map-append, take_more, take_all, get_or_default}
+use Rattle.group_model.specs.Events as group
+use Rattle.group_model.specs.World.{Outside, World}
+use Rattle.group_model.specs.Steps.{after_event, after_events}
+use Rattle.group_model.specs.Refusals.{refusal, NamesThose, IsTaken, AreTaken}
+use Rattle.group_model.specs.Sound.{IsSoundGroup}
+use Rattle.group_model.specs.Laws.{NothingHidden, NothingWanted, AllJoined}
+use Rattle.group_model.proofs.PublicLaws.{told_of_all}
+use Rattle.group_model.proofs.Worlds.{sound_after_all}
+use Rattle.repo_member.specs.Groups.{GroupKeys}
+use Rattle.repo_member.specs.InGroup.{in_group}
+use Rattle.bench_world.specs.declared.event.Event.{Event}
+use Rattle.bench_world.specs.EventValues.{EventValue, event_value, group_event}
+use Rattle.bench_world.specs.Steps.{IsReady}
+use Rattle.bench_world.specs.Runs.{event_values, group_events, ListLawFrom}
+use Rattle.bench_world.specs.Worlds.{GroupState, in_groups, world_of}
+
+-- ---- lists
+
+after_append : (out : Outside) (w : World) (xs ys : List group.Event) → after_events out w (xs ++ ys) ≡ after_events out (after_events out w xs) ys
+after_append out w [] ys = refl
+after_append out w (x ∷ xs) ys = after_append out (after_event out w x) xs ys
+
+taken_append : (out : Outside) (w : World) (xs ys : List group.Event) → AreTaken out w xs → AreTaken out (after_events out w xs) ys → AreTaken out w (xs ++ ys)
+taken_append out w [] ys a b = b
+taken_append out w (x ∷ xs) ys a b = (a.0, taken_append out (after_event out w x) xs ys a.1 b)
+
+taken_split : (out : Outside) (w : World) (xs ys : List group.Event) → AreTaken out w (xs ++ ys) → AreTaken out w xs × AreTaken out (after_events out w xs) ys
+taken_split out w [] ys a = (tt, a)
+taken_split out w (x ∷ xs) ys a = let r = taken_split out (after_event out w x) xs ys a.1 in ((a.0, r.0), r.1)
+
+-- ---- one event
+
+named_ready : (n : ℕ) (w : World) (g : GroupKeys) (e : EventValue) → length w.members ≡ n → IsReady n e → NamesThose w (group_event g e)
+named_ready n w g (EventValue.Publish m name size content) many r = omega (arith, many, r.0)
+named_ready n w g (EventValue.Deliver k m) many r = omega (arith, many, r)
+named_ready n w g (EventValue.Sync k) many r = tt
+named_ready n w g (EventValue.Advance ms) many r = tt
+named_ready n w g (EventValue.Fire m) many r = omega (arith, many, r)
+named_ready n w g (EventValue.Restart m) many r = omega (arith, many, r)
+named_ready n w g (EventValue.Vector m) many r = omega (arith, many, r)
+named_ready n w g (EventValue.Catalogue m) many r = omega (arith, many, r)
+named_ready n w g (EventValue.Claim m f) many r = (omega (arith, many, r.0), r.1.from_one, r.1.to_last)
+named_ready n w g (EventValue.Lose m f) many r = (omega (arith, many, r.0), r.1.from_one, r.1.to_last)
+named_ready n w g (EventValue.Answer m f q) many r = ((omega (arith, many, r.0), r.1.from_one, r.1.to_last), omega (arith, many, r.2))
+named_ready n w g (EventValue.Fetch m workers tries loss) many r = omega (arith, many, r.0)
+named_ready n w g (EventValue.Settle workers) many r = tt
+named_ready n w g (EventValue.Dump m p s x) many r = omega (arith, many, r.0)
+named_ready n w g (EventValue.Hear m octets) many r = omega (arith, many, r)
+named_ready n w g (EventValue.Ask m octets) many r = omega (arith, many, r)
+named_ready n w g (EventValue.Feed m f octets) many r = (omega (arith, many, r.0), r.1.from_one, r.1.to_last)
+named_ready n w g EventValue.Summary many r = tt
+named_ready n w g EventValue.Traffic many r = tt
+
+module _ (out : Outside) (g : GroupKeys) (begun : World) (events : List Event) where
+  module _ (i : ℕ) (inside : i < length events) (item : Event) (item_is : item ≡ get_or events i item) (mid new : World) (n : ℕ) (many : length mid.members ≡ n) (ready : IsReady n (event_value item))
+      (taken : AreTaken out begun (group_events g (event_values (take i events)))) (world : mid ≡ after_events out begun (group_events g (event_values (take i events)))) where
+    one_more : group_events g (event_values (take (i + 1) events)) ≡ group_events g (event_values (take i events)) ++ group_event g (event_value item) ∷ []
+    one_more =
+        ap (λ (es : List Event). group_events g (event_values es)) (take_more events i item inside)
+        ∙ ap (group_events g) (map-append event_value (take i events) (get_or events i item ∷ []))
+        ∙ map-append (group_event g) (event_values (take i events)) (event_value (get_or events i item) ∷ [])
+        ∙ ap (λ (e : Event). group_events g (event_values (take i events)) ++ group_event g (event_value e) ∷ []) (sym item_is)
+
+    pub at_place : (none : Event) → get_or events i none ≡ item
+    at_place none = sym (item_is ∙ get_or_default events i item none inside)
+
+    module _ (not_refused : refusal out mid (group_event g (event_value item)) ≡ None) (step_world : new ≡ after_event out mid (group_event g (event_value item))) where
+      is_taken : IsTaken out mid (group_event g (event_value item))
+      is_taken = record { named = named_ready n mid g (event_value item) many ready; taken = not_refused }
+
+      pub taken_more : AreTaken out begun (group_events g (event_values (take (i + 1) events)))
+      taken_more = subst (AreTaken out begun) (sym one_more) (taken_append out begun (group_events g (event_values (take i events))) (group_event g (event_value item) ∷ []) taken (subst (λ (w : World). IsTaken out w (group_event g (event_value item))) world is_taken, tt))
+
+      pub world_more : new ≡ after_events out begun (group_events g (event_values (take (i + 1) events)))
+      world_more =
+          step_world ∙ ap (λ (w : World). after_event out w (group_event g (event_value item))) world
+          ∙ sym (after_append out begun (group_events g (event_values (take i events))) (group_event g (event_value item) ∷ []))
+          ∙ ap (after_events out begun) (sym one_more)
+
+  -- ---- all of them
+
+  module _ (sound : IsSoundGroup begun) (n : ℕ) (all : n ≡ length events) (last : World) (taken : AreTaken out begun (group_events g (event_values (take n events)))) (world : last ≡ after_events out begun (group_events g (event_values (take n events)))) where
+    whole : group_events g (event_values (take n events)) ≡ group_events g (event_values events)
+    whole = ap (λ (es : List Event). group_events g (event_values es)) (take_all n events (omega (arith, all)))
+
+    pub all_taken : AreTaken out begun (group_events g (event_values events))
+    all_taken = subst (AreTaken out begun) whole taken
+
+    pub all_world : last ≡ after_events out begun (group_events g (event_values events))
+    all_world = world ∙ ap (after_events out begun) whole
+
+    pub all_joined : ListLawFrom out begun (group_events g (event_values events)) last
+    all_joined first later e tells hidden wanted =
+        let split = taken_split out begun first later (subst (AreTaken out begun) e all_taken) in
+        let last_is : last ≡ after_events out (after_events out begun first) later = all_world ∙ ap (after_events out begun) e ∙ after_append out begun first later in
+        subst AllJoined (sym last_is)
+        (told_of_all out (after_events out begun first) (sound_after_all out first begun split.0 sound) later split.1 tells
+        (subst NothingHidden last_is hidden) (subst NothingWanted last_is wanted))

@@ -1,0 +1,121 @@
+-- What all catalogues of a world come to.
+use Rattle.std.proofs.Common.{◌≡◌, inl, inr, ℕ, suc, ◌+◌, ◌-◌, ◌*◌, ◌≤◌, ◌<◌, Bool, true, false, cond, List, [], ◌∷◌, ◌++◌, map, length, get_or, refl, sym, ap, ◌∙◌, subst, arith}
+use Rattle.std.specs.Prelude.{sum_by, filter}
+use Rattle.std.specs.List.{All, concat}
+use Rattle.std.proofs.lemmas.List.{ext_get_or, length-append, length-map, get_or-map, get_or_default, get_or_past}
+use Rattle.std.proofs.lemmas.List.Elements.{All-head, All-tail}
+use Rattle.std.proofs.lemmas.Bool.{cases_lt}
+use Rattle.std.proofs.lemmas.List.Sums.{sum_by-le}
+use Rattle.repo_plan.specs.Parts.{numbers_from}
+use Rattle.repo_plan.proofs.Sets.{In, from_map}
+
+use Rattle.repo_object.specs.Objects.{NamedContents, IsObject, IsContent}
+use Rattle.repo_catalog.specs.declared.entry.Entry.{Entry}
+use Rattle.group_model.specs.Publications.{Logs, Publication, no_object, published, published_entry}
+use Rattle.group_model.specs.Member.{Member, holds_all, catalogued, catalogue}
+use Rattle.group_model.specs.Replies.{Totals}
+use Rattle.group_model.specs.World.{catalogue_at, member, logs}
+use Rattle.group_model.specs.Steps.{totals_of}
+use Rattle.group_model.specs.Limits.{IsWithin}
+use Rattle.group_model.proofs.Runs.{length_numbers}
+use Rattle.group_model.proofs.Parts.{IsIn, in_published}
+use Rattle.group_model.proofs.Lists.{from_filter, in_at}
+use Rattle.repo_member.specs.Alone.{Alone}
+use Rattle.repo_member.specs.InGroup.{in_group}
+use Rattle.repo_member.specs.Listed.{alone_catalogue}
+use Rattle.repo_member.proofs.PublicLaws.{catalogues_alike}
+use Rattle.bench_world.specs.EventValues.{all_totals}
+use Rattle.bench_world.specs.Sums.{totals_in, HasFewTotals}
+use Rattle.bench_world.specs.Worlds.{GroupState, IsTrueState, nobody, alone_at, in_groups, logs_around, world_of}
+use Rattle.bench_world.proofs.States.{in_world, true_in}
+use Rattle.bench_world.proofs.Openings.{number_at}
+
+-- ---- how much entries come to
+
+sum_few : (g : Entry → ℕ) (b : ℕ) (xs : List Publication) → ((x : Publication) → In x xs → g (published_entry x) ≤ b) → sum_by g (map published_entry xs) ≤ length (map published_entry xs) * b
+sum_few g b xs h = sum_by-le g b (map published_entry xs) (λ k d l.
+    let r : (x : Publication) × (In x xs) × (get_or (map published_entry xs) k d ≡ published_entry x) = from_map published_entry xs (get_or (map published_entry xs) k d) (in_at (map published_entry xs) k d l) in
+    subst (λ (e : Entry). g e ≤ b) (sym r.2) (h r.0 r.1))
+
+concat_few : (cs : List (List ℕ)) → All IsContent cs → length (concat cs) ≤ length cs * 8000
+concat_few [] h = omega arith
+concat_few (c ∷ cs) h =
+    let joined : concat (c ∷ cs) ≡ c ++ concat cs = refl in
+    let long : length (concat (c ∷ cs)) ≡ length c + length (concat cs) = ap length joined ∙ length-append c (concat cs) in
+    let first : length c ≤ 8000 = (All-head IsContent c cs h).1 in
+    let rest : length (concat cs) ≤ length cs * 8000 = concat_few cs (All-tail IsContent c cs h) in
+    omega (arith, long, first, rest)
+
+few_filter : {A : Type 0} (p : A → Bool) (xs : List A) → length (filter p xs) ≤ length xs
+few_filter p [] = omega arith
+few_filter p (x ∷ xs) = go (p x) (few_filter p xs) where
+  go : (b : Bool) → length (filter p xs) ≤ length xs → length (cond b (x ∷ filter p xs) (filter p xs)) ≤ suc (length xs)
+  go true h = omega (arith, h)
+  go false h = omega (arith, h)
+
+module _ (s : GroupState) (is : IsTrueState s) where
+  object_of : (q : Publication) → In q (published (logs_around s.members)) → IsObject q.object
+  object_of q i =
+      let at : IsIn (logs_around s.members) q = in_published (logs_around s.members) q i in
+      let low : 1 ≤ q.seq = at.there.from_one in
+      let high : q.seq ≤ length (get_or (logs_around s.members) q.publisher []) = at.there.to_last in
+      let log : All IsObject (get_or (logs_around s.members) q.publisher []) = log_of (logs_around s.members) is.are.objects q.publisher in
+      subst IsObject (sym at.object) (log (q.seq - 1) no_object (omega (arith, low, high))) where
+    log_of : (ls : Logs) → All (All IsObject) ls → (p : ℕ) → All IsObject (get_or ls p [])
+    log_of ls all p = elim (cases_lt p (length ls)) [
+      | inl inside ↦ all p [] inside
+      | inr past ↦ subst (All IsObject) (sym (get_or_past ls p [] past)) (λ k d l. absurd (omega (arith, l)))
+    ]
+
+  few_totals : (m : Member) → HasFewTotals (totals_of (catalogue (logs_around s.members) m))
+  few_totals m =
+      let all : List Publication = published (logs_around s.members) in
+      let steps : length (published (logs_around s.members)) ≤ s.steps = is.within.published in
+      let most : s.steps ≤ 100000 = is.steps in
+      let kept : length (catalogued (logs_around s.members) m) ≤ length (published (logs_around s.members)) = few_filter (holds_all m) (published (logs_around s.members)) in
+      let same : length (catalogue (logs_around s.members) m) ≡ length (catalogued (logs_around s.members) m) = length-map (catalogued (logs_around s.members) m) published_entry in
+      let segments : sum_by (λ e. e.segments) (catalogue (logs_around s.members) m) ≤ length (catalogue (logs_around s.members) m) * 200 =
+      sum_few (λ e. e.segments) 200 (catalogued (logs_around s.members) m) (λ q i. (object_of q (from_filter (holds_all m) (published (logs_around s.members)) q i).0).few) in
+      let octets : sum_by (λ e. e.octets) (catalogue (logs_around s.members) m) ≤ length (catalogue (logs_around s.members) m) * 1600000 =
+      sum_few (λ e. e.octets) 1600000 (catalogued (logs_around s.members) m) (λ q i.
+          let o : IsObject q.object = object_of q (from_filter (holds_all m) (published (logs_around s.members)) q i).0 in
+          let few : length q.object.contents ≤ 200 = o.few in
+          let sum : length (concat q.object.contents) ≤ length q.object.contents * 8000 = concat_few q.object.contents o.contents in
+          omega (arith, few, sum)) in
+      record {
+        entries = omega (arith, steps, most, kept, same);
+        segments = omega (arith, steps, most, kept, same, segments);
+        octets = omega (arith, steps, most, kept, same, octets);
+      }
+
+  listed : (j : ℕ) → j < length s.members → catalogue_at (world_of s) j ≡ alone_catalogue (alone_at s.members j).store
+  listed j l =
+      let same : alone_at s.members j ≡ get_or s.members j (alone_at s.members j) = get_or_default s.members j nobody (alone_at s.members j) l in
+      catalogues_alike (world_of s) j s.keys (alone_at s.members j) (in_world s is j l (alone_at s.members j) same) (true_in s is j l (alone_at s.members j) same)
+
+  pub few_totals_at : (j : ℕ) → j < length s.members → HasFewTotals (totals_in (alone_at s.members j))
+  few_totals_at j l = subst (λ (es : List Entry). HasFewTotals (totals_of es)) (listed j l) (few_totals (member (world_of s) j))
+
+  -- Member by member they are those of the members by themselves.
+  pub totals_are : map totals_in s.members ≡ all_totals (world_of s)
+  totals_are =
+      let many : length (in_groups s.members) ≡ length s.members = length-map s.members in_group in
+      let long : length (numbers_from 0 (length (in_groups s.members))) ≡ length (in_groups s.members) = length_numbers 0 (length (in_groups s.members)) in
+      let f : ℕ → Totals = λ j. totals_of (catalogue_at (world_of s) j) in
+      let left : length (map totals_in s.members) ≡ length s.members = length-map s.members totals_in in
+      let right : length (all_totals (world_of s)) ≡ length (numbers_from 0 (length (in_groups s.members))) = length-map (numbers_from 0 (length (in_groups s.members))) f in
+      ext_get_or none (map totals_in s.members) (all_totals (world_of s)) (omega (arith, left, right, long, many)) (λ i l.
+      let inside : i < length s.members = omega (arith, l, left) in
+      let z : 0 + i ≡ i = omega arith in
+      get_or-map totals_in s.members i nobody none inside
+      ∙ ap totals_of (sym (listed i inside))
+      ∙ ap f (sym (number_at 0 (length (in_groups s.members)) i (omega (arith, inside, many)) ∙ z))
+      ∙ sym (get_or-map f (numbers_from 0 (length (in_groups s.members))) i 0 none (omega (arith, inside, many, long)))) where
+    none : Totals
+    none = record { entries = 0; segments = 0; octets = 0 }
+
+  pub sums_are : (g : Totals → ℕ) → map (λ a. g (totals_in a)) s.members ≡ map g (all_totals (world_of s))
+  sums_are g = over s.members ∙ ap (map g) totals_are where
+    over : (as_ : List Alone) → map (λ a. g (totals_in a)) as_ ≡ map g (map totals_in as_)
+    over [] = refl
+    over (a ∷ as_) = ap (λ (ns : List ℕ). g (totals_in a) ∷ ns) (over as_)
