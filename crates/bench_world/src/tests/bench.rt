@@ -102,7 +102,10 @@ impl<'n, N: Net + Sync> Bench<'n, N> {
         rt: &R,
         k: u32,
     ) -> Result<Vec<u8>, Fail> {
-        match self.world.step(rt, &Event::Sync { k }, self.net, &self.draws)? {
+        match self
+            .world
+            .step(rt, &Event::Sync { k }, self.net, &self.draws)?
+        {
             Happened::Sync { octets, .. } => Ok(octets),
             _ => Ok(Vec::new(rt.alloc())),
         }

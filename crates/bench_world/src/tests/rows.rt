@@ -39,10 +39,11 @@ const ANSWER: Event = Event::Answer {
 fn a_delivery_tells_of_a_publication(rt: HostRuntime) -> Result<(), Fail> {
     let net = OpenNet::new();
     let mut bench = Bench::new(&rt, 2, &net)?;
+    let doc = publish(&rt, ALICE, "/doc", 10, "abc")?;
     bench.tells(
         &rt,
         &[
-            (publish(&rt, ALICE, "/doc", 10, "abc")?, "publish alice 1 segments 1 sync 1"),
+            (doc, "publish alice 1 segments 1 sync 1"),
             (Event::Deliver { k: 1, m: BOB }, "deliver 1 bob steady"),
             (Event::Vector { m: BOB }, "vector bob alice=1 bob=0"),
             (Event::Catalogue { m: BOB }, "catalogue bob 0"),
@@ -55,11 +56,13 @@ fn a_delivery_tells_of_a_publication(rt: HostRuntime) -> Result<(), Fail> {
 fn a_repeat_suppresses(rt: HostRuntime) -> Result<(), Fail> {
     let net = OpenNet::new();
     let mut bench = Bench::new(&rt, 2, &net)?;
+    let doc = publish(&rt, ALICE, "/a", 10, "abc")?;
+    let again = publish(&rt, ALICE, "/b", 10, "abc")?;
     bench.tells(
         &rt,
         &[
-            (publish(&rt, ALICE, "/a", 10, "abc")?, "publish alice 1 segments 1 sync 1"),
-            (publish(&rt, ALICE, "/b", 10, "abc")?, "publish alice 2 segments 1 sync 2"),
+            (doc, "publish alice 1 segments 1 sync 1"),
+            (again, "publish alice 2 segments 1 sync 2"),
             (Event::Deliver { k: 2, m: BOB }, "deliver 2 bob steady"),
             (Event::Deliver { k: 1, m: BOB }, "deliver 1 bob suppressed"),
             (Event::Deliver { k: 1, m: BOB }, "deliver 1 bob suppressed"),
@@ -74,10 +77,11 @@ fn a_repeat_suppresses(rt: HostRuntime) -> Result<(), Fail> {
 fn answers_bring_part_after_part(rt: HostRuntime) -> Result<(), Fail> {
     let net = OpenNet::new();
     let mut bench = Bench::new(&rt, 2, &net)?;
+    let doc = publish(&rt, ALICE, "/doc", 1, "abc")?;
     bench.tells(
         &rt,
         &[
-            (publish(&rt, ALICE, "/doc", 1, "abc")?, "publish alice 1 segments 3 sync 1"),
+            (doc, "publish alice 1 segments 3 sync 1"),
             (Event::Deliver { k: 1, m: BOB }, "deliver 1 bob steady"),
             (CLAIM, "claim bob 1 part alice 1 0"),
             (ANSWER, "answer bob 1 kept"),
@@ -98,14 +102,19 @@ fn answers_bring_part_after_part(rt: HostRuntime) -> Result<(), Fail> {
 fn one_object_has_two_numbers(rt: HostRuntime) -> Result<(), Fail> {
     let net = OpenNet::new();
     let mut bench = Bench::new(&rt, 2, &net)?;
+    let doc = publish(&rt, ALICE, "/doc", 10, "abc")?;
+    let again = publish(&rt, ALICE, "/doc", 10, "abc")?;
     bench.tells(
         &rt,
         &[
-            (publish(&rt, ALICE, "/doc", 10, "abc")?, "publish alice 1 segments 1 sync 1"),
-            (publish(&rt, ALICE, "/doc", 10, "abc")?, "publish alice 2 segments 1 sync 2"),
+            (doc, "publish alice 1 segments 1 sync 1"),
+            (again, "publish alice 2 segments 1 sync 2"),
             (Event::Settle { workers: 1 }, "settle syncs 2 kept 4"),
             (Event::Catalogue { m: BOB }, TWO_ENTRIES),
-            (Event::Traffic, "traffic syncs 4 delivered 2 attempts 0 parts 4 octets 394"),
+            (
+                Event::Traffic,
+                "traffic syncs 4 delivered 2 attempts 0 parts 4 octets 394",
+            ),
         ],
     )?;
     let first = bench.dump(&rt, BOB, (ALICE, 1, 1))?;
@@ -120,11 +129,13 @@ fn one_object_has_two_numbers(rt: HostRuntime) -> Result<(), Fail> {
 fn one_name_has_two_publishers(rt: HostRuntime) -> Result<(), Fail> {
     let net = OpenNet::new();
     let mut bench = Bench::new(&rt, 3, &net)?;
+    let doc = publish(&rt, ALICE, "/doc", 10, "abc")?;
+    let other = publish(&rt, BOB, "/doc", 10, "hello")?;
     bench.tells(
         &rt,
         &[
-            (publish(&rt, ALICE, "/doc", 10, "abc")?, "publish alice 1 segments 1 sync 1"),
-            (publish(&rt, BOB, "/doc", 10, "hello")?, "publish bob 1 segments 1 sync 2"),
+            (doc, "publish alice 1 segments 1 sync 1"),
+            (other, "publish bob 1 segments 1 sync 2"),
             (Event::Settle { workers: 3 }, "settle syncs 3 kept 8"),
             (Event::Catalogue { m: CAROL }, OF_TWO_PUBLISHERS),
         ],
@@ -136,10 +147,11 @@ fn one_name_has_two_publishers(rt: HostRuntime) -> Result<(), Fail> {
 fn a_settle_ends_claims(rt: HostRuntime) -> Result<(), Fail> {
     let net = OpenNet::new();
     let mut bench = Bench::new(&rt, 2, &net)?;
+    let doc = publish(&rt, ALICE, "/doc", 1, "abc")?;
     bench.tells(
         &rt,
         &[
-            (publish(&rt, ALICE, "/doc", 1, "abc")?, "publish alice 1 segments 3 sync 1"),
+            (doc, "publish alice 1 segments 3 sync 1"),
             (Event::Deliver { k: 1, m: BOB }, "deliver 1 bob steady"),
             (CLAIM, "claim bob 1 part alice 1 0"),
             (ANSWER, "answer bob 1 kept"),
@@ -158,12 +170,14 @@ fn a_settle_ends_claims(rt: HostRuntime) -> Result<(), Fail> {
 fn a_timer_fires_when_it_is_due(rt: HostRuntime) -> Result<(), Fail> {
     let net = OpenNet::new();
     let mut bench = Bench::new(&rt, 2, &net)?;
+    let doc = publish(&rt, ALICE, "/a", 10, "abc")?;
+    let again = publish(&rt, ALICE, "/b", 10, "abc")?;
     bench.tells(
         &rt,
         &[
             (Event::Fire { m: BOB }, "fire bob early"),
-            (publish(&rt, ALICE, "/a", 10, "abc")?, "publish alice 1 segments 1 sync 1"),
-            (publish(&rt, ALICE, "/b", 10, "abc")?, "publish alice 2 segments 1 sync 2"),
+            (doc, "publish alice 1 segments 1 sync 1"),
+            (again, "publish alice 2 segments 1 sync 2"),
             (Event::Deliver { k: 2, m: BOB }, "deliver 2 bob steady"),
             (Event::Deliver { k: 1, m: BOB }, "deliver 1 bob suppressed"),
             (Event::Deliver { k: 2, m: BOB }, "deliver 2 bob suppressed"),
@@ -188,10 +202,11 @@ fn fetches<N: Net + Sync, R: Threads + Abort + AllocGlobal + Sync>(
         tries: 16,
         loss,
     };
+    let doc = publish(rt, ALICE, "/doc", 1, "abc")?;
     bench.tells(
         rt,
         &[
-            (publish(rt, ALICE, "/doc", 1, "abc")?, "publish alice 1 segments 3 sync 1"),
+            (doc, "publish alice 1 segments 3 sync 1"),
             (Event::Deliver { k: 1, m: BOB }, "deliver 1 bob steady"),
             (fetch(1_000), "fetch bob planned 1 kept 0 attempts 16"),
             (fetch(0), "fetch bob planned 1 kept 1 attempts 1"),
@@ -226,7 +241,10 @@ fn a_fetch_tries_until_one_passes(rt: HostRuntime) -> Result<(), Fail> {
         bench.tells(
             &rt,
             &[
-                (publish(&rt, ALICE, "/doc", 1, "abc")?, "publish alice 1 segments 3 sync 1"),
+                (
+                    publish(&rt, ALICE, "/doc", 1, "abc")?,
+                    "publish alice 1 segments 3 sync 1",
+                ),
                 (Event::Deliver { k: 1, m: BOB }, "deliver 1 bob steady"),
                 (fetch, "fetch bob planned 1 kept 1 attempts 3"),
             ],
@@ -239,6 +257,7 @@ fn a_fetch_tries_until_one_passes(rt: HostRuntime) -> Result<(), Fail> {
 fn what_is_not_there_is_refused(rt: HostRuntime) -> Result<(), Fail> {
     let net = OpenNet::new();
     let mut bench = Bench::new(&rt, 2, &net)?;
+    let doc = publish(&rt, ALICE, "/doc", 10, "abc")?;
     bench.tells(
         &rt,
         &[
@@ -246,7 +265,7 @@ fn what_is_not_there_is_refused(rt: HostRuntime) -> Result<(), Fail> {
             (Event::Sync { k: 0 }, "refused 5"),
             (Event::Lose { m: BOB, f: 2 }, "refused 7"),
             (ANSWER, "refused 7"),
-            (publish(&rt, ALICE, "/doc", 10, "abc")?, "publish alice 1 segments 1 sync 1"),
+            (doc, "publish alice 1 segments 1 sync 1"),
             (Event::Deliver { k: 1, m: BOB }, "deliver 1 bob steady"),
             (CLAIM, "claim bob 1 part alice 1 0"),
             (CLAIM, "refused 6"),
@@ -282,7 +301,13 @@ fn hear(octets: Vec<u8>) -> Event {
 fn a_member_hears_what_was_sent(rt: HostRuntime) -> Result<(), Fail> {
     let net = OpenNet::new();
     let mut bench = Bench::new(&rt, 2, &net)?;
-    bench.tells(&rt, &[(publish(&rt, ALICE, "/doc", 10, "abc")?, "publish alice 1 segments 1 sync 1")])?;
+    bench.tells(
+        &rt,
+        &[(
+            publish(&rt, ALICE, "/doc", 10, "abc")?,
+            "publish alice 1 segments 1 sync 1",
+        )],
+    )?;
     let sent = bench.sync(&rt, 1)?;
     let mut changed = sent.to_vec(rt.alloc())?;
     if let Some(last) = changed.last_mut() {
@@ -292,13 +317,19 @@ fn a_member_hears_what_was_sent(rt: HostRuntime) -> Result<(), Fail> {
         &rt,
         &[
             (hear(signed(&rt, BOB, b"k2", &[1, 0])?), "foreign"),
-            (hear(signed(&rt, ALICE, b"k1", &[1, 5])?), "hear bob refused OwnNumberAhead 0 5"),
+            (
+                hear(signed(&rt, ALICE, b"k1", &[1, 5])?),
+                "hear bob refused OwnNumberAhead 0 5",
+            ),
             (hear(changed), "hear bob refused ParamsDigest"),
             (Event::Vector { m: BOB }, "vector bob alice=0 bob=0"),
             (hear(signed(&rt, ALICE, b"k1", &[1, 0])?), "hear bob steady"),
             (Event::Vector { m: BOB }, "vector bob alice=1 bob=0"),
             (hear(sent), "hear bob steady"),
-            (Event::Traffic, "traffic syncs 1 delivered 2 attempts 0 parts 0 octets 0"),
+            (
+                Event::Traffic,
+                "traffic syncs 1 delivered 2 attempts 0 parts 0 octets 0",
+            ),
         ],
     )
 }
@@ -308,10 +339,11 @@ fn a_member_hears_what_was_sent(rt: HostRuntime) -> Result<(), Fail> {
 fn a_claim_is_fed(rt: HostRuntime) -> Result<(), Fail> {
     let net = OpenNet::new();
     let mut bench = Bench::new(&rt, 2, &net)?;
+    let doc = publish(&rt, ALICE, "/doc", 10, "abc")?;
     bench.tells(
         &rt,
         &[
-            (publish(&rt, ALICE, "/doc", 10, "abc")?, "publish alice 1 segments 1 sync 1"),
+            (doc, "publish alice 1 segments 1 sync 1"),
             (Event::Deliver { k: 1, m: BOB }, "deliver 1 bob steady"),
             (CLAIM, "claim bob 1 part alice 1 0"),
         ],
@@ -337,7 +369,10 @@ fn a_claim_is_fed(rt: HostRuntime) -> Result<(), Fail> {
             (CLAIM, "claim bob 1 part alice 1 1"),
             (ANSWER, "answer bob 1 kept"),
             (Event::Catalogue { m: BOB }, ONE_ENTRY),
-            (Event::Traffic, "traffic syncs 1 delivered 1 attempts 1 parts 2 octets 197"),
+            (
+                Event::Traffic,
+                "traffic syncs 1 delivered 1 attempts 1 parts 2 octets 197",
+            ),
         ],
     )
 }
@@ -347,16 +382,24 @@ fn a_claim_is_fed(rt: HostRuntime) -> Result<(), Fail> {
 fn a_member_is_asked(rt: HostRuntime) -> Result<(), Fail> {
     let net = OpenNet::new();
     let mut bench = Bench::new(&rt, 2, &net)?;
+    let doc = publish(&rt, ALICE, "/doc", 10, "abc")?;
     bench.tells(
         &rt,
         &[
-            (publish(&rt, ALICE, "/doc", 10, "abc")?, "publish alice 1 segments 1 sync 1"),
+            (doc, "publish alice 1 segments 1 sync 1"),
             (Event::Settle { workers: 2 }, "settle syncs 2 kept 2"),
-            (Event::Traffic, "traffic syncs 3 delivered 2 attempts 0 parts 2 octets 197"),
+            (
+                Event::Traffic,
+                "traffic syncs 3 delivered 2 attempts 0 parts 2 octets 197",
+            ),
         ],
     )?;
     let record = bench.dump(&rt, BOB, (ALICE, 1, 0))?;
-    let found = bench.asked(&rt, BOB, b"\x05\x0f\x07\x0d\x08\x05alice\x08\x01g\x3a\x01\x01")?;
+    let found = bench.asked(
+        &rt,
+        BOB,
+        b"\x05\x0f\x07\x0d\x08\x05alice\x08\x01g\x3a\x01\x01",
+    )?;
     assert_eq!(&rt; found.len(), 118);
     assert_eq!(&rt; found.as_slice(), record.as_slice());
     let ask = |octets: &[u8]| -> Result<Event, Fail> {
@@ -368,7 +411,10 @@ fn a_member_is_asked(rt: HostRuntime) -> Result<(), Fail> {
     bench.tells(
         &rt,
         &[
-            (ask(b"\x05\x11\x07\x0d\x08\x05alice\x08\x01g\x3a\x01\x01\x12\x00")?, "ask bob none"),
+            (
+                ask(b"\x05\x11\x07\x0d\x08\x05alice\x08\x01g\x3a\x01\x01\x12\x00")?,
+                "ask bob none",
+            ),
             (ask(b"\x05\x00")?, "ask bob refused Missing"),
         ],
     )

@@ -26,18 +26,16 @@ fn entries(alloc: Global, m: u32, entries: &[Entry]) -> Result<String, AllocErro
         let name = entry.name.to_uri(alloc)?;
         let digest = hex(alloc, &entry.digest)?;
         let (seq, segments, octets) = (entry.seq, entry.segments, entry.octets);
-        let line = format!(in alloc; "\nentry {} {seq} {name} segments {segments} octets {octets} sha256 {digest}", label(entry.publisher))?;
+        let line = format!(in alloc;
+            "\nentry {} {seq} {name} segments {segments} octets {octets} sha256 {digest}",
+            label(entry.publisher)
+        )?;
         text.push_str(line.as_str())?;
     }
     Ok(text)
 }
 
-fn vector(
-    alloc: Global,
-    m: u32,
-    members: &[u32],
-    numbers: &[u64],
-) -> Result<String, AllocError> {
+fn vector(alloc: Global, m: u32, members: &[u32], numbers: &[u64]) -> Result<String, AllocError> {
     let mut text = format!(in alloc; "vector {}", label(m))?;
     for (member, number) in members.iter().zip(numbers) {
         text.push_str(format!(in alloc; " {}={number}", label(*member))?.as_str())?;
@@ -60,9 +58,7 @@ fn heard(alloc: Global, m: u32, refusal: &HearRefusal) -> Result<String, AllocEr
 
 fn fed(alloc: Global, m: u32, f: u64, refusal: &PartRefusal) -> Result<String, AllocError> {
     match refusal {
-        PartRefusal::OtherName => {
-            format!(in alloc; "feed {} {f} refused OtherName", label(m))
-        }
+        PartRefusal::OtherName => { format!(in alloc; "feed {} {f} refused OtherName", label(m)) }
         PartRefusal::BadSignature => {
             format!(in alloc; "feed {} {f} refused BadSignature", label(m))
         }
@@ -77,6 +73,17 @@ fn asked(alloc: Global, m: u32, refusal: &PacketFault) -> Result<String, AllocEr
     }
 }
 
+// What is told of what comes for claims.
+fn coming(alloc: Global, happened: &Happened) -> Result<String, AllocError> {
+    match happened {
+        Happened::AnswerKept { m, f } => format!(in alloc; "answer {} {f} kept", label(*m)),
+        Happened::AnswerNone { m, f } => format!(in alloc; "answer {} {f} none", label(*m)),
+        Happened::FeedKept { m, f } => format!(in alloc; "feed {} {f} kept", label(*m)),
+        Happened::FeedRefused { m, f, refusal } => fed(alloc, *m, *f, refusal),
+        _ => format!(in alloc; "something else"),
+    }
+}
+
 // What is told of a member's claims and of what it fetches.
 fn fetching(alloc: Global, happened: &Happened) -> Result<String, AllocError> {
     match happened {
@@ -87,7 +94,11 @@ fn fetching(alloc: Global, happened: &Happened) -> Result<String, AllocError> {
             seq,
             x,
         } => {
-            format!(in alloc; "claim {} {f} part {} {seq} {x}", label(*m), label(*publisher))
+            format!(in alloc;
+                "claim {} {f} part {} {seq} {x}",
+                label(*m),
+                label(*publisher)
+            )
         }
         Happened::Lose {
             m,
@@ -95,21 +106,24 @@ fn fetching(alloc: Global, happened: &Happened) -> Result<String, AllocError> {
             publisher,
             seq,
             x,
-        } => format!(in alloc; "lose {} {f} part {} {seq} {x}", label(*m), label(*publisher)),
+        } => format!(in alloc;
+            "lose {} {f} part {} {seq} {x}",
+            label(*m),
+            label(*publisher)
+        ),
         Happened::ClaimNone { m, f } => format!(in alloc; "claim {} {f} none", label(*m)),
-        Happened::AnswerKept { m, f } => format!(in alloc; "answer {} {f} kept", label(*m)),
-        Happened::AnswerNone { m, f } => format!(in alloc; "answer {} {f} none", label(*m)),
-        Happened::FeedKept { m, f } => format!(in alloc; "feed {} {f} kept", label(*m)),
-        Happened::FeedRefused { m, f, refusal } => fed(alloc, *m, *f, refusal),
         Happened::Fetch {
             m,
             planned,
             kept,
             attempts,
         } => {
-            format!(in alloc; "fetch {} planned {planned} kept {kept} attempts {attempts}", label(*m))
+            format!(in alloc;
+                "fetch {} planned {planned} kept {kept} attempts {attempts}",
+                label(*m)
+            )
         }
-        _ => format!(in alloc; "something else"),
+        _ => coming(alloc, happened),
     }
 }
 
@@ -139,7 +153,9 @@ fn reading(alloc: Global, happened: &Happened) -> Result<String, AllocError> {
             parts,
             octets,
         } => {
-            format!(in alloc; "traffic syncs {syncs} delivered {delivered} attempts {attempts} parts {parts} octets {octets}")
+            format!(in alloc;
+                "traffic syncs {syncs} delivered {delivered} attempts {attempts} parts {parts} octets {octets}"
+            )
         }
         _ => fetching(alloc, happened),
     }
@@ -153,7 +169,10 @@ pub(super) fn line(alloc: Global, happened: &Happened) -> Result<String, AllocEr
             seq,
             segments,
             sync,
-        } => format!(in alloc; "publish {} {seq} segments {segments} sync {sync}", label(*m)),
+        } => format!(in alloc;
+            "publish {} {seq} segments {segments} sync {sync}",
+            label(*m)
+        ),
         Happened::DeliverSteady { k, m } => format!(in alloc; "deliver {k} {} steady", label(*m)),
         Happened::DeliverSuppressed { k, m } => {
             format!(in alloc; "deliver {k} {} suppressed", label(*m))
