@@ -1,4 +1,5 @@
 mod bench;
+mod ready;
 mod rows;
 mod told;
 

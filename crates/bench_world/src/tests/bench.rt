@@ -3,6 +3,7 @@ ghost use Rattle.std.specs.Prelude.{◌≡◌, IfOk};
 ghost use Rattle.repo_member.specs.Groups.{IsPlainNodeName};
 
 use super::LABELS;
+use super::ready::is_ready;
 use super::told::line;
 use crate::*;
 use bench_net::{FixedDraws, Net};
@@ -82,6 +83,18 @@ impl<'n, N: Net + Sync> Bench<'n, N> {
         Ok(Bench { world, net, draws })
     }
 
+    // What comes of an event that can be carried out.
+    fn step<R: Threads + Abort + AllocGlobal + Sync>(
+        &mut self,
+        rt: &R,
+        event: &Event,
+    ) -> Result<Result<Happened, StepFault>, AllocError> {
+        let members = self.world.group().roster().len();
+        assert!(rt; is_ready(rt.alloc(), members, event)?);
+        assert!(rt; self.world.steps() < 100_000);
+        Ok(self.world.step(rt, event, self.net, &self.draws))
+    }
+
     // Each event is told as the line beside it says.
     pub(super) fn tells<R: Threads + Abort + AllocGlobal + Sync>(
         &mut self,
@@ -89,7 +102,7 @@ impl<'n, N: Net + Sync> Bench<'n, N> {
         rows: &[(Event, &str)],
     ) -> Result<(), Fail> {
         for (event, expected) in rows {
-            let came = self.world.step(rt, event, self.net, &self.draws);
+            let came = self.step(rt, event)?;
             let told = outcome(rt.alloc(), &came)?;
             assert_eq!(rt; told.as_str(), *expected);
         }
@@ -119,7 +132,7 @@ impl<'n, N: Net + Sync> Bench<'n, N> {
         (p, s, x): (u32, u32, u32),
     ) -> Result<Vec<u8>, Fail> {
         let event = Event::Dump { m, p, s, x };
-        match self.world.step(rt, &event, self.net, &self.draws)? {
+        match self.step(rt, &event)?? {
             Happened::DumpHex { octets, .. } => Ok(octets),
             _ => Ok(Vec::new(rt.alloc())),
         }
@@ -134,7 +147,7 @@ impl<'n, N: Net + Sync> Bench<'n, N> {
     ) -> Result<Vec<u8>, Fail> {
         let octets = octets.to_vec(rt.alloc())?;
         let event = Event::Ask { m, octets };
-        match self.world.step(rt, &event, self.net, &self.draws)? {
+        match self.step(rt, &event)?? {
             Happened::AskFound { octets, .. } => Ok(octets),
             _ => Ok(Vec::new(rt.alloc())),
         }
