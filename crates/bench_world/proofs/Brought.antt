@@ -28,7 +28,7 @@ use Rattle.repo_member.specs.TrueMembers.{IsTrueMember}
 use Rattle.repo_member.proofs.PublicLaws.{packets_pass_for_members}
 use Rattle.bench_world.specs.Worlds.{AreTrueMembers}
 use Rattle.bench_world.specs.Others.{place_of}
-use Rattle.bench_world.specs.Lending.{or_else, lent, lends, lent_at, lent_first, comes, if_comes}
+use Rattle.bench_world.specs.Lending.{or_else, lent, lends, lent_at, lent_first, comes, if_comes, answer_of}
 use Rattle.bench_world.specs.Gathering.{lent_one, lent_all}
 use Rattle.bench_world.specs.Fetching.{fetched_one, fetched_all}
 use Rattle.bench_world.proofs.Attempts.{none_comes, some_comes}
@@ -148,20 +148,20 @@ octets_sum f (job ∷ jobs) (Some c ∷ ps) (n ∷ ns) e h each =
 
 -- ---- the jobs of a member
 
-module _ (passes : ℕ → ℕ → ℕ → ℕ → ℕ → ℕ → Bool) (g : GroupKeys) (logs : Logs) (a : Alone) (others : List Alone) (asker : ℕ) (loss : Option ℕ) (are : AreLogs g logs) (truly : IsTrueMember g logs a) (all : AreTrueMembers g logs others) where
-  abbrev pub answer : WantedPart → ℕ → Option (List ℕ)
-  answer want attempt = if_comes (comes passes asker loss want.part attempt) (lent_first others asker want.part)
+pub want_part : (g : GroupKeys) (a : Alone) (t : Part) → (want_of g a.store t).part ≡ t
+want_part g a t = go (t.part == 0) where
+  go : (b : Bool) → (cond b (want_record t (node_at g t.publisher) g.name) (want_segment t (unwrap_or (listing_at a.store (pair_of t)) nothing_listed))).part ≡ t
+  go true = refl
+  go false = refl
 
-  pub want_part : (t : Part) → (want_of g a.store t).part ≡ t
-  want_part t = go (t.part == 0) where
-    go : (b : Bool) → (cond b (want_record t (node_at g t.publisher) g.name) (want_segment t (unwrap_or (listing_at a.store (pair_of t)) nothing_listed))).part ≡ t
-    go true = refl
-    go false = refl
+module _ (passes : ℕ → ℕ → ℕ → ℕ → ℕ → ℕ → Bool) (g : GroupKeys) (logs : Logs) (a : Alone) (others : List Alone) (asker : ℕ) (loss : Option ℕ) (are : AreLogs g logs) (truly : IsTrueMember g logs a) (all : AreTrueMembers g logs others) where
+  abbrev answer : WantedPart → ℕ → Option (List ℕ)
+  answer = answer_of passes others asker loss
 
   brought : (t : Part) (before : ℕ) → brings answer g.members.ring (job_for g a t) before
       ≡ checked_reply (want_of g a.store t) g.members.ring (if_comes (comes passes asker loss t (attempts_of (alone_plan a) t + before + 1)) (lent others t))
   brought t before =
-      ap (λ (q : Part). checked_reply (want_of g a.store t) g.members.ring (if_comes (comes passes asker loss q (attempts_of (alone_plan a) t + before + 1)) (lent_first others asker q))) (want_part t)
+      ap (λ (q : Part). checked_reply (want_of g a.store t) g.members.ring (if_comes (comes passes asker loss q (attempts_of (alone_plan a) t + before + 1)) (lent_first others asker q))) (want_part g a t)
       ∙ ap (λ (o : Option (List ℕ)). checked_reply (want_of g a.store t) g.members.ring (if_comes (comes passes asker loss t (attempts_of (alone_plan a) t + before + 1)) o)) (first_is_lent g logs others asker t all)
 
   nothing_comes : (want : WantedPart) (b : Bool) → checked_reply want g.members.ring (if_comes b None) ≡ None
@@ -215,7 +215,7 @@ module _ (passes : ℕ → ℕ → ℕ → ℕ → ℕ → ℕ → Bool) (g : Gr
     fetched_is (t ∷ ts) w [] ns f = absurd f
     fetched_is (t ∷ ts) w (p ∷ ps) [] f = absurd f
     fetched_is (t ∷ ts) w (p ∷ ps) (n ∷ ns) f =
-        let part = want_part t in
+        let part = want_part g a t in
         let r = one_comes t (w t (inl refl)) p n f.0 in
         let packet = r.0 in
         let attempts = r.1 in
@@ -237,7 +237,7 @@ module _ (passes : ℕ → ℕ → ℕ → ℕ → ℕ → ℕ → Bool) (g : Gr
   lent_is e (t ∷ ts) w [] ns f = absurd f
   lent_is e (t ∷ ts) w (p ∷ ps) [] f = absurd f
   lent_is e (t ∷ ts) w (p ∷ ps) (n ∷ ns) f =
-      let part = want_part t in
+      let part = want_part g a t in
       let packet = (one_comes 1 t (w t (inl refl)) p n f.0).0 ∙ through e t in
       let rest = lent_is e ts (λ u i. w u (inr i)) ps ns f.1 in
       λ i. record { part = part i; packet = packet i; attempts = 0 } ∷ rest i

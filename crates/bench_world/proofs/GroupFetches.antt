@@ -101,84 +101,84 @@ module _ (passes : ℕ → ℕ → ℕ → ℕ → ℕ → ℕ → Bool) (draw :
   abbrev pub fetched : List Fetched
   fetched = fetched_all (comes passes j (Some loss)) (others_than j members) tries (alone_at members j) (next_parts None (alone_at members j))
 
-  member_is : member w j ≡ in_group (alone_at members j)
+  member_is : member w j ≡ in_group here
   member_is = ap (λ (ms : List Member). get_or ms j no_member) (sym begun) ∙ member_of members j there
 
-  is_member : IsMemberOf w j (alone_at members j)
+  is_member : IsMemberOf w j here
   is_member = record { there = let e : length w.members ≡ length members = sym (ap length begun) ∙ length-map members in_group in omega (arith, there, e); number = numbers j there; same = member_is }
 
-  is_true : IsTrueIn g w (alone_at members j)
-  is_true = record { published = are; stores = true_stores g (logs w) (alone_at members j) (truly j there) }
+  is_true : IsTrueIn g w here
+  is_true = record { published = are; stores = true_stores g (logs w) here (truly j there) }
 
-  lends_same : (t : Part) → lends (others_than j members) t ≡ someone_holds (others_of w j) t
-  lends_same t = lends_held (others_than j members) t ∙ removed members j t ∙ ap (λ (ms : List Member). someone_holds (set ms j no_member) t) begun
+  lends_same : (t : Part) → lends others t ≡ someone_holds (others_of w j) t
+  lends_same t = lends_held others t ∙ removed members j t ∙ ap (λ (ms : List Member). someone_holds (set ms j no_member) t) begun
 
-  attempt_same : (t : Part) → attempt_at (comes passes j (Some loss)) (others_than j members) tries (alone_at members j) t ≡ attempt (outside g draw passes) w j tries loss t
+  attempt_same : (t : Part) → attempt_at way others tries here t ≡ attempt out w j tries loss t
   attempt_same t =
-      let tried : (alone_at members j).attempts ≡ (member w j).attempts = ap (λ (m : Member). m.attempts) (sym member_is) in
-      ap (λ (b : Bool). cond b (find (λ n. passes j t.publisher t.seq t.part (unwrap_or (value_of part_cmp (alone_at members j).attempts t) 0 + n) loss) (numbers_from 1 tries)) None) (lends_same t)
+      let tried : here.attempts ≡ (member w j).attempts = ap (λ (m : Member). m.attempts) (sym member_is) in
+      ap (λ (b : Bool). cond b (find (λ n. passes j t.publisher t.seq t.part (unwrap_or (value_of part_cmp here.attempts t) 0 + n) loss) (numbers_from 1 tries)) None) (lends_same t)
       ∙ (λ i. cond (someone_holds (others_of w j) t) (find (λ n. passes j t.publisher t.seq t.part (unwrap_or (value_of part_cmp (tried i) t) 0 + n) loss) (numbers_from 1 tries)) None)
 
-  planned_same : next_parts None (alone_at members j) ≡ planned_parts w j
-  planned_same = ap (take 4096) (behind_none (unclaimed (alone_plan (alone_at members j))) ∙ sym (open_parts_alike w j g (alone_at members j) is_member is_true))
+  planned_same : next_parts None here ≡ planned_parts w j
+  planned_same = ap (take 4096) (behind_none (unclaimed (alone_plan here)) ∙ sym (open_parts_alike w j g here is_member is_true))
 
-  pub planned_are : length (next_parts None (alone_at members j)) ≡ length (planned_parts w j)
+  pub planned_are : length (next_parts None here) ≡ length (planned_parts w j)
   planned_are = ap length planned_same
 
-  pub came_are : that_came (fetched_all (comes passes j (Some loss)) (others_than j members) tries (alone_at members j) (next_parts None (alone_at members j))) ≡ fetched_parts (outside g draw passes) w j tries loss
+  pub came_are : that_came fetched ≡ fetched_parts out w j tries loss
   came_are =
-      came_same (comes passes j (Some loss)) (others_than j members) tries (alone_at members j) (next_parts None (alone_at members j))
-      ∙ filter_same (λ t. is_some (attempt_at (comes passes j (Some loss)) (others_than j members) tries (alone_at members j) t)) (λ t. is_some (attempt (outside g draw passes) w j tries loss t)) (next_parts None (alone_at members j)) (λ t. ap is_some (attempt_same t))
-      ∙ ap (filter (λ t. is_some (attempt (outside g draw passes) w j tries loss t))) planned_same
+      came_same way others tries here (next_parts None here)
+      ∙ filter_same (λ t. is_some (attempt_at way others tries here t)) (λ t. is_some (attempt out w j tries loss t)) (next_parts None here) (λ t. ap is_some (attempt_same t))
+      ∙ ap (filter (λ t. is_some (attempt out w j tries loss t))) planned_same
 
-  tried_are : AreTries (attempts_for (outside g draw passes) w j tries loss) (fetched_all (comes passes j (Some loss)) (others_than j members) tries (alone_at members j) (next_parts None (alone_at members j)))
-  tried_are = all_from_in (λ (x : Fetched). x.attempts ≡ attempts_for (outside g draw passes) w j tries loss x.part) (fetched_all (comes passes j (Some loss)) (others_than j members) tries (alone_at members j) (next_parts None (alone_at members j))) (λ x i.
-      let r = from_map (fetched_one (comes passes j (Some loss)) (others_than j members) tries (alone_at members j)) (next_parts None (alone_at members j)) x i in
-      subst (λ (y : Fetched). y.attempts ≡ attempts_for (outside g draw passes) w j tries loss y.part) (sym r.2) (ap (λ (o : Option ℕ). unwrap_or o tries) (attempt_same r.0)))
+  tried_are : AreTries (attempts_for out w j tries loss) fetched
+  tried_are = all_from_in (λ (x : Fetched). x.attempts ≡ attempts_for out w j tries loss x.part) fetched (λ x i.
+      let r = from_map (fetched_one way others tries here) (next_parts None here) x i in
+      subst (λ (y : Fetched). y.attempts ≡ attempts_for out w j tries loss y.part) (sym r.2) (ap (λ (o : Option ℕ). unwrap_or o tries) (attempt_same r.0)))
 
-  outcome : IsOutcomeIn (outside g draw passes) w j tries loss (fetched_all (comes passes j (Some loss)) (others_than j members) tries (alone_at members j) (next_parts None (alone_at members j)))
+  outcome : IsOutcomeIn out w j tries loss fetched
   outcome = record {
-    asked = asked_same (comes passes j (Some loss)) (others_than j members) tries (alone_at members j) (next_parts None (alone_at members j)) ∙ planned_same;
+    asked = asked_same way others tries here (next_parts None here) ∙ planned_same;
     came = came_are;
     tried = tried_are;
   }
 
-  pub attempts_are : sum (map (λ (x : Fetched). x.attempts) (fetched_all (comes passes j (Some loss)) (others_than j members) tries (alone_at members j) (next_parts None (alone_at members j)))) ≡ attempts_made (outside g draw passes) w j tries loss
+  pub attempts_are : sum (map (λ (x : Fetched). x.attempts) fetched) ≡ attempts_made out w j tries loss
   attempts_are =
-      tried_sum (attempts_for (outside g draw passes) w j tries loss) (fetched_all (comes passes j (Some loss)) (others_than j members) tries (alone_at members j) (next_parts None (alone_at members j))) tried_are
-      ∙ ap (sum_by (attempts_for (outside g draw passes) w j tries loss)) outcome.asked
+      tried_sum (attempts_for out w j tries loss) fetched tried_are
+      ∙ ap (sum_by (attempts_for out w j tries loss)) outcome.asked
 
   -- The member afterwards is what the event makes of it.
-  fetched_in : member (after_event (outside g draw passes) w (Event.Fetch j tries loss)) j ≡ in_group (alone_takes (fetched_all (comes passes j (Some loss)) (others_than j members) tries (alone_at members j) (next_parts None (alone_at members j))) (alone_at members j))
-  fetched_in = fetch_is_event (outside g draw passes) w j tries loss (fetched_all (comes passes j (Some loss)) (others_than j members) tries (alone_at members j) (next_parts None (alone_at members j))) (alone_at members j) is_member (true_is_alone g (logs w) (alone_at members j) (truly j there)).in_order outcome
+  fetched_in : member (after_event out w (Event.Fetch j tries loss)) j ≡ in_group (alone_takes fetched here)
+  fetched_in = fetch_is_event out w j tries loss fetched here is_member (true_is_alone g (logs w) here (truly j there)).in_order outcome
 
-  fetched_member : in_group (alone_takes (fetched_all (comes passes j (Some loss)) (others_than j members) tries (alone_at members j) (next_parts None (alone_at members j))) (alone_at members j)) ≡ fetches (outside g draw passes) w j tries loss (member w j)
-  fetched_member = sym fetched_in ∙ get_or-set_same w.members j (fetches (outside g draw passes) w j tries loss (member w j)) no_member is_member.there
+  fetched_member : in_group (alone_takes fetched here) ≡ fetches out w j tries loss (member w j)
+  fetched_member = sym fetched_in ∙ get_or-set_same w.members j (fetches out w j tries loss (member w j)) no_member is_member.there
 
   from_packet : (b : Bool) (o : Option (List ℕ)) (octets : List ℕ) → cond b o None ≡ Some octets → o ≡ Some octets
   from_packet true o octets e = e
   from_packet false o octets e = absurd cc
 
-  fetched_truly : IsTrueMember g (logs w) (alone_takes (fetched_all (comes passes j (Some loss)) (others_than j members) tries (alone_at members j) (next_parts None (alone_at members j))) (alone_at members j))
+  fetched_truly : IsTrueMember g (logs w) (alone_takes fetched here)
   fetched_truly =
-      takes_true g (logs w) (fetched_all (comes passes j (Some loss)) (others_than j members) tries (alone_at members j) (next_parts None (alone_at members j))) (alone_at members j) are
-      (all_from_in (λ (x : Fetched). IfSome x.packet (IsTrueArrival g (logs w) (alone_at members j) x.part)) (fetched_all (comes passes j (Some loss)) (others_than j members) tries (alone_at members j) (next_parts None (alone_at members j))) (λ x i. one x i x.packet refl)) (truly j there) where
-        one : (x : Fetched) → In x (fetched_all (comes passes j (Some loss)) (others_than j members) tries (alone_at members j) (next_parts None (alone_at members j))) → (o : Option (List ℕ)) → x.packet ≡ o → IfSome o (IsTrueArrival g (logs w) (alone_at members j) x.part)
+      takes_true g (logs w) fetched here are
+      (all_from_in (λ (x : Fetched). IfSome x.packet (IsTrueArrival g (logs w) here x.part)) fetched (λ x i. one x i x.packet refl)) (truly j there) where
+        one : (x : Fetched) → In x fetched → (o : Option (List ℕ)) → x.packet ≡ o → IfSome o (IsTrueArrival g (logs w) here x.part)
         one x i None e = tt
         one x i (Some octets) e =
-            let r = from_map (fetched_one (comes passes j (Some loss)) (others_than j members) tries (alone_at members j)) (next_parts None (alone_at members j)) x i in
-            subst (λ (t : Part). IsTrueArrival g (logs w) (alone_at members j) t octets) (sym (ap (λ (y : Fetched). y.part) r.2))
+            let r = from_map (fetched_one way others tries here) (next_parts None here) x i in
+            subst (λ (t : Part). IsTrueArrival g (logs w) here t octets) (sym (ap (λ (y : Fetched). y.part) r.2))
             (record {
-              unclaimed = next_unclaimed (alone_at members j) None r.0 r.1;
-              packet = lends_true g (logs w) (others_than j members) (others_true g (logs w) members (others_than j members) j truly refl) r.0 octets
-                  (from_packet (is_some (attempt_at (comes passes j (Some loss)) (others_than j members) tries (alone_at members j) r.0)) (lent (others_than j members) r.0) octets (sym (ap (λ (y : Fetched). y.packet) r.2) ∙ e));
+              unclaimed = next_unclaimed here None r.0 r.1;
+              packet = lends_true g (logs w) others (others_true g (logs w) members others j truly refl) r.0 octets
+                  (from_packet (is_some (attempt_at way others tries here r.0)) (lent others r.0) octets (sym (ap (λ (y : Fetched). y.packet) r.2) ∙ e));
             })
 
-  module _ (new : List Alone) (new_is : new ≡ set members j (alone_takes (fetched_all (comes passes j (Some loss)) (others_than j members) tries (alone_at members j) (next_parts None (alone_at members j))) (alone_at members j))) where
-    pub members_are : in_groups new ≡ (after_fetch (outside g draw passes) w j tries loss).members
+  module _ (new : List Alone) (new_is : new ≡ set members j (alone_takes fetched here)) where
+    pub members_are : in_groups new ≡ (after_fetch out w j tries loss).members
     members_are =
         ap in_groups new_is
-        ∙ map-set in_group members j (alone_takes (fetched_all (comes passes j (Some loss)) (others_than j members) tries (alone_at members j) (next_parts None (alone_at members j))) (alone_at members j))
+        ∙ map-set in_group members j (alone_takes fetched here)
         ∙ (λ i. set (begun i) j (fetched_member i))
 
     new_len : length new ≡ length members
@@ -188,7 +188,7 @@ module _ (passes : ℕ → ℕ → ℕ → ℕ → ℕ → ℕ → Bool) (draw :
     taker_number [] a = refl
     taker_number (x ∷ xs) a = taker_number xs _
 
-    at_here : alone_at new j ≡ alone_takes (fetched_all (comes passes j (Some loss)) (others_than j members) tries (alone_at members j) (next_parts None (alone_at members j))) (alone_at members j)
+    at_here : alone_at new j ≡ alone_takes fetched here
     at_here = ap (λ (ms : List Alone). alone_at ms j) new_is ∙ get_or-set_same members j _ nobody there
 
     elsewhere : (i : ℕ) → (i ≡ j → ⊥) → alone_at new i ≡ alone_at members i
@@ -202,6 +202,6 @@ module _ (passes : ℕ → ℕ → ℕ → ℕ → ℕ → ℕ → Bool) (draw :
 
     pub fetched_numbers : AreNumbered new
     fetched_numbers i l = elim (cases_eq i j) [
-      | inl same ↦ ap (λ (k : ℕ). (alone_at new k).number) same ∙ ap (λ (a : Alone). a.number) at_here ∙ taker_number (fetched_all (comes passes j (Some loss)) (others_than j members) tries (alone_at members j) (next_parts None (alone_at members j))) (alone_at members j) ∙ numbers j there ∙ sym same
+      | inl same ↦ ap (λ (k : ℕ). (alone_at new k).number) same ∙ ap (λ (a : Alone). a.number) at_here ∙ taker_number fetched here ∙ numbers j there ∙ sym same
       | inr other ↦ ap (λ (a : Alone). a.number) (elsewhere i other) ∙ numbers i (omega (arith, l, new_len))
     ]

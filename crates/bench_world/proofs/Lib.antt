@@ -27,7 +27,10 @@ mod Readers
 mod Answered
 mod Hearings
 mod Summaries
+mod Gainings
+mod EventRuns
 mod Coming
 mod TakenOut
 mod Asked
 mod Answerable
+pub mod SettledAgain

@@ -29,11 +29,11 @@ use Rattle.repo_member.proofs.PublicLaws.{true_is_of, wants_published, jobs_are_
 use Rattle.bench_world.specs.Worlds.{AreTrueMembers}
 use Rattle.bench_world.specs.Truth.{TriedFew}
 use Rattle.bench_world.specs.Sizes.{size_of}
-use Rattle.bench_world.specs.Lending.{lent, lends, comes}
+use Rattle.bench_world.specs.Lending.{lent, lends, comes, answer_of}
 use Rattle.bench_world.specs.Gathering.{next_parts, lent_one, lent_all}
 use Rattle.bench_world.specs.Fetching.{attempt_at, fetched_one, fetched_all}
 use Rattle.bench_world.proofs.NextParts.{next_unclaimed, from_slice_get}
-use Rattle.bench_world.proofs.Brought.{answer, lends_true, were_tried, none_counted, first_lengths, counted, octets_sum, fetched_is, lent_is, came_lent, want_part}
+use Rattle.bench_world.proofs.Brought.{lends_true, were_tried, none_counted, first_lengths, counted, octets_sum, fetched_is, lent_is, came_lent, want_part}
 
 module _ (passes : ℕ → ℕ → ℕ → ℕ → ℕ → ℕ → Bool) (g : GroupKeys) (logs : Logs) (a : Alone) (others : List Alone) (asker : ℕ) (loss : Option ℕ) (are : AreLogs g logs) (truly : IsTrueMember g logs a) (all : AreTrueMembers g logs others)
     (tried : TriedFew a) (after : Option Part) (jobs : List Job) (jobs_are : jobs ≡ jobs_behind g a after 4096) (ring : List Pair) (ring_is : ring ≡ g.members.ring) where
@@ -65,7 +65,7 @@ module _ (passes : ℕ → ℕ → ℕ → ℕ → ℕ → ℕ → Bool) (g : Gr
   planned_place job k at =
       let among : In job (map (job_for g a) (next_parts after a)) = from_slice_get (map (job_for g a) (next_parts after a)) k job (ap (λ (js : List Job). slice_get js k) (sym jobs_are) ∙ at) in
       let r : (t : Part) × (In t (next_parts after a)) × (job ≡ job_for g a t) = from_map (job_for g a) (next_parts after a) job among in
-      ap (contains part_cmp (next_parts after a)) (ap (λ (j : Job). j.want.part) r.2 ∙ want_part passes g logs a others asker loss are truly all r.0) ∙ contains_in exact_parts (next_parts after a) r.0 r.1
+      ap (contains part_cmp (next_parts after a)) (ap (λ (j : Job). j.want.part) r.2 ∙ want_part g a r.0) ∙ contains_in exact_parts (next_parts after a) r.0 r.1
 
   -- A wanted part has the size of what is lent of it.
   size_lent : (t : Part) (octets : List ℕ) → In t (next_parts after a) → lent others t ≡ Some octets → size_of g logs t ≡ length octets
@@ -74,27 +74,27 @@ module _ (passes : ℕ → ℕ → ℕ → ℕ → ℕ → ℕ → Bool) (g : Gr
       ap (λ (b : Bool). cond b (length (unwrap_or (true_packet g logs t) [])) 0) there ∙ ap (λ (o : Option (List ℕ)). length (unwrap_or o [])) (lends_true g logs others all t octets e)
 
   module _ (tries : ℕ) (few : tries ≤ 16) (asked : List Job) (asked_are : asked ≡ jobs_behind g a after 4096) (parts values : List (Option CheckedPart)) (values_are : values ≡ parts) (ns counts : List ℕ) (counts_are : counts ≡ ns)
-      (first : AreFirst (answer passes g logs a others asker loss are truly all) ring tries asked parts ns) where
-    first_here : AreFirst (answer passes g logs a others asker loss are truly all) g.members.ring tries jobs values counts
+      (first : AreFirst (answer_of passes others asker loss) ring tries asked parts ns) where
+    first_here : AreFirst (answer_of passes others asker loss) g.members.ring tries jobs values counts
     first_here =
-        subst (λ (cs : List ℕ). AreFirst (answer passes g logs a others asker loss are truly all) g.members.ring tries jobs values cs) (sym counts_are)
-        (subst (λ (vs : List (Option CheckedPart)). AreFirst (answer passes g logs a others asker loss are truly all) g.members.ring tries jobs vs ns) (sym values_are)
-        (subst (λ (js : List Job). AreFirst (answer passes g logs a others asker loss are truly all) g.members.ring tries js parts ns) (asked_are ∙ sym jobs_are)
-        (subst (λ (r : List Pair). AreFirst (answer passes g logs a others asker loss are truly all) r tries asked parts ns) ring_is first)))
+        subst (λ (cs : List ℕ). AreFirst (answer_of passes others asker loss) g.members.ring tries jobs values cs) (sym counts_are)
+        (subst (λ (vs : List (Option CheckedPart)). AreFirst (answer_of passes others asker loss) g.members.ring tries jobs vs ns) (sym values_are)
+        (subst (λ (js : List Job). AreFirst (answer_of passes others asker loss) g.members.ring tries js parts ns) (asked_are ∙ sym jobs_are)
+        (subst (λ (r : List Pair). AreFirst (answer_of passes others asker loss) r tries asked parts ns) ring_is first)))
 
-    first_planned : AreFirst (answer passes g logs a others asker loss are truly all) g.members.ring tries (map (job_for g a) (next_parts after a)) values counts
-    first_planned = subst (λ (js : List Job). AreFirst (answer passes g logs a others asker loss are truly all) g.members.ring tries js values counts) jobs_are first_here
+    first_planned : AreFirst (answer_of passes others asker loss) g.members.ring tries (map (job_for g a) (next_parts after a)) values counts
+    first_planned = subst (λ (js : List Job). AreFirst (answer_of passes others asker loss) g.members.ring tries js values counts) jobs_are first_here
 
     pub count_attempts : length counts ≡ length jobs
-    count_attempts = (first_lengths (answer passes g logs a others asker loss are truly all) g tries jobs values counts first_here).1
+    count_attempts = (first_lengths (answer_of passes others asker loss) g tries jobs values counts first_here).1
 
     count_parts : length values ≡ length jobs
-    count_parts = (first_lengths (answer passes g logs a others asker loss are truly all) g tries jobs values counts first_here).0
+    count_parts = (first_lengths (answer_of passes others asker loss) g tries jobs values counts first_here).0
 
     -- ---- a fetch
 
     pub fetch_outcome : IsOutcome g a jobs values counts
-    fetch_outcome = planned_jobs_are_outcomes g a jobs values counts planned (were_tried (answer passes g logs a others asker loss are truly all) g tries jobs values counts (can_be_tried_here tries few) first_here)
+    fetch_outcome = planned_jobs_are_outcomes g a jobs values counts planned (were_tried (answer_of passes others asker loss) g tries jobs values counts (can_be_tried_here tries few) first_here)
 
     pub fetch_is : outcome_of jobs values counts ≡ fetched_all (comes passes asker loss) others tries a (next_parts after a)
     fetch_is = ap (λ (js : List Job). outcome_of js values counts) jobs_are ∙ fetched_is passes g logs a others asker loss are truly all tries (next_parts after a) wanted values counts first_planned
@@ -126,7 +126,7 @@ module _ (passes : ℕ → ℕ → ℕ → ℕ → ℕ → ℕ → Bool) (g : Gr
   -- ---- a phase of a settle
 
   module _ (none : loss ≡ None) (asked : List Job) (asked_are : asked ≡ jobs_behind g a after 4096) (parts values : List (Option CheckedPart)) (values_are : values ≡ parts) (ns : List ℕ)
-      (first : AreFirst (answer passes g logs a others asker loss are truly all) ring 1 asked parts ns) (zeros : List ℕ) (zeros_are : zeros ≡ replicate (length jobs) 0) where
+      (first : AreFirst (answer_of passes others asker loss) ring 1 asked parts ns) (zeros : List ℕ) (zeros_are : zeros ≡ replicate (length jobs) 0) where
     count_zeros : length zeros ≡ length jobs
     count_zeros = ap length zeros_are ∙ length-replicate (length jobs) 0
 
@@ -134,7 +134,7 @@ module _ (passes : ℕ → ℕ → ℕ → ℕ → ℕ → ℕ → Bool) (g : Gr
     gain_outcome =
         subst (IsOutcome g a jobs values) (sym zeros_are)
         (planned_jobs_are_outcomes g a jobs values (replicate (length jobs) 0) planned
-        (none_counted (answer passes g logs a others asker loss are truly all) g 1 jobs values ns (can_be_tried_here 1 (omega arith)) (first_here 1 (omega arith) asked asked_are parts values values_are ns ns refl first)))
+        (none_counted (answer_of passes others asker loss) g 1 jobs values ns (can_be_tried_here 1 (omega arith)) (first_here 1 (omega arith) asked asked_are parts values values_are ns ns refl first)))
 
     pub gain_is : outcome_of jobs values zeros ≡ lent_all others (next_parts after a)
     gain_is =

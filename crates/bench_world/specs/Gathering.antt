@@ -48,8 +48,11 @@ one_each t = 1
 abbrev pub NothingLeft : List Alone → Alone → Type 0
 NothingLeft others a = (t : Part) → is_unclaimed (alone_plan a) t ≡ true → lends others t ≡ false
 
--- What a round has done up to a place: so many parts came, and where none did, the others store no open part up to there.
-pub record RoundSoFar (g : GroupKeys) (logs : Logs) (others : List Alone) (after : Option Part) (kept : ℕ) (old new : Alone) : Type 0 where
+-- What a round has done up to a place: so many parts came, and where none did, the others store no open part up to
+-- there.
+pub record RoundSoFar (g : GroupKeys) (logs : Logs) (others : List Alone) (after : Option Part) (kept : ℕ)
+    (old new : Alone) : Type 0 where
   pub gains : Gains g logs others old new
   pub count : Counts one_each kept old new
-  pub still : kept ≡ 0 → (t : Part) → is_unclaimed (alone_plan new) t ≡ true → is_after after t ≡ false → lends others t ≡ false
+  pub still : kept ≡ 0 → (t : Part) → is_unclaimed (alone_plan new) t ≡ true → is_after after t ≡ false
+      → lends others t ≡ false

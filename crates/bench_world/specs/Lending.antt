@@ -3,6 +3,7 @@ use Rattle.std.specs.Prelude.{ℕ, Bool, true, false, List, [], ◌∷◌, Optio
 use Rattle.repo_plan.specs.declared.part.Part.{Part}
 use Rattle.repo_plan.specs.SortedList.{value_of}
 use Rattle.repo_plan.specs.Parts.{part_cmp}
+use Rattle.repo_object.specs.Wants.{WantedPart}
 use Rattle.repo_member.specs.Alone.{Alone}
 use Rattle.bench_world.specs.Others.{place_of}
 
@@ -39,3 +40,8 @@ comes passes asker (Some loss) t attempt = passes asker t.publisher t.seq t.part
 abbrev pub if_comes : Bool → Option (List ℕ) → Option (List ℕ)
 if_comes true octets = octets
 if_comes false octets = None
+
+-- What a link over members answers, where the network passes these attempts.
+abbrev pub answer_of : (ℕ → ℕ → ℕ → ℕ → ℕ → ℕ → Bool) → List Alone → ℕ → Option ℕ → WantedPart → ℕ → Option (List ℕ)
+answer_of passes others asker loss want attempt =
+    if_comes (comes passes asker loss want.part attempt) (lent_first others asker want.part)

@@ -21,3 +21,4 @@ pub mod Hearing
 pub mod Answerable
 pub mod Replying
 pub mod Sums
+pub mod Runs

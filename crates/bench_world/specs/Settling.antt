@@ -1,12 +1,13 @@
 -- What a settle makes of all members, and what it leaves where memory was wanting.
-use Rattle.std.specs.Prelude.{ℕ, ◌≡◌, ◌≤◌, ◌<◌, ◌⊎◌, true, List, length, map, slice_index, sum_by}
+use Rattle.std.specs.Prelude.{ℕ, ◌≡◌, ◌≤◌, ◌<◌, ◌⊎◌, true, List, length, slice_index, sum_by}
 use Rattle.repo_plan.specs.declared.part.Part.{Part}
 use Rattle.repo_plan.specs.Plan.{no_claims}
 use Rattle.group_model.specs.Member.{Member, member_holds}
 use Rattle.group_model.specs.Settles.{IsGathering}
 use Rattle.group_model.specs.Sound.{IsSoundGroup}
-use Rattle.group_model.specs.World.{World, member, logs, someone_holds}
-use Rattle.group_model.specs.Steps.{settled_vector, settled_member, new_parts}
+use Rattle.group_model.specs.Events.{Event}
+use Rattle.group_model.specs.World.{Outside, World, member, logs, someone_holds}
+use Rattle.group_model.specs.Steps.{settled_vector, settled_member, new_parts, after_event}
 use Rattle.repo_member.specs.Groups.{GroupKeys}
 use Rattle.repo_member.specs.Alone.{Alone}
 use Rattle.repo_member.specs.InGroup.{in_group}
@@ -65,7 +66,9 @@ pub record GatheredSoFar (g : GroupKeys) (w : World) (begun : List Alone) (j : �
 
 -- ---- again
 
--- A settle that then succeeds makes of the members what the one that failed would have made of them.
+-- The members after a settle that then succeeds are those that the one that failed would have left, and so are their
+-- catalogues.
 abbrev pub SettlesAgain : Type 0
-SettlesAgain = (w : World) (new : List Member) → IsSoundGroup w → IsSoundGroup (record w { members = new }) → ArePartlySettled w new
-    → map (settled_member (record w { members = new })) new ≡ map (settled_member w) w.members
+SettlesAgain = (out : Outside) (w : World) (new : List Member) → IsSoundGroup w → ArePartlySettled w new →
+    let stopped = record w { members = new } in
+    IsSoundGroup stopped → (after_event out stopped Event.Settle).members ≡ (after_event out w Event.Settle).members

@@ -119,3 +119,13 @@ begun_one n draw j = alone_opening n j 0 (draw j 0)
 
 abbrev pub begun_all : ℕ → (ℕ → ℕ → ℕ) → List Alone
 begun_all n draw = map (begun_one n draw) (numbers_from 0 n)
+
+-- A group of these members alone, as a fetch or a settle sees it.
+abbrev pub only : List Alone → World
+only members = record {
+  members = in_groups members;
+  sent = [];
+  moment = 0;
+  issued = [];
+  tally = record { delivered = 0; attempts = 0; parts = 0; octets = 0 };
+}

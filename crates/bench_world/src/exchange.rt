@@ -5,13 +5,15 @@ ghost use Rattle.group_model.specs.Publications.{Logs};
 ghost use Rattle.group_model.specs.World.{World, logs};
 ghost use Rattle.group_model.specs.Sound.{IsSoundGroup};
 ghost use Rattle.group_model.specs.Settles.{learnt_member};
-ghost use Rattle.group_model.specs.Steps.{settled_member, settle_gains, planned_parts, fetched_parts, attempts_made, after_fetch};
+ghost use Rattle.group_model.specs.Steps.{settled_member, settle_gains};
+ghost use Rattle.group_model.specs.Steps.{planned_parts, fetched_parts, attempts_made, after_fetch};
 ghost use Rattle.bench_world.specs.Gathering.{one_each, Counts, Gains, NothingLeft};
 ghost use Rattle.bench_world.specs.Serving.{outside};
 ghost use Rattle.bench_world.specs.Settling.{gain_sum, ArePartlySettled};
 ghost use Rattle.bench_world.specs.Sizes.{size_of};
 ghost use Rattle.bench_world.specs.Truth.{AreFewLogs, AllTriedFew};
-ghost use Rattle.bench_world.specs.Worlds.{alone_at, others_than, in_groups, AllCountsStay, AreTrueMembers, AreNumbered};
+ghost use Rattle.bench_world.specs.Worlds.{alone_at, others_than, in_groups};
+ghost use Rattle.bench_world.specs.Worlds.{AllCountsStay, AreTrueMembers, AreNumbered};
 
 use crate::fetch::{FetchCounts, fetch};
 use crate::gather::gather;

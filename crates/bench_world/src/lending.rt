@@ -20,10 +20,9 @@ pub(crate) struct MemberLink<'w, N> {
 }
 
 impl<'w, N: Net> Link for MemberLink<'w, N> {
-    ghost use Rattle.bench_world.specs.Lending.{comes, lent_first, if_comes};
+    ghost use Rattle.bench_world.specs.Lending.{answer_of};
 
-    ghost answer = { λ l want attempt. if_comes
-        (comes (N.passes l.net.now) l.asker l.loss want.part attempt) (lent_first l.others.now l.asker want.part) };
+    ghost answer = { λ l want attempt. answer_of (N.passes l.net.now) l.others.now l.asker l.loss want attempt };
 
     fn ask<'a>(&'a self, want: &Want, attempt: u32) -> Reply<'a> {
         let part = want.part();

@@ -27,6 +27,7 @@ pub use event::{Event, Happened, StepFault};
 pub use laws::claimed_parts_can_be_answered;
 pub use plain_entry::PlainEntry;
 pub use plain_world::PlainWorld;
+pub use settling::a_settle_can_be_made_again;
 pub use world::World;
 
 #[cfg(test)]

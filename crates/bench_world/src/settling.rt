@@ -7,7 +7,7 @@ ghost use Rattle.repo_member.specs.Alone.{alone_resets};
 ghost use Rattle.bench_world.specs.Sizes.{size_of};
 ghost use Rattle.bench_world.specs.Truth.{AreFewLogs, AllTriedFew};
 ghost use Rattle.bench_world.specs.Worlds.{alone_at, in_groups, tells, AllCountsStay, AreTrueMembers, AreNumbered};
-ghost use Rattle.bench_world.specs.Settling.{told_of, gain_sum, ArePartlySettled};
+ghost use Rattle.bench_world.specs.Settling.{told_of, gain_sum, ArePartlySettled, SettlesAgain};
 
 use crate::exchange::gather_all;
 use crate::telling::{Told, all_known, learn_all, tell_all};
@@ -16,8 +16,9 @@ use repo_member::{Group, Member};
 use std::alloc::{AllocError, Global};
 use std::thread::Threads;
 
-/// All claims end, each member tells what it knows and learns what all know, and each gathers what the others store: what
-/// was told, how many parts came, and how many octets.
+/// All claims end, each member tells what it knows and learns what all know, and each gathers what the others store.
+///
+/// The answer is what was told, how many parts came, and how many octets.
 pub(crate) fn settle_members<N: Net + Sync, R: Threads + Sync>(
     rt: &R,
     alloc: Global,
@@ -52,6 +53,11 @@ pub(crate) fn settle_members<N: Net + Sync, R: Threads + Sync>(
     Ok((told, parts, octets))
 }
 
+/// A settle that wanted memory can be made again, and then leaves what it would have left at first.
+pub fn a_settle_can_be_made_again()
+    ensures { SettlesAgain }
+{}
+
 /// What was told is sent, for which room was made.
 pub(crate) fn send_all(sent: &mut Sent, told: Vec<Told>)
     requires room { vec_len told ≤ sent.old.spare }
@@ -70,7 +76,8 @@ pub(crate) fn reset_all<D: Draws>(members: &mut Vec<Member>, moment: u64, draws:
     requires draws { (j : ℕ) → (alone_at members.old.items j).machine.draws < 2 ^ 62 }
     ensures len { length members.new.items ≡ length members.old.items }
     ensures each { (j : ℕ) → j < length members.old.items → alone_at members.new.items j
-        ≡ alone_resets moment (D.draw draws.now j (alone_at members.old.items j).machine.draws) (alone_at members.old.items j) }
+        ≡ alone_resets moment (D.draw draws.now j (alone_at members.old.items j).machine.draws)
+        (alone_at members.old.items j) }
 {
     for (j, member) in members.iter_mut().enumerate() {
         let draw = draws.draw(j as u32, member.next_draw());

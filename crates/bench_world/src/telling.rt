@@ -62,7 +62,8 @@ pub(crate) fn all_known(alloc: Global, members: &[Member]) -> Result<Vector, All
 /// All claims end, and every member learns what all know. It takes no memory.
 pub(crate) fn learn_all(known: &Vector, members: &mut Vec<Member>)
     requires few { length known.now ≤ 16 }
-    requires width { (j : ℕ) → j < length members.old.items → length (alone_at members.old.items j).known ≡ length known.now }
+    requires width { (j : ℕ) → j < length members.old.items
+        → length (alone_at members.old.items j).known ≡ length known.now }
     requires own { (j : ℕ) → j < length members.old.items
         → slice_index known.now (alone_at members.old.items j).number ≤ length (alone_at members.old.items j).log }
     ensures len { length members.new.items ≡ length members.old.items }

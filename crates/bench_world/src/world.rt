@@ -5,6 +5,7 @@ ghost use Rattle.repo_member.specs.Listed.{alone_catalogue};
 ghost use Rattle.bench_world.specs.Worlds.{world_of, alone_at, drawing, begun_all};
 
 mod claiming;
+mod gaining;
 mod publishing;
 mod reading;
 mod serving;

@@ -1,0 +1,49 @@
+-- What a step leaves that wanted memory, and lists of events.
+use Rattle.std.specs.Prelude.{ℕ, ◌≡◌, ◌+◌, ◌<◌, List, ◌++◌, map, take, length, slice_index_or}
+use Rattle.group_model.specs.Events as group
+use Rattle.group_model.specs.Refusals.{refusal, AreTaken}
+use Rattle.group_model.specs.World.{Outside, World}
+use Rattle.group_model.specs.Steps.{after_events}
+use Rattle.group_model.specs.Laws.{NothingHidden, NothingWanted, AllJoined, TellsAll}
+use Rattle.repo_member.specs.Groups.{GroupKeys}
+use Rattle.bench_world.specs.declared.event.Event.{Event}
+use Rattle.bench_world.specs.declared.event.StepFault.{StepFault}
+use Rattle.bench_world.specs.EventValues.{EventValue, event_value, group_event}
+use Rattle.bench_world.specs.Settling.{ArePartlySettled}
+use Rattle.bench_world.specs.Steps.{IsFaultOf}
+use Rattle.bench_world.specs.Worlds.{GroupState, in_groups, world_of}
+
+-- What a settle leaves that wanted memory: it counts as a step, each member has come a part of the way, and nothing else
+-- has changed.
+pub record HaveSettledPart (old new : GroupState) : Type 0 where
+  pub same : new ≡ record old { members = new.members; steps = old.steps + 1 }
+  pub members : ArePartlySettled (world_of old) (in_groups new.members)
+
+-- All stands as before, but for such a settle.
+abbrev pub StandsAsBefore : EventValue → GroupState → GroupState → Type 0
+StandsAsBefore (EventValue.Settle workers) old new = HaveSettledPart old new
+StandsAsBefore _ old new = new ≡ old
+
+-- ---- lists of events
+
+abbrev pub event_values : List Event → List EventValue
+event_values events = map event_value events
+
+abbrev pub group_events : GroupKeys → List EventValue → List group.Event
+group_events g events = map (group_event g) events
+
+-- The events before that of this number were carried out, and left this group; then came the fault.
+pub record IsStopped (out : Outside) (begun : GroupState) (events : List EventValue) (k : ℕ) (told : StepFault) (new : GroupState) : Type 0 where
+  pub inside : k < length events
+  pub taken : AreTaken out (world_of begun) (group_events begun.keys (take k events))
+  pub before : GroupState
+  pub world : world_of before ≡ after_events out (world_of begun) (group_events begun.keys (take k events))
+  pub stands : StandsAsBefore (slice_index_or events k EventValue.Traffic) before new
+  pub because : IsFaultOf
+      (refusal out (world_of before) (group_event begun.keys (slice_index_or events k EventValue.Traffic))) told
+
+-- Where the later events publish nothing and tell each member of all that each other has published, and nothing is wanted
+-- or hidden in the end, each catalogue is the join of all publications.
+abbrev pub ListLawFrom : Outside → World → List group.Event → World → Type 0
+ListLawFrom out w events last = (first later : List group.Event) → events ≡ first ++ later
+    → TellsAll out (after_events out w first) later → NothingHidden last → NothingWanted last → AllJoined last

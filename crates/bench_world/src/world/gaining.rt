@@ -1,0 +1,117 @@
+// What members gain of each other, in a fetch and in a settle.
+ghost use Rattle.std.specs.Prelude.{◌≡◌, ◌+◌, ◌<◌, ◌≤◌, None, length, IfOk, IfErr, OnOk, OnErr};
+ghost use Rattle.group_model.specs.Laws.{NothingHidden, AllJoined};
+ghost use Rattle.group_model.specs.Steps.{after_event, after_gathering, settle_gains};
+ghost use Rattle.group_model.specs.Refusals.{refusal};
+ghost use Rattle.bench_world.specs.Serving.{outside, keyed};
+ghost use Rattle.bench_world.specs.Worlds.{world_of};
+ghost use Rattle.bench_world.specs.Runs.{HaveSettledPart};
+ghost use Rattle.bench_world.specs.EventValues.{EventValue, group_event, told_value, telling};
+ghost use Rattle.bench_world.specs.Steps.{IsFaultOf};
+
+use super::World;
+use crate::event::{Happened, StepFault};
+use crate::exchange::fetch_at;
+use crate::settling::{reset_all, send_all, settle_members};
+use bench_net::{Draws, Net};
+use std::alloc::AllocError;
+use std::thread::Threads;
+
+impl World {
+    /// A member asks the others for the least 4,096 parts that it wants and that no fetcher of it claims, each so often at
+    /// most.
+    pub(crate) fn fetch<N: Net + Sync, R: Threads + Sync>(
+        &mut self,
+        rt: &R,
+        m: u32,
+        workers: u32,
+        tries: u32,
+        loss: u32,
+        net: &N,
+    ) -> Result<Happened, StepFault>
+        requires there { m < length self.old.members }
+        requires workers { (1 ≤ workers) × (workers ≤ 16) }
+        requires tries { (1 ≤ tries) × (tries ≤ 16) }
+        requires few { self.old.steps < 100000 }
+        ensures taken { OnOk result (refusal (outside self.old.keys (λ _ _. 0) (N.passes net.now)) (world_of self.old)
+            (group_event self.old.keys (EventValue.Fetch m workers tries loss)) ≡ None) }
+        ensures world { OnOk result (world_of self.new
+            ≡ after_event (outside self.old.keys (λ _ _. 0) (N.passes net.now)) (world_of self.old)
+            (group_event self.old.keys (EventValue.Fetch m workers tries loss))) }
+        ensures told { IfOk result (λ happened. told_value happened
+            ≡ telling self.old.keys (outside self.old.keys (λ _ _. 0) (N.passes net.now)) (world_of self.old)
+            (EventValue.Fetch m workers tries loss)) }
+        ensures steps { OnOk result (self.new.steps ≡ self.old.steps + 1) }
+        ensures keys { self.new.keys ≡ self.old.keys }
+        ensures refused { IfErr result (IsFaultOf (refusal (outside self.old.keys (λ _ _. 0) (N.passes net.now))
+            (world_of self.old) (group_event self.old.keys (EventValue.Fetch m workers tries loss)))) }
+        ensures err { OnErr result (self.new ≡ self.old) }
+    {
+        let fetched = fetch_at(
+            rt,
+            self.alloc,
+            &self.group,
+            net,
+            workers,
+            &mut self.members,
+            m,
+            tries,
+            loss,
+        );
+        let Ok(counts) = fetched else {
+            return Err(StepFault::NoMemory);
+        };
+        self.attempts += counts.attempts;
+        self.parts += u64::from(counts.kept.parts);
+        self.octets += counts.kept.octets;
+        self.steps += 1;
+        Ok(Happened::Fetch {
+            m,
+            planned: counts.planned as u64,
+            kept: u64::from(counts.kept.parts),
+            attempts: counts.attempts,
+        })
+    }
+
+    /// All claims end, each member learns what all know, and gains every part that some member holds with its record and
+    /// that it doesn't hide: how many parts came. The machines aren't reset, which the step of a settle does.
+    ///
+    /// The answers of the network aren't used. After want of memory each member has come a part of the way.
+    pub fn settle<N: Net + Sync, R: Threads + Sync>(
+        &mut self,
+        rt: &R,
+        workers: u32,
+        net: &N,
+    ) -> Result<u64, AllocError>
+        requires workers { (1 ≤ workers) × (workers ≤ 16) }
+        requires few { self.old.steps < 100000 }
+        ensures world { OnOk result (world_of self.new ≡ after_gathering (keyed self.old.keys) (world_of self.old)) }
+        ensures parts { IfOk result (λ parts. parts ≡ settle_gains (world_of self.old)) }
+        // Where nothing is hidden, each catalogue is the join of all publications.
+        ensures joined { OnOk result (NothingHidden (world_of self.new) → AllJoined (world_of self.new)) }
+        ensures steps { self.new.steps ≡ self.old.steps + 1 }
+        ensures keys { self.new.keys ≡ self.old.keys }
+        ensures err { OnErr result (HaveSettledPart self.old self.new) }
+    {
+        self.steps += 1;
+        self.sent.reserve(self.members.len())?;
+        let settled = settle_members(
+            rt,
+            self.alloc,
+            &self.group,
+            net,
+            workers,
+            &mut self.members,
+        );
+        let (told, parts, octets) = match settled {
+            Ok(settled) => settled,
+            Err(error) => return Err(error),
+        };
+        send_all(&mut self.sent, told);
+        let count = self.members.len() as u64;
+        self.delivered += count * count.saturating_sub(1);
+        self.parts += parts;
+        self.octets += octets;
+        Ok(parts)
+    }
+}
