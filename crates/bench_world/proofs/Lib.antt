@@ -34,4 +34,5 @@ mod EventRuns
 mod Coming
 mod TakenOut
 mod Asked
+mod Answerable
 pub mod SettledAgain

@@ -18,6 +18,7 @@ pub mod Timers
 pub mod Others
 pub mod Answering
 pub mod Hearing
+pub mod Answerable
 pub mod Replying
 pub mod Sums
 pub mod Runs

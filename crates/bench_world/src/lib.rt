@@ -12,6 +12,7 @@ mod fetch;
 mod gather;
 mod hearing;
 mod holding;
+mod laws;
 mod lending;
 mod log;
 mod numbers;
@@ -24,6 +25,7 @@ mod telling;
 mod world;
 
 pub use event::{Event, Happened, StepFault};
+pub use laws::claimed_parts_can_be_answered;
 pub use plain_entry::PlainEntry;
 pub use plain_world::PlainWorld;
 pub use settling::a_settle_can_be_made_again;

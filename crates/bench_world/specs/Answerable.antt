@@ -1,0 +1,39 @@
+-- That what is claimed can be had, where segments' packets are told by their names and digests.
+use Rattle.std.specs.Prelude.{◌≡◌, ℕ, ◌<◌, ◌⊎◌, true, length, Some, None}
+use Rattle.repo_plan.specs.declared.part.Part.{Part}
+use Rattle.repo_plan.specs.Parts.{Pair, pair_of}
+use Rattle.repo_object.specs.Published.{Published, Clear}
+use Rattle.group_model.specs.Publications.{Logs, object_at}
+use Rattle.group_model.specs.Member.{member_holds, member_hides}
+use Rattle.group_model.specs.Events as group
+use Rattle.group_model.specs.World.{member, logs}
+use Rattle.group_model.specs.Steps.{claim_at}
+use Rattle.group_model.specs.Refusals.{refusal}
+use Rattle.repo_member.specs.Groups.{GroupKeys, publisher_at}
+use Rattle.bench_world.specs.Worlds.{GroupState, world_of}
+use Rattle.bench_world.specs.Serving.{keyed}
+use Rattle.bench_world.specs.EventValues.{EventValue, Told, telling}
+
+-- A publication of a group, by its publisher and its number.
+abbrev pub published_at : GroupKeys → Logs → Pair → Published
+published_at g logs pair = record { publisher = publisher_at g pair.0; object = object_at logs pair }
+
+-- Segments' packets that have one name and one digest are the same.
+abbrev pub AreAllClear : GroupKeys → Logs → Type 0
+AreAllClear g logs = Clear (published_at g logs)
+
+-- An answer is taken, and kept.
+pub record IsKept (s : GroupState) (j f q : ℕ) : Type 0 where
+  pub taken : refusal (keyed s.keys) (world_of s) (group.Event.Answer j f q) ≡ None
+  pub told : telling s.keys (keyed s.keys) (world_of s) (EventValue.Answer j f q) ≡ Told.AnswerKept j f
+
+-- So is one from a member that holds the claimed part.
+abbrev pub HoldersCanAnswer : GroupState → Type 0
+HoldersCanAnswer s = AreAllClear s.keys (logs (world_of s)) → (j f q : ℕ) (t : Part) → j < length s.members → q < length s.members
+    → claim_at (world_of s) j f ≡ Some t → member_holds (member (world_of s) q) t ≡ true → IsKept s j f q
+
+-- So a claimed part can be had from its publisher, unless that has hidden its publication.
+abbrev pub PublishersCanAnswer : GroupState → Type 0
+PublishersCanAnswer s = AreAllClear s.keys (logs (world_of s)) → (j f : ℕ) (t : Part) → j < length s.members
+    → claim_at (world_of s) j f ≡ Some t
+    → IsKept s j f t.publisher ⊎ (member_hides (member (world_of s) t.publisher) (pair_of t) ≡ true)
