@@ -31,6 +31,8 @@ mod Gainings
 mod Resets
 mod Names
 mod EventRuns
+mod ClientKeys
+mod Orders
 mod Coming
 mod TakenOut
 mod Asked

@@ -21,3 +21,4 @@ pub mod Hearing
 pub mod Replying
 pub mod Sums
 pub mod Runs
+pub mod Commanding

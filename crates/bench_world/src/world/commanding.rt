@@ -1,0 +1,267 @@
+// Commands and blocks.
+ghost use Rattle.std.specs.Prelude.{◌≡◌, ◌⊎◌, ◌+◌, ◌<◌, ◌≤◌, true, None, IsTrue, length, IfOk, IfErr, OnOk, OnErr, option_map};
+ghost use Rattle.repo_object.specs.Objects.{key_name, is_object_name, IsContent};
+ghost use Rattle.repo_command.specs.Commands.{is_command, IsSpelled};
+ghost use Rattle.group_model.specs.Limits.{IsShortInsertion};
+ghost use Rattle.group_model.specs.Refusals.{refusal};
+ghost use Rattle.group_model.specs.Steps.{after_event, after_issue, answer_of, block_at};
+ghost use Rattle.repo_member.specs.Groups.{client_at};
+ghost use Rattle.repo_member.specs.Commanded.{order_made};
+ghost use Rattle.bench_world.specs.Serving.{keyed};
+ghost use Rattle.bench_world.specs.Worlds.{world_of, drawing};
+ghost use Rattle.bench_world.specs.Commanding.{sends_block, block_reply};
+ghost use Rattle.bench_world.specs.EventValues.{EventValue, group_event, told_value, telling};
+ghost use Rattle.bench_world.specs.Steps.{IsFaultOf};
+
+use super::{IssuedCommand, World};
+use crate::event::{Happened, StepFault};
+use crate::numbers::numbers;
+use bench_net::{Draws, Sent};
+use ndn_name::{Name, NameView};
+use repo_command::{Answer, Command, make_command};
+use repo_member::{Blocked, Group, PublishRefusal};
+use std::alloc::{AllocError, Global};
+
+impl World {
+    // A client makes a command for a member, which does what it asks for: what it answers.
+    fn issue(&mut self, m: u32, client: u32, command: Command) -> Result<Answer, AllocError>
+        requires there { m < length self.old.members }
+        requires client { client < length self.old.keys.clients.names }
+        requires spelled { IsSpelled command }
+        requires command { is_command command ≡ true }
+        requires short { IsShortInsertion command }
+        requires few { self.old.steps < 100000 }
+        ensures world { OnOk result (world_of self.new ≡ after_issue (world_of self.old) m client command) }
+        ensures answer { IfOk result (λ answer. answer ≡ answer_of (world_of self.old) m command) }
+        ensures steps { OnOk result (self.new.steps ≡ self.old.steps + 1) }
+        ensures keys { self.new.keys ≡ self.old.keys }
+        ensures err { OnErr result (self.new ≡ self.old) }
+    {
+        // Read for its clause alone: the group is one.
+        let _roster = self.group.roster();
+        let octets = made(self.alloc, &self.group, m, client, &command)?;
+        self.issued.reserve(1)?;
+        let member = &mut self.members[m as usize];
+        let answered = match member.command(&self.group, &octets) {
+            Ok(answered) => answered,
+            Err(error) => return Err(error),
+        };
+        self.issued
+            .push(IssuedCommand {
+                member: m,
+                client,
+                command,
+            })
+            .unwrap();
+        self.steps += 1;
+        Ok(answered.answer)
+    }
+
+    /// A client asks a member to take an object, whose blocks have the indexes `first` to `last`.
+    pub(crate) fn insert(&mut self, m: u32, client: u32, name: &Name, first: u64, last: u64) -> Result<Happened, StepFault>
+        requires there { m < length self.old.members }
+        requires client { client < length self.old.keys.clients.names }
+        requires name { IsTrue (is_object_name name.now) }
+        requires order { first ≤ last }
+        requires blocks { last < first + 200 }
+        requires few { self.old.steps < 100000 }
+        ensures taken { OnOk result (refusal (keyed self.old.keys) (world_of self.old)
+            (group_event self.old.keys (EventValue.Insert m client name.now first last)) ≡ None) }
+        ensures world { OnOk result (world_of self.new ≡ after_event (keyed self.old.keys) (world_of self.old)
+            (group_event self.old.keys (EventValue.Insert m client name.now first last))) }
+        ensures told { IfOk result (λ happened. told_value happened
+            ≡ telling self.old.keys (keyed self.old.keys) (world_of self.old) (EventValue.Insert m client name.now first last)) }
+        ensures steps { OnOk result (self.new.steps ≡ self.old.steps + 1) }
+        ensures keys { self.new.keys ≡ self.old.keys }
+        ensures refused { IfErr result (IsFaultOf (refusal (keyed self.old.keys) (world_of self.old)
+            (group_event self.old.keys (EventValue.Insert m client name.now first last)))) }
+        ensures err { OnErr result (self.new ≡ self.old) }
+    {
+        // Read for its clause alone: the components are a name's.
+        let _octets = name.octets();
+        let command = Command::Insert {
+            name: name.clone()?,
+            first,
+            last,
+        };
+        let Ok(answer) = self.issue(m, client, command) else {
+            return Err(StepFault::NoMemory);
+        };
+        Ok(Happened::Insert {
+            m,
+            code: u64::from(answer.code),
+            process: answer.process,
+            inserted: answer.inserted,
+            deleted: answer.deleted,
+        })
+    }
+
+    /// A client asks a member how an insertion process stands.
+    pub(crate) fn status(&mut self, m: u32, client: u32, process: u32) -> Result<Happened, StepFault>
+        requires there { m < length self.old.members }
+        requires client { client < length self.old.keys.clients.names }
+        requires few { self.old.steps < 100000 }
+        ensures taken { OnOk result (refusal (keyed self.old.keys) (world_of self.old)
+            (group_event self.old.keys (EventValue.Status m client process)) ≡ None) }
+        ensures world { OnOk result (world_of self.new ≡ after_event (keyed self.old.keys) (world_of self.old)
+            (group_event self.old.keys (EventValue.Status m client process))) }
+        ensures told { IfOk result (λ happened. told_value happened
+            ≡ telling self.old.keys (keyed self.old.keys) (world_of self.old) (EventValue.Status m client process)) }
+        ensures steps { OnOk result (self.new.steps ≡ self.old.steps + 1) }
+        ensures keys { self.new.keys ≡ self.old.keys }
+        ensures refused { IfErr result (IsFaultOf (refusal (keyed self.old.keys) (world_of self.old)
+            (group_event self.old.keys (EventValue.Status m client process)))) }
+        ensures err { OnErr result (self.new ≡ self.old) }
+    {
+        let command = Command::Check {
+            process: u64::from(process),
+        };
+        let Ok(answer) = self.issue(m, client, command) else {
+            return Err(StepFault::NoMemory);
+        };
+        Ok(Happened::Status {
+            m,
+            code: u64::from(answer.code),
+            process: answer.process,
+            inserted: answer.inserted,
+            deleted: answer.deleted,
+        })
+    }
+
+    /// A client asks a member to drop every object of this name.
+    pub(crate) fn delete(&mut self, m: u32, client: u32, name: &Name) -> Result<Happened, StepFault>
+        requires there { m < length self.old.members }
+        requires client { client < length self.old.keys.clients.names }
+        requires name { IsTrue (is_object_name name.now) }
+        requires few { self.old.steps < 100000 }
+        ensures taken { OnOk result (refusal (keyed self.old.keys) (world_of self.old)
+            (group_event self.old.keys (EventValue.Delete m client name.now)) ≡ None) }
+        ensures world { OnOk result (world_of self.new ≡ after_event (keyed self.old.keys) (world_of self.old)
+            (group_event self.old.keys (EventValue.Delete m client name.now))) }
+        ensures told { IfOk result (λ happened. told_value happened
+            ≡ telling self.old.keys (keyed self.old.keys) (world_of self.old) (EventValue.Delete m client name.now)) }
+        ensures steps { OnOk result (self.new.steps ≡ self.old.steps + 1) }
+        ensures keys { self.new.keys ≡ self.old.keys }
+        ensures refused { IfErr result (IsFaultOf (refusal (keyed self.old.keys) (world_of self.old)
+            (group_event self.old.keys (EventValue.Delete m client name.now)))) }
+        ensures err { OnErr result (self.new ≡ self.old) }
+    {
+        // Read for its clause alone: the components are a name's.
+        let _octets = name.octets();
+        let command = Command::Delete {
+            name: name.clone()?,
+        };
+        let Ok(answer) = self.issue(m, client, command) else {
+            return Err(StepFault::NoMemory);
+        };
+        Ok(Happened::Delete {
+            m,
+            code: u64::from(answer.code),
+            process: answer.process,
+            inserted: answer.inserted,
+            deleted: answer.deleted,
+        })
+    }
+
+    /// A member is given a block of an insertion process. The last one that was missing publishes the object.
+    pub(crate) fn block<D: Draws>(
+        &mut self,
+        m: u32,
+        process: u32,
+        index: u64,
+        content: &[u8],
+        draws: &D,
+    ) -> Result<Happened, StepFault>
+        requires there { m < length self.old.members }
+        requires content { IsContent content.now }
+        requires few { self.old.steps < 100000 }
+        ensures taken { OnOk result (refusal (drawing (D.draw draws.now)) (world_of self.old)
+            (group_event self.old.keys (EventValue.Block m process index content.now)) ≡ None) }
+        ensures world { OnOk result (world_of self.new ≡ after_event (drawing (D.draw draws.now)) (world_of self.old)
+            (group_event self.old.keys (EventValue.Block m process index content.now))) }
+        ensures told { IfOk result (λ happened. told_value happened
+            ≡ telling self.old.keys (drawing (D.draw draws.now)) (world_of self.old) (EventValue.Block m process index content.now)) }
+        ensures steps { OnOk result (self.new.steps ≡ self.old.steps + 1) }
+        ensures keys { self.new.keys ≡ self.old.keys }
+        ensures refused { IfErr result (IsFaultOf (refusal (drawing (D.draw draws.now)) (world_of self.old)
+            (group_event self.old.keys (EventValue.Block m process index content.now)))) }
+        ensures err { OnErr result (self.new ≡ self.old) }
+    {
+        self.sent.reserve(1)?;
+        let member = &mut self.members[m as usize];
+        let vector = numbers(self.alloc, member.vector())?;
+        let draw = draws.draw(m, member.next_draw());
+        let blocked = match member.block(&self.group, process, index, content, self.moment, draw) {
+            Ok(blocked) => blocked,
+            Err(PublishRefusal::NumbersSpent { .. }) => return Err(StepFault::Refused { number: 8 }),
+            Err(PublishRefusal::NoMemory) => return Err(StepFault::NoMemory),
+        };
+        let happened = send_block(&mut self.sent, m, vector, blocked);
+        self.steps += 1;
+        Ok(happened)
+    }
+}
+
+// The name of a client's key.
+fn client_key_name(alloc: Global, g: &Group, client: u32) -> Result<Name, AllocError>
+    requires { client < length g.now.clients.names }
+    ensures { IfOk result (λ name. name ≡ key_name (client_at g.now client)) }
+{
+    // Read for its clause alone: the group is one.
+    let _roster = g.roster();
+    // The octets are those of a name, which is short, so only memory can be wanting.
+    let Ok(view) = NameView::read(g.clients().name(client), 0) else {
+        unreachable!()
+    };
+    match Name::from_view(alloc, &view) {
+        Ok(name) => Ok(name),
+        Err(_) => Err(AllocError),
+    }
+}
+
+// The Interest of a client's command for a member.
+fn made(
+    alloc: Global,
+    g: &Group,
+    m: u32,
+    client: u32,
+    command: &Command,
+) -> Result<Vec<u8>, AllocError>
+    requires there { m < length g.now.members.names }
+    requires client { client < length g.now.clients.names }
+    requires command { is_command command.now ≡ true }
+    ensures { IfOk result (λ octets. octets.items ≡ order_made g.now m client command.now) }
+{
+    let key_name = client_key_name(alloc, g, client)?;
+    let octets = make_command(
+        alloc,
+        g.roster().name(m),
+        command,
+        &key_name,
+        g.clients().key(client),
+    )?;
+    Ok(octets)
+}
+
+// The sync Interest of an object that a block completed is sent, for which room was made.
+fn send_block(sent: &mut Sent, m: u32, mut vector: Vec<u16>, blocked: Blocked) -> Happened
+    requires there { m < length vector.items }
+    requires room { 0 < sent.old.spare }
+    requires few { length sent.old.packets < 4294967295 }
+    ensures sent { sent.new.packets ≡ sends_block m vector.items blocked sent.old.packets }
+    ensures told { told_value result ≡ block_reply m (length sent.old.packets + 1) blocked }
+{
+    match blocked {
+        Blocked::Unknown => Happened::Block404 { m },
+        Blocked::Waiting => Happened::Block300 { m },
+        Blocked::Already => Happened::Block200 { m },
+        Blocked::Published(published) => {
+            vector[m as usize] = published.seq;
+            Happened::BlockPublished {
+                m,
+                seq: u64::from(published.seq),
+                sync: u64::from(sent.add_reserved(m, vector, published.sync)),
+            }
+        }
+    }
+}
