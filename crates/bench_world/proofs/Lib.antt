@@ -33,6 +33,7 @@ mod Names
 mod EventRuns
 mod ClientKeys
 mod Orders
+mod IssuedLemmas
 mod Coming
 mod TakenOut
 mod Asked

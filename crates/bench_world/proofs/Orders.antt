@@ -1,6 +1,12 @@
 -- What commands make of a world.
-use Rattle.std.proofs.Common.{◌≡◌, ℕ, ◌+◌, ◌≤◌, ◌<◌, Bool, true, false, cond, List, [], ◌∷◌, ◌++◌, map, length, get_or, set, Option, Some, None, refl, sym, ap, ◌∙◌, subst, arith}
-use Rattle.std.specs.Prelude.{Result, Ok, Err}
+use Rattle.std.proofs.Common.{◌≡◌, ℕ, ◌+◌, ◌-◌, ◌≤◌, ◌<◌, Bool, true, false, cond, List, [], ◌∷◌, ◌++◌, map, length, get_or, set, Option, Some, None, refl, sym, ap, ◌∙◌, subst, arith}
+use Rattle.std.specs.Prelude.{Result, Ok, Err, IsTrue, nat_le, nat_lt, ◌&&◌}
+use Rattle.std.proofs.lemmas.Bool.{and_parts, leb-true, ltb-true}
+use Rattle.repo_object.specs.Objects.{is_object_name}
+use Rattle.repo_command.specs.Verdict.{command_verdict}
+use Rattle.repo_command.specs.declared.command_refusal.CommandRefusal.{CommandRefusal}
+use Rattle.repo_command.proofs.TakenLemmas.{taken_commands}
+use Rattle.repo_member.specs.Groups.{GroupKeys, node_at}
 use Rattle.std.proofs.lemmas.List.{map-set, map-append, set-get_or, get_or-set_same}
 use Rattle.repo_command.specs.declared.command.Command.{Command}
 use Rattle.repo_command.specs.declared.command.Command.TheVariants.{Insert, Check, Delete}
@@ -115,3 +121,19 @@ module _ (s : GroupState) (is : IsTrueState s) (m : ℕ) (there : m < length s.m
     pub issue_state : s.steps < 100000 → IsShortInsertion command → IsTrueState (record s { members = set s.members m b; issued = made; steps = s.steps + 1 })
     issue_state few short =
         obeyed_state (record s { issued = made }) (issued_state s made is) m there old old_is (Ok (client, command)) b b_is few short
+
+-- An order that passes is within the limits.
+pub order_range : (g : GroupKeys) (m : ℕ) (octets : List ℕ) → IsInRange (Event.Order m (commanded.order_of g m octets))
+order_range g m octets = go (command_verdict (node_at g m) g.clients.ring octets) refl where
+  short : (c : Command) → IsTrue (is_command c) → IsShortInsertion c
+  short (Insert name first last) is =
+      let inner : (nat_le first last && nat_lt (last - first) 200) ≡ true = (and_parts (is_object_name name) (nat_le first last && nat_lt (last - first) 200) is).1 in
+      let few : last - first < 200 = ltb-true (last - first) 200 (and_parts (nat_le first last) (nat_lt (last - first) 200) inner).1 in
+      let order : first ≤ last = leb-true first last (and_parts (nat_le first last) (nat_lt (last - first) 200) inner).0 in
+      omega (arith, few, order)
+  short (Check process) is = tt
+  short (Delete name) is = tt
+
+  go : (r : Result (ℕ × Command) CommandRefusal) → command_verdict (node_at g m) g.clients.ring octets ≡ r → IsInRange (Event.Order m (commanded.coded r))
+  go (Ok order) e = short order.1 (taken_commands (node_at g m) g.clients.ring octets order.0 order.1 e).0
+  go (Err refusal) e = tt

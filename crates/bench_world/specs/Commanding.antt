@@ -1,20 +1,19 @@
--- What a block brings about.
-use Rattle.std.specs.Prelude.{ℕ, List, [], ◌∷◌, ◌++◌, slice_set}
-use Rattle.bench_net.specs.SentList.{SentPacket, sent_packet}
-use Rattle.repo_member.specs.declared.member.block.Blocked.{Blocked}
-use Rattle.repo_member.specs.declared.member.block.Blocked.TheVariants as blocked
-use Rattle.bench_world.specs.EventValues.{Told}
+-- Which orders may be carried out.
+use Rattle.std.specs.Prelude.{ℕ, Bool, true, ◌==◌, ◌&&◌, List, Result, Ok, Err}
+use Rattle.std.specs.List.{list_any}
+use Rattle.repo_command.specs.declared.command.Command.{Command}
+use Rattle.group_model.specs.Commands.{is_equal_command}
+use Rattle.group_model.specs.World.{Issued}
 
--- What is sent then, where what the member knew is this vector.
-abbrev pub sends_block : ℕ → List ℕ → Blocked → List SentPacket → List SentPacket
-sends_block m vector blocked.Unknown sent = sent
-sends_block m vector blocked.Waiting sent = sent
-sends_block m vector blocked.Already sent = sent
-sends_block m vector (blocked.Published p) sent = sent ++ sent_packet m (slice_set vector m p.seq) p.sync.items ∷ []
+-- This is the command of a client for a member.
+abbrev pub is_that : ℕ × ℕ × Command → Issued → Bool
+is_that order i = i.member == order.0 && (i.client == order.1 && is_equal_command i.command order.2)
 
--- What is told of it, where the next sync Interest has this number.
-abbrev pub block_reply : ℕ → ℕ → Blocked → Told
-block_reply m k blocked.Unknown = Told.Block404 m
-block_reply m k blocked.Waiting = Told.Block300 m
-block_reply m k blocked.Already = Told.Block200 m
-block_reply m k (blocked.Published p) = Told.BlockPublished m p.seq k
+-- The client made that command for the member.
+abbrev pub is_issued : List Issued → ℕ → ℕ × Command → Bool
+is_issued issued m order = list_any (is_that (m, order.0, order.1)) issued
+
+-- An order that passes is one that its client made.
+abbrev pub may_order : List Issued → ℕ → Result (ℕ × Command) ℕ → Bool
+may_order issued m (Ok order) = is_issued issued m order
+may_order issued m (Err code) = true

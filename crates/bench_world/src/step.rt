@@ -101,6 +101,7 @@ impl World {
             Event::Hear { m, octets } => self.hear(*m, octets, draws),
             Event::Ask { m, octets } => self.ask(*m, octets),
             Event::Feed { m, f, octets } => self.feed(*m, *f, octets),
+            Event::Order { m, octets } => self.order(*m, octets),
             Event::Insert {
                 m,
                 client,
@@ -108,12 +109,6 @@ impl World {
                 first,
                 last,
             } => self.insert(*m, *client, name, *first, *last),
-            Event::Block {
-                m,
-                process,
-                index,
-                content,
-            } => self.block(*m, *process, *index, content, draws),
             Event::Status { m, client, process } => self.status(*m, *client, *process),
             Event::Delete { m, client, name } => self.delete(*m, *client, name),
             Event::Summary => self.summary(),

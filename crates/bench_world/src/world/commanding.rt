@@ -1,25 +1,25 @@
-// Commands and blocks.
-ghost use Rattle.std.specs.Prelude.{◌≡◌, ◌⊎◌, ◌+◌, ◌<◌, ◌≤◌, true, None, IsTrue, length, IfOk, IfErr, OnOk, OnErr, option_map};
-ghost use Rattle.repo_object.specs.Objects.{key_name, is_object_name, IsContent};
+// Commands.
+ghost use Rattle.std.specs.Prelude.{◌≡◌, ◌⊎◌, ◌+◌, ◌<◌, ◌≤◌, true, None, IsTrue, length, map, IfOk, IfErr, OnOk, OnErr, option_map};
+ghost use Rattle.repo_object.specs.Objects.{key_name, is_object_name};
 ghost use Rattle.repo_command.specs.Commands.{is_command, IsSpelled};
+ghost use Rattle.group_model.specs.Commands.{is_equal_name, is_equal_command};
 ghost use Rattle.group_model.specs.Limits.{IsShortInsertion};
 ghost use Rattle.group_model.specs.Refusals.{refusal};
-ghost use Rattle.group_model.specs.Steps.{after_event, after_issue, answer_of, block_at};
+ghost use Rattle.group_model.specs.Steps.{after_event, after_issue, answer_of};
 ghost use Rattle.repo_member.specs.Groups.{client_at};
-ghost use Rattle.repo_member.specs.Commanded.{order_made};
+ghost use Rattle.repo_member.specs.Commanded.{order_of, order_made};
 ghost use Rattle.bench_world.specs.Serving.{keyed};
-ghost use Rattle.bench_world.specs.Worlds.{world_of, drawing};
-ghost use Rattle.bench_world.specs.Commanding.{sends_block, block_reply};
-ghost use Rattle.bench_world.specs.EventValues.{EventValue, group_event, told_value, telling};
+ghost use Rattle.bench_world.specs.Worlds.{world_of};
+ghost use Rattle.bench_world.specs.Commanding.{may_order, is_issued, is_that};
+ghost use Rattle.bench_world.specs.Kept.{issued_of};
+ghost use Rattle.bench_world.specs.EventValues.{EventValue, group_event, told_value, telling, order_told};
 ghost use Rattle.bench_world.specs.Steps.{IsFaultOf};
 
 use super::{IssuedCommand, World};
 use crate::event::{Happened, StepFault};
-use crate::numbers::numbers;
-use bench_net::{Draws, Sent};
 use ndn_name::{Name, NameView};
-use repo_command::{Answer, Command, make_command};
-use repo_member::{Blocked, Group, PublishRefusal};
+use repo_command::{Answer, Command, CommandRefusal, check_command, make_command};
+use repo_member::Group;
 use std::alloc::{AllocError, Global};
 
 impl World {
@@ -163,42 +163,34 @@ impl World {
         })
     }
 
-    /// A member is given a block of an insertion process. The last one that was missing publishes the object.
-    pub(crate) fn block<D: Draws>(
-        &mut self,
-        m: u32,
-        process: u32,
-        index: u64,
-        content: &[u8],
-        draws: &D,
-    ) -> Result<Happened, StepFault>
+    /// A member is given octets as a command.
+    ///
+    /// They are foreign where they pass, and the client whose command they are made none of that kind for the member.
+    pub(crate) fn order(&mut self, m: u32, octets: &[u8]) -> Result<Happened, StepFault>
         requires there { m < length self.old.members }
-        requires content { IsContent content.now }
         requires few { self.old.steps < 100000 }
-        ensures taken { OnOk result (refusal (drawing (D.draw draws.now)) (world_of self.old)
-            (group_event self.old.keys (EventValue.Block m process index content.now)) ≡ None) }
-        ensures world { OnOk result (world_of self.new ≡ after_event (drawing (D.draw draws.now)) (world_of self.old)
-            (group_event self.old.keys (EventValue.Block m process index content.now))) }
+        ensures taken { OnOk result (refusal (keyed self.old.keys) (world_of self.old)
+            (group_event self.old.keys (EventValue.Order m octets.now)) ≡ None) }
+        ensures world { OnOk result (world_of self.new ≡ after_event (keyed self.old.keys) (world_of self.old)
+            (group_event self.old.keys (EventValue.Order m octets.now))) }
         ensures told { IfOk result (λ happened. told_value happened
-            ≡ telling self.old.keys (drawing (D.draw draws.now)) (world_of self.old) (EventValue.Block m process index content.now)) }
+            ≡ telling self.old.keys (keyed self.old.keys) (world_of self.old) (EventValue.Order m octets.now)) }
         ensures steps { OnOk result (self.new.steps ≡ self.old.steps + 1) }
         ensures keys { self.new.keys ≡ self.old.keys }
-        ensures refused { IfErr result (IsFaultOf (refusal (drawing (D.draw draws.now)) (world_of self.old)
-            (group_event self.old.keys (EventValue.Block m process index content.now)))) }
+        ensures refused { IfErr result (IsFaultOf (refusal (keyed self.old.keys) (world_of self.old)
+            (group_event self.old.keys (EventValue.Order m octets.now)))) }
         ensures err { OnErr result (self.new ≡ self.old) }
     {
-        self.sent.reserve(1)?;
+        if !may_order(self.alloc, &self.group, &self.issued, m, octets)? {
+            return Err(StepFault::Foreign);
+        }
         let member = &mut self.members[m as usize];
-        let vector = numbers(self.alloc, member.vector())?;
-        let draw = draws.draw(m, member.next_draw());
-        let blocked = match member.block(&self.group, process, index, content, self.moment, draw) {
-            Ok(blocked) => blocked,
-            Err(PublishRefusal::NumbersSpent { .. }) => return Err(StepFault::Refused { number: 8 }),
-            Err(PublishRefusal::NoMemory) => return Err(StepFault::NoMemory),
+        let answered = match member.command(&self.group, octets) {
+            Ok(answered) => answered,
+            Err(_) => return Err(StepFault::NoMemory),
         };
-        let happened = send_block(&mut self.sent, m, vector, blocked);
         self.steps += 1;
-        Ok(happened)
+        Ok(ordered(m, answered.answer))
     }
 }
 
@@ -243,25 +235,103 @@ fn made(
     Ok(octets)
 }
 
-// The sync Interest of an object that a block completed is sent, for which room was made.
-fn send_block(sent: &mut Sent, m: u32, mut vector: Vec<u16>, blocked: Blocked) -> Happened
-    requires there { m < length vector.items }
-    requires room { 0 < sent.old.spare }
-    requires few { length sent.old.packets < 4294967295 }
-    ensures sent { sent.new.packets ≡ sends_block m vector.items blocked sent.old.packets }
-    ensures told { told_value result ≡ block_reply m (length sent.old.packets + 1) blocked }
+// Whether octets that pass as a command for a member are one that their client made for it. Others are answered at once.
+fn may_order(
+    alloc: Global,
+    g: &Group,
+    issued: &[IssuedCommand],
+    m: u32,
+    octets: &[u8],
+) -> Result<bool, AllocError>
+    requires { m < length g.now.members.names }
+    ensures { IfOk result (λ may. may ≡ may_order (map issued_of issued.now) m (order_of g.now m octets.now)) }
 {
-    match blocked {
-        Blocked::Unknown => Happened::Block404 { m },
-        Blocked::Waiting => Happened::Block300 { m },
-        Blocked::Already => Happened::Block200 { m },
-        Blocked::Published(published) => {
-            vector[m as usize] = published.seq;
-            Happened::BlockPublished {
-                m,
-                seq: u64::from(published.seq),
-                sync: u64::from(sent.add_reserved(m, vector, published.sync)),
-            }
+    match check_command(alloc, octets, g.roster().name(m), g.clients()) {
+        Ok((client, command)) => Ok(was_issued(issued, m, client, &command)),
+        Err(CommandRefusal::NoMemory) => Err(AllocError),
+        Err(_) => Ok(true),
+    }
+}
+
+// Whether a client made this command for a member.
+fn was_issued(issued: &[IssuedCommand], m: u32, client: u32, command: &Command) -> bool
+    ensures { result ≡ is_issued (map issued_of issued.now) m (client, command.now) }
+{
+    for one in issued {
+        if is_that(one, m, client, command) {
+            return true;
         }
+    }
+    false
+}
+
+// Whether this is the command of a client for a member.
+fn is_that(one: &IssuedCommand, m: u32, client: u32, command: &Command) -> bool
+    ensures { result ≡ is_that (m, client, command.now) (issued_of one.now) }
+{
+    one.member == m && one.client == client && is_same(&one.command, command)
+}
+
+// Whether these are one command.
+fn is_same(a: &Command, b: &Command) -> bool
+    ensures { result ≡ is_equal_command a.now b.now }
+{
+    match a {
+        Command::Insert { name, first, last } => is_insertion(b, name, *first, *last),
+        Command::Check { process } => is_check(b, *process),
+        Command::Delete { name } => is_deletion(b, name),
+    }
+}
+
+fn is_insertion(command: &Command, name: &Name, first: u64, last: u64) -> bool
+    ensures { result ≡ is_equal_command (Command.Insert name.now first last) command.now }
+{
+    match command {
+        Command::Insert {
+            name: other,
+            first: other_first,
+            last: other_last,
+        } => is_same_name(name, other) && first == *other_first && last == *other_last,
+        Command::Check { .. } => false,
+        Command::Delete { .. } => false,
+    }
+}
+
+fn is_check(command: &Command, process: u64) -> bool
+    ensures { result ≡ is_equal_command (Command.Check process) command.now }
+{
+    match command {
+        Command::Insert { .. } => false,
+        Command::Check { process: other } => process == *other,
+        Command::Delete { .. } => false,
+    }
+}
+
+fn is_deletion(command: &Command, name: &Name) -> bool
+    ensures { result ≡ is_equal_command (Command.Delete name.now) command.now }
+{
+    match command {
+        Command::Insert { .. } => false,
+        Command::Check { .. } => false,
+        Command::Delete { name: other } => is_same_name(name, other),
+    }
+}
+
+fn is_same_name(a: &Name, b: &Name) -> bool
+    ensures { result ≡ is_equal_name a.now b.now }
+{
+    a.view().compare(&b.view()).is_eq()
+}
+
+// What is told of an order.
+fn ordered(m: u32, answer: Answer) -> Happened
+    ensures { told_value result ≡ order_told m answer }
+{
+    Happened::Order {
+        m,
+        code: u64::from(answer.code),
+        process: answer.process,
+        inserted: answer.inserted,
+        deleted: answer.deleted,
     }
 }
