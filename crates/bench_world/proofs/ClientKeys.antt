@@ -1,10 +1,10 @@
 -- The names of the keys of a group's clients.
-use Rattle.std.proofs.Common.{◌≡◌, ℕ, ◌+◌, ◌≤◌, ◌<◌, List, [], ◌∷◌, ◌++◌, length, map, get_or, Option, Some, option_map, refl, sym, ap, ◌∙◌, subst, arith}
+use Rattle.std.proofs.Common.{◌≡◌, ℕ, ◌+◌, ◌≤◌, ◌<◌, List, [], ◌∷◌, length, get_or, Some, option_map, refl, sym, ap, ◌∙◌, subst, arith}
 use Rattle.std.specs.Prelude.{slice_get, Ok}
 use Rattle.std.proofs.lemmas.List.{length-append}
 use Rattle.std.proofs.lemmas.Option.{slice_get-get_or, slice_get-map, unwrap_or-slice_get}
 use Rattle.ndn_tlv.specs.Spelling.{element, number}
-use Rattle.ndn_name.specs.Names.{Component, IsName, encoding, name_of}
+use Rattle.ndn_name.specs.Names.{Component, encoding, name_of}
 use Rattle.ndn_name.proofs.Encodings.{encoding-push, name_of-encoding}
 use Rattle.ndn_sign.specs.Ring.{Pair}
 use Rattle.repo_object.specs.Objects.{key_name}

@@ -1,5 +1,5 @@
 -- Whether a command was made.
-use Rattle.std.proofs.Common.{◌≡◌, ℕ, zero, suc, ◌+◌, ◌<◌, Bool, true, false, ◌||◌, List, [], ◌∷◌, ◌++◌, map, length, get_or, take, None, Some, refl, sym, ap, ◌∙◌, subst, arith}
+use Rattle.std.proofs.Common.{◌≡◌, ℕ, zero, suc, ◌+◌, ◌<◌, Bool, true, false, ◌||◌, List, [], ◌∷◌, ◌++◌, map, length, get_or, take, None, Some, refl, sym, ap, ◌∙◌, arith}
 use Rattle.std.specs.Prelude.{Result, Ok, Err}
 use Rattle.std.specs.List.{list_any}
 use Rattle.std.proofs.lemmas.Bool.{true≢false}
@@ -8,7 +8,7 @@ use Rattle.repo_command.specs.declared.command.Command.{Command}
 use Rattle.group_model.specs.World.{Issued, World}
 use Rattle.group_model.specs.Refusals.{Refusal, unless, if_unissued}
 use Rattle.bench_world.specs.declared.world.IssuedCommand.{IssuedCommand}
-use Rattle.bench_world.specs.Commanding.{is_issued, may_order}
+use Rattle.bench_world.specs.Commanding.{may_order}
 use Rattle.bench_world.specs.Kept.{issued_of}
 
 module _ (p : Issued → Bool) where

@@ -1,5 +1,5 @@
 -- What commands make of a world.
-use Rattle.std.proofs.Common.{◌≡◌, ℕ, ◌+◌, ◌-◌, ◌≤◌, ◌<◌, Bool, true, false, cond, List, [], ◌∷◌, ◌++◌, map, length, get_or, set, Option, Some, None, refl, sym, ap, ◌∙◌, subst, arith}
+use Rattle.std.proofs.Common.{◌≡◌, ℕ, ◌+◌, ◌-◌, ◌≤◌, ◌<◌, Bool, true, false, cond, List, [], ◌∷◌, ◌++◌, length, get_or, set, Option, Some, None, refl, sym, ap, ◌∙◌, subst, arith}
 use Rattle.std.specs.Prelude.{Result, Ok, Err, IsTrue, nat_le, nat_lt, ◌&&◌}
 use Rattle.std.proofs.lemmas.Bool.{and_parts, leb-true, ltb-true}
 use Rattle.repo_object.specs.Objects.{is_object_name}
@@ -7,16 +7,15 @@ use Rattle.repo_command.specs.Verdict.{command_verdict}
 use Rattle.repo_command.specs.declared.command_refusal.CommandRefusal.{CommandRefusal}
 use Rattle.repo_command.proofs.TakenLemmas.{taken_commands}
 use Rattle.repo_member.specs.Groups.{GroupKeys, node_at}
-use Rattle.std.proofs.lemmas.List.{map-set, map-append, set-get_or, get_or-set_same}
+use Rattle.std.proofs.lemmas.List.{map-set, set-get_or, get_or-set_same}
 use Rattle.repo_command.specs.declared.command.Command.{Command}
 use Rattle.repo_command.specs.declared.command.Command.TheVariants.{Insert, Check, Delete}
 use Rattle.repo_command.specs.declared.answer.Answer.{Answer}
 use Rattle.repo_command.specs.Commands.{is_command, IsSpelled}
 use Rattle.repo_process.specs.Insertions.{next_number}
 use Rattle.group_model.specs.Changes as group
-use Rattle.group_model.specs.Commands.{is_equal_command}
 use Rattle.group_model.specs.Events.{Event}
-use Rattle.group_model.specs.Limits.{IsInRange, IsWithin, IsShortInsertion}
+use Rattle.group_model.specs.Limits.{IsInRange, IsShortInsertion}
 use Rattle.group_model.specs.Member.{Member, named, member_hides_all}
 use Rattle.group_model.specs.Replies.{Reply}
 use Rattle.group_model.specs.World.{Issued, World, no_member, member, with_member, logs}

@@ -97,7 +97,10 @@ pub enum Event {
         octets: Vec<u8>,
     },
     /// A member is given octets as a command.
-    Order { m: u32, octets: Vec<u8> },
+    Order {
+        m: u32,
+        octets: Vec<u8>,
+    },
     /// A client asks a member to take an object, whose blocks have the indexes `first` to `last`.
     Insert {
         m: u32,
@@ -107,9 +110,17 @@ pub enum Event {
         last: u64,
     },
     /// A client asks a member how an insertion process stands.
-    Status { m: u32, client: u32, process: u32 },
+    Status {
+        m: u32,
+        client: u32,
+        process: u32,
+    },
     /// A client asks a member to drop every object of this name.
-    Delete { m: u32, client: u32, name: Name },
+    Delete {
+        m: u32,
+        client: u32,
+        name: Name,
+    },
     /// What all catalogues come to.
     Summary,
     /// What was counted.

@@ -58,7 +58,14 @@ impl World {
     }
 
     /// A client asks a member to take an object, whose blocks have the indexes `first` to `last`.
-    pub(crate) fn insert(&mut self, m: u32, client: u32, name: &Name, first: u64, last: u64) -> Result<Happened, StepFault>
+    pub(crate) fn insert(
+        &mut self,
+        m: u32,
+        client: u32,
+        name: &Name,
+        first: u64,
+        last: u64,
+    ) -> Result<Happened, StepFault>
         requires there { m < length self.old.members }
         requires client { client < length self.old.keys.clients.names }
         requires name { IsTrue (is_object_name name.now) }
@@ -97,7 +104,12 @@ impl World {
     }
 
     /// A client asks a member how an insertion process stands.
-    pub(crate) fn status(&mut self, m: u32, client: u32, process: u32) -> Result<Happened, StepFault>
+    pub(crate) fn status(
+        &mut self,
+        m: u32,
+        client: u32,
+        process: u32,
+    ) -> Result<Happened, StepFault>
         requires there { m < length self.old.members }
         requires client { client < length self.old.keys.clients.names }
         requires few { self.old.steps < 100000 }

@@ -1,7 +1,6 @@
 use Rattle.std.proofs.Common.{◌≡◌, ◌<◌, cond, ◌∷◌, ◌++◌, [], List, map, length, sym, ap, ◌∙◌, subst}
 use Rattle.std.specs.Prelude.{is_ok}
 use Rattle.std.proofs.lemmas.List.{map-append}
-use Rattle.group_model.specs.World.{Issued}
 use Rattle.group_model.specs.Steps.{after_issue, answer_of}
 use Rattle.repo_member.specs.Commanded as commanded
 use Rattle.bench_world.specs.declared.world.IssuedCommand.{IssuedCommand}

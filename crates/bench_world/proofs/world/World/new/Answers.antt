@@ -1,7 +1,7 @@
-use Rattle.std.proofs.Common.{◌≡◌, List, map, length, sym, ap, ◌∙◌, subst}
-use Rattle.group_model.specs.World.{Issued, opening_world}
+use Rattle.std.proofs.Common.{List, map, sym, ap, ◌∙◌, subst}
+use Rattle.group_model.specs.World.{Issued}
 use Rattle.bench_world.specs.Kept.{issued_of}
-use Rattle.bench_world.specs.Worlds.{IsTrueState, world_of, drawing}
+use Rattle.bench_world.specs.Worlds.{IsTrueState, world_of}
 use Rattle.bench_world.proofs.Openings.{opening_state, opening_is}
 use Rattle.bench_world.proofs.world.World.new.Goals as goal
 

@@ -49,12 +49,12 @@ returns-clause-taken c =
     let s = state c.self.inside in
     let may = ap (λ (xs : List IssuedCommand). may_order (map issued_of xs) c.args.m (commanded.order_of s.keys c.args.m c.args.octets.now)) (sym c.deref.ensures.value) ∙ sym c.in_ok-may_order.ensures ∙ c.if-not-branch.false in
     subst (λ (x : GroupState). if_unissued (world_of x) c.args.m (commanded.order_of x.keys c.args.m c.args.octets.now) ≡ None) c.self.view_is
-        (may_taken (world_of s) c.args.m (commanded.order_of s.keys c.args.m c.args.octets.now) may)
+    (may_taken (world_of s) c.args.m (commanded.order_of s.keys c.args.m c.args.octets.now) may)
 
 pub returns-then-not-branch-clause-refused : goal.returns-then-not-branch-clause-refused
 returns-then-not-branch-clause-refused c =
     let s = state c.self.inside in
     let may = ap (λ (xs : List IssuedCommand). may_order (map issued_of xs) c.args.m (commanded.order_of s.keys c.args.m c.args.octets.now)) (sym c.deref.ensures.value) ∙ sym c.in_ok-may_order.ensures ∙ c.if-not-branch.true in
     let foreign = subst (λ (x : GroupState). if_unissued (world_of x) c.args.m (commanded.order_of x.keys c.args.m c.args.octets.now) ≡ Some Refusal.Foreign) c.self.view_is
-        (may_foreign (world_of s) c.args.m (commanded.order_of s.keys c.args.m c.args.octets.now) may) in
+    (may_foreign (world_of s) c.args.m (commanded.order_of s.keys c.args.m c.args.octets.now) may) in
     subst (λ (r : Option Refusal). IsFaultOf r fault.Foreign) (sym foreign) refl

@@ -1,6 +1,6 @@
-use Rattle.std.proofs.Common.{◌≡◌, List, Some, option_map, ℕ, sym, ◌∙◌, subst}
+use Rattle.std.proofs.Common.{◌≡◌, List, Some, option_map, sym, ◌∙◌, subst}
 use Rattle.std.specs.Prelude.{slice_get, Ok, Err, Result}
-use Rattle.ndn_name.specs.Names.{Component, name_of}
+use Rattle.ndn_name.specs.Names.{Component}
 use Rattle.ndn_name.specs.declared.name_fault.NameFault.{NameFault}
 use Rattle.ndn_sign.specs.Ring.{Pair}
 use Rattle.repo_object.specs.Objects.{key_name}

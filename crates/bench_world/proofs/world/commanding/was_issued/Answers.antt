@@ -1,4 +1,4 @@
-use Rattle.std.proofs.Common.{◌<◌, length, sym, ◌∙◌, arith}
+use Rattle.std.proofs.Common.{sym, ◌∙◌}
 use Rattle.bench_world.specs.Commanding.{is_that}
 use Rattle.bench_world.proofs.IssuedLemmas.{found_at, none_more}
 use Rattle.bench_world.proofs.world.commanding.was_issued.Goals as goal
