@@ -120,15 +120,15 @@ module _ (s : GroupState) (is : IsTrueState s) (m : ℕ) (there : m < length s.m
         let members : in_groups (set s.members m (alone_at s.members m)) ≡ in_groups s.members = still (alone_at s.members m) refl in
         let parts : tally.parts + 0 ≡ tally.parts = omega arith in
         let octets : tally.octets + 0 ≡ tally.octets = omega arith in
-        (λ i. record { members = members i; sent = map sync_in s.sent; moment = s.moment; issued = []; tally = with_kept (none i) tally })
-        ∙ (λ i. record { members = in_groups s.members; sent = map sync_in s.sent; moment = s.moment; issued = []; tally = record tally { parts = parts i; octets = octets i } })
+        (λ i. record { members = members i; sent = map sync_in s.sent; moment = s.moment; issued = s.issued; tally = with_kept (none i) tally })
+        ∙ (λ i. record { members = in_groups s.members; sent = map sync_in s.sent; moment = s.moment; issued = s.issued; tally = record tally { parts = parts i; octets = octets i } })
     came_world kept tally (Some t) Its h =
         let some : kept ≡ Some (size_of s.keys (logs_around s.members) t) = cc in
         let b : Alone = alone_accepts f t (unwrap_or (true_packet s.keys (logs_around s.members) t) []) (alone_at s.members m) in
         let members : in_groups (set s.members m b) ≡ set (in_groups s.members) m (group.takes f t (member (world_of s) m)) =
         map-set in_group s.members m b
         ∙ ap (set (in_groups s.members) m) (accepts_alike f t (unwrap_or (true_packet s.keys (logs_around s.members) t) []) (alone_at s.members m) (true_stores s.keys (logs_around s.members) (alone_at s.members m) (is.members m there)).in_order ∙ ap (group.takes f t) (sym (member_at s.members m))) in
-        (λ i. record { members = members i; sent = map sync_in s.sent; moment = s.moment; issued = []; tally = with_kept (some i) tally })
+        (λ i. record { members = members i; sent = map sync_in s.sent; moment = s.moment; issued = s.issued; tally = with_kept (some i) tally })
     came_world kept tally (Some t) Another h = absurd cc
 
     pub came_state : (kept : Option ℕ) (tally : Tally) (e : Event) → s.steps < 100000

@@ -1,5 +1,5 @@
 -- What a delivery makes of a world.
-use Rattle.std.proofs.Common.{◌≡◌, ℕ, ◌+◌, ◌-◌, ◌≤◌, ◌<◌, ◌==◌, Bool, true, false, cond, List, [], map, length, get_or, set, Option, Some, None, option_map, refl, sym, ap, ◌∙◌, subst, arith}
+use Rattle.std.proofs.Common.{◌≡◌, ℕ, ◌+◌, ◌-◌, ◌≤◌, ◌<◌, ◌==◌, Bool, true, false, cond, List, map, length, get_or, set, Option, Some, None, option_map, refl, sym, ap, ◌∙◌, subst, arith}
 use Rattle.std.specs.Prelude.{slice_get, nat_le, ◌&&◌, Ok, IsOkAnd}
 use Rattle.std.proofs.lemmas.Bool.{eqb-true, eqb-false, le-leb, leb-false, leb-true}
 use Rattle.std.proofs.lemmas.List.{length-map, map-set, get_or-map}
@@ -108,7 +108,7 @@ module _ (s : GroupState) (is : IsTrueState s) (k : ℕ) (one : 1 ≤ k) (last :
           ∙ ap (λ (n : ℕ). group.learns n s.moment (get_or s.sent (k - 1) no_packet).vector (in_group old)) d
           ∙ ap (λ (x : Member). group.learns (draws m x.machine.draws) s.moment (get_or s.sent (k - 1) no_packet).vector x) (sym (member_is s is m there old old_is))
           ∙ ap (λ (v : List ℕ). group.learns (drawn (drawing draws) (world_of s) m) s.moment v (member (world_of s) m)) (sym told_is)) in
-          ap (λ (ms : List Member). let w : World = record { members = ms; sent = map sync_in s.sent; moment = s.moment; issued = []; tally = record s.tally { delivered = s.tally.delivered + 1 } } in w) changed
+          ap (λ (ms : List Member). let w : World = record { members = ms; sent = map sync_in s.sent; moment = s.moment; issued = s.issued; tally = record s.tally { delivered = s.tally.delivered + 1 } } in w) changed
 
       pub heard_state : s.steps < 100000 → IsTrueState (record s { members = set s.members m b; tally = record s.tally { delivered = s.tally.delivered + 1 }; steps = s.steps + 1 })
       heard_state few =

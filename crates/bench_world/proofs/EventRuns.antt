@@ -53,6 +53,11 @@ named_ready n w g (EventValue.Dump m p s x) many r = omega (arith, many, r.0)
 named_ready n w g (EventValue.Hear m octets) many r = omega (arith, many, r)
 named_ready n w g (EventValue.Ask m octets) many r = omega (arith, many, r)
 named_ready n w g (EventValue.Feed m f octets) many r = (omega (arith, many, r.0), r.1.from_one, r.1.to_last)
+named_ready n w g (EventValue.Order m octets) many r = omega (arith, many, r)
+named_ready n w g (EventValue.Insert m client name first last) many r = omega (arith, many, r.0)
+named_ready n w g (EventValue.Block m process index content) many r = omega (arith, many, r.0)
+named_ready n w g (EventValue.Status m client process) many r = omega (arith, many, r)
+named_ready n w g (EventValue.Delete m client name) many r = omega (arith, many, r.0)
 named_ready n w g EventValue.Summary many r = tt
 named_ready n w g EventValue.Traffic many r = tt
 

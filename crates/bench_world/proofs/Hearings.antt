@@ -136,7 +136,7 @@ module _ (s : GroupState) (is : IsTrueState s) (m : ℕ) (there : m < length s.m
             ∙ ap (set (in_groups s.members) m) (ap in_group b_is
             ∙ ap (λ (n : ℕ). group.learns n s.moment v (in_group old)) draw_is
             ∙ ap (λ (y : Member). group.learns (draws m y.machine.draws) s.moment v y) (sym (member_is s is m there old old_is))) in
-            ap (λ (ms : List Member). let w : World = record { members = ms; sent = map sync_in s.sent; moment = s.moment; issued = []; tally = record s.tally { delivered = s.tally.delivered + 1 } } in w) changed
+            ap (λ (ms : List Member). let w : World = record { members = ms; sent = map sync_in s.sent; moment = s.moment; issued = s.issued; tally = record s.tally { delivered = s.tally.delivered + 1 } } in w) changed
 
         pub heard_world : world_of (record s { members = set s.members m b; tally = record s.tally { delivered = s.tally.delivered + 1 }; steps = s.steps + 1 }) ≡ after_hear (drawing draws) (world_of s) m (read_as r)
         heard_world = delivered ∙ sym (ap (λ y. after_hear (drawing draws) (world_of s) m (read_as y)) read.0 ∙ ap (λ (c : Bool). cond c (world_of s) (after_deliver (drawing draws) (world_of s) m v)) few_told)

@@ -31,6 +31,9 @@ mod Gainings
 mod Resets
 mod Names
 mod EventRuns
+mod ClientKeys
+mod Orders
+mod IssuedLemmas
 mod Coming
 mod TakenOut
 mod Asked

@@ -13,19 +13,21 @@ use Rattle.repo_plan.specs.declared.part.Part.{Part}
 use Rattle.repo_plan.specs.Parts.{numbers_from}
 use Rattle.repo_object.specs.declared.part_refusal.PartRefusal.{PartRefusal}
 use Rattle.repo_object.specs.Verdict.{ring_verdict}
+use Rattle.repo_process.specs.Processes.{BlockState}
+use Rattle.repo_process.specs.Processes.BlockState.{Unknown, Already, Waiting, Whole}
 use Rattle.repo_store.specs.Served.{served}
 use Rattle.group_model.specs.Member.{Member, member_holds}
 use Rattle.group_model.specs.Replies.{Totals}
 use Rattle.group_model.specs.Sound.{IsSoundGroup}
 use Rattle.group_model.specs.World.{Outside, World, member, logs, sent_at, catalogue_at}
-use Rattle.group_model.specs.Steps.{totals_of, claim_at, to_claim, timer_at, mode_at, after_deliver, tells_too_much, came_from, passes_checks, next_sync}
+use Rattle.group_model.specs.Steps.{totals_of, claim_at, to_claim, timer_at, mode_at, after_deliver, tells_too_much, came_from, passes_checks, next_seq_at, next_sync, block_at}
 use Rattle.group_model.proofs.Runs.{length_numbers}
 use Rattle.repo_member.specs.declared.refusals.HearRefusal.TheVariants as hear
 use Rattle.repo_member.specs.Groups.{GroupKeys}
 use Rattle.repo_member.specs.Verdicts.{group_verdict}
 use Rattle.repo_member.specs.InGroup.{true_packet}
 use Rattle.repo_member.specs.TrueMembers.{true_want, true_packets}
-use Rattle.bench_world.specs.EventValues.{EventValue, Told, part_at, telling, all_totals, delivered_told, fired_told, claim_told, lost_told, answer_told, dump_told, mode_told, hear_told, ask_told, fed_told, feed_told}
+use Rattle.bench_world.specs.EventValues.{EventValue, Told, part_at, telling, all_totals, delivered_told, fired_told, claim_told, lost_told, answer_told, dump_told, mode_told, hear_told, ask_told, fed_told, feed_told, block_told}
 use Rattle.bench_world.specs.Steps.{IsReady, NamesAll}
 
 module _ (n : ℕ) where
@@ -71,6 +73,12 @@ module _ (n : ℕ) where
   of_feed g w m f octets None = tt
   of_feed g w m f octets (Some t) = of_fed m f (ring_verdict (true_want g (logs w) t) g.members.ring octets)
 
+  of_block : (m seq sync : ℕ) (b : BlockState) → NamesAll n (block_told m seq sync b)
+  of_block m seq sync Unknown = tt
+  of_block m seq sync Already = tt
+  of_block m seq sync (Waiting p) = tt
+  of_block m seq sync (Whole p) = tt
+
   of_hear : (out : Outside) (w : World) (m : ℕ) (r : Result (ℕ × List ℕ) SyncRefusal) → NamesAll n (hear_told out w m r)
   of_hear out w m (Err refusal) = tt
   of_hear out w m (Ok told) = go (tells_too_much w m (record { sender = told.0; vector = told.1 })) where
@@ -102,5 +110,10 @@ module _ (n : ℕ) where
     names_all (EventValue.Hear m octets) r = of_hear out w m (group_verdict g octets)
     names_all (EventValue.Ask m octets) r = of_ask m (served octets (true_packets g (logs w) (member w m).held))
     names_all (EventValue.Feed m f octets) r = of_feed g w m f octets (claim_at w m f)
+    names_all (EventValue.Order m octets) r = tt
+    names_all (EventValue.Insert m client name first last) r = tt
+    names_all (EventValue.Block m process index content) r = of_block m (next_seq_at w m) (next_sync w) (block_at w m process index content)
+    names_all (EventValue.Status m client process) r = tt
+    names_all (EventValue.Delete m client name) r = tt
     names_all EventValue.Summary r = (ap (numbers_from 0) many, of_sums (λ t. t.entries), of_sums (λ t. t.segments), of_sums (λ t. t.octets))
     names_all EventValue.Traffic r = tt

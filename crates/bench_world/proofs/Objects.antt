@@ -79,7 +79,7 @@ module _ (s : GroupState) (is : IsTrueState s) (m : ℕ) (there : m < length s.m
         let known : b.known ≡ (get_or (set (in_groups s.members) m x) m no_member).known = ap (λ (y : Member). y.known) (published_member ∙ sym (get_or-set_same (in_groups s.members) m x no_member (among s is m there old old_is))) in
         let syncs : map sync_in (s.sent ++ packet ∷ []) ≡ map sync_in s.sent ++ record { sender = m; vector = (get_or (set (in_groups s.members) m x) m no_member).known } ∷ [] =
         map-append sync_in s.sent (packet ∷ []) ∙ ap (λ (v : List ℕ). map sync_in s.sent ++ (let p : SyncInterest = record { sender = m; vector = v } in p) ∷ []) known in
-        λ i. record { members = changed i; sent = syncs i; moment = s.moment; issued = []; tally = s.tally }
+        λ i. record { members = changed i; sent = syncs i; moment = s.moment; issued = s.issued; tally = s.tally }
 
     pub world_sent : (sent : List SentPacket) → sent ≡ s.sent ++ sent_packet m b.known (sync_of s.keys m b.known) ∷ [] → world_of (record s { members = set s.members m b; sent = sent; steps = s.steps + 1 }) ≡ after_publish (drawing draw) (world_of s) m object
     world_sent sent e = ap (λ (ps : List SentPacket). world_of (record s { members = set s.members m b; sent = ps; steps = s.steps + 1 })) e ∙ published_world

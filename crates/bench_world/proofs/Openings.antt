@@ -69,7 +69,7 @@ module _ (g : GroupKeys) (is : IsGroup g) (draw : ℕ → ℕ → ℕ) where
       ∙ ap (λ (k : ℕ). replicate k (let l : List NamedContents = [] in l)) (length_numbers 0 (length g.members.names))
 
   pub opening_is : (ms : List Alone) (sent : List SentPacket) → ms ≡ begun_all (length g.members.names) draw → sent ≡ []
-      → world_of (record { keys = g; members = ms; sent = sent; moment = 0; tally = record { delivered = 0; attempts = 0; parts = 0; octets = 0 }; steps = 0 }) ≡ opening_world (drawing draw) (length g.members.names)
+      → world_of (record { keys = g; members = ms; sent = sent; moment = 0; issued = []; tally = record { delivered = 0; attempts = 0; parts = 0; octets = 0 }; steps = 0 }) ≡ opening_world (drawing draw) (length g.members.names)
   opening_is ms sent ms_are sent_is =
       let at : (j : ℕ) → 0 + periodic (draw j 0) ≡ periodic (draw j 0) = λ j. omega arith in
       let members : in_groups ms ≡ (opening_world (drawing draw) (length g.members.names)).members =
@@ -81,7 +81,7 @@ module _ (g : GroupKeys) (is : IsGroup g) (draw : ℕ → ℕ → ℕ) where
   abbrev no_tally : Tally
   no_tally = record { delivered = 0; attempts = 0; parts = 0; octets = 0 }
 
-  begun_state : IsTrueState (record { keys = g; members = begun_all (length g.members.names) draw; sent = []; moment = 0; tally = no_tally; steps = 0 })
+  begun_state : IsTrueState (record { keys = g; members = begun_all (length g.members.names) draw; sent = []; moment = 0; issued = []; tally = no_tally; steps = 0 })
   begun_state = record {
     are = subst (AreLogs g) (sym logs_begun) (logs_begin g is);
     numbers = λ j l. let m : j < length g.members.names = omega (arith, l, many) in ap (λ (a : Alone). a.number) (begun_at j m);
@@ -94,7 +94,7 @@ module _ (g : GroupKeys) (is : IsGroup g) (draw : ℕ → ℕ → ℕ) where
     steps = omega arith;
   }
 
-  pub opening_state : (ms : List Alone) (sent : List SentPacket) → ms ≡ begun_all (length g.members.names) draw → sent ≡ [] → IsTrueState (record { keys = g; members = ms; sent = sent; moment = 0; tally = record { delivered = 0; attempts = 0; parts = 0; octets = 0 }; steps = 0 })
+  pub opening_state : (ms : List Alone) (sent : List SentPacket) → ms ≡ begun_all (length g.members.names) draw → sent ≡ [] → IsTrueState (record { keys = g; members = ms; sent = sent; moment = 0; issued = []; tally = record { delivered = 0; attempts = 0; parts = 0; octets = 0 }; steps = 0 })
   opening_state ms sent ms_are sent_is =
-      subst (λ (as_ : List Alone). IsTrueState (record { keys = g; members = as_; sent = sent; moment = 0; tally = record { delivered = 0; attempts = 0; parts = 0; octets = 0 }; steps = 0 })) (sym ms_are)
-      (subst (λ (ps : List SentPacket). IsTrueState (record { keys = g; members = begun_all (length g.members.names) draw; sent = ps; moment = 0; tally = record { delivered = 0; attempts = 0; parts = 0; octets = 0 }; steps = 0 })) (sym sent_is) begun_state)
+      subst (λ (as_ : List Alone). IsTrueState (record { keys = g; members = as_; sent = sent; moment = 0; issued = []; tally = record { delivered = 0; attempts = 0; parts = 0; octets = 0 }; steps = 0 })) (sym ms_are)
+      (subst (λ (ps : List SentPacket). IsTrueState (record { keys = g; members = begun_all (length g.members.names) draw; sent = ps; moment = 0; issued = []; tally = record { delivered = 0; attempts = 0; parts = 0; octets = 0 }; steps = 0 })) (sym sent_is) begun_state)

@@ -138,8 +138,8 @@ module _ (s : GroupState) (is : IsTrueState s) where
   -- Other members of the same logs, and other packets that were sent.
   pub changed_state : (members : List Alone) (sent : List SentPacket) (moment : ℕ) (tally : Tally) (steps : ℕ) → length members ≡ length s.members → AreNumbered members → AreTrueMembers s.keys (logs_around s.members) members
       → All (IsTrueSync s.keys (logs_around s.members)) sent → steps ≤ 100000
-      → IsWithin steps (world_of (record { keys = s.keys; members = members; sent = sent; moment = moment; tally = tally; steps = steps }))
-      → IsTrueState (record { keys = s.keys; members = members; sent = sent; moment = moment; tally = tally; steps = steps })
+      → IsWithin steps (world_of (record s { members = members; sent = sent; moment = moment; tally = tally; steps = steps }))
+      → IsTrueState (record s { members = members; sent = sent; moment = moment; tally = tally; steps = steps })
   changed_state members sent moment tally steps len numbers all syncs few within =
       let same : logs_around members ≡ logs_around s.members = logs_are s.keys (logs_around s.members) members (len ∙ many) numbers all in
       record {
@@ -158,14 +158,14 @@ module _ (s : GroupState) (is : IsTrueState s) where
     -- After an event that publishes nothing.
     pub stepped : (members : List Alone) (sent : List SentPacket) (moment : ℕ) (tally : Tally) → length members ≡ length s.members → AreNumbered members → AreTrueMembers s.keys (logs_around s.members) members
         → All (IsTrueSync s.keys (logs_around s.members)) sent
-        → world_of (record { keys = s.keys; members = members; sent = sent; moment = moment; tally = tally; steps = s.steps + 1 }) ≡ after_event out (world_of s) e
-        → IsTrueState (record { keys = s.keys; members = members; sent = sent; moment = moment; tally = tally; steps = s.steps + 1 })
+        → world_of (record s { members = members; sent = sent; moment = moment; tally = tally; steps = s.steps + 1 }) ≡ after_event out (world_of s) e
+        → IsTrueState (record s { members = members; sent = sent; moment = moment; tally = tally; steps = s.steps + 1 })
     stepped members sent moment tally len numbers all syncs world_is =
         changed_state members sent moment tally (s.steps + 1) len numbers all syncs (omega (arith, few)) (subst (IsWithin (s.steps + 1)) (sym world_is) within_more)
 
     -- The same where one member has changed.
     pub stepped_at : (m : ℕ) → m < length s.members → (b : Alone) → b.number ≡ m → IsTrueMember s.keys (logs_around s.members) b → (sent : List SentPacket) (moment : ℕ) (tally : Tally) → All (IsTrueSync s.keys (logs_around s.members)) sent
-        → world_of (record { keys = s.keys; members = set s.members m b; sent = sent; moment = moment; tally = tally; steps = s.steps + 1 }) ≡ after_event out (world_of s) e
-        → IsTrueState (record { keys = s.keys; members = set s.members m b; sent = sent; moment = moment; tally = tally; steps = s.steps + 1 })
+        → world_of (record s { members = set s.members m b; sent = sent; moment = moment; tally = tally; steps = s.steps + 1 }) ≡ after_event out (world_of s) e
+        → IsTrueState (record s { members = set s.members m b; sent = sent; moment = moment; tally = tally; steps = s.steps + 1 })
     stepped_at m there b number one sent moment tally syncs world_is =
         stepped (set s.members m b) sent moment tally (length-set s.members m b) (set_numbers s.members m there b number is.numbers) (set_truly s.members m there b s.keys (logs_around s.members) is.members one) syncs world_is

@@ -18,13 +18,18 @@ use Rattle.repo_catalog.specs.declared.entry.Entry.{Entry}
 use Rattle.group_model.specs.Member.{member_holds}
 use Rattle.group_model.specs.Events.{SyncInterest}
 use Rattle.group_model.specs.Events as group
+use Rattle.repo_command.specs.declared.command.Command.TheVariants as command
+use Rattle.repo_command.specs.declared.answer.Answer.{Answer as CommandAnswer}
+use Rattle.repo_process.specs.Processes.{BlockState}
+use Rattle.repo_process.specs.Processes.BlockState.{Unknown, Already, Waiting, Whole}
 use Rattle.group_model.specs.Replies.{Totals}
 use Rattle.group_model.specs.World.{Outside, World, member, logs, sent_at, catalogue_at}
-use Rattle.group_model.specs.Steps.{claim_at, to_claim, timer_at, mode_at, after_deliver, tells_too_much, came_from, passes_checks, planned_parts, fetched_parts, attempts_made, settle_gains, next_seq_at, next_sync, totals_of}
+use Rattle.group_model.specs.Steps.{claim_at, to_claim, timer_at, mode_at, after_deliver, tells_too_much, came_from, passes_checks, planned_parts, fetched_parts, attempts_made, settle_gains, next_seq_at, next_sync, totals_of, order_answer, answer_of, block_at}
 use Rattle.repo_member.specs.declared.refusals.HearRefusal.{HearRefusal}
 use Rattle.repo_member.specs.declared.refusals.HearRefusal.TheVariants as hear
 use Rattle.repo_member.specs.Groups.{GroupKeys}
 use Rattle.repo_member.specs.Verdicts.{sync_of, group_verdict}
+use Rattle.repo_member.specs.Commanded.{order_of}
 use Rattle.repo_member.specs.InGroup.{true_packet}
 use Rattle.repo_member.specs.TrueMembers.{true_want, true_packets}
 use Rattle.bench_world.specs.declared.event.Event.{Event}
@@ -54,6 +59,11 @@ pub data EventValue : Type 0 where
   Hear : (m : ℕ) (octets : List ℕ) → EventValue
   Ask : (m : ℕ) (octets : List ℕ) → EventValue
   Feed : (m f : ℕ) (octets : List ℕ) → EventValue
+  Order : (m : ℕ) (octets : List ℕ) → EventValue
+  Insert : (m client : ℕ) (name : List Component) (first last : ℕ) → EventValue
+  Block : (m process index : ℕ) (content : List ℕ) → EventValue
+  Status : (m client process : ℕ) → EventValue
+  Delete : (m client : ℕ) (name : List Component) → EventValue
   Summary : EventValue
   Traffic : EventValue
 
@@ -75,6 +85,10 @@ event_value (is.Dump m p s x) = EventValue.Dump m p s x
 event_value (is.Hear m octets) = EventValue.Hear m octets.items
 event_value (is.Ask m octets) = EventValue.Ask m octets.items
 event_value (is.Feed m f octets) = EventValue.Feed m f octets.items
+event_value (is.Order m octets) = EventValue.Order m octets.items
+event_value (is.Insert m client name first last) = EventValue.Insert m client name first last
+event_value (is.Status m client process) = EventValue.Status m client process
+event_value (is.Delete m client name) = EventValue.Delete m client name
 event_value is.Summary = EventValue.Summary
 event_value is.Traffic = EventValue.Traffic
 
@@ -101,6 +115,11 @@ group_event g (EventValue.Dump m p s x) = group.Event.Dump m (part_at p s x)
 group_event g (EventValue.Hear m octets) = group.Event.Hear m (read_as (group_verdict g octets))
 group_event g (EventValue.Ask m octets) = group.Event.Ask m (finds g octets)
 group_event g (EventValue.Feed m f octets) = group.Event.Feed m f (λ logs t. octets_as g logs t octets)
+group_event g (EventValue.Order m octets) = group.Event.Order m (order_of g m octets)
+group_event g (EventValue.Insert m client name first last) = group.Event.Issue m client (command.Insert name first last)
+group_event g (EventValue.Block m process index content) = group.Event.Block m process index content
+group_event g (EventValue.Status m client process) = group.Event.Issue m client (command.Check process)
+group_event g (EventValue.Delete m client name) = group.Event.Issue m client (command.Delete name)
 group_event g EventValue.Summary = group.Event.Summary
 group_event g EventValue.Traffic = group.Event.Traffic
 
@@ -136,6 +155,14 @@ pub data Told : Type 0 where
   AskRefused : (m : ℕ) (refusal : PacketFault) → Told
   FeedKept : (m f : ℕ) → Told
   FeedRefused : (m f : ℕ) (refusal : PartRefusal) → Told
+  Order : (m code : ℕ) (process inserted deleted : Option ℕ) → Told
+  Insert : (m code : ℕ) (process inserted deleted : Option ℕ) → Told
+  Status : (m code : ℕ) (process inserted deleted : Option ℕ) → Told
+  Delete : (m code : ℕ) (process inserted deleted : Option ℕ) → Told
+  Block300 : (m : ℕ) → Told
+  Block404 : (m : ℕ) → Told
+  Block200 : (m : ℕ) → Told
+  BlockPublished : (m seq sync : ℕ) → Told
   Summary : (members entries segments octets : List ℕ) → Told
   Traffic : (syncs delivered attempts parts octets : ℕ) → Told
 
@@ -168,6 +195,14 @@ told_value (was.AskNone m) = Told.AskNone m
 told_value (was.AskRefused m refusal) = Told.AskRefused m refusal
 told_value (was.FeedKept m f) = Told.FeedKept m f
 told_value (was.FeedRefused m f refusal) = Told.FeedRefused m f refusal
+told_value (was.Order m code process inserted deleted) = Told.Order m code process inserted deleted
+told_value (was.Insert m code process inserted deleted) = Told.Insert m code process inserted deleted
+told_value (was.Status m code process inserted deleted) = Told.Status m code process inserted deleted
+told_value (was.Delete m code process inserted deleted) = Told.Delete m code process inserted deleted
+told_value (was.Block300 m) = Told.Block300 m
+told_value (was.Block404 m) = Told.Block404 m
+told_value (was.Block200 m) = Told.Block200 m
+told_value (was.BlockPublished m seq sync) = Told.BlockPublished m seq sync
 told_value (was.Summary members entries segments octets) =
     Told.Summary members.items entries.items segments.items octets.items
 told_value (was.Traffic syncs delivered attempts parts octets) = Told.Traffic syncs delivered attempts parts octets
@@ -226,6 +261,26 @@ abbrev pub feed_told : GroupKeys → World → ℕ → ℕ → List ℕ → Opti
 feed_told g w m f octets None = Told.ClaimNone m f
 feed_told g w m f octets (Some t) = fed_told m f (ring_verdict (true_want g (logs w) t) g.members.ring octets)
 
+-- What a command is answered.
+abbrev pub order_told : ℕ → CommandAnswer → Told
+order_told m a = Told.Order m a.code a.process a.inserted a.deleted
+
+abbrev pub insert_told : ℕ → CommandAnswer → Told
+insert_told m a = Told.Insert m a.code a.process a.inserted a.deleted
+
+abbrev pub status_told : ℕ → CommandAnswer → Told
+status_told m a = Told.Status m a.code a.process a.inserted a.deleted
+
+abbrev pub delete_told : ℕ → CommandAnswer → Told
+delete_told m a = Told.Delete m a.code a.process a.inserted a.deleted
+
+-- What a block comes to, where the next publication and the next sync Interest have these numbers.
+abbrev pub block_told : (m seq sync : ℕ) → BlockState → Told
+block_told m seq sync Unknown = Told.Block404 m
+block_told m seq sync Already = Told.Block200 m
+block_told m seq sync (Waiting p) = Told.Block300 m
+block_told m seq sync (Whole p) = Told.BlockPublished m seq sync
+
 abbrev pub all_totals : World → List Totals
 all_totals w = map (λ j. totals_of (catalogue_at w j)) (numbers_from 0 (length w.members))
 
@@ -251,6 +306,12 @@ telling g out w (EventValue.Dump m p s x) =
 telling g out w (EventValue.Hear m octets) = hear_told out w m (group_verdict g octets)
 telling g out w (EventValue.Ask m octets) = ask_told m (served octets (true_packets g (logs w) (member w m).held))
 telling g out w (EventValue.Feed m f octets) = feed_told g w m f octets (claim_at w m f)
+telling g out w (EventValue.Order m octets) = order_told m (order_answer w m (order_of g m octets))
+telling g out w (EventValue.Insert m client name first last) = insert_told m (answer_of w m (command.Insert name first last))
+telling g out w (EventValue.Block m process index content) =
+    block_told m (next_seq_at w m) (next_sync w) (block_at w m process index content)
+telling g out w (EventValue.Status m client process) = status_told m (answer_of w m (command.Check process))
+telling g out w (EventValue.Delete m client name) = delete_told m (answer_of w m (command.Delete name))
 telling g out w EventValue.Summary = Told.Summary (numbers_from 0 (length w.members))
     (map (λ t. t.entries) (all_totals w)) (map (λ t. t.segments) (all_totals w)) (map (λ t. t.octets) (all_totals w))
 telling g out w EventValue.Traffic =

@@ -22,3 +22,4 @@ pub mod Answerable
 pub mod Replying
 pub mod Sums
 pub mod Runs
+pub mod Commanding

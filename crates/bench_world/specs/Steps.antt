@@ -1,8 +1,8 @@
 -- When an event can be carried out, what comes of it, and lists of events.
-use Rattle.std.specs.Prelude.{ℕ, ◌≡◌, ◌<◌, ◌≤◌, IsTrue, length, Option, Some, None}
+use Rattle.std.specs.Prelude.{ℕ, ◌≡◌, ◌+◌, ◌<◌, ◌≤◌, IsTrue, length, Option, Some, None}
 use Rattle.repo_plan.specs.Parts.{numbers_from}
 use Rattle.repo_plan.specs.Calls.{IsFetcher}
-use Rattle.repo_object.specs.Objects.{is_object_name}
+use Rattle.repo_object.specs.Objects.{is_object_name, IsContent}
 use Rattle.repo_object.specs.Cuts.{pieces}
 use Rattle.group_model.specs.Refusals.{Refusal}
 use Rattle.bench_world.specs.declared.event.StepFault.{StepFault}
@@ -31,8 +31,21 @@ IsReady n (EventValue.Dump m p s x) = (m < n) × (s < 65536) × (x < 256)
 IsReady n (EventValue.Hear m octets) = m < n
 IsReady n (EventValue.Ask m octets) = m < n
 IsReady n (EventValue.Feed m f octets) = (m < n) × IsFetcher f
+IsReady n (EventValue.Order m octets) = m < n
+IsReady n (EventValue.Insert m client name first last) =
+    (m < n) × IsTrue (is_object_name name) × (first ≤ last) × (last < first + 200)
+IsReady n (EventValue.Block m process index content) = (m < n) × IsContent content
+IsReady n (EventValue.Status m client process) = m < n
+IsReady n (EventValue.Delete m client name) = (m < n) × IsTrue (is_object_name name)
 IsReady n EventValue.Summary = Unit {0}
 IsReady n EventValue.Traffic = Unit {0}
+
+-- There are so many clients, and the one that an event names is there.
+abbrev pub NamesClient : ℕ → EventValue → Type 0
+NamesClient n (EventValue.Insert m client name first last) = client < n
+NamesClient n (EventValue.Status m client process) = client < n
+NamesClient n (EventValue.Delete m client name) = client < n
+NamesClient n _ = Unit {0}
 
 abbrev pub fault_of : Refusal → StepFault
 fault_of Refusal.NoSuchPacket = fault.Refused 5

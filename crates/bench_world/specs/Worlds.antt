@@ -10,20 +10,21 @@ use Rattle.group_model.specs.Events.{SyncInterest}
 use Rattle.group_model.specs.Events.Came.{Nothing}
 use Rattle.group_model.specs.Sound.{IsTrueVector}
 use Rattle.group_model.specs.Limits.{IsWithin}
-use Rattle.group_model.specs.World.{Tally, World, Outside, logs_of}
+use Rattle.group_model.specs.World.{Tally, Issued, World, Outside, logs_of}
 use Rattle.repo_member.specs.Groups.{GroupKeys}
 use Rattle.repo_member.specs.Alone.{Alone, no_insertions, alone_opening}
 use Rattle.repo_member.specs.Verdicts.{sync_of}
 use Rattle.repo_member.specs.InGroup.{in_group, AreLogs}
 use Rattle.repo_member.specs.TrueMembers.{IsTrueMember}
 
--- A group: its names and keys, its members with their packets, what was sent, the moment, the tally, and how many steps
--- were made.
+-- A group: its names and keys, its members with their packets, what was sent, the moment, the commands that
+-- clients made for members, the tally, and how many steps were made.
 pub record GroupState : Type 0 where
   pub keys : GroupKeys
   pub members : List Alone
   pub sent : List SentPacket
   pub moment : ℕ
+  pub issued : List Issued
   pub tally : Tally
   pub steps : ℕ
 
@@ -79,7 +80,7 @@ world_of s = record {
   members = in_groups s.members;
   sent = map sync_in s.sent;
   moment = s.moment;
-  issued = [];
+  issued = s.issued;
   tally = s.tally;
 }
 

@@ -96,6 +96,31 @@ pub enum Event {
         f: u32,
         octets: Vec<u8>,
     },
+    /// A member is given octets as a command.
+    Order {
+        m: u32,
+        octets: Vec<u8>,
+    },
+    /// A client asks a member to take an object, whose blocks have the indexes `first` to `last`.
+    Insert {
+        m: u32,
+        client: u32,
+        name: Name,
+        first: u64,
+        last: u64,
+    },
+    /// A client asks a member how an insertion process stands.
+    Status {
+        m: u32,
+        client: u32,
+        process: u32,
+    },
+    /// A client asks a member to drop every object of this name.
+    Delete {
+        m: u32,
+        client: u32,
+        name: Name,
+    },
     /// What all catalogues come to.
     Summary,
     /// What was counted.
@@ -222,6 +247,51 @@ pub enum Happened {
         m: u32,
         f: u64,
         refusal: PartRefusal,
+    },
+    Order {
+        m: u32,
+        code: u64,
+        process: Option<u64>,
+        inserted: Option<u64>,
+        deleted: Option<u64>,
+    },
+    Insert {
+        m: u32,
+        code: u64,
+        process: Option<u64>,
+        inserted: Option<u64>,
+        deleted: Option<u64>,
+    },
+    Status {
+        m: u32,
+        code: u64,
+        process: Option<u64>,
+        inserted: Option<u64>,
+        deleted: Option<u64>,
+    },
+    Delete {
+        m: u32,
+        code: u64,
+        process: Option<u64>,
+        inserted: Option<u64>,
+        deleted: Option<u64>,
+    },
+    /// Another block is missing.
+    Block300 {
+        m: u32,
+    },
+    /// There is no such process, or it has no block of that index.
+    Block404 {
+        m: u32,
+    },
+    /// The object was published before.
+    Block200 {
+        m: u32,
+    },
+    BlockPublished {
+        m: u32,
+        seq: u64,
+        sync: u64,
     },
     Summary {
         members: Vec<u32>,

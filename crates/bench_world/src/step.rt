@@ -6,7 +6,7 @@ ghost use Rattle.group_model.specs.Refusals.{refusal, AreTaken};
 ghost use Rattle.bench_world.specs.Serving.{outside};
 ghost use Rattle.bench_world.specs.Worlds.{world_of};
 ghost use Rattle.bench_world.specs.EventValues.{event_value, group_event, told_value, telling};
-ghost use Rattle.bench_world.specs.Steps.{IsReady, IsFaultOf, NamesAll};
+ghost use Rattle.bench_world.specs.Steps.{IsReady, NamesClient, IsFaultOf, NamesAll};
 ghost use Rattle.bench_world.specs.Runs.{StandsAsBefore, JoinsAfter, event_values, group_events, IsStopped, ListLawFrom};
 
 use crate::event::{Event, Happened, StepFault};
@@ -24,6 +24,7 @@ impl World {
         draws: &D,
     ) -> Result<Happened, StepFault>
         requires ready { IsReady (length self.old.keys.members.names) (event_value event.now) }
+        requires clients { NamesClient (length self.old.keys.clients.names) (event_value event.now) }
         requires few { self.old.steps < 100000 }
         ensures taken { OnOk result (refusal (outside self.old.keys (D.draw draws.now) (N.passes net.now))
             (world_of self.old) (group_event self.old.keys (event_value event.now)) ≡ None) }
@@ -57,6 +58,7 @@ impl World {
         draws: &D,
     ) -> Result<Happened, StepFault>
         requires ready { IsReady (length self.old.members) (event_value event.now) }
+        requires clients { NamesClient (length self.old.keys.clients.names) (event_value event.now) }
         requires few { self.old.steps < 100000 }
         ensures taken { OnOk result (refusal (outside self.old.keys (D.draw draws.now) (N.passes net.now))
             (world_of self.old) (group_event self.old.keys (event_value event.now)) ≡ None) }
@@ -99,6 +101,16 @@ impl World {
             Event::Hear { m, octets } => self.hear(*m, octets, draws),
             Event::Ask { m, octets } => self.ask(*m, octets),
             Event::Feed { m, f, octets } => self.feed(*m, *f, octets),
+            Event::Order { m, octets } => self.order(*m, octets),
+            Event::Insert {
+                m,
+                client,
+                name,
+                first,
+                last,
+            } => self.insert(*m, *client, name, *first, *last),
+            Event::Status { m, client, process } => self.status(*m, *client, *process),
+            Event::Delete { m, client, name } => self.delete(*m, *client, name),
             Event::Summary => self.summary(),
             Event::Traffic => Ok(self.traffic()),
         }
@@ -113,6 +125,7 @@ impl World {
         draws: &D,
     ) -> Result<usize, (usize, StepFault)>
         requires ready { All (λ event. IsReady (length self.old.keys.members.names) (event_value event)) events.now }
+        requires clients { All (λ event. NamesClient (length self.old.keys.clients.names) (event_value event)) events.now }
         requires few { self.old.steps + length events.now ≤ 100000 }
         ensures count { IfOk result (λ n. n ≡ length events.now) }
         ensures taken { OnOk result (AreTaken (outside self.old.keys (D.draw draws.now) (N.passes net.now))

@@ -5,6 +5,7 @@ ghost use Rattle.repo_member.specs.Listed.{alone_catalogue};
 ghost use Rattle.bench_world.specs.Worlds.{world_of, alone_at, drawing, begun_all};
 
 mod claiming;
+mod commanding;
 mod gaining;
 mod publishing;
 mod reading;
@@ -12,9 +13,18 @@ mod serving;
 mod syncing;
 
 use bench_net::{Draws, Sent, Tally};
+use repo_command::Command;
 use repo_member::{Group, Member};
 use std::alloc::{AllocError, Global};
 use std::marker::Model;
+
+// A command that a client made for a member.
+#[derive(Drop)]
+pub(crate) struct IssuedCommand {
+    pub(crate) member: u32,
+    pub(crate) client: u32,
+    pub(crate) command: Command,
+}
 
 /// All members of a group, with what was sent between them, the moment, and what was counted.
 ///
@@ -26,6 +36,7 @@ pub struct World {
     members: Vec<Member>,
     sent: Sent,
     moment: u64,
+    issued: Vec<IssuedCommand>,
     delivered: u64,
     attempts: u64,
     parts: u64,
@@ -63,6 +74,7 @@ impl World {
             members,
             sent: Sent::new(alloc),
             moment: 0,
+            issued: Vec::new(alloc),
             delivered: 0,
             attempts: 0,
             parts: 0,

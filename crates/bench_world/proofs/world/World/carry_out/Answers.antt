@@ -39,3 +39,13 @@ returns-in-Feed-clause-world g c =
     subst (λ (e : Event). OnOk c.feed.result (world_of c.feed.new.self ≡ after_event (outside c.args.self.now.keys (g.D.Draws.draw c.args.draws.now) (g.N.Net.passes c.args.net.now)) (world_of c.args.self.now) (group_event c.args.self.now.keys (event_value e))))
     (sym c.in-Feed.is)
     (subst (λ o. OnOk c.feed.result (world_of c.feed.new.self ≡ after_event (outside c.args.self.now.keys (g.D.Draws.draw c.args.draws.now) (g.N.Net.passes c.args.net.now)) (world_of c.args.self.now) (group_event c.args.self.now.keys (EventValue.Feed c.in-Feed.m c.in-Feed.f o)))) c.deref-in-Feed.ensures.value c.feed.ensures.world)
+
+pub returns-in-Order-clause-world : goal.returns-in-Order-clause-world
+returns-in-Order-clause-world g c =
+    subst (λ (e : Event). OnOk c.order.result (world_of c.order.new.self ≡ after_event (outside c.args.self.now.keys (g.D.Draws.draw c.args.draws.now) (g.N.Net.passes c.args.net.now)) (world_of c.args.self.now) (group_event c.args.self.now.keys (event_value e)))) (sym c.in-Order.is)
+    (subst (λ o. OnOk c.order.result (world_of c.order.new.self ≡ after_event (outside c.args.self.now.keys (g.D.Draws.draw c.args.draws.now) (g.N.Net.passes c.args.net.now)) (world_of c.args.self.now) (group_event c.args.self.now.keys (EventValue.Order c.in-Order.m o)))) c.deref-in-Order.ensures.value c.order.ensures.world)
+
+pub returns-in-Order-clause-told : goal.returns-in-Order-clause-told
+returns-in-Order-clause-told g c =
+    subst (λ (e : Event). IfOk c.order.result (λ happened. told_value happened ≡ telling c.args.self.now.keys (outside c.args.self.now.keys (g.D.Draws.draw c.args.draws.now) (g.N.Net.passes c.args.net.now)) (world_of c.args.self.now) (event_value e))) (sym c.in-Order.is)
+    (subst (λ o. IfOk c.order.result (λ happened. told_value happened ≡ telling c.args.self.now.keys (outside c.args.self.now.keys (g.D.Draws.draw c.args.draws.now) (g.N.Net.passes c.args.net.now)) (world_of c.args.self.now) (EventValue.Order c.in-Order.m o))) c.deref-in-Order.ensures.value c.order.ensures.told)

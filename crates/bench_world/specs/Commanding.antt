@@ -1,0 +1,19 @@
+-- Which orders may be carried out.
+use Rattle.std.specs.Prelude.{ℕ, Bool, true, ◌==◌, ◌&&◌, List, Result, Ok, Err}
+use Rattle.std.specs.List.{list_any}
+use Rattle.repo_command.specs.declared.command.Command.{Command}
+use Rattle.group_model.specs.Commands.{is_equal_command}
+use Rattle.group_model.specs.World.{Issued}
+
+-- This is the command of a client for a member.
+abbrev pub is_that : ℕ × ℕ × Command → Issued → Bool
+is_that order i = i.member == order.0 && (i.client == order.1 && is_equal_command i.command order.2)
+
+-- The client made that command for the member.
+abbrev pub is_issued : List Issued → ℕ → ℕ × Command → Bool
+is_issued issued m order = list_any (is_that (m, order.0, order.1)) issued
+
+-- An order that passes is one that its client made.
+abbrev pub may_order : List Issued → ℕ → Result (ℕ × Command) ℕ → Bool
+may_order issued m (Ok order) = is_issued issued m order
+may_order issued m (Err code) = true

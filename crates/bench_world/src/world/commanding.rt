@@ -1,0 +1,349 @@
+// Commands.
+ghost use Rattle.std.specs.Prelude.{◌≡◌, ◌⊎◌, ◌+◌, ◌<◌, ◌≤◌, true, None, IsTrue, length, map, IfOk, IfErr, OnOk, OnErr, option_map};
+ghost use Rattle.repo_object.specs.Objects.{key_name, is_object_name};
+ghost use Rattle.repo_command.specs.Commands.{is_command, IsSpelled};
+ghost use Rattle.group_model.specs.Commands.{is_equal_name, is_equal_command};
+ghost use Rattle.group_model.specs.Limits.{IsShortInsertion};
+ghost use Rattle.group_model.specs.Refusals.{refusal};
+ghost use Rattle.group_model.specs.Steps.{after_event, after_issue, answer_of};
+ghost use Rattle.repo_member.specs.Groups.{client_at};
+ghost use Rattle.repo_member.specs.Commanded.{order_of, order_made};
+ghost use Rattle.bench_world.specs.Serving.{keyed};
+ghost use Rattle.bench_world.specs.Worlds.{world_of};
+ghost use Rattle.bench_world.specs.Commanding.{may_order, is_issued, is_that};
+ghost use Rattle.bench_world.specs.Kept.{issued_of};
+ghost use Rattle.bench_world.specs.EventValues.{EventValue, group_event, told_value, telling, order_told};
+ghost use Rattle.bench_world.specs.Steps.{IsFaultOf};
+
+use super::{IssuedCommand, World};
+use crate::event::{Happened, StepFault};
+use ndn_name::{Name, NameView};
+use repo_command::{Answer, Command, CommandRefusal, check_command, make_command};
+use repo_member::Group;
+use std::alloc::{AllocError, Global};
+
+impl World {
+    // A client makes a command for a member, which does what it asks for: what it answers.
+    fn issue(&mut self, m: u32, client: u32, command: Command) -> Result<Answer, AllocError>
+        requires there { m < length self.old.members }
+        requires client { client < length self.old.keys.clients.names }
+        requires spelled { IsSpelled command }
+        requires command { is_command command ≡ true }
+        requires short { IsShortInsertion command }
+        requires few { self.old.steps < 100000 }
+        ensures world { OnOk result (world_of self.new ≡ after_issue (world_of self.old) m client command) }
+        ensures answer { IfOk result (λ answer. answer ≡ answer_of (world_of self.old) m command) }
+        ensures steps { OnOk result (self.new.steps ≡ self.old.steps + 1) }
+        ensures keys { self.new.keys ≡ self.old.keys }
+        ensures err { OnErr result (self.new ≡ self.old) }
+    {
+        // Read for its clause alone: the group is one.
+        let _roster = self.group.roster();
+        let octets = made(self.alloc, &self.group, m, client, &command)?;
+        self.issued.reserve(1)?;
+        let member = &mut self.members[m as usize];
+        let answered = match member.command(&self.group, &octets) {
+            Ok(answered) => answered,
+            Err(error) => return Err(error),
+        };
+        self.issued
+            .push(IssuedCommand {
+                member: m,
+                client,
+                command,
+            })
+            .unwrap();
+        self.steps += 1;
+        Ok(answered.answer)
+    }
+
+    /// A client asks a member to take an object, whose blocks have the indexes `first` to `last`.
+    pub(crate) fn insert(
+        &mut self,
+        m: u32,
+        client: u32,
+        name: &Name,
+        first: u64,
+        last: u64,
+    ) -> Result<Happened, StepFault>
+        requires there { m < length self.old.members }
+        requires client { client < length self.old.keys.clients.names }
+        requires name { IsTrue (is_object_name name.now) }
+        requires order { first ≤ last }
+        requires blocks { last < first + 200 }
+        requires few { self.old.steps < 100000 }
+        ensures taken { OnOk result (refusal (keyed self.old.keys) (world_of self.old)
+            (group_event self.old.keys (EventValue.Insert m client name.now first last)) ≡ None) }
+        ensures world { OnOk result (world_of self.new ≡ after_event (keyed self.old.keys) (world_of self.old)
+            (group_event self.old.keys (EventValue.Insert m client name.now first last))) }
+        ensures told { IfOk result (λ happened. told_value happened
+            ≡ telling self.old.keys (keyed self.old.keys) (world_of self.old) (EventValue.Insert m client name.now first last)) }
+        ensures steps { OnOk result (self.new.steps ≡ self.old.steps + 1) }
+        ensures keys { self.new.keys ≡ self.old.keys }
+        ensures refused { IfErr result (IsFaultOf (refusal (keyed self.old.keys) (world_of self.old)
+            (group_event self.old.keys (EventValue.Insert m client name.now first last)))) }
+        ensures err { OnErr result (self.new ≡ self.old) }
+    {
+        // Read for its clause alone: the components are a name's.
+        let _octets = name.octets();
+        let command = Command::Insert {
+            name: name.clone()?,
+            first,
+            last,
+        };
+        let Ok(answer) = self.issue(m, client, command) else {
+            return Err(StepFault::NoMemory);
+        };
+        Ok(Happened::Insert {
+            m,
+            code: u64::from(answer.code),
+            process: answer.process,
+            inserted: answer.inserted,
+            deleted: answer.deleted,
+        })
+    }
+
+    /// A client asks a member how an insertion process stands.
+    pub(crate) fn status(
+        &mut self,
+        m: u32,
+        client: u32,
+        process: u32,
+    ) -> Result<Happened, StepFault>
+        requires there { m < length self.old.members }
+        requires client { client < length self.old.keys.clients.names }
+        requires few { self.old.steps < 100000 }
+        ensures taken { OnOk result (refusal (keyed self.old.keys) (world_of self.old)
+            (group_event self.old.keys (EventValue.Status m client process)) ≡ None) }
+        ensures world { OnOk result (world_of self.new ≡ after_event (keyed self.old.keys) (world_of self.old)
+            (group_event self.old.keys (EventValue.Status m client process))) }
+        ensures told { IfOk result (λ happened. told_value happened
+            ≡ telling self.old.keys (keyed self.old.keys) (world_of self.old) (EventValue.Status m client process)) }
+        ensures steps { OnOk result (self.new.steps ≡ self.old.steps + 1) }
+        ensures keys { self.new.keys ≡ self.old.keys }
+        ensures refused { IfErr result (IsFaultOf (refusal (keyed self.old.keys) (world_of self.old)
+            (group_event self.old.keys (EventValue.Status m client process)))) }
+        ensures err { OnErr result (self.new ≡ self.old) }
+    {
+        let command = Command::Check {
+            process: u64::from(process),
+        };
+        let Ok(answer) = self.issue(m, client, command) else {
+            return Err(StepFault::NoMemory);
+        };
+        Ok(Happened::Status {
+            m,
+            code: u64::from(answer.code),
+            process: answer.process,
+            inserted: answer.inserted,
+            deleted: answer.deleted,
+        })
+    }
+
+    /// A client asks a member to drop every object of this name.
+    pub(crate) fn delete(&mut self, m: u32, client: u32, name: &Name) -> Result<Happened, StepFault>
+        requires there { m < length self.old.members }
+        requires client { client < length self.old.keys.clients.names }
+        requires name { IsTrue (is_object_name name.now) }
+        requires few { self.old.steps < 100000 }
+        ensures taken { OnOk result (refusal (keyed self.old.keys) (world_of self.old)
+            (group_event self.old.keys (EventValue.Delete m client name.now)) ≡ None) }
+        ensures world { OnOk result (world_of self.new ≡ after_event (keyed self.old.keys) (world_of self.old)
+            (group_event self.old.keys (EventValue.Delete m client name.now))) }
+        ensures told { IfOk result (λ happened. told_value happened
+            ≡ telling self.old.keys (keyed self.old.keys) (world_of self.old) (EventValue.Delete m client name.now)) }
+        ensures steps { OnOk result (self.new.steps ≡ self.old.steps + 1) }
+        ensures keys { self.new.keys ≡ self.old.keys }
+        ensures refused { IfErr result (IsFaultOf (refusal (keyed self.old.keys) (world_of self.old)
+            (group_event self.old.keys (EventValue.Delete m client name.now)))) }
+        ensures err { OnErr result (self.new ≡ self.old) }
+    {
+        // Read for its clause alone: the components are a name's.
+        let _octets = name.octets();
+        let command = Command::Delete {
+            name: name.clone()?,
+        };
+        let Ok(answer) = self.issue(m, client, command) else {
+            return Err(StepFault::NoMemory);
+        };
+        Ok(Happened::Delete {
+            m,
+            code: u64::from(answer.code),
+            process: answer.process,
+            inserted: answer.inserted,
+            deleted: answer.deleted,
+        })
+    }
+
+    /// A member is given octets as a command.
+    ///
+    /// They are foreign where they pass, and the client whose command they are made none of that kind for the member.
+    pub(crate) fn order(&mut self, m: u32, octets: &[u8]) -> Result<Happened, StepFault>
+        requires there { m < length self.old.members }
+        requires few { self.old.steps < 100000 }
+        ensures taken { OnOk result (refusal (keyed self.old.keys) (world_of self.old)
+            (group_event self.old.keys (EventValue.Order m octets.now)) ≡ None) }
+        ensures world { OnOk result (world_of self.new ≡ after_event (keyed self.old.keys) (world_of self.old)
+            (group_event self.old.keys (EventValue.Order m octets.now))) }
+        ensures told { IfOk result (λ happened. told_value happened
+            ≡ telling self.old.keys (keyed self.old.keys) (world_of self.old) (EventValue.Order m octets.now)) }
+        ensures steps { OnOk result (self.new.steps ≡ self.old.steps + 1) }
+        ensures keys { self.new.keys ≡ self.old.keys }
+        ensures refused { IfErr result (IsFaultOf (refusal (keyed self.old.keys) (world_of self.old)
+            (group_event self.old.keys (EventValue.Order m octets.now)))) }
+        ensures err { OnErr result (self.new ≡ self.old) }
+    {
+        if !may_order(self.alloc, &self.group, &self.issued, m, octets)? {
+            return Err(StepFault::Foreign);
+        }
+        let member = &mut self.members[m as usize];
+        let answered = match member.command(&self.group, octets) {
+            Ok(answered) => answered,
+            Err(_) => return Err(StepFault::NoMemory),
+        };
+        self.steps += 1;
+        Ok(ordered(m, answered.answer))
+    }
+}
+
+// The name of a client's key.
+fn client_key_name(alloc: Global, g: &Group, client: u32) -> Result<Name, AllocError>
+    requires { client < length g.now.clients.names }
+    ensures { IfOk result (λ name. name ≡ key_name (client_at g.now client)) }
+{
+    // Read for its clause alone: the group is one.
+    let _roster = g.roster();
+    // The octets are those of a name, which is short, so only memory can be wanting.
+    let Ok(view) = NameView::read(g.clients().name(client), 0) else {
+        unreachable!()
+    };
+    match Name::from_view(alloc, &view) {
+        Ok(name) => Ok(name),
+        Err(_) => Err(AllocError),
+    }
+}
+
+// The Interest of a client's command for a member.
+fn made(
+    alloc: Global,
+    g: &Group,
+    m: u32,
+    client: u32,
+    command: &Command,
+) -> Result<Vec<u8>, AllocError>
+    requires there { m < length g.now.members.names }
+    requires client { client < length g.now.clients.names }
+    requires command { is_command command.now ≡ true }
+    ensures { IfOk result (λ octets. octets.items ≡ order_made g.now m client command.now) }
+{
+    let key_name = client_key_name(alloc, g, client)?;
+    let octets = make_command(
+        alloc,
+        g.roster().name(m),
+        command,
+        &key_name,
+        g.clients().key(client),
+    )?;
+    Ok(octets)
+}
+
+// Whether octets that pass as a command for a member are one that their client made for it. Others are answered at once.
+fn may_order(
+    alloc: Global,
+    g: &Group,
+    issued: &[IssuedCommand],
+    m: u32,
+    octets: &[u8],
+) -> Result<bool, AllocError>
+    requires { m < length g.now.members.names }
+    ensures { IfOk result (λ may. may ≡ may_order (map issued_of issued.now) m (order_of g.now m octets.now)) }
+{
+    match check_command(alloc, octets, g.roster().name(m), g.clients()) {
+        Ok((client, command)) => Ok(was_issued(issued, m, client, &command)),
+        Err(CommandRefusal::NoMemory) => Err(AllocError),
+        Err(_) => Ok(true),
+    }
+}
+
+// Whether a client made this command for a member.
+fn was_issued(issued: &[IssuedCommand], m: u32, client: u32, command: &Command) -> bool
+    ensures { result ≡ is_issued (map issued_of issued.now) m (client, command.now) }
+{
+    for one in issued {
+        if is_that(one, m, client, command) {
+            return true;
+        }
+    }
+    false
+}
+
+// Whether this is the command of a client for a member.
+fn is_that(one: &IssuedCommand, m: u32, client: u32, command: &Command) -> bool
+    ensures { result ≡ is_that (m, client, command.now) (issued_of one.now) }
+{
+    one.member == m && one.client == client && is_same(&one.command, command)
+}
+
+// Whether these are one command.
+fn is_same(a: &Command, b: &Command) -> bool
+    ensures { result ≡ is_equal_command a.now b.now }
+{
+    match a {
+        Command::Insert { name, first, last } => is_insertion(b, name, *first, *last),
+        Command::Check { process } => is_check(b, *process),
+        Command::Delete { name } => is_deletion(b, name),
+    }
+}
+
+fn is_insertion(command: &Command, name: &Name, first: u64, last: u64) -> bool
+    ensures { result ≡ is_equal_command (Command.Insert name.now first last) command.now }
+{
+    match command {
+        Command::Insert {
+            name: other,
+            first: other_first,
+            last: other_last,
+        } => is_same_name(name, other) && first == *other_first && last == *other_last,
+        Command::Check { .. } => false,
+        Command::Delete { .. } => false,
+    }
+}
+
+fn is_check(command: &Command, process: u64) -> bool
+    ensures { result ≡ is_equal_command (Command.Check process) command.now }
+{
+    match command {
+        Command::Insert { .. } => false,
+        Command::Check { process: other } => process == *other,
+        Command::Delete { .. } => false,
+    }
+}
+
+fn is_deletion(command: &Command, name: &Name) -> bool
+    ensures { result ≡ is_equal_command (Command.Delete name.now) command.now }
+{
+    match command {
+        Command::Insert { .. } => false,
+        Command::Check { .. } => false,
+        Command::Delete { name: other } => is_same_name(name, other),
+    }
+}
+
+fn is_same_name(a: &Name, b: &Name) -> bool
+    ensures { result ≡ is_equal_name a.now b.now }
+{
+    a.view().compare(&b.view()).is_eq()
+}
+
+// What is told of an order.
+fn ordered(m: u32, answer: Answer) -> Happened
+    ensures { told_value result ≡ order_told m answer }
+{
+    Happened::Order {
+        m,
+        code: u64::from(answer.code),
+        process: answer.process,
+        inserted: answer.inserted,
+        deleted: answer.deleted,
+    }
+}
