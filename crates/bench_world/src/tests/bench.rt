@@ -40,6 +40,7 @@ pub(super) fn group_of(rt: &(impl Abort + AllocGlobal), members: usize) -> Resul
     let mut g = Group::new(rt.alloc(), &node_name(rt, "/g")?)?;
     for (label, key) in LABELS.iter().zip(KEYS).take(members) {
         let text = format!(in rt.alloc(); "/{label}")?;
+        assert!(rt; !key.is_empty() && key.len() <= 128);
         g.add_member(&node_name(rt, &text)?, key)?;
     }
     Ok(g)
@@ -115,10 +116,7 @@ impl<'n, N: Net + Sync> Bench<'n, N> {
         rt: &R,
         k: u32,
     ) -> Result<Vec<u8>, Fail> {
-        match self
-            .world
-            .step(rt, &Event::Sync { k }, self.net, &self.draws)?
-        {
+        match self.step(rt, &Event::Sync { k })?? {
             Happened::Sync { octets, .. } => Ok(octets),
             _ => Ok(Vec::new(rt.alloc())),
         }
