@@ -1,19 +1,5 @@
-mod bench;
-mod ready;
-mod rows;
-mod told;
-
 use super::*;
 use std::test::*;
-
-// The members, by number.
-const LABELS: [&str; 3] = ["alice", "bob", "carol"];
-
-const ALICE: u32 = 0;
-
-const BOB: u32 = 1;
-
-const CAROL: u32 = 2;
 
 // Two members: a publication of the first reaches both catalogues, and the settle sends a vector each.
 #[test]
