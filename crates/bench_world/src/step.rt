@@ -109,6 +109,12 @@ impl World {
                 first,
                 last,
             } => self.insert(*m, *client, name, *first, *last),
+            Event::Block {
+                m,
+                process,
+                index,
+                content,
+            } => self.block(*m, *process, *index, content, draws),
             Event::Status { m, client, process } => self.status(*m, *client, *process),
             Event::Delete { m, client, name } => self.delete(*m, *client, name),
             Event::Summary => self.summary(),

@@ -4,6 +4,7 @@ ghost use Rattle.group_model.specs.Sound.{IsSoundGroup};
 ghost use Rattle.repo_member.specs.Listed.{alone_catalogue};
 ghost use Rattle.bench_world.specs.Worlds.{world_of, alone_at, drawing, begun_all};
 
+mod blocks;
 mod claiming;
 mod commanding;
 mod gaining;
