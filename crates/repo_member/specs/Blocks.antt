@@ -3,7 +3,7 @@ use Rattle.std.specs.Prelude.{◌≡◌, ◌≤◌, ℕ, List, Some, length, nat
 use Rattle.std.specs.Ordering.{nat_cmp}
 use Rattle.ndn_name.specs.Names.{IsName}
 use Rattle.repo_plan.specs.SortedList.{value_of}
-use Rattle.repo_object.specs.Objects.{is_object_name, IsContent}
+use Rattle.repo_object.specs.Objects.{is_object_name, IsContent, IsObject}
 use Rattle.repo_process.specs.Processes.{Process, BlockState, indexes, object_of, closed, block_state}
 use Rattle.repo_process.specs.Processes.BlockState.{Unknown, Already, Waiting, Whole}
 use Rattle.repo_process.specs.Insertions.{with_process}
@@ -49,6 +49,11 @@ after_block g number moment draw a (Whole p) = alone_publishes_whole g number mo
 abbrev pub alone_blocks : GroupKeys → (process index : ℕ) → List ℕ → (moment draw : ℕ) → Alone → Alone
 alone_blocks g process index content moment draw a =
     after_block g process moment draw a (alone_block a process index content)
+
+-- What a block completes is an object.
+abbrev pub CompletesAnObject : BlockState → Type 0
+CompletesAnObject (Whole p) = IsObject (object_of p)
+CompletesAnObject _ = Unit {0}
 
 -- What is told of a block is what it comes to.
 abbrev pub TellsBlock : GroupKeys → (old new : Alone) → BlockState → Blocked → Type 0

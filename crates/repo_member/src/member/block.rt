@@ -2,7 +2,7 @@ ghost use Rattle.std.specs.Prelude.{◌≡◌, ◌<◌, ◌≤◌, ◌^◌, ◌�
 ghost use Rattle.repo_object.specs.Objects.{IsContent};
 ghost use Rattle.repo_process.specs.Arrivals.{is_last};
 ghost use Rattle.repo_member.specs.Alone.{IsOf, publication_limit};
-ghost use Rattle.repo_member.specs.Blocks.{alone_block, alone_blocks, TellsBlock};
+ghost use Rattle.repo_member.specs.Blocks.{alone_block, alone_blocks, CompletesAnObject, TellsBlock};
 
 use super::Member;
 use super::publishing::{LOG_LIMIT, Published};
@@ -44,6 +44,8 @@ impl Member {
             (alone_block self.old process index content.now)) }
         ensures ok { OnOk result
             (self.new ≡ alone_blocks g.now process index content.now now draw self.old) }
+        ensures object { OnOk result
+            (CompletesAnObject (alone_block self.old process index content.now)) }
         ensures spent { (log : ℕ) → (result ≡ Err (PublishRefusal.NumbersSpent log))
             ↔ (IsTrue (is_last (alone_block self.old process index content.now))
             × (log ≡ length self.old.log) × (publication_limit ≤ length self.old.log)) }

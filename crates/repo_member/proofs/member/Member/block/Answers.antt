@@ -5,7 +5,7 @@ use Rattle.std.specs.Ordering.{nat_cmp}
 use Rattle.std.proofs.lemmas.Bool.{true≢false, lt-ltb}
 use Rattle.std.proofs.lemmas.List.{length-map}
 use Rattle.repo_plan.specs.SortedList.{value_of}
-use Rattle.repo_object.specs.Objects.{NamedContents, IsContent}
+use Rattle.repo_object.specs.Objects.{NamedContents, IsContent, IsObject}
 use Rattle.repo_object.proofs.Packing.{are_contents}
 use Rattle.repo_process.specs.Processes.{Process, BlockState, closed, has_block, object_of, without_block}
 use Rattle.repo_process.specs.Processes.BlockState.{Already, Whole}
@@ -16,9 +16,9 @@ use Rattle.repo_process.proofs.LawLemmas.{segments_counted}
 use Rattle.repo_member.specs.declared.member.Member.TheInside.{Inside}
 use Rattle.repo_member.specs.declared.member.block.Blocked.TheVariants as blocked
 use Rattle.repo_member.specs.Alone.{Alone, alone_publishes}
-use Rattle.repo_member.specs.Blocks.{alone_block, alone_keeps, after_block, TellsBlock}
+use Rattle.repo_member.specs.Blocks.{alone_block, alone_keeps, after_block, CompletesAnObject, TellsBlock}
 use Rattle.repo_member.specs.Members.{alone, AreWaiting, IsMember}
-use Rattle.repo_member.proofs.BlockStates.{comes_last, kept_waiting, nothing_lent, can_take_back, taken_back, handed, can_reopen, opened_again}
+use Rattle.repo_member.proofs.BlockStates.{ComesLast, comes_last, kept_waiting, nothing_lent, can_take_back, taken_back, handed, can_reopen, opened_again}
 use Rattle.repo_member.proofs.WaitingLemmas.{waiting_with, with_processes}
 use Rattle.repo_member.proofs.member.Member.block.Goals.{else-is_last-via-then-is_last+else-log-ge-LOG_LIMIT, else-is_last-via-else-is_last}
 use Rattle.repo_member.proofs.member.Member.block.Goals as goal
@@ -58,6 +58,12 @@ returns-in_default-clause-ok c =
     let state : alone_block c.args.self.now c.args.process c.args.index c.args.content.now ≡ Already = ap (λ (a : Alone). alone_block a c.args.process c.args.index c.args.content.now) (sym c.self.view_is) ∙ nothing.0 in
     ap (λ (i : Insertions). alone (record c.self.inside { processes = i })) nothing.1 ∙ c.self.view_is
     ∙ sym (ap (after_block c.args.g.now c.args.process c.args.now c.args.draw c.args.self.now) state)
+
+pub returns-in_default-clause-object : goal.returns-in_default-clause-object
+returns-in_default-clause-object c =
+    let nothing = nothing_lent c.self.inside.processes c.block.new.self c.args.process c.args.index c.args.content.now c.self.invariant.waiting _ refl c.in_ok-block.ensures.ok (sym c.in_ok-block.ensures.state ∙ c.in-Complete.is) c.in_default.ensures.object in
+    let state : alone_block c.args.self.now c.args.process c.args.index c.args.content.now ≡ Already = ap (λ (a : Alone). alone_block a c.args.process c.args.index c.args.content.now) (sym c.self.view_is) ∙ nothing.0 in
+    subst CompletesAnObject (sym state) tt
 
 -- ---- its name can't be copied
 
@@ -147,6 +153,14 @@ returns-in-Err-clause-err c =
 
 -- ---- it is published
 
+-- the object is that of the process
+object_is : (c : goal.In-Ok-publish_object) (p : Process) → ComesLast c.self.inside.processes c.block.new.self c.args.process c.args.index c.args.content.now p → c.from_parts-object.result ≡ object_of p
+object_is c p last =
+    let lent : lent_object (c.in-Some.name, c.in-Some.field-0-1) ≡ object_of p = lent_is p _ _ last.object c.in-Some.ensures.object in
+    let contents = some_contents _ _ (sym (ap (option_map (λ (o : NamedContents). o.contents)) c.in-Some.ensures.object) ∙ c.hand_over.ensures.blocks) in
+    c.from_parts-object.ensures ∙ ap (λ n. let o : NamedContents = record { name = n; contents = map (λ v. v.items) c.hand_over.result.items } in o) c.in-Ok.ensures.cases
+    ∙ ap (λ (cs : List (List ℕ)). let o : NamedContents = record { name = c.in-Some.name.now; contents = cs } in o) (sym contents) ∙ lent
+
 pub returns-in-Ok-publish_object-clause-ok : goal.returns-in-Ok-publish_object-clause-ok
 returns-in-Ok-publish_object-clause-ok c =
     let last = comes_last c.self.inside.processes c.block.new.self c.args.process c.args.index c.args.content.now _ c.self.invariant.waiting c.in_ok-block.ensures.ok (sym c.in_ok-block.ensures.state ∙ c.in-Complete.is) c.in-Some.ensures.object in
@@ -160,13 +174,14 @@ returns-in-Ok-publish_object-clause-ok c =
     let keeps : alone (record c.self.inside { processes = c.hand_over.new.self }) ≡ alone_keeps c.args.process (closed last.0) a =
     ap (λ (i : Insertions). alone (record c.self.inside { processes = i })) (c.hand_over.ensures.closed ∙ handed c.self.inside.processes c.block.new.self c.args.process c.args.index c.args.content.now last.0 last.1 c.completes-is_last.ensures.ordered)
     ∙ ap (alone_keeps c.args.process (closed last.0)) c.self.view_is in
-    let lent : lent_object (c.in-Some.name, c.in-Some.field-0-1) ≡ object_of last.0 = lent_is last.0 _ _ last.1.object c.in-Some.ensures.object in
-    let contents = some_contents _ _ (sym (ap (option_map (λ (o : NamedContents). o.contents)) c.in-Some.ensures.object) ∙ c.hand_over.ensures.blocks) in
-    let object : c.from_parts-object.result ≡ object_of last.0 =
-    c.from_parts-object.ensures ∙ ap (λ n. let o : NamedContents = record { name = n; contents = map (λ v. v.items) c.hand_over.result.items } in o) c.in-Ok.ensures.cases
-    ∙ ap (λ (cs : List (List ℕ)). let o : NamedContents = record { name = c.in-Some.name.now; contents = cs } in o) (sym contents) ∙ lent in
     c.in-Ok-publish_object.ensures.ok
-    ∙ ap (λ (o : NamedContents). alone_publishes c.args.g.now o c.args.now c.args.draw (alone (record c.self.inside { processes = c.hand_over.new.self }))) object
+    ∙ ap (λ (o : NamedContents). alone_publishes c.args.g.now o c.args.now c.args.draw (alone (record c.self.inside { processes = c.hand_over.new.self }))) (object_is c last.0 last.1)
     ∙ ap (alone_publishes c.args.g.now (object_of last.0) c.args.now c.args.draw) keeps
     ∙ sym (ap (after_block c.args.g.now c.args.process c.args.now c.args.draw a) state
     ∙ ap (λ (b : Bool). cond b (alone_publishes c.args.g.now (object_of last.0) c.args.now c.args.draw (alone_keeps c.args.process (closed last.0) a)) a) (lt-ltb (length a.log) 65535 room))
+
+pub returns-in-Ok-publish_object-clause-object : goal.returns-in-Ok-publish_object-clause-object
+returns-in-Ok-publish_object-clause-object c =
+    let last = comes_last c.self.inside.processes c.block.new.self c.args.process c.args.index c.args.content.now _ c.self.invariant.waiting c.in_ok-block.ensures.ok (sym c.in_ok-block.ensures.state ∙ c.in-Complete.is) c.in-Some.ensures.object in
+    let state : alone_block c.args.self.now c.args.process c.args.index c.args.content.now ≡ Whole last.0 = ap (λ (b : Alone). alone_block b c.args.process c.args.index c.args.content.now) (sym c.self.view_is) ∙ last.1.state in
+    subst CompletesAnObject (sym state) (subst IsObject (object_is c last.0 last.1) c.in-Ok-publish_object.ensures.object)
