@@ -23,6 +23,7 @@ mod Claims
 mod Deliveries
 mod Timers
 mod Objects
+mod BlockEvents
 mod Readers
 mod Answered
 mod Hearings

@@ -31,7 +31,7 @@ module _ (s : GroupState) (is : IsTrueState s) (m : ℕ) (there : m < length s.m
   log_at : get_or (logs_around s.members) m [] ≡ old.log
   log_at = ap (λ (k : ℕ). get_or (logs_around s.members) k []) (sym (number_is s is m there old old_is)) ∙ (truly s is m there old old_is).log
 
-  log_is : length (member (world_of s) m).log ≡ length old.log
+  pub log_is : length (member (world_of s) m).log ≡ length old.log
   log_is = ap (λ (x : Member). length x.log) (member_is s is m there old old_is)
 
   -- A publication is refused where all numbers are spent.

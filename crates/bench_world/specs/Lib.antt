@@ -15,6 +15,7 @@ pub mod Readings
 pub mod EventValues
 pub mod Steps
 pub mod Timers
+pub mod Blocks
 pub mod Others
 pub mod Answering
 pub mod Hearing

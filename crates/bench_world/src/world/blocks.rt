@@ -5,11 +5,14 @@ ghost use Rattle.group_model.specs.Steps.{after_event};
 ghost use Rattle.group_model.specs.Refusals.{refusal};
 ghost use Rattle.bench_world.specs.Worlds.{world_of, drawing};
 ghost use Rattle.bench_world.specs.EventValues.{EventValue, group_event, told_value, telling};
+ghost use Rattle.bench_world.specs.Blocks.{after_blocked, blocked_told};
 ghost use Rattle.bench_world.specs.Steps.{IsFaultOf};
 
 use super::World;
 use crate::event::{Happened, StepFault};
-use bench_net::Draws;
+use crate::numbers::numbers;
+use bench_net::{Draws, Sent};
+use repo_member::{Blocked, PublishRefusal};
 
 impl World {
     /// A member is given a block of an insertion process. The last one that was missing publishes the object, and the
@@ -37,6 +40,42 @@ impl World {
             (group_event self.old.keys (EventValue.Block m process index content.now)))) }
         ensures err { OnErr result (self.new ≡ self.old) }
     {
-        Err(StepFault::NoMemory)
+        self.sent.reserve(1)?;
+        let member = &mut self.members[m as usize];
+        let vector = numbers(self.alloc, member.vector())?;
+        let draw = draws.draw(m, member.next_draw());
+        let blocked = match member.block(&self.group, process, index, content, self.moment, draw) {
+            Ok(blocked) => blocked,
+            Err(PublishRefusal::NumbersSpent { .. }) => {
+                return Err(StepFault::Refused { number: 8 });
+            }
+            Err(PublishRefusal::NoMemory) => return Err(StepFault::NoMemory),
+        };
+        let happened = send_blocked(&mut self.sent, m, vector, blocked);
+        self.steps += 1;
+        Ok(happened)
+    }
+}
+
+// The sync Interest of a member that published an object is sent, for which room was made.
+fn send_blocked(sent: &mut Sent, m: u32, mut vector: Vec<u16>, blocked: Blocked) -> Happened
+    requires room { 0 < sent.old.spare }
+    requires few { length sent.old.packets < 4294967295 }
+    requires there { m < length vector.items }
+    ensures sent { sent.new.packets ≡ after_blocked m vector.items blocked sent.old.packets }
+    ensures told { told_value result ≡ blocked_told m (length sent.old.packets + 1) blocked }
+{
+    match blocked {
+        Blocked::Unknown => Happened::Block404 { m },
+        Blocked::Waiting => Happened::Block300 { m },
+        Blocked::Already => Happened::Block200 { m },
+        Blocked::Published(published) => {
+            vector[m as usize] = published.seq;
+            Happened::BlockPublished {
+                m,
+                seq: u64::from(published.seq),
+                sync: u64::from(sent.add_reserved(m, vector, published.sync)),
+            }
+        }
     }
 }

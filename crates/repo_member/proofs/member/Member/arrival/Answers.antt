@@ -1,4 +1,4 @@
-use Rattle.std.proofs.Common.{◌≡◌, ℕ, length, map, Option, Some, None, option_map, Bor, ap, sym, ◌∙◌, List, arith}
+use Rattle.std.proofs.Common.{◌≡◌, ℕ, length, Option, Some, None, option_map, Bor, ap, sym, ◌∙◌, List, arith}
 use Rattle.std.specs.Prelude.{IfSome}
 use Rattle.ndn_sign.specs.Ring.{Pair}
 use Rattle.repo_plan.specs.declared.part.Part.{Part}
