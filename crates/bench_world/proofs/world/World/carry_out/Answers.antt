@@ -49,3 +49,9 @@ pub returns-in-Order-clause-told : goal.returns-in-Order-clause-told
 returns-in-Order-clause-told g c =
     subst (λ (e : Event). IfOk c.order.result (λ happened. told_value happened ≡ telling c.args.self.now.keys (outside c.args.self.now.keys (g.D.Draws.draw c.args.draws.now) (g.N.Net.passes c.args.net.now)) (world_of c.args.self.now) (event_value e))) (sym c.in-Order.is)
     (subst (λ o. IfOk c.order.result (λ happened. told_value happened ≡ telling c.args.self.now.keys (outside c.args.self.now.keys (g.D.Draws.draw c.args.draws.now) (g.N.Net.passes c.args.net.now)) (world_of c.args.self.now) (EventValue.Order c.in-Order.m o))) c.deref-in-Order.ensures.value c.order.ensures.told)
+
+pub returns-in-Block-clause-world : goal.returns-in-Block-clause-world
+returns-in-Block-clause-world g c =
+    subst (λ (e : Event). OnOk c.block.result (world_of c.block.new.self ≡ after_event (outside c.args.self.now.keys (g.D.Draws.draw c.args.draws.now) (g.N.Net.passes c.args.net.now)) (world_of c.args.self.now) (group_event c.args.self.now.keys (event_value e))))
+    (sym c.in-Block.is)
+    (subst (λ o. OnOk c.block.result (world_of c.block.new.self ≡ after_event (outside c.args.self.now.keys (g.D.Draws.draw c.args.draws.now) (g.N.Net.passes c.args.net.now)) (world_of c.args.self.now) (group_event c.args.self.now.keys (EventValue.Block c.in-Block.m c.in-Block.process c.in-Block.index o)))) c.deref-in-Block.ensures.value c.block.ensures.world)
