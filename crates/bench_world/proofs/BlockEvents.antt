@@ -1,5 +1,5 @@
 -- What a block of an insertion makes of a world.
-use Rattle.std.proofs.Common.{◌≡◌, inl, inr, ℕ, ◌+◌, ◌≤◌, ◌<◌, Bool, true, false, cond, not, Some, None, Result, Ok, Err, List, [], ◌∷◌, ◌++◌, map, length, get_or, set, refl, sym, ap, ◌∙◌, subst, arith}
+use Rattle.std.proofs.Common.{◌≡◌, inl, inr, ℕ, ◌+◌, ◌≤◌, ◌<◌, Bool, true, false, cond, not, Some, None, Result, Ok, Err, List, [], ◌++◌, length, get_or, set, refl, sym, ap, ◌∙◌, subst, arith}
 use Rattle.std.specs.Prelude.{nat_le, ◌↔◌, IsTrue, unwrap_or}
 use Rattle.std.specs.List.{All}
 use Rattle.std.specs.Ordering.{nat_cmp, eq_by_cmp}
@@ -7,7 +7,7 @@ use Rattle.std.proofs.lemmas.Bool.{cases_eq, cases_Bool, false_from_ne_true, leb
 use Rattle.std.proofs.lemmas.Cmp.{nat_cmp_total}
 use Rattle.std.proofs.lemmas.List.{length-map, length-set, map-set, set-set, set-get_or, get_or-set_same, get_or-set_other}
 use Rattle.bench_net.specs.SentList.{SentPacket}
-use Rattle.repo_plan.specs.SortedList.{value_of, with_value}
+use Rattle.repo_plan.specs.SortedList.{value_of}
 use Rattle.repo_plan.proofs.Orders.{Exact, nat_same, nat_itself}
 use Rattle.repo_plan.proofs.Sets.{value_of-with_value}
 use Rattle.repo_object.specs.Objects.{IsObject}
@@ -22,7 +22,7 @@ use Rattle.group_model.specs.Limits.{IsWithin, IsMemberWithin}
 use Rattle.group_model.specs.Member.{Member}
 use Rattle.group_model.specs.Refusals.{Refusal, unless, if_whole, refusal}
 use Rattle.group_model.specs.Steps.{after_publish, after_block, after_event, block_at, with_process_at, next_seq_at, next_sync}
-use Rattle.group_model.specs.World.{World, no_member, member}
+use Rattle.group_model.specs.World.{World, member}
 use Rattle.repo_member.specs.declared.member.block.Blocked.{Blocked}
 use Rattle.repo_member.specs.declared.member.block.Blocked.TheVariants as blocked
 use Rattle.repo_member.specs.declared.refusals.PublishRefusal.{PublishRefusal}

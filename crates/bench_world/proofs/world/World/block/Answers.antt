@@ -1,5 +1,4 @@
-use Rattle.std.proofs.Common.{◌≡◌, ◌<◌, ◌+◌, Option, Some, None, Result, Ok, Err, length, refl, sym, ap, ◌∙◌, subst}
-use Rattle.bench_net.specs.SentList.{SentPacket}
+use Rattle.std.proofs.Common.{◌≡◌, ◌<◌, ◌+◌, Option, None, Result, Ok, Err, length, refl, sym, ap, ◌∙◌, subst}
 use Rattle.group_model.specs.Events.{Event}
 use Rattle.group_model.specs.Refusals.{Refusal, refusal}
 use Rattle.group_model.specs.Steps.{after_event, block_at, next_seq_at, next_sync}
@@ -7,7 +6,6 @@ use Rattle.repo_member.specs.declared.refusals.PublishRefusal.{PublishRefusal}
 use Rattle.repo_member.specs.declared.refusals.PublishRefusal.TheVariants.{NumbersSpent}
 use Rattle.repo_member.specs.declared.member.block.Blocked.{Blocked}
 use Rattle.bench_world.specs.declared.event.StepFault.TheVariants as fault
-use Rattle.bench_world.specs.Blocks.{after_blocked}
 use Rattle.bench_world.specs.EventValues.{block_told}
 use Rattle.bench_world.specs.Kept.{state}
 use Rattle.bench_world.specs.Steps.{IsFaultOf}
