@@ -87,6 +87,7 @@ event_value (is.Ask m octets) = EventValue.Ask m octets.items
 event_value (is.Feed m f octets) = EventValue.Feed m f octets.items
 event_value (is.Order m octets) = EventValue.Order m octets.items
 event_value (is.Insert m client name first last) = EventValue.Insert m client name first last
+event_value (is.Block m process index content) = EventValue.Block m process index content.items
 event_value (is.Status m client process) = EventValue.Status m client process
 event_value (is.Delete m client name) = EventValue.Delete m client name
 event_value is.Summary = EventValue.Summary

@@ -109,6 +109,13 @@ pub enum Event {
         first: u64,
         last: u64,
     },
+    /// A member is given a block of an insertion process.
+    Block {
+        m: u32,
+        process: u32,
+        index: u64,
+        content: Vec<u8>,
+    },
     /// A client asks a member how an insertion process stands.
     Status {
         m: u32,

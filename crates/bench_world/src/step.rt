@@ -109,6 +109,7 @@ impl World {
                 first,
                 last,
             } => self.insert(*m, *client, name, *first, *last),
+            Event::Block { .. } => Err(StepFault::NoMemory),
             Event::Status { m, client, process } => self.status(*m, *client, *process),
             Event::Delete { m, client, name } => self.delete(*m, *client, name),
             Event::Summary => self.summary(),

@@ -13,3 +13,8 @@ pub mod Inspection
 pub mod Generator
 pub mod Forms
 pub mod Answers
+pub mod RefusalTexts
+pub mod ToldTexts
+pub mod SaidEvents
+pub mod Judging
+pub mod Progressing

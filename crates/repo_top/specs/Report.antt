@@ -3,7 +3,7 @@ use Rattle.std.specs.Prelude.{ℕ, List, ◌++◌, length, codes, decimal}
 use Rattle.hex.specs.Hex.{encode_lower}
 use Rattle.sha2.specs.Sha256.{sha256}
 use Rattle.repo_top.specs.declared.refusal.Refusal.{Refusal}
-use Rattle.repo_top.specs.declared.refusal.Refusal.TheVariants.{Syntax, Limit, BadPacket, NotBuilt}
+use Rattle.repo_top.specs.declared.refusal.Refusal.TheVariants.{Syntax, UnknownLabel, Duplicate, Limit, NoSuchPacket, FetcherBusy, FetcherIdle, NumbersSpent, NoGroup, TooLarge, Late, BadPacket, NotBuilt}
 
 -- A member published under its number `seq`. Its object has one segment, and its sync packet is the
 -- `sync`th that was sent.
@@ -31,13 +31,31 @@ entry_text label seq name content =
 -- The number of a refusal, and its word.
 abbrev pub refusal_number : Refusal → ℕ
 refusal_number Syntax = 1
+refusal_number UnknownLabel = 2
+refusal_number Duplicate = 3
 refusal_number Limit = 4
+refusal_number NoSuchPacket = 5
+refusal_number FetcherBusy = 6
+refusal_number FetcherIdle = 7
+refusal_number NumbersSpent = 8
+refusal_number NoGroup = 9
+refusal_number TooLarge = 10
+refusal_number Late = 11
 refusal_number BadPacket = 12
 refusal_number NotBuilt = 13
 
 abbrev pub refusal_word : Refusal → List ℕ
 refusal_word Syntax = codes "Syntax"
+refusal_word UnknownLabel = codes "UnknownLabel"
+refusal_word Duplicate = codes "Duplicate"
 refusal_word Limit = codes "Limit"
+refusal_word NoSuchPacket = codes "NoSuchPacket"
+refusal_word FetcherBusy = codes "FetcherBusy"
+refusal_word FetcherIdle = codes "FetcherIdle"
+refusal_word NumbersSpent = codes "NumbersSpent"
+refusal_word NoGroup = codes "NoGroup"
+refusal_word TooLarge = codes "TooLarge"
+refusal_word Late = codes "Late"
 refusal_word BadPacket = codes "BadPacket"
 refusal_word NotBuilt = codes "NotBuilt"
 
