@@ -7,7 +7,7 @@ use Rattle.repo_top.specs.declared.refusal.Refusal.TheVariants.{Limit}
 use Rattle.repo_top.specs.Story.{refused}
 use Rattle.repo_top.specs.Inspection.{inspect_story}
 
-too_long : (octets : List ℕ) → 16777216 < length octets → inspect_story octets ≡ refused 1 Limit
+too_long : (octets : List ℕ) → 16777216 < length octets → inspect_story octets ≡ refused Limit
 unfolding inspect_story
 too_long octets lt = rw (lt-ltb 16777216 (length octets) lt) refl
 

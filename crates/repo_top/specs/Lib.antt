@@ -10,6 +10,8 @@ pub mod Judging
 pub mod Progressing
 pub mod Story
 pub mod Taken
+pub mod Reading
+pub mod Carrying
 pub mod Inspection
 pub mod Generator
 pub mod Forms

@@ -1,5 +1,5 @@
 ghost use Rattle.std.specs.Prelude.{◌≡◌};
-ghost use Rattle.repo_top.specs.Report.{refusal_number, refusal_word};
+ghost use Rattle.repo_top.specs.Refusals.{refusal_number, refusal_word};
 
 // Why a line is refused.
 #[derive(Clone, Copy, Debug, PartialEq, Eq)]
@@ -28,8 +28,6 @@ pub(crate) enum Refusal {
     Late,
     // The octets of an inspection are no elements.
     BadPacket,
-    // It has no built form.
-    NotBuilt,
 }
 
 impl Refusal {
@@ -49,7 +47,6 @@ impl Refusal {
             Refusal::TooLarge => 10,
             Refusal::Late => 11,
             Refusal::BadPacket => 12,
-            Refusal::NotBuilt => 13,
         }
     }
 
@@ -69,7 +66,6 @@ impl Refusal {
             Refusal::TooLarge => "TooLarge",
             Refusal::Late => "Late",
             Refusal::BadPacket => "BadPacket",
-            Refusal::NotBuilt => "NotBuilt",
         }
     }
 }
