@@ -5,3 +5,5 @@ pub mod InspectRuns
 pub mod Scripts
 pub mod LineLaws
 pub mod Readings
+pub mod Stories
+pub mod Runs

@@ -36,7 +36,7 @@ pub record IsScript (s : Script) : Type 0 where
 pub record Took (given : Given) (r : Reached) (line : List ℕ) (next : Reached) (old new : Option (List ℕ)) : Type 0 where
   pub report : List ℕ
   pub verdict : judged_next given r line ≡ says report next.state
-  pub next : next ≡ after r line report next.state
+  pub then : next ≡ after r line report next.state
   pub gained : Gains old new report
 
 -- The status and the text of a run that stops so at the line of this number.
@@ -66,6 +66,14 @@ IsStopping ReadFault = ⊥
 IsStopping WriteFault = ⊤
 IsStopping NoMemory = ⊤
 IsStopping (Foreign line) = ⊤
+
+-- A run stopped so at the line of this number.
+pub record Halts (line : ℕ) (why : Stop) (old new : Option (List ℕ)) (status : Status) : Type 0 where
+  pub stops : IsStopping status
+  pub same : IsTold status → status ≡ stop_status line why
+  pub text : IsTold status → Gains old new (stop_text line why)
+  pub front : GainsFront old new (stop_text line why)
+  pub lacks : status ≡ WriteFault → IfSome old (λ _. Lacks old new (stop_text line why))
 
 -- A run stopped at a line, whatever lines follow it.
 pub record Stops (given : Given) (r : Reached) (line : List ℕ) (old new : Option (List ℕ)) (status : Status) : Type 0 where

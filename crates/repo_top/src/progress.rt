@@ -67,7 +67,8 @@ impl Progress {
 
     // The world that the events made, if there was one.
     pub(crate) fn into_world(self) -> Option<World>
-        ensures { option_map world_of result ≡ (state self.entry).world }
+        ensures world { option_map world_of result ≡ (state self).world }
+        ensures keys { IfSome result (λ world. world.keys ≡ (state self).keys) }
     {
         let Progress { stage, .. } = self;
         match stage {

@@ -1,11 +1,11 @@
-ghost use Rattle.std.specs.Prelude.{◌≡◌, ◌≤◌, ◌×◌, IfErr, IfOk, OnErr, OnOk, Err};
+ghost use Rattle.std.specs.Prelude.{◌≡◌, ◌≤◌, ◌+◌, IfErr, IfOk, IfSome, OnErr, OnOk, Err};
 ghost use Rattle.std.specs.Option.{option_map};
 ghost use Rattle.bench_world.specs.Worlds.{world_of};
 ghost use Rattle.repo_top.specs.Outside.{HasRisen};
 ghost use Rattle.repo_top.specs.Judging.{given_by, says};
 ghost use Rattle.repo_top.specs.Progressing.{IsStop};
 ghost use Rattle.repo_top.specs.Story.{after, judged_next, nothing_reached};
-ghost use Rattle.repo_top.specs.Carrying.{IsScript, Stops, Tells, Took, reached, stop_status, stop_text};
+ghost use Rattle.repo_top.specs.Carrying.{Halts, IsScript, Stops, Took, reached, stop_status, stop_text};
 
 use crate::progress::Progress;
 use crate::refusal::Refusal;
@@ -110,6 +110,10 @@ impl Script {
 
     // Writes why the run stops at the next line.
     fn stop<K: Sink>(&mut self, stop: Stop, sink: &mut K) -> Status
+        requires { self.old.lines ≤ 100000 }
+        ensures halts { Halts (self.old.lines + 1) stop (K.out sink.old) (K.out sink.new) result }
+        ensures risen { result ≡ Status.WriteFault → HasRisen (K.faults sink.old) (K.faults sink.new) }
+        ensures faults { K.faults sink.old ≤ K.faults sink.new }
     {
         let Ok(status) = put_stop(&mut self.report, self.lines + 1, stop) else {
             return Status::NoMemory;
@@ -122,7 +126,8 @@ impl Script {
 
     // The world that the events made, if there was one.
     pub(crate) fn into_world(self) -> Option<World>
-        ensures world { option_map world_of result ≡ (reached self.entry).state.world }
+        ensures world { option_map world_of result ≡ (reached self).state.world }
+        ensures keys { IfSome result (λ world. world.keys ≡ (reached self).state.keys) }
     {
         self.progress.into_world()
     }
