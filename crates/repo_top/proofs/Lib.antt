@@ -7,3 +7,4 @@ pub mod LineLaws
 pub mod Readings
 pub mod Stories
 pub mod Runs
+pub mod Stops

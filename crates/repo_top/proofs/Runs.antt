@@ -17,10 +17,10 @@ use Rattle.repo_top.specs.Outside.{Gains, GainsFront}
 use Rattle.repo_top.specs.Lines.{IsWhole, has_feed, lines}
 use Rattle.repo_top.specs.Judging.{Given, Verdict, foreign, refused, says}
 use Rattle.repo_top.specs.Reading.{HasLine, IsBegun, IsTooLong}
-use Rattle.repo_top.specs.Story.{Reached, Story, after, behind, judged_next, nothing_reached, story_from, story_of}
+use Rattle.repo_top.specs.Story.{Reached, Story, after, behind, ended, judged_next, nothing_reached, story_from, story_of}
 use Rattle.repo_top.specs.Answers.{IsTold, status_of}
 use Rattle.repo_top.specs.Taken.{IsStoppedAt, IsTakenNear, Lacks, can_be_judged, end_of_line, lines_so_far, lines_taken, report_of, report_through, taken}
-use Rattle.repo_top.specs.Carrying.{Carried, Finishes, IsStopping, Known, Ran, Stops, Tells, Took}
+use Rattle.repo_top.specs.Carrying.{Carried, EndsIn, Finishes, IsStopping, Known, Ran, Stops, Tells, Took}
 use Rattle.repo_top.proofs.LineLaws.{open_line, whole_first}
 use Rattle.repo_top.proofs.Outputs.{front_behind, front_so_far, front_whole, nothing_gained}
 use Rattle.repo_top.proofs.Stories.{behind_behind, first_line_story, goes_on, long_refused, no_lines, refused_story}
@@ -220,8 +220,8 @@ front_taken given a d input [] whole part = whole
 front_taken given a d input (o ∷ os) whole part = part
 
 -- the source failed
-pub ran_unread : (given : Given) (held : List ℕ) (r : Reached) (a b : Option (List ℕ)) (input rest : List ℕ) → Carried given held r a b input rest → IsBegun held → Ran given a b ReadFault r input rest
-ran_unread given held r a b input rest so_far begun =
+pub ran_unread : (Last : Story → Type 0) (given : Given) (held : List ℕ) (r : Reached) (a b : Option (List ℕ)) (input rest : List ℕ) → Carried given held r a b input rest → IsBegun held → Ran given a b ReadFault Last input rest
+ran_unread Last given held r a b input rest so_far begun =
     let story = story_is given held r a b input rest so_far in
     let front : GainsFront a b (story_of given input).text =
     front_so_far a b so_far.text (story_from given r (lines (held ++ rest))).text (story_of given input).text (ap (λ (s : Story). s.text) story) so_far.gained in
@@ -237,8 +237,7 @@ ran_unread given held r a b input rest so_far begun =
       near_line = λ line at. absurd at;
       near_fault = λ e. absurd cc;
       exact = λ e. exact;
-      keys = λ e. absurd cc;
-      world = λ e. absurd cc;
+      last = λ e. absurd cc;
     }
 
 -- the run stopped at a line
@@ -246,8 +245,8 @@ module _ (given : Given) (held : List ℕ) (r next : Reached) (a b d : Option (L
   never : (other : Status) → (IsStopping other → ⊥) → status ≡ other → ⊥
   never other not_so e = not_so (subst IsStopping e stops.stops)
 
-  pub ran_stopped : Ran given a d status next input rest
-  ran_stopped =
+  pub ran_stopped : (Last : Story → Type 0) → Ran given a d status Last input rest
+  ran_stopped Last =
       let line = take count held in
       let behind_line = lines (drop count held ++ rest) in
       let story : story_of given input ≡ behind so_far.text (story_from given r (line ∷ behind_line)) =
@@ -263,12 +262,11 @@ module _ (given : Given) (held : List ℕ) (r next : Reached) (a b d : Option (L
         near_line = λ n at. near given held r next a b d input rest so_far n (omega (arith, stops.at n at)) few;
         near_fault = λ e n lacks. near_fault given held r next a b d input rest so_far (story_from given r (line ∷ behind_line)).text (stops.tells behind_line).front few n lacks;
         exact = λ e. absurd (never ReadFault (λ x. x) e);
-        keys = λ e. absurd (never Done (λ x. x) e);
-        world = λ e. absurd (never Done (λ x. x) e);
+        last = λ e. absurd (never Done (λ x. x) e);
       }
 
 -- the run came to the end of its input
-pub ran_finished : (given : Given) (held : List ℕ) (r next : Reached) (a b d : Option (List ℕ)) (input rest : List ℕ) (status : Status) → Carried given held r a b input rest → rest ≡ [] → length held ≤ 65536 → Finishes given r (lines held) next b d status → Ran given a d status next input rest
+pub ran_finished : (given : Given) (held : List ℕ) (r next : Reached) (a b d : Option (List ℕ)) (input rest : List ℕ) (status : Status) → Carried given held r a b input rest → rest ≡ [] → length held ≤ 65536 → Finishes given r (lines held) next b d status → Ran given a d status (EndsIn next.state) input rest
 ran_finished given held r next a b d input rest status so_far none few f =
     let story : story_of given input ≡ behind so_far.text (story_from given r (lines held)) =
     story_is given held r a b input rest so_far ∙ ap (λ (t : List ℕ). behind so_far.text (story_from given r (lines t))) (ap (λ (t : List ℕ). held ++ t) none ∙ append-nil held) in
@@ -281,6 +279,106 @@ ran_finished given held r next a b d input rest status so_far none few f =
       near_line = λ n at. near given held r next a b d input rest so_far n (omega (arith, f.at n at)) few;
       near_fault = λ e n lacks. near_fault given held r next a b d input rest so_far (story_from given r (lines held)).text f.tells.front few n lacks;
       exact = λ e. absurd (f.read e);
-      keys = λ e. ap (λ (s : Story). s.keys) story ∙ f.keys e;
-      world = λ e. ap (λ (s : Story). s.world) story ∙ f.world e;
+      last = λ e. let ends = f.last e in
+          record { keys = ap (λ (s : Story). s.keys) story ∙ ends.keys; world = ap (λ (s : Story). s.world) story ∙ ends.world };
     }
+
+-- ---- the last line
+
+pub finishes_none : (given : Given) (r : Reached) (a : Option (List ℕ)) (last : List ℕ) → last ≡ [] → Finishes given r (lines last) r a a Done
+unfolding lines
+finishes_none given r a last none =
+    let F : List ℕ → Type 0 = λ t. Finishes given r (lines t) r a a Done in
+    let ends = no_lines given r in
+    let T : Story → Type 0 = λ s. Tells s a a Done in
+    subst F (sym none) (record {
+      tells = subst T (sym ends) (record { ending = λ told. refl; text = λ told. nothing_gained a; front = front_whole a a [] (nothing_gained a); lacks = λ e. absurd cc });
+      at = λ number at. absurd at;
+      read = λ e. cc;
+      last = λ e. record { keys = ap (λ (s : Story). s.keys) ends; world = ap (λ (s : Story). s.world) ends };
+    })
+
+module _ (given : Given) (r next : Reached) (a b : Option (List ℕ)) (last : List ℕ) (some : last ≢ []) (begun : IsBegun last) where
+  one_line : lines last ≡ last ∷ []
+  one_line = open_line last some begun.free
+
+  pub finishes_line : Took given r last next a b → Finishes given r (lines last) next a b Done
+  finishes_line took =
+      let story : story_from given r (lines last) ≡ behind took.report (ended next.state [] ending.Done) =
+      ap (story_from given r) one_line ∙ goes_on given r last next a b took [] ∙ ap (behind took.report) (no_lines given next) in
+      let all : took.report ≡ took.report ++ [] = sym (append-nil took.report) in
+      let gained = subst (Gains a b) all took.gained in
+      let T : Story → Type 0 = λ s. Tells s a b Done in
+      record {
+        tells = subst T (sym story) (record { ending = λ told. refl; text = λ told. gained; front = front_whole a b (took.report ++ []) gained; lacks = λ e. absurd cc });
+        at = λ number at. absurd at;
+        read = λ e. cc;
+        last = λ e. record { keys = ap (λ (s : Story). s.keys) story; world = ap (λ (s : Story). s.world) story };
+      }
+
+  pub finishes_stopped : (status : Status) → Stops given r last a b status → Finishes given r (lines last) next a b status
+  finishes_stopped status stops =
+      let never : (other : Status) → (IsStopping other → ⊥) → status ≡ other → ⊥ = λ other not_so e. not_so (subst IsStopping e stops.stops) in
+      let T : List (List ℕ) → Type 0 = λ ls. Tells (story_from given r ls) a b status in
+      record {
+        tells = subst T (sym one_line) (stops.tells []);
+        at = stops.at;
+        read = λ e. never ReadFault (λ x. x) e;
+        last = λ e. absurd (never Done (λ x. x) e);
+      }
+
+-- ---- what is known
+
+known_map : (P Q : List ℕ → List ℕ → Type 0) → ((input rest : List ℕ) → P input rest → Q input rest) → (before now : Option (List ℕ)) → Known before now P → Known before now Q
+known_map P Q f None now h = tt
+known_map P Q f (Some input) None h = absurd h
+known_map P Q f (Some input) (Some rest) h = f input rest h
+
+module _ (given : Given) (a : Option (List ℕ)) where
+  pub known_none : (before : Option (List ℕ)) → Known before before (Carried given [] nothing_reached a a)
+  known_none None = tt
+  known_none (Some input) = carried_none given a input
+
+  pub known_read : (held held' : List ℕ) (r : Reached) (b before now now' : Option (List ℕ)) → Keeps (prepend_known held now) (prepend_known held' now') → Known before now (Carried given held r a b) → Known before now' (Carried given held' r a b)
+  known_read held held' r b None now now' k h = tt
+  known_read held held' r b (Some input) None now' k h = absurd h
+  known_read held held' r b (Some input) (Some rest) None k h = absurd k
+  known_read held held' r b (Some input) (Some rest) (Some rest') k h = carried_read given held r a b input rest h held' rest' k
+
+  module _ (held : List ℕ) (r next : Reached) (b d before now : Option (List ℕ)) (count : ℕ) where
+    pub known_line : HasLine count held → Took given r (take count held) next b d → Known before now (Carried given held r a b) → Known before now (Carried given (drop count held) next a d)
+    known_line h took = known_map (Carried given held r a b) (Carried given (drop count held) next a d) (λ input rest so_far. carried_line given held r next a b d input rest count so_far took h) before now
+
+    pub known_stopped : (Last : Story → Type 0) (status : Status) → HasLine count held → length held ≤ 65536 → Stops given r (take count held) b d status → Known before now (Carried given held r a b) → Known before now (Ran given a d status Last)
+    known_stopped Last status h few stops = known_map (Carried given held r a b) (Ran given a d status Last) (λ input rest so_far. ran_stopped given held r next a b d input rest count status so_far h few stops Last) before now
+
+  pub known_unread : (Last : Story → Type 0) (held : List ℕ) (r : Reached) (b before now : Option (List ℕ)) → IsBegun held → Known before now (Carried given held r a b) → Known before now (Ran given a b ReadFault Last)
+  known_unread Last held r b before now begun = known_map (Carried given held r a b) (Ran given a b ReadFault Last) (λ input rest so_far. ran_unread Last given held r a b input rest so_far begun) before now
+
+  pub known_finished : (held : List ℕ) (r next : Reached) (b d before now : Option (List ℕ)) (status : Status) → IsAtEnd now → length held ≤ 65536 → Finishes given r (lines held) next b d status → Known before now (Carried given held r a b) → Known before now (Ran given a d status (EndsIn next.state))
+  known_finished held r next b d None now status end few f h = tt
+  known_finished held r next b d (Some input) None status end few f h = absurd h
+  known_finished held r next b d (Some input) (Some rest) status end few f h = ran_finished given held r next a b d input rest status h end few f
+
+-- what is said of the story's end may be said otherwise
+pub ran_as : (given : Given) (a b : Option (List ℕ)) (status : Status) (P Q : Story → Type 0) → (status ≡ Done → (s : Story) → P s → Q s) → (before now : Option (List ℕ)) → Known before now (Ran given a b status P) → Known before now (Ran given a b status Q)
+ran_as given a b status P Q f before now = known_map (Ran given a b status P) (Ran given a b status Q) (λ input rest ran. record {
+  tells = ran.tells;
+  read_to_end = ran.read_to_end;
+  front_of_taken = ran.front_of_taken;
+  near_line = ran.near_line;
+  near_fault = ran.near_fault;
+  exact = ran.exact;
+  last = λ e. f e (story_of given input) (ran.last e);
+}) before now
+
+-- what holds of a run over what is known
+pub of_known : (P : List ℕ → List ℕ → Type 0) (Q : List ℕ → Type 0) → ((input rest : List ℕ) → P input rest → Q input) → (before now : Option (List ℕ)) → Known before now P → IfSome before Q
+of_known P Q f None now h = tt
+of_known P Q f (Some input) None h = absurd h
+of_known P Q f (Some input) (Some rest) h = f input rest h
+
+pub of_both : (P Q : List ℕ → List ℕ → Type 0) → ((input rest : List ℕ) → P input rest → Q input rest) → (before now : Option (List ℕ)) → Known before now P → IfSome before (λ input. IfSome now (λ rest. Q input rest))
+of_both P Q f None now h = tt
+of_both P Q f (Some input) None h = absurd h
+of_both P Q f (Some input) (Some rest) h = f input rest h

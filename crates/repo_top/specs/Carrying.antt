@@ -1,6 +1,7 @@
 -- A script that is carried out line by line.
 use Rattle.std.specs.Prelude.{◌≡◌, ◌≤◌, ⊤, ℕ, ◌+◌, List, [], ◌∷◌, ◌++◌, length, Option, Some, None, IfSome}
 use Rattle.std.specs.List.{concat, filter}
+use Rattle.std.specs.Option.{option_map}
 use Rattle.script_lang.specs.Limits.{script_lines, script_octets}
 use Rattle.script_report.specs.Limits.{report_octets}
 use Rattle.script_report.specs.Texts.{foreign_text}
@@ -12,7 +13,8 @@ use Rattle.repo_top.specs.declared.stop.Stop.TheVariants as stop
 use Rattle.repo_top.specs.Outside.{Gains, GainsFront}
 use Rattle.repo_top.specs.Refusals.{refusal_number, refusal_text}
 use Rattle.repo_top.specs.Lines.{lines}
-use Rattle.repo_top.specs.Judging.{Given, says}
+use Rattle.bench_world.specs.Worlds.{GroupState, world_of}
+use Rattle.repo_top.specs.Judging.{Given, State, says}
 use Rattle.repo_top.specs.Progressing.{IsProgress, state, steps}
 use Rattle.repo_top.specs.Story.{Reached, Story, after, behind, judged_next, nothing_reached, story_from, story_of}
 use Rattle.repo_top.specs.Answers.{IsTold, status_of}
@@ -33,7 +35,8 @@ pub record IsScript (s : Script) : Type 0 where
 -- ---- one line
 
 -- A line was carried out, and its report written.
-pub record Took (given : Given) (r : Reached) (line : List ℕ) (next : Reached) (old new : Option (List ℕ)) : Type 0 where
+pub record Took (given : Given) (r : Reached) (line : List ℕ) (next : Reached) (old new : Option
+    (List ℕ)) : Type 0 where
   pub report : List ℕ
   pub verdict : judged_next given r line ≡ says report next.state
   pub then : next ≡ after r line report next.state
@@ -76,18 +79,29 @@ pub record Halts (line : ℕ) (why : Stop) (old new : Option (List ℕ)) (status
   pub lacks : status ≡ WriteFault → IfSome old (λ _. Lacks old new (stop_text line why))
 
 -- A run stopped at a line, whatever lines follow it.
-pub record Stops (given : Given) (r : Reached) (line : List ℕ) (old new : Option (List ℕ)) (status : Status) : Type 0 where
+pub record Stops (given : Given) (r : Reached) (line : List ℕ) (old new : Option (List ℕ))
+    (status : Status) : Type 0 where
   pub stops : IsStopping status
   pub tells : (others : List (List ℕ)) → Tells (story_from given r (line ∷ others)) old new status
   pub at : (number : ℕ) → IsStoppedAt status number → number ≡ r.lines + 1
 
+-- A story leaves this group behind.
+pub record EndsIn (state : State) (s : Story) : Type 0 where
+  pub keys : s.keys ≡ state.keys
+  pub world : s.world ≡ state.world
+
+-- The same of the world that a run leaves, if there is one.
+pub record Leaves (end : Option GroupState) (s : Story) : Type 0 where
+  pub world : option_map world_of end ≡ s.world
+  pub keys : IfSome end (λ world. world.keys ≡ s.keys)
+
 -- A run ended with the last line, or before it where there is none.
-pub record Finishes (given : Given) (r : Reached) (last : List (List ℕ)) (next : Reached) (old new : Option (List ℕ)) (status : Status) : Type 0 where
-  pub tells : Tells (story_from given r last) old new status
+pub record Finishes (given : Given) (r : Reached) (lines_left : List (List ℕ)) (next : Reached)
+    (old new : Option (List ℕ)) (status : Status) : Type 0 where
+  pub tells : Tells (story_from given r lines_left) old new status
   pub at : (number : ℕ) → IsStoppedAt status number → number ≡ r.lines + 1
   pub read : (status ≡ ReadFault) → ⊥
-  pub keys : status ≡ Done → (story_from given r last).keys ≡ next.state.keys
-  pub world : status ≡ Done → (story_from given r last).world ≡ next.state.world
+  pub last : status ≡ Done → EndsIn next.state (story_from given r lines_left)
 
 -- ---- a run
 
@@ -98,7 +112,8 @@ Known (Some input) None P = ⊥
 Known (Some input) (Some rest) P = P input rest
 
 -- Lines were carried out, and then these octets are held.
-pub record Carried (given : Given) (held : List ℕ) (r : Reached) (old new : Option (List ℕ)) (input rest : List ℕ) : Type 0 where
+pub record Carried (given : Given) (held : List ℕ) (r : Reached) (old new : Option (List ℕ))
+    (input rest : List ℕ) : Type 0 where
   pub done : List (List ℕ)
   pub octets : List ℕ
   pub text : List ℕ
@@ -112,12 +127,13 @@ pub record Carried (given : Given) (held : List ℕ) (r : Reached) (old new : Op
   pub gained : Gains old new text
 
 -- What a run over a known input comes to.
-pub record Ran (given : Given) (old new : Option (List ℕ)) (status : Status) (next : Reached) (input rest : List ℕ) : Type 0 where
+pub record Ran (given : Given) (old new : Option (List ℕ)) (status : Status) (Last : Story → Type 0)
+    (input rest : List ℕ) : Type 0 where
   pub tells : Tells (story_of given input) old new status
   pub read_to_end : status ≡ Done → rest ≡ []
   pub front_of_taken : GainsFront old new (report_of given (lines_taken input rest))
   pub near_line : (line : ℕ) → IsStoppedAt status line → IsTakenNear line input rest
-  pub near_fault : status ≡ WriteFault → (line : ℕ) → Lacks old new (report_through given line input) → IsTakenNear line input rest
+  pub near_fault : status ≡ WriteFault → (line : ℕ)
+      → Lacks old new (report_through given line input) → IsTakenNear line input rest
   pub exact : status ≡ ReadFault → Gains old new (report_of given (lines_so_far (taken input rest)))
-  pub keys : status ≡ Done → (story_of given input).keys ≡ next.state.keys
-  pub world : status ≡ Done → (story_of given input).world ≡ next.state.world
+  pub last : status ≡ Done → Last (story_of given input)

@@ -1,12 +1,10 @@
-ghost use Rattle.std.specs.Prelude.{◌≡◌, ◌≢◌, ◌≤◌, [], None, Err, IfSome};
-ghost use Rattle.std.specs.Option.{option_map};
-ghost use Rattle.bench_world.specs.Worlds.{world_of};
+ghost use Rattle.std.specs.Prelude.{◌≡◌, ◌≢◌, [], None};
 ghost use Rattle.repo_top.specs.Outside.{HasRisen};
 ghost use Rattle.repo_top.specs.Judging.{given_by};
 ghost use Rattle.repo_top.specs.Lines.{lines};
 ghost use Rattle.repo_top.specs.Story.{nothing_reached};
 ghost use Rattle.repo_top.specs.Reading.{IsBegun};
-ghost use Rattle.repo_top.specs.Carrying.{Finishes, IsScript, Known, Ran, reached};
+ghost use Rattle.repo_top.specs.Carrying.{EndsIn, Finishes, IsScript, Known, Leaves, Ran, reached};
 
 use crate::line_reader::{LineReader, Next};
 use crate::script::Script;
@@ -34,6 +32,16 @@ pub(crate) fn run_script<
     draws: &D,
     end: &mut Option<World>,
 ) -> Status
+    requires { end.old ≡ None }
+    ensures ran { Known (S.left source.old) (S.left source.new)
+        (Ran (given_by (D.draw draws.now) (N.passes net.now)) (K.out sink.old) (K.out sink.new) result
+        (Leaves end.new)) }
+    ensures no_world { result ≢ Status.Done → end.new ≡ None }
+    ensures read_fault { result ≡ Status.ReadFault
+        → HasRisen (S.faults source.old) (S.faults source.new) }
+    ensures write_fault { result ≡ Status.WriteFault
+        → HasRisen (K.faults sink.old) (K.faults sink.new) }
+    ensures never_usage { result ≢ Status.Usage }
 {
     let Ok(mut reader) = LineReader::new(alloc) else {
         return Status::NoMemory;
@@ -61,7 +69,7 @@ fn run_lines<R: Threads + Sync, S: Source, K: Sink, N: Net + Sync, D: Draws>(
     requires is { IsScript script.old }
     ensures ran { Known (S.left source.old) (S.left source.new)
         (Ran (given_by (D.draw draws.now) (N.passes net.now)) (K.out sink.old) (K.out sink.new) result
-        (reached script.new)) }
+        (EndsIn (reached script.new).state)) }
     ensures read_fault { result ≡ Status.ReadFault
         → HasRisen (S.faults source.old) (S.faults source.new) }
     ensures write_fault { result ≡ Status.WriteFault
