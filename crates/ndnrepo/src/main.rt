@@ -2,7 +2,7 @@
 //! the hexadecimal digits of octets and writes the elements that they are, and `gen` writes a script.
 #![tactic(auto)]
 
-use bench_net::{FixedDraws, OpenNet};
+use bench_net::Seeded;
 use repo_top::{ReadSource, Status, WriteSink, run};
 use std::env::{self, Env};
 use std::io;
@@ -14,14 +14,17 @@ fn main(rt: HostRuntime) -> ExitCode {
     };
     let mut source = ReadSource::new(rt.stdin());
     let mut sink = WriteSink::new(rt.stdout());
+    let seeded = Seeded::new([0; 32]);
+    let mut end = None;
     let status = run(
         &rt,
         rt.alloc(),
         &words,
         &mut source,
         &mut sink,
-        &OpenNet::new(),
-        &FixedDraws::new(0),
+        &seeded,
+        &seeded,
+        &mut end,
     );
     ExitCode::from(status.code())
 }

@@ -1,13 +1,19 @@
 -- An inspection depends on the octets that are taken, and one more.
-use Rattle.std.proofs.Common.{◌≡◌, ℕ, ◌<◌, ◌≤◌, List, ◌++◌, length, length-append, refl, sym, ◌∙◌, arith, inl, inr}
+use Rattle.std.proofs.Common.{◌≡◌, ℕ, ◌<◌, ◌≤◌, List, ◌++◌, length, ◌≢◌, Bool, true, false, cond, Option, Some, None, Result, Ok, Err, ltb, length-append, refl, sym, ◌∙◌, arith, inl, inr}
 use Rattle.std.proofs.lemmas.Bool.{lt-ltb}
 use Rattle.std.proofs.lemmas.Bool.Decides.{leb_tells}
+use Rattle.hex.specs.Hex.{decode_of}
+use Rattle.hex.specs.declared.error.FromHexError.{FromHexError}
+use Rattle.ndn_tlv.specs.declared.tlv_fault.TlvFault.{TlvFault}
+use Rattle.ndn_inspect.specs.Inspection.{inspected}
 use Rattle.repo_top.specs.declared.ending.Ending.TheVariants.{Done}
+use Rattle.repo_top.specs.declared.status.Status.TheVariants.{Foreign}
+use Rattle.repo_top.specs.Answers.{status_of}
 use Rattle.repo_top.specs.declared.refusal.Refusal.TheVariants.{Limit}
-use Rattle.repo_top.specs.Story.{refused}
-use Rattle.repo_top.specs.Inspection.{inspect_story}
+use Rattle.repo_top.specs.Story.{Story, refused}
+use Rattle.repo_top.specs.Inspection.{decoded_story, inspect_story, lines_story, octets_story, sound_ending, without_spaces}
 
-too_long : (octets : List ℕ) → 16777216 < length octets → inspect_story octets ≡ refused 1 Limit
+too_long : (octets : List ℕ) → 16777216 < length octets → inspect_story octets ≡ refused Limit
 unfolding inspect_story
 too_long octets lt = rw (lt-ltb 16777216 (length octets) lt) refl
 
@@ -23,3 +29,25 @@ inspection_takes_whole octets e =
       | inl few ↦ few.1
       | inr more ↦ let long = rw (too_long octets more.1) at e in absurd cc
     ]
+
+-- ---- no inspection is foreign
+
+by_fault : (fault : Option TlvFault) (line : ℕ) → status_of (sound_ending fault) ≢ Foreign line
+by_fault None line = λ e. cc
+by_fault (Some fault) line = λ e. cc
+
+by_size : (long : Bool) (octets : List ℕ) (line : ℕ) → status_of (cond long (refused Limit) (lines_story (inspected octets))).ending ≢ Foreign line
+by_size true octets line = λ e. cc
+by_size false octets line = by_fault (inspected octets).fault line
+
+by_digits : (decoded : Result (List ℕ) FromHexError) (line : ℕ) → status_of (decoded_story decoded).ending ≢ Foreign line
+by_digits (Ok octets) line = by_size (ltb 8800 (length octets)) octets line
+by_digits (Err e) line = λ e. cc
+
+by_input : (long : Bool) (input : List ℕ) (line : ℕ) → status_of (cond long (refused Limit) (decoded_story (decode_of (without_spaces input)))).ending ≢ Foreign line
+by_input true input line = λ e. cc
+by_input false input line = by_digits (decode_of (without_spaces input)) line
+
+pub not_foreign : (input : List ℕ) (line : ℕ) → status_of (inspect_story input).ending ≢ Foreign line
+unfolding inspect_story
+not_foreign input line = by_input (ltb 16777216 (length input)) input line

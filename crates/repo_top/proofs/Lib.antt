@@ -1,10 +1,10 @@
 pub mod Outputs
-pub mod Cuts
 pub mod Numerals
-pub mod Scenes
-pub mod Stories
-pub mod Fronts
 pub mod Inspections
-pub mod Runs
+pub mod InspectRuns
 pub mod Scripts
-pub mod CutLaws
+pub mod LineLaws
+pub mod Readings
+pub mod Stories
+pub mod Runs
+pub mod Stops

@@ -9,6 +9,7 @@ use Rattle.repo_top.specs.declared.status.Status.TheVariants.{Done, Usage, Refus
 abbrev pub status_of : Ending → Status
 status_of ending.Done = Done
 status_of (ending.Refused line number) = Refused line number
+status_of (ending.Foreign line) = Foreign line
 
 -- The statuses of a story that was told to its end.
 abbrev pub IsTold : Status → Type 0
@@ -18,7 +19,7 @@ IsTold (Refused line number) = ⊤
 IsTold ReadFault = ⊥
 IsTold WriteFault = ⊥
 IsTold NoMemory = ⊥
-IsTold (Foreign line) = ⊥
+IsTold (Foreign line) = ⊤
 
 abbrev pub exit_code : Status → ℕ
 exit_code Done = 0

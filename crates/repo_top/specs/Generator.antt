@@ -3,7 +3,7 @@ use Rattle.std.specs.Prelude.{ℕ, zero, suc, ◌+◌, ◌*◌, ◌/◌, ◌%◌
 use Rattle.std.specs.Fmt.{digits}
 use Rattle.repo_top.specs.declared.generator.Measures.{Measures}
 use Rattle.repo_top.specs.declared.ending.Ending.TheVariants.{Done}
-use Rattle.repo_top.specs.Story.{Story}
+use Rattle.repo_top.specs.Story.{Story, plain_story}
 
 -- A state follows another by a linear congruential generator modulo 2 ^ 64.
 abbrev pub next_state : ℕ → ℕ
@@ -67,4 +67,4 @@ gen_text m =
     ++ texts (object_text m.members m.seed) m.objects ++ codes "settle 4\n" ++ codes "summary\n"
 
 abbrev pub gen_story : Measures → Story
-gen_story m = record { text = gen_text m; ending = Done }
+gen_story m = plain_story (gen_text m) Done

@@ -8,8 +8,8 @@ use Rattle.ndn_inspect.specs.Inspection.{Lines, inspected, printed}
 use Rattle.repo_top.specs.declared.ending.Ending.{Ending}
 use Rattle.repo_top.specs.declared.ending.Ending.TheVariants.{Done, Refused}
 use Rattle.repo_top.specs.declared.refusal.Refusal.TheVariants.{Syntax, Limit, BadPacket}
-use Rattle.repo_top.specs.Report.{refusal_number}
-use Rattle.repo_top.specs.Story.{Story, refused}
+use Rattle.repo_top.specs.Refusals.{refusal_number}
+use Rattle.repo_top.specs.Story.{Story, plain_story, refused}
 
 -- A space, a tab, a line feed or a carriage return.
 abbrev pub is_space : ℕ → Bool
@@ -25,21 +25,20 @@ sound_ending None = Done
 sound_ending (Some fault) = Refused 1 (refusal_number BadPacket)
 
 abbrev pub lines_story : Lines → Story
-lines_story lines =
-    record { text = printed lines.text lines.fault; ending = sound_ending lines.fault }
+lines_story lines = plain_story (printed lines.text lines.fault) (sound_ending lines.fault)
 
 -- The octets are inspected, where a packet may have so many.
 abbrev pub octets_story : List ℕ → Story
 octets_story octets =
-    if nat_lt 8800 (length octets) then refused 1 Limit else lines_story (inspected octets)
+    if nat_lt 8800 (length octets) then refused Limit else lines_story (inspected octets)
 
 abbrev pub decoded_story : Result (List ℕ) FromHexError → Story
 decoded_story (Ok octets) = octets_story octets
-decoded_story (Err e) = refused 1 Syntax
+decoded_story (Err e) = refused Syntax
 
 -- The story of an input that is inspected: pairs of hexadecimal digits, with spaces anywhere. An input of more than
 -- 16,777,216 octets is refused before anything else is asked of it.
 unfoldable pub inspect_story : List ℕ → Story
 inspect_story input =
-    if nat_lt 16777216 (length input) then refused 1 Limit
+    if nat_lt 16777216 (length input) then refused Limit
     else decoded_story (decode_of (without_spaces input))

@@ -1,142 +1,97 @@
--- What a script comes to: the text of its report, and its end.
-use Rattle.std.specs.Prelude.{ℕ, ◌+◌, Bool, true, false, not, ◌&&◌, ◌||◌, List, [], ◌∷◌, ◌++◌, length, slice_index_or, Option, Some, None, nat_lt, if◌then◌else◌}
-use Rattle.std.specs.Option.{option_map}
-use Rattle.std.specs.List.{list_any, position, flat_map}
-use Rattle.std.specs.Str.{bytes_eq}
-use Rattle.bench_world.specs.Publications.{Entry}
-use Rattle.bench_world.specs.PlainModel.{PlainModel, opening, with_member, published, settled, newly_held, catalogue, log_of}
+-- What a script comes to: the text of its report, its end, and the group behind its last line.
+use Rattle.std.specs.Prelude.{ℕ, ◌+◌, Bool, ◌&&◌, List, [], ◌∷◌, ◌++◌, length, Option, Some, None, nat_lt, nat_le, if◌then◌else◌}
+use Rattle.script_lang.specs.Limits.{script_lines, script_octets}
+use Rattle.script_report.specs.Limits.{report_octets}
+use Rattle.script_report.specs.Texts.{foreign_text}
+use Rattle.group_model.specs.World.{World}
+use Rattle.repo_member.specs.Groups.{GroupKeys}
 use Rattle.repo_top.specs.declared.ending.Ending.{Ending}
-use Rattle.repo_top.specs.declared.ending.Ending.TheVariants.{Done, Refused}
-use Rattle.repo_top.specs.declared.stage.Stage.{Stage}
-use Rattle.repo_top.specs.declared.stage.Stage.TheVariants.{Opening, Declaring, Acting}
+use Rattle.repo_top.specs.declared.ending.Ending.TheVariants.{Done, Refused, Foreign}
 use Rattle.repo_top.specs.declared.refusal.Refusal.{Refusal}
-use Rattle.repo_top.specs.declared.refusal.Refusal.TheVariants.{NotBuilt}
+use Rattle.repo_top.specs.declared.refusal.Refusal.TheVariants.{Limit, TooLarge}
+use Rattle.repo_top.specs.Refusals.{refusal_number, refusal_text}
 use Rattle.repo_top.specs.Lines.{lines}
-use Rattle.repo_top.specs.Grammar.{LineValue, group_line, member_line, publish_line, settle_line, catalogue_line, line_of}
-use Rattle.repo_top.specs.Report.{publish_text, settle_text, catalogue_text, entry_text, refusal_number, refused_text}
+use Rattle.repo_top.specs.Judging.{Given, State, Verdict, no_group, opening_state, judged, says, foreign}
+use Rattle.repo_top.specs.Judging as verdict
 
 -- ---- what the lines so far came to
 
--- A member that was declared: its label and its node name.
-pub record Declared : Type 0 where
-  pub label : List ℕ
-  pub node : List ℕ
-
--- How many lines were taken, how far the script is, the members in order, and the world.
-pub record SceneModel : Type 0 where
+-- How many lines and octets were taken, how many octets their reports have, and what they declared and did.
+pub record Reached : Type 0 where
   pub lines : ℕ
-  pub stage : Stage
-  pub members : List Declared
-  pub world : PlainModel
+  pub octets : ℕ
+  pub reported : ℕ
+  pub state : State
 
-abbrev pub opening_scene : SceneModel
-opening_scene = record { lines = 0; stage = Opening; members = []; world = opening }
+abbrev pub nothing_reached : Reached
+nothing_reached = record { lines = 0; octets = 0; reported = 0; state = opening_state }
 
-abbrev pub label_of : List Declared → ℕ → List ℕ
-label_of members m = (slice_index_or members m (record { label = []; node = [] })).label
+-- The same behind one more line, which had this report.
+abbrev pub after : Reached → List ℕ → List ℕ → State → Reached
+after r line report next = record {
+  lines = r.lines + 1;
+  octets = r.octets + length line;
+  reported = r.reported + length report;
+  state = next;
+}
 
--- ---- judging a line
+-- ---- the next line
 
--- What a line does, its label replaced by the member's number.
-pub data EventValue : Type 0 where
-  opens : EventValue
-  declares : (label node : List ℕ) → EventValue
-  publishes : (member : ℕ) (name content : List ℕ) → EventValue
-  settles : EventValue
-  lists : (member : ℕ) → EventValue
+-- A script has so many lines and octets at most. A line feed belongs to the line that it ends.
+abbrev pub is_within_script : Reached → List ℕ → Bool
+is_within_script r line = nat_lt r.lines script_lines && nat_le (r.octets + length line) script_octets
 
--- The group's line is the first.
-abbrev pub is_first : Stage → Bool
-is_first Opening = true
-is_first Declaring = false
-is_first Acting = false
+-- A report has so many octets at most, a `refused` or `foreign` line not among them.
+abbrev pub within_report : Reached → Verdict → Verdict
+within_report r (says report next) =
+    if nat_le (r.reported + length report) report_octets then says report next else verdict.refused TooLarge
+within_report r (verdict.refused why) = verdict.refused why
+within_report r foreign = foreign
 
--- Members are declared behind it, before anything else.
-abbrev pub is_declaring : Stage → Bool
-is_declaring Opening = false
-is_declaring Declaring = true
-is_declaring Acting = false
-
--- A member has this label or this node name already.
-abbrev pub is_taken : List Declared → List ℕ → List ℕ → Bool
-is_taken members label node = list_any (λ d. bytes_eq d.label label || bytes_eq d.node node) members
-
-abbrev pub member_of_label : List Declared → List ℕ → Option ℕ
-member_of_label members label = position (λ d. bytes_eq d.label label) members
-
-abbrev pub judged : SceneModel → Option LineValue → Option EventValue
-judged s None = None
-judged s (Some group_line) = if is_first s.stage then Some opens else None
-judged s (Some (member_line label node)) =
-    if is_declaring s.stage && nat_lt (length s.members) 16 && not (is_taken s.members label node)
-    then Some (declares label node) else None
-judged s (Some (publish_line label name content)) =
-    option_map (λ m. publishes m name content) (member_of_label s.members label)
-judged s (Some settle_line) = if is_first s.stage then None else Some settles
-judged s (Some (catalogue_line label)) = option_map lists (member_of_label s.members label)
-
--- What the next line does, or nothing where it is not built: it is too long, the thousand lines are over, or
--- it has no built form at this place.
-abbrev pub judge : SceneModel → Option (List ℕ) → Option EventValue
-judge s None = None
-judge s (Some octets) = if nat_lt s.lines 1000 then judged s (line_of octets) else None
-
--- ---- one step
-
-abbrev pub after : SceneModel → EventValue → SceneModel
-after s opens = record s { lines = s.lines + 1; stage = Declaring }
-after s (declares label node) =
-    record s {
-      lines = s.lines + 1;
-      stage = Declaring;
-      members = s.members ++ record { label = label; node = node } ∷ [];
-      world = with_member s.world;
-    }
-after s (publishes m name content) =
-    record s { lines = s.lines + 1; stage = Acting; world = published m name content s.world }
-after s settles = record s { lines = s.lines + 1; stage = Acting; world = settled s.world }
-after s (lists m) = record s { lines = s.lines + 1; stage = Acting }
-
-abbrev pub entry_line : List Declared → Entry → List ℕ
-entry_line members e = entry_text (label_of members e.publisher) e.seq e.name e.content
-
--- The report of one step.
-abbrev pub reply : SceneModel → EventValue → List ℕ
-reply s opens = []
-reply s (declares label node) = []
-reply s (publishes m name content) =
-    publish_text (label_of s.members m) (length (log_of m s.world) + 1)
-    (published m name content s.world).sent
-reply s settles = settle_text (length s.members) (newly_held s.world)
-reply s (lists m) =
-    catalogue_text (label_of s.members m) (length (catalogue m s.world))
-    ++ flat_map (entry_line s.members) (catalogue m s.world)
+-- What the next line comes to.
+abbrev pub judged_next : Given → Reached → List ℕ → Verdict
+judged_next given r line =
+    if is_within_script r line then within_report r (judged given r.state line) else verdict.refused Limit
 
 -- ---- the whole
 
--- The text of a report, and how the script ends.
+-- The text of a report, how the script ends, and behind the last line that was taken the names and keys of the group, and
+-- its world once there was an event.
 pub record Story : Type 0 where
   pub text : List ℕ
   pub ending : Ending
+  pub keys : GroupKeys
+  pub world : Option World
 
 -- A text, and then a story.
 abbrev pub behind : List ℕ → Story → Story
-behind text s = record { text = text ++ s.text; ending = s.ending }
+behind text s = record { text = text ++ s.text; ending = s.ending; keys = s.keys; world = s.world }
 
--- A line that is refused ends the story.
-abbrev pub refused : ℕ → Refusal → Story
-refused line refusal =
-    record { text = refused_text line refusal; ending = Refused line (refusal_number refusal) }
+-- A story that ends here, with this text.
+abbrev pub ended : State → List ℕ → Ending → Story
+ended s text ending = record { text = text; ending = ending; keys = s.keys; world = s.world }
 
-abbrev pub told : (SceneModel → Story) → SceneModel → Option EventValue → Story
-told others s None = refused (s.lines + 1) NotBuilt
-told others s (Some event) = behind (reply s event) (others (after s event))
+-- The story of a line and of those behind it. A line that is refused or foreign ends it.
+abbrev pub told : (Reached → Story) → Reached → List ℕ → Verdict → Story
+told others r line (says report next) = behind report (others (after r line report next))
+told others r line (verdict.refused why) =
+    ended r.state (refusal_text (r.lines + 1) why) (Refused (r.lines + 1) (refusal_number why))
+told others r line foreign = ended r.state (foreign_text (r.lines + 1)) (Foreign (r.lines + 1))
 
--- The story of lines that follow what happened so far.
-unfoldable pub story_from : SceneModel → List (Option (List ℕ)) → Story
-story_from s [] = record { text = []; ending = Done }
-story_from s (line ∷ lines) = told (λ next. story_from next lines) s (judge s line)
+-- The story of lines that follow those so far.
+unfoldable pub story_from : Given → Reached → List (List ℕ) → Story
+story_from given r [] = ended r.state [] Done
+story_from given r (line ∷ others) =
+    told (λ next. story_from given next others) r line (judged_next given r line)
 
--- The story of an input, of which 65,536 octets are taken at most.
-abbrev pub story_of : List ℕ → Story
-story_of input = story_from opening_scene (lines 65536 input)
+-- The story of an input.
+abbrev pub story_of : Given → List ℕ → Story
+story_of given input = story_from given nothing_reached (lines input)
+
+-- The story of what is no script: there is no group in it.
+abbrev pub plain_story : List ℕ → Ending → Story
+plain_story text ending = record { text = text; ending = ending; keys = no_group; world = None }
+
+-- The input as its first line is refused.
+abbrev pub refused : Refusal → Story
+refused why = plain_story (refusal_text 1 why) (Refused 1 (refusal_number why))

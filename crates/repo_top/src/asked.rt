@@ -1,18 +1,19 @@
-ghost use Rattle.std.specs.Prelude.{◌≡◌, ◌<◌, map, string_bytes, Some, IfSome};
+ghost use Rattle.std.specs.Prelude.{◌≡◌, ◌≢◌, ◌<◌, map, string_bytes, Some, IfSome};
 ghost use Rattle.repo_top.specs.declared.asked.Asked.TheVariants.{Gen};
 ghost use Rattle.repo_top.specs.declared.generator.Measures.{Measures};
-ghost use Rattle.repo_top.specs.Forms.{asked_of, gen_of, measures_of};
+ghost use Rattle.repo_top.specs.Forms.{asked_of, gen_of, measures_of, reading_of};
 ghost use Rattle.repo_top.specs.Words.{number_within};
 
-use crate::form::{Form, form_of};
 use crate::generator::Measures;
 use crate::words::number_within;
 
 // What the words of the command line ask for.
 #[derive(Clone, Copy, Debug, PartialEq, Eq)]
 pub(crate) enum Asked {
-    // What is made of the input.
-    Read(Form),
+    // The report of the script of the source.
+    Run,
+    // The lines of the elements whose digits the source gives.
+    Inspect,
     // A script of so many members and objects.
     Gen(Measures),
 }
@@ -22,9 +23,20 @@ pub(crate) fn asked_of(words: &[String]) -> Option<Asked>
     ensures value { result ≡ asked_of (map string_bytes words.now) }
     ensures some { (measures : Measures) → result ≡ Some (Gen measures) → 0 < measures.members }
 {
-    match form_of(words) {
-        Some(form) => Some(Asked::Read(form)),
+    match reading_of(words) {
+        Some(asked) => Some(asked),
         None => gen_of(words).map(Asked::Gen),
+    }
+}
+
+fn reading_of(words: &[String]) -> Option<Asked>
+    ensures value { result ≡ reading_of (map string_bytes words.now) }
+    ensures some { (measures : Measures) → result ≢ Some (Gen measures) }
+{
+    match words {
+        [word] if word.as_str() == "run" => Some(Asked::Run),
+        [word] if word.as_str() == "inspect" => Some(Asked::Inspect),
+        _ => None,
     }
 }
 

@@ -4,16 +4,31 @@ ghost use Rattle.repo_top.specs.Story.{refused};
 
 use crate::ending::Ending;
 use crate::refusal::Refusal;
-use crate::report::put_refused;
-use crate::told::Told;
 use hex::FromHexError;
+use script_report::put_refused;
 use std::alloc::{AllocError, Global};
+use std::marker::Model;
 
 // How many octets of the input are taken at most.
 pub(crate) const MOST_OCTETS: usize = 16_777_216;
 
 // How many octets a packet has at most.
 const MOST_OF_PACKET: usize = 8_800;
+
+// What comes of an input: the text, and the end.
+#[derive(Drop)]
+pub(crate) struct Told {
+    pub(crate) text: Vec<u8>,
+    pub(crate) ending: Ending,
+}
+
+impl Model for Told {
+    ghost use Rattle.repo_top.specs.Story.{Story, plain_story};
+
+    ghost Value = { Story };
+
+    ghost view = { λ t. plain_story t.text.items t.ending };
+}
 
 // Inspects the octets whose digits the input gives.
 #[tactic(auto, unfolding(crate::specs::Inspection::inspect_story))]
@@ -54,15 +69,15 @@ fn tell_octets(alloc: Global, octets: &[u8]) -> Result<Told, AllocError>
 
 // The input as its first line is refused.
 fn refuse(alloc: Global, refusal: Refusal) -> Result<Told, AllocError>
-    ensures { IfOk result (λ told. told ≡ refused 1 refusal) }
+    ensures { IfOk result (λ told. told ≡ refused refusal) }
 {
     let mut text = Vec::new(alloc);
-    put_refused(&mut text, 1, refusal)?;
-    let ending = Ending::Refused {
-        line: 1,
-        number: refusal.number(),
-    };
-    Ok(Told { text, ending })
+    let number = refusal.number();
+    put_refused(&mut text, 1, u64::from(number), refusal.word())?;
+    Ok(Told {
+        text,
+        ending: Ending::Refused { line: 1, number },
+    })
 }
 
 // What stands between spaces.

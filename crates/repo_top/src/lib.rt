@@ -1,30 +1,27 @@
-//! A run from a source to a sink: the script is read whole, its story is told over the plain world, and the report is
-//! written; or a script is generated.
+//! A run from a source to a sink: a script is carried out line by line over the world of its group, and its report is
+//! written; or octets are inspected; or a script is generated.
 #![tactic(auto)]
 
 mod asked;
-mod declared_member;
 mod ending;
-mod event;
 mod failed;
-mod form;
 mod generator;
 mod inspection;
 mod laws;
-mod line;
-mod lines;
-mod pieces;
+mod line_reader;
+mod progress;
 mod read_fault;
 mod read_source;
 mod reading;
 mod refusal;
-mod report;
-mod scene;
+mod running;
+mod said;
+mod script;
 mod sink;
 mod source;
-mod stage;
 mod status;
-mod told;
+mod stop;
+mod telling;
 mod top;
 mod vec_sink;
 mod vec_source;
@@ -33,10 +30,7 @@ mod write_sink;
 mod writing;
 
 pub use failed::Failed;
-pub use laws::{
-    first_story, later_octets_change_nothing, lines_are_the_input, pieces_are_the_octets,
-    small_inspections, small_scripts, small_stories,
-};
+pub use laws::{lines_are_the_input, small_inspections, small_scripts};
 pub use read_source::ReadSource;
 pub use sink::Sink;
 pub use source::Source;

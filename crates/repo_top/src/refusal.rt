@@ -1,17 +1,33 @@
 ghost use Rattle.std.specs.Prelude.{◌≡◌};
-ghost use Rattle.repo_top.specs.Report.{refusal_number, refusal_word};
+ghost use Rattle.repo_top.specs.Refusals.{refusal_number, refusal_word};
 
 // Why a line is refused.
 #[derive(Clone, Copy, Debug, PartialEq, Eq)]
 pub(crate) enum Refusal {
     // It is not in the grammar.
     Syntax,
+    // A label is not that of a member, or of a client where a client stands.
+    UnknownLabel,
+    // A second group, or a label or node name that is there already.
+    Duplicate,
     // It leaves a limit.
     Limit,
+    // No sync Interest of this number was sent.
+    NoSuchPacket,
+    // The fetcher claims a part already.
+    FetcherBusy,
+    // The fetcher claims no part.
+    FetcherIdle,
+    // The member has made as many publications as there are numbers.
+    NumbersSpent,
+    // It stands before the group's line.
+    NoGroup,
+    // A total would be passed.
+    TooLarge,
+    // A declaration behind an event.
+    Late,
     // The octets of an inspection are no elements.
     BadPacket,
-    // It has no built form.
-    NotBuilt,
 }
 
 impl Refusal {
@@ -20,9 +36,17 @@ impl Refusal {
     {
         match self {
             Refusal::Syntax => 1,
+            Refusal::UnknownLabel => 2,
+            Refusal::Duplicate => 3,
             Refusal::Limit => 4,
+            Refusal::NoSuchPacket => 5,
+            Refusal::FetcherBusy => 6,
+            Refusal::FetcherIdle => 7,
+            Refusal::NumbersSpent => 8,
+            Refusal::NoGroup => 9,
+            Refusal::TooLarge => 10,
+            Refusal::Late => 11,
             Refusal::BadPacket => 12,
-            Refusal::NotBuilt => 13,
         }
     }
 
@@ -31,9 +55,17 @@ impl Refusal {
     {
         match self {
             Refusal::Syntax => "Syntax",
+            Refusal::UnknownLabel => "UnknownLabel",
+            Refusal::Duplicate => "Duplicate",
             Refusal::Limit => "Limit",
+            Refusal::NoSuchPacket => "NoSuchPacket",
+            Refusal::FetcherBusy => "FetcherBusy",
+            Refusal::FetcherIdle => "FetcherIdle",
+            Refusal::NumbersSpent => "NumbersSpent",
+            Refusal::NoGroup => "NoGroup",
+            Refusal::TooLarge => "TooLarge",
+            Refusal::Late => "Late",
             Refusal::BadPacket => "BadPacket",
-            Refusal::NotBuilt => "NotBuilt",
         }
     }
 }

@@ -46,6 +46,7 @@ impl From<Ending> for Status {
         match ending {
             Ending::Done => Status::Done,
             Ending::Refused { line, number } => Status::Refused { line, number },
+            Ending::Foreign { line } => Status::Foreign { line },
         }
     }
 }

@@ -1,52 +1,75 @@
 ghost use Rattle.std.specs.Prelude.{◌≡◌, ◌≢◌, ◌↔◌, ◌⊎◌, ◌<◌, ℕ, [], None, Some, IfOk, IfSome, map, string_bytes};
+ghost use Rattle.std.specs.Option.{option_map};
+ghost use Rattle.bench_world.specs.Worlds.{world_of};
 ghost use Rattle.repo_top.specs.Answers.{IsTold, status_of};
-ghost use Rattle.repo_top.specs.Forms.{IsGenerated, IsRead, asked_of, asked_story, form_story, known_story};
+ghost use Rattle.repo_top.specs.Forms.{IsGenerated, IsInspected, IsRead, IsRun, asked_of, asked_story};
 ghost use Rattle.repo_top.specs.Generator.{gen_text};
+ghost use Rattle.repo_top.specs.Inspection.{inspect_story};
+ghost use Rattle.repo_top.specs.Judging.{given_by};
 ghost use Rattle.repo_top.specs.Outside.{Gains, GainsFront, HasRisen};
+ghost use Rattle.repo_top.specs.Taken.{IsStoppedAt, IsTakenNear, Lacks, lines_so_far, lines_taken, report_of, report_through, taken};
 
 use crate::asked::{Asked, asked_of};
-use crate::form::Form;
 use crate::generator::{Measures, Unwritten, write_script};
-use crate::inspection::tell_inspection;
+use crate::inspection::{MOST_OCTETS, tell_inspection};
 use crate::read_fault::ReadFault;
 use crate::reading::read_up_to;
+use crate::running::run_script;
 use crate::sink::Sink;
 use crate::source::Source;
 use crate::status::Status;
-use crate::told::{Told, tell};
 use crate::writing::write_whole;
 use bench_net::{Draws, Net};
-use std::alloc::{AllocError, Global};
+use bench_world::World;
+use std::alloc::Global;
 use std::thread::Threads;
 
-/// Does what the words ask for: `run` reads a script from the source whole, and then writes its report to the sink.
-/// `inspect` reads hexadecimal digits, and writes the lines of the elements that their octets are. `gen` with how many
-/// members and objects there are and a seed writes a script line by line.
+/// Does what the words ask for. `run` carries out the script of the source line by line: it holds at most 65,536 octets
+/// that it has read and not carried out, and writes the report of a line before it carries out the next. `inspect` reads
+/// hexadecimal digits to their end, and writes the lines of the elements that their octets are. `gen` with how many members
+/// and objects there are and a seed writes a script line by line.
 ///
-/// Of an input of more than 65,536 octets, or 16,777,216 for `inspect`, one octet more is read.
+/// `end` is left with the last world of a script that is done and has an event.
 pub fn run<R: Threads + Sync, S: Source, K: Sink, N: Net + Sync, D: Draws>(
-    _rt: &R,
+    rt: &R,
     alloc: Global,
     words: &[String],
     source: &mut S,
     sink: &mut K,
-    _net: &N,
-    _draws: &D,
+    net: &N,
+    draws: &D,
+    end: &mut Option<World>,
 ) -> Status
+    requires { end.old ≡ None }
+
     // The words alone decide on `Usage`. Then nothing is read or written.
     ensures usage { (result ≡ Status.Usage) ↔ (asked_of (map string_bytes words.now) ≡ None) }
     ensures untouched { result ≡ Status.Usage → (source.new ≡ source.old) × (sink.new ≡ sink.old) }
 
-    // On `Done` and `Refused` the status is the end of the story that the words ask for, and what was written is its
-    // text.
+    // On `Done`, `Refused` and `Foreign` the status is the end of the story that the words ask for, and what was written is
+    // its text.
     ensures end { IsTold result
-        → IfSome (asked_story (asked_of (map string_bytes words.now)) (S.left source.old))
+        → IfSome (asked_story (given_by (D.draw draws.now) (N.passes net.now))
+        (asked_of (map string_bytes words.now)) (S.left source.old))
         (λ story. result ≡ status_of story.ending) }
     ensures text { IsTold result
-        → IfSome (asked_story (asked_of (map string_bytes words.now)) (S.left source.old))
+        → IfSome (asked_story (given_by (D.draw draws.now) (N.passes net.now))
+        (asked_of (map string_bytes words.now)) (S.left source.old))
         (λ story. Gains (K.out sink.old) (K.out sink.new) story.text) }
     ensures read_to_end { result ≡ Status.Done → IsRead (asked_of (map string_bytes words.now))
         → IfSome (S.left source.old) (λ input. S.left source.new ≡ Some []) }
+
+    // On `Done` the world that is left is the story's, and there is none in any other case.
+    ensures world { result ≡ Status.Done
+        → IfSome (asked_story (given_by (D.draw draws.now) (N.passes net.now))
+        (asked_of (map string_bytes words.now)) (S.left source.old))
+        (λ story. option_map world_of end.new ≡ story.world) }
+    ensures keys { result ≡ Status.Done
+        → IfSome (asked_story (given_by (D.draw draws.now) (N.passes net.now))
+        (asked_of (map string_bytes words.now)) (S.left source.old))
+        (λ story. IfSome end.new (λ world. world.keys ≡ story.keys)) }
+    ensures no_world { (result ≢ Status.Done) ⊎ ¬ IsRun (asked_of (map string_bytes words.now))
+        → end.new ≡ None }
 
     // `gen` reads nothing, and answers Done unless the sink fails or memory runs out.
     ensures unread { IsGenerated (asked_of (map string_bytes words.now)) → source.new ≡ source.old }
@@ -56,19 +79,45 @@ pub fn run<R: Threads + Sync, S: Source, K: Sink, N: Net + Sync, D: Draws>(
     // The other answers have their causes; want of memory may come at any time.
     ensures read_fault { result ≡ Status.ReadFault
         → HasRisen (S.faults source.old) (S.faults source.new) }
-    ensures unwritten { result ≡ Status.ReadFault → sink.new ≡ sink.old }
     ensures write_fault { result ≡ Status.WriteFault
         → HasRisen (K.faults sink.old) (K.faults sink.new) }
-    ensures never_foreign { (line : ℕ) → result ≢ Status.Foreign line }
-    ensures front { IfSome (asked_story (asked_of (map string_bytes words.now)) (S.left source.old))
+    ensures foreign { (line : ℕ) → result ≡ Status.Foreign line
+        → IsRun (asked_of (map string_bytes words.now)) }
+    ensures front { IfSome (asked_story (given_by (D.draw draws.now) (N.passes net.now))
+        (asked_of (map string_bytes words.now)) (S.left source.old))
         (λ story. GainsFront (K.out sink.old) (K.out sink.new) story.text) }
+    ensures unwritten { IsInspected (asked_of (map string_bytes words.now))
+        → result ≡ Status.ReadFault → sink.new ≡ sink.old }
     ensures complete { ¬ HasRisen (S.faults source.old) (S.faults source.new)
         → ¬ HasRisen (K.faults sink.old) (K.faults sink.new)
-        → IfSome (asked_story (asked_of (map string_bytes words.now)) (S.left source.old))
+        → IfSome (asked_story (given_by (D.draw draws.now) (N.passes net.now))
+        (asked_of (map string_bytes words.now)) (S.left source.old))
         (λ story. (result ≡ status_of story.ending) ⊎ (result ≡ Status.NoMemory)) }
+
+    // A script is carried out line by line. Whatever comes, what was written is a front of what is reported of the lines
+    // that were taken whole, and after `ReadFault` it is all of that.
+    ensures front_of_taken { IsRun (asked_of (map string_bytes words.now)) → IfSome (S.left source.old)
+        (λ input. IfSome (S.left source.new) (λ rest. GainsFront (K.out sink.old) (K.out sink.new)
+        (report_of (given_by (D.draw draws.now) (N.passes net.now)) (lines_taken input rest)))) }
+    ensures exact_after_read_fault { IsRun (asked_of (map string_bytes words.now))
+        → result ≡ Status.ReadFault → IfSome (S.left source.old)
+        (λ input. IfSome (S.left source.new) (λ rest. Gains (K.out sink.old) (K.out sink.new)
+        (report_of (given_by (D.draw draws.now) (N.passes net.now)) (lines_so_far (taken input rest))))) }
+
+    // At most 65,536 octets are taken past the end of the line that is refused or foreign, and after `WriteFault` past the
+    // end of each line up to which the report has more octets than were written.
+    ensures bounded_after_refusal { IsRun (asked_of (map string_bytes words.now)) → (line : ℕ)
+        → IsStoppedAt result line → IfSome (S.left source.old) (λ input. IfSome (S.left source.new)
+        (λ rest. IsTakenNear line input rest)) }
+    ensures bounded_after_write_fault { IsRun (asked_of (map string_bytes words.now))
+        → result ≡ Status.WriteFault → IfSome (S.left source.old) (λ input. IfSome (S.left source.new)
+        (λ rest. (line : ℕ) → Lacks (K.out sink.old) (K.out sink.new)
+        (report_through (given_by (D.draw draws.now) (N.passes net.now)) line input)
+        → IsTakenNear line input rest)) }
 {
     match asked_of(words) {
-        Some(Asked::Read(form)) => run_form(form, alloc, source, sink),
+        Some(Asked::Run) => run_script(rt, alloc, source, sink, net, draws, end),
+        Some(Asked::Inspect) => inspect(alloc, source, sink),
         Some(Asked::Gen(measures)) => generate(measures, alloc, sink),
         None => Status::Usage,
     }
@@ -90,11 +139,11 @@ fn generate<K: Sink>(measures: Measures, alloc: Global, sink: &mut K) -> Status
     }
 }
 
-// Reads the input, and writes what the form makes of it.
-fn run_form<S: Source, K: Sink>(form: Form, alloc: Global, source: &mut S, sink: &mut K) -> Status
+// Reads the digits, and writes the lines of the elements that they are.
+fn inspect<S: Source, K: Sink>(alloc: Global, source: &mut S, sink: &mut K) -> Status
     ensures end { IsTold result
-        → IfSome (known_story form (S.left source.old)) (λ story. result ≡ status_of story.ending) }
-    ensures text { IsTold result → IfSome (known_story form (S.left source.old))
+        → IfSome (option_map inspect_story (S.left source.old)) (λ story. result ≡ status_of story.ending) }
+    ensures text { IsTold result → IfSome (option_map inspect_story (S.left source.old))
         (λ story. Gains (K.out sink.old) (K.out sink.new) story.text) }
     ensures read_to_end { result ≡ Status.Done
         → IfSome (S.left source.old) (λ input. S.left source.new ≡ Some []) }
@@ -105,48 +154,39 @@ fn run_form<S: Source, K: Sink>(form: Form, alloc: Global, source: &mut S, sink:
         → HasRisen (K.faults sink.old) (K.faults sink.new) }
     ensures never_foreign { (line : ℕ) → result ≢ Status.Foreign line }
     ensures never_usage { result ≢ Status.Usage }
-    ensures front { IfSome (known_story form (S.left source.old))
+    ensures front { IfSome (option_map inspect_story (S.left source.old))
         (λ story. GainsFront (K.out sink.old) (K.out sink.new) story.text) }
     ensures complete { ¬ HasRisen (S.faults source.old) (S.faults source.new)
         → ¬ HasRisen (K.faults sink.old) (K.faults sink.new)
-        → IfSome (known_story form (S.left source.old))
+        → IfSome (option_map inspect_story (S.left source.old))
         (λ story. (result ≡ status_of story.ending) ⊎ (result ≡ Status.NoMemory)) }
 {
     // One octet more than are taken, so that a longer input shows.
-    let input = match read_up_to(alloc, source, form.most_octets() + 1) {
+    let input = match read_up_to(alloc, source, MOST_OCTETS + 1) {
         Ok(input) => input,
         Err(ReadFault::Failed) => return Status::ReadFault,
         Err(ReadFault::NoMemory) => return Status::NoMemory,
     };
-    write_story(form, alloc, input, sink)
+    write_inspection(alloc, input, sink)
 }
 
-// Tells the story of the input, and writes its text.
+// Inspects the input, and writes the text of that.
 #[tactic(auto, using(crate::proofs::Outputs::front_taken))]
-fn write_story<K: Sink>(form: Form, alloc: Global, input: Vec<u8>, sink: &mut K) -> Status
-    ensures ends { (result ≡ status_of (form_story form input.items).ending)
+fn write_inspection<K: Sink>(alloc: Global, input: Vec<u8>, sink: &mut K) -> Status
+    ensures ends { (result ≡ status_of (inspect_story input.items).ending)
         ⊎ ((result ≡ Status.NoMemory) ⊎ (result ≡ Status.WriteFault)) }
     ensures text { IsTold result
-        → Gains (K.out sink.old) (K.out sink.new) (form_story form input.items).text }
+        → Gains (K.out sink.old) (K.out sink.new) (inspect_story input.items).text }
     ensures write_fault { result ≡ Status.WriteFault
         → HasRisen (K.faults sink.old) (K.faults sink.new) }
-    ensures front { GainsFront (K.out sink.old) (K.out sink.new) (form_story form input.items).text }
+    ensures never_foreign { (line : ℕ) → result ≢ Status.Foreign line }
+    ensures front { GainsFront (K.out sink.old) (K.out sink.new) (inspect_story input.items).text }
 {
-    let Ok(told) = tell_form(form, alloc, input) else {
+    let Ok(told) = tell_inspection(alloc, input) else {
         return Status::NoMemory;
     };
     match write_whole(sink, &told.text) {
         Ok(()) => Status::from(told.ending),
         Err(_) => Status::WriteFault,
-    }
-}
-
-// What the form makes of the input.
-fn tell_form(form: Form, alloc: Global, input: Vec<u8>) -> Result<Told, AllocError>
-    ensures { IfOk result (λ told. told ≡ form_story form input.items) }
-{
-    match form {
-        Form::Run => tell(alloc, &input),
-        Form::Inspect => tell_inspection(alloc, input),
     }
 }

@@ -5,8 +5,8 @@ use Rattle.repo_top.proofs.laws.small_scripts.Goals as goal
 
 pub returns-clause-two_members : goal.returns-clause-two_members
 unfolding digits deliver_text fetch_text gen_text member_text publish_text state texts
-returns-clause-two_members c = refl
+returns-clause-two_members c = λ given. refl
 
 pub returns-clause-ten_objects : goal.returns-clause-ten_objects
 unfolding digits deliver_text fetch_text gen_text member_text publish_text state texts
-returns-clause-ten_objects c = refl
+returns-clause-ten_objects c = λ given. refl

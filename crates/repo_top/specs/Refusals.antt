@@ -1,0 +1,37 @@
+-- The numbers and words of refusals.
+use Rattle.std.specs.Prelude.{ℕ, List, codes}
+use Rattle.script_report.specs.Texts.{refused_text}
+use Rattle.repo_top.specs.declared.refusal.Refusal.{Refusal}
+use Rattle.repo_top.specs.declared.refusal.Refusal.TheVariants.{Syntax, UnknownLabel, Duplicate, Limit, NoSuchPacket, FetcherBusy, FetcherIdle, NumbersSpent, NoGroup, TooLarge, Late, BadPacket}
+
+abbrev pub refusal_number : Refusal → ℕ
+refusal_number Syntax = 1
+refusal_number UnknownLabel = 2
+refusal_number Duplicate = 3
+refusal_number Limit = 4
+refusal_number NoSuchPacket = 5
+refusal_number FetcherBusy = 6
+refusal_number FetcherIdle = 7
+refusal_number NumbersSpent = 8
+refusal_number NoGroup = 9
+refusal_number TooLarge = 10
+refusal_number Late = 11
+refusal_number BadPacket = 12
+
+abbrev pub refusal_word : Refusal → List ℕ
+refusal_word Syntax = codes "Syntax"
+refusal_word UnknownLabel = codes "UnknownLabel"
+refusal_word Duplicate = codes "Duplicate"
+refusal_word Limit = codes "Limit"
+refusal_word NoSuchPacket = codes "NoSuchPacket"
+refusal_word FetcherBusy = codes "FetcherBusy"
+refusal_word FetcherIdle = codes "FetcherIdle"
+refusal_word NumbersSpent = codes "NumbersSpent"
+refusal_word NoGroup = codes "NoGroup"
+refusal_word TooLarge = codes "TooLarge"
+refusal_word Late = codes "Late"
+refusal_word BadPacket = codes "BadPacket"
+
+-- The line of a report that says that a script's line is refused.
+abbrev pub refusal_text : ℕ → Refusal → List ℕ
+refusal_text line why = refused_text line (refusal_number why) (refusal_word why)

@@ -1,0 +1,63 @@
+-- What was taken of an input when a run ended, and what was written by then.
+use Rattle.std.specs.Prelude.{◌≡◌, ◌<◌, ◌≤◌, ℕ, ◌+◌, ◌-◌, Bool, ◌||◌, List, [], ◌∷◌, length, take, Option, Some, None, nat_lt}
+use Rattle.std.specs.List.{concat, filter}
+use Rattle.script_lang.specs.Limits.{line_octets}
+use Rattle.repo_top.specs.declared.status.Status.{Status}
+use Rattle.repo_top.specs.declared.status.Status.TheVariants.{Done, Usage, Refused, ReadFault, WriteFault, NoMemory, Foreign}
+use Rattle.repo_top.specs.Judging.{Given}
+use Rattle.repo_top.specs.Lines.{has_feed, lines}
+use Rattle.repo_top.specs.Story.{nothing_reached, story_from}
+
+-- ---- lines
+
+-- The octets that were taken of an input of which these are left.
+abbrev pub taken : List ℕ → List ℕ → List ℕ
+taken input rest = take (length input - length rest) input
+
+-- A line that can be judged: its line feed is there, or it is too long, whatever follows.
+abbrev pub can_be_judged : List ℕ → Bool
+can_be_judged line = has_feed line || nat_lt line_octets (length line)
+
+-- The lines of the octets so far.
+abbrev pub lines_so_far : List ℕ → List (List ℕ)
+lines_so_far octets = filter can_be_judged (lines octets)
+
+-- The same of an input of which these octets are left: where none are, the last line needs no line feed.
+abbrev pub lines_taken : List ℕ → List ℕ → List (List ℕ)
+lines_taken input [] = lines input
+lines_taken input (octet ∷ rest) = lines_so_far (taken input (octet ∷ rest))
+
+-- ---- texts
+
+-- What is reported of the first lines of a script.
+abbrev pub report_of : Given → List (List ℕ) → List ℕ
+report_of given front = (story_from given nothing_reached front).text
+
+abbrev pub report_through : Given → ℕ → List ℕ → List ℕ
+report_through given line input = report_of given (take line (lines input))
+
+-- An output lacks octets of a text that it was to gain.
+abbrev pub Lacks : Option (List ℕ) → Option (List ℕ) → List ℕ → Type 0
+Lacks (Some old) (Some new) text = length new < length old + length text
+Lacks (Some old) None text = ⊥
+Lacks None new text = ⊥
+
+-- ---- bounds
+
+-- Where the line of this number ends, as a number of octets.
+abbrev pub end_of_line : ℕ → List ℕ → ℕ
+end_of_line line input = length (concat (take line (lines input)))
+
+-- At most 65,536 octets past the end of the line were taken.
+abbrev pub IsTakenNear : ℕ → List ℕ → List ℕ → Type 0
+IsTakenNear line input rest = length input ≤ length rest + (end_of_line line input + 65536)
+
+-- The line is refused or foreign.
+abbrev pub IsStoppedAt : Status → ℕ → Type 0
+IsStoppedAt Done line = ⊥
+IsStoppedAt Usage line = ⊥
+IsStoppedAt (Refused at number) line = at ≡ line
+IsStoppedAt ReadFault line = ⊥
+IsStoppedAt WriteFault line = ⊥
+IsStoppedAt NoMemory line = ⊥
+IsStoppedAt (Foreign at) line = at ≡ line

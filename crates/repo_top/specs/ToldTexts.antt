@@ -1,0 +1,66 @@
+-- The line of a report for what is told of an event, under the labels of the members.
+use Rattle.std.specs.Prelude.{ℕ, List, [], map, slice_index_or, codes}
+use Rattle.repo_catalog.specs.declared.entry.Entry.{Entry}
+use Rattle.script_report.specs.Texts.{publish_text, deliver_steady_text, deliver_suppressed_text, sync_text, advance_text, fire_early_text, fire_quiet_text, fire_sent_text, restart_text, part_text, claim_none_text, answer_kept_text, answer_none_text, fetch_text, settle_text, feed_kept_text, feed_refused_text, dump_hex_text, dump_none_text, hear_steady_text, hear_suppressed_text, hear_refused_text, ask_found_text, ask_none_text, ask_refused_text, command_text, block_300_text, block_404_text, block_200_text, block_published_text, vector_text, catalogue_text, summary_text, traffic_text}
+use Rattle.bench_world.specs.EventValues.{Told}
+use Rattle.repo_top.specs.RefusalTexts.{hear_refusal_text, part_refusal_text, packet_fault_text}
+
+-- The label of a member.
+abbrev pub label_at : List (List ℕ) → ℕ → List ℕ
+label_at labels m = slice_index_or labels m []
+
+-- The label of an entry's publisher.
+abbrev pub publisher_label : List (List ℕ) → Entry → List ℕ
+publisher_label labels e = label_at labels e.publisher
+
+abbrev pub told_text : List (List ℕ) → Told → List ℕ
+told_text labels (Told.Publish m seq segments sync) = publish_text (label_at labels m) seq segments sync
+told_text labels (Told.DeliverSteady k m) = deliver_steady_text k (label_at labels m)
+told_text labels (Told.DeliverSuppressed k m) = deliver_suppressed_text k (label_at labels m)
+told_text labels (Told.Sync k octets) = sync_text k octets
+told_text labels (Told.Advance now) = advance_text now
+told_text labels (Told.FireEarly m) = fire_early_text (label_at labels m)
+told_text labels (Told.FireQuiet m) = fire_quiet_text (label_at labels m)
+told_text labels (Told.FireSent m k) = fire_sent_text (label_at labels m) k
+told_text labels (Told.Restart m) = restart_text (label_at labels m)
+told_text labels (Told.Vector m members numbers) =
+    vector_text (label_at labels m) (map (label_at labels) members) numbers
+told_text labels (Told.Catalogue m count entries) =
+    catalogue_text (label_at labels m) count (map (publisher_label labels) entries) entries
+told_text labels (Told.ClaimPart m f publisher seq x) =
+    part_text (codes "claim") (label_at labels m) f (label_at labels publisher) seq x
+told_text labels (Told.ClaimNone m f) = claim_none_text (label_at labels m) f
+told_text labels (Told.Lose m f publisher seq x) =
+    part_text (codes "lose") (label_at labels m) f (label_at labels publisher) seq x
+told_text labels (Told.AnswerKept m f) = answer_kept_text (label_at labels m) f
+told_text labels (Told.AnswerNone m f) = answer_none_text (label_at labels m) f
+told_text labels (Told.Fetch m planned kept attempts) = fetch_text (label_at labels m) planned kept attempts
+told_text labels (Told.Settle syncs kept) = settle_text syncs kept
+told_text labels (Told.DumpHex m octets) = dump_hex_text (label_at labels m) octets
+told_text labels (Told.DumpNone m) = dump_none_text (label_at labels m)
+told_text labels (Told.HearSteady m) = hear_steady_text (label_at labels m)
+told_text labels (Told.HearSuppressed m) = hear_suppressed_text (label_at labels m)
+told_text labels (Told.HearRefused m refusal) =
+    hear_refused_text (label_at labels m) (hear_refusal_text labels refusal)
+told_text labels (Told.AskFound m octets) = ask_found_text (label_at labels m) octets
+told_text labels (Told.AskNone m) = ask_none_text (label_at labels m)
+told_text labels (Told.AskRefused m refusal) = ask_refused_text (label_at labels m) (packet_fault_text refusal)
+told_text labels (Told.FeedKept m f) = feed_kept_text (label_at labels m) f
+told_text labels (Told.FeedRefused m f refusal) =
+    feed_refused_text (label_at labels m) f (part_refusal_text refusal)
+told_text labels (Told.Order m code process inserted deleted) =
+    command_text (codes "order") (label_at labels m) code process inserted deleted
+told_text labels (Told.Insert m code process inserted deleted) =
+    command_text (codes "insert") (label_at labels m) code process inserted deleted
+told_text labels (Told.Status m code process inserted deleted) =
+    command_text (codes "status") (label_at labels m) code process inserted deleted
+told_text labels (Told.Delete m code process inserted deleted) =
+    command_text (codes "delete") (label_at labels m) code process inserted deleted
+told_text labels (Told.Block300 m) = block_300_text (label_at labels m)
+told_text labels (Told.Block404 m) = block_404_text (label_at labels m)
+told_text labels (Told.Block200 m) = block_200_text (label_at labels m)
+told_text labels (Told.BlockPublished m seq sync) = block_published_text (label_at labels m) seq sync
+told_text labels (Told.Summary members entries segments octets) =
+    summary_text (map (label_at labels) members) entries segments octets
+told_text labels (Told.Traffic syncs delivered attempts parts octets) =
+    traffic_text syncs delivered attempts parts octets
