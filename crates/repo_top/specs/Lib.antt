@@ -17,4 +17,5 @@ pub mod RefusalTexts
 pub mod ToldTexts
 pub mod SaidEvents
 pub mod Judging
+pub mod Stopping
 pub mod Progressing
