@@ -72,7 +72,7 @@ stepped out keys d w e None = says (told_text (map label_of d.members) (telling 
     (record { declared = d; keys = keys; world = Some (after_event out w (group_event keys e)) })
 
 -- The event is carried out where the lines declare so much.
-abbrev pub acted : Given → State → Declared → EventValue → Verdict
+unfoldable pub acted : Given → State → Declared → EventValue → Verdict
 acted given s d e = stepped (outside_of given s.keys) s.keys d (found_world given s) e
     (group.refusal (outside_of given s.keys) (found_world given s) (group_event s.keys e))
 
@@ -93,7 +93,7 @@ with_client s d (Text label ∷ Named node ∷ Octets key ∷ []) =
     says [] (record { declared = d; keys = record s.keys { clients = with_node node key s.keys.clients }; world = s.world })
 with_client s d _ = refused refusal.Syntax
 
-abbrev pub acted_if : Given → State → Declared → Option EventValue → Verdict
+unfoldable pub acted_if : Given → State → Declared → Option EventValue → Verdict
 acted_if given s d (Some e) = acted given s d e
 acted_if given s d None = refused refusal.Syntax
 
@@ -117,9 +117,13 @@ abbrev pub checked : Given → State → Stated → Result Declared CheckFault �
 checked given s line (Ok d) = taken_by line.verb given s d line
 checked given s line (Err fault) = check_refused fault
 
+-- What a line comes to that octets are.
+unfoldable pub judged_line : Given → State → Stated → Verdict
+judged_line given s line = checked given s line (after_line s.declared line)
+
 -- What octets are that no line is: the order of the tests is that of reading, then of what was declared, then of the group.
 abbrev pub read : Given → State → Result (Option Stated) LineFault → Verdict
-read given s (Ok (Some line)) = checked given s line (after_line s.declared line)
+read given s (Ok (Some line)) = judged_line given s line
 read given s (Ok None) = says [] s
 read given s (Err line_fault.Syntax) = refused refusal.Syntax
 read given s (Err line_fault.Limit) = refused refusal.Limit

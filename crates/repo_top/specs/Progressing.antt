@@ -1,6 +1,7 @@
 -- What the lines so far came to, as the run keeps it.
-use Rattle.std.specs.Prelude.{ℕ, ◌≡◌, zero, map, length, string_bytes, Option, Some, None}
-use Rattle.script_lang.specs.Checking.{Party, label_of}
+use Rattle.std.specs.Prelude.{ℕ, ◌≡◌, zero, Bool, true, false, List, map, string_bytes, Option, Some, None}
+use Rattle.ndn_name.specs.Names.{Component}
+use Rattle.script_lang.specs.Checking.{Declared, Party, label_of}
 use Rattle.group_model.specs.World.{World}
 use Rattle.repo_member.specs.Groups.{GroupKeys}
 use Rattle.bench_world.specs.Worlds.{world_of}
@@ -29,15 +30,34 @@ steps_in (Acting world) = world.steps
 abbrev pub state : Progress → State
 state p = record { declared = p.words; keys = keys_in p.stage; world = world_in p.stage }
 
+abbrev pub has_group : Stage → Bool
+has_group Opening = false
+has_group (Declaring group) = true
+has_group (Acting world) = true
+
+abbrev pub has_world : Stage → Bool
+has_world Opening = false
+has_world (Declaring group) = false
+has_world (Acting world) = true
+
+abbrev pub node_of : Party → List Component
+node_of p = p.node
+
 -- How many events were carried out.
 abbrev pub steps : Progress → ℕ
 steps p = steps_in p.stage
 
--- The labels and the group are those that the words declare.
+-- The labels and the group's names are those that lines declare.
+pub record AreNamed (labels : List (List ℕ)) (keys : GroupKeys) (d : Declared) : Type 0 where
+  pub labels : labels ≡ map label_of d.members
+  pub members : map node_of d.members ≡ keys.members.names
+  pub clients : map node_of d.clients ≡ keys.clients.names
+
+-- What is kept is what the words declare: the group stands from its line on, the world from the first event on.
 pub record IsProgress (p : Progress) : Type 0 where
-  pub labels : map string_bytes p.labels.items ≡ map label_of p.words.members
-  pub members : map (λ (q : Party). q.node) p.words.members ≡ (keys_in p.stage).members.names
-  pub clients : map (λ (q : Party). q.node) p.words.clients ≡ (keys_in p.stage).clients.names
+  pub named : AreNamed (map string_bytes p.labels.items) (keys_in p.stage) p.words
+  pub group : p.words.group ≡ has_group p.stage
+  pub events : p.words.events ≡ has_world p.stage
 
 -- Memory was wanting, or the line stops the run so.
 abbrev pub IsStop : Verdict → Stop → Type 0
