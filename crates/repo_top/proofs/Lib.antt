@@ -8,3 +8,5 @@ pub mod Inspections
 pub mod Runs
 pub mod Scripts
 pub mod CutLaws
+pub mod ReadNames
+pub mod Fitting
