@@ -10,3 +10,4 @@ pub mod Scripts
 pub mod CutLaws
 pub mod ReadNames
 pub mod Fitting
+pub mod Judgings

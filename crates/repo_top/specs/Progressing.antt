@@ -1,16 +1,22 @@
 -- What the lines so far came to, as the run keeps it.
-use Rattle.std.specs.Prelude.{ℕ, ◌≡◌, zero, Bool, true, false, List, map, string_bytes, Option, Some, None}
+use Rattle.std.specs.Prelude.{ℕ, ◌≡◌, zero, Bool, true, false, List, map, length, string_bytes, Option, Some, None, Ok}
 use Rattle.ndn_name.specs.Names.{Component}
+use Rattle.script_lang.specs.Forms.{Stated}
+use Rattle.script_lang.specs.Lines.{line_of}
 use Rattle.script_lang.specs.Checking.{Declared, Party, label_of}
 use Rattle.group_model.specs.World.{World}
+use Rattle.group_model.specs.Refusals as group
 use Rattle.repo_member.specs.Groups.{GroupKeys}
 use Rattle.bench_world.specs.Worlds.{world_of}
+use Rattle.bench_world.specs.EventValues.{EventValue}
+use Rattle.bench_world.specs.Steps.{IsReady, NamesClient}
 use Rattle.repo_top.specs.declared.progress.Progress.{Progress}
 use Rattle.repo_top.specs.declared.progress.Stage.{Stage}
 use Rattle.repo_top.specs.declared.progress.Stage.TheVariants.{Opening, Declaring, Acting}
 use Rattle.repo_top.specs.declared.stop.Stop.{Stop}
 use Rattle.repo_top.specs.declared.stop.Stop.TheVariants as stop
-use Rattle.repo_top.specs.Judging.{State, Verdict, no_group, refused, foreign}
+use Rattle.repo_top.specs.SaidEvents.{said_event}
+use Rattle.repo_top.specs.Judging.{State, Verdict, no_group, refused, foreign, event_refused}
 
 abbrev pub keys_in : Stage → GroupKeys
 keys_in Opening = no_group
@@ -59,8 +65,26 @@ pub record IsProgress (p : Progress) : Type 0 where
   pub group : p.words.group ≡ has_group p.stage
   pub events : p.words.events ≡ has_world p.stage
 
+-- ---- lines
+
+-- Some octets are this line.
+pub record IsLine (line : Stated) : Type 0 where
+  pub octets : List ℕ
+  pub read : line_of octets ≡ Ok (Some line)
+
+-- An event that a line states can be carried out where so much is declared.
+pub record StatesFit (d : Declared) (line : Stated) : Type 0 where
+  pub fits : (e : EventValue) → said_event d line ≡ Some e
+      → IsReady (length d.members) e × NamesClient (length d.clients) e
+
 -- Memory was wanting, or the line stops the run so.
 abbrev pub IsStop : Verdict → Stop → Type 0
 IsStop verdict stop.NoMemory = Unit {0}
 IsStop verdict (stop.Refused refusal) = verdict ≡ refused refusal
 IsStop verdict stop.Foreign = verdict ≡ foreign
+
+-- Memory was wanting, or the event is refused so.
+abbrev pub IsStopOf : Option group.Refusal → Stop → Type 0
+IsStopOf refusal stop.NoMemory = Unit {0}
+IsStopOf None stop = ⊥
+IsStopOf (Some why) stop = IsStop (event_refused why) stop

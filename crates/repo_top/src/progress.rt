@@ -1,8 +1,17 @@
-ghost use Rattle.std.specs.Prelude.{◌≡◌, ◌+◌, ◌<◌, ◌≤◌, [], IfErr, IfSome, OnOk};
+ghost use Rattle.std.specs.Prelude.{◌≡◌, ◌+◌, ◌<◌, ◌≤◌, ◌++◌, [], ◌∷◌, length, map, string_bytes, unwrap_or, true, false, None, IfOk, IfErr, IfSome, OnOk};
 ghost use Rattle.std.specs.Option.{option_map};
-ghost use Rattle.bench_world.specs.Worlds.{world_of};
-ghost use Rattle.repo_top.specs.Judging.{given_by, judged, opening_state, says};
-ghost use Rattle.repo_top.specs.Progressing.{IsProgress, IsStop, state, steps, world_in};
+ghost use Rattle.script_lang.specs.Forms.{stated};
+ghost use Rattle.group_model.specs.World.{opening_world};
+ghost use Rattle.group_model.specs.Steps.{after_event};
+ghost use Rattle.group_model.specs.Refusals.{refusal};
+ghost use Rattle.repo_member.specs.Groups.{IsKey, IsPlainNodeName, is_name_taken, node_limit};
+ghost use Rattle.bench_world.specs.EventValues.{event_value, group_event, telling};
+ghost use Rattle.bench_world.specs.Serving.{outside};
+ghost use Rattle.bench_world.specs.Steps.{IsReady, NamesClient};
+ghost use Rattle.bench_world.specs.Worlds.{drawing, world_of};
+ghost use Rattle.repo_top.specs.ToldTexts.{told_text};
+ghost use Rattle.repo_top.specs.Judging.{acted, acted_by, given_by, group_named, judged, judged_line, opening_state, says, with_client_too, with_member_too};
+ghost use Rattle.repo_top.specs.Progressing.{AreNamed, IsLine, IsProgress, IsStop, IsStopOf, StatesFit, has_group, has_world, keys_in, state, steps, steps_in, world_in};
 
 use crate::refusal::Refusal;
 use crate::said::said;
@@ -82,28 +91,89 @@ impl Progress {
         report: &mut Vec<u8>,
         net: &N,
         draws: &D,
-    ) -> Result<(), Stop> {
+    ) -> Result<(), Stop>
+        requires line { IsLine (stated line) }
+        requires is { IsProgress self.old }
+        requires few { steps self.old < 100000 }
+        requires empty { report.old.items ≡ [] }
+        ensures taken { OnOk result (judged_line (given_by (D.draw draws.now) (N.passes net.now)) (state self.old) (stated line.entry) ≡ says report.new.items (state self.new)) }
+        ensures stopped { IfErr result (IsStop (judged_line (given_by (D.draw draws.now) (N.passes net.now)) (state self.old) (stated line.entry))) }
+        ensures is { OnOk result (IsProgress self.new) }
+        ensures steps { OnOk result (steps self.new ≤ steps self.old + 1) }
+    {
         self.words.check(&line)?;
         match line {
             Line::Group { name } => self.declare_group(&name),
             Line::Member { label, name, key } => self.declare_member(label, &name, &key),
-            Line::Client { name, key, .. } => self.declare_client(&name, &key),
+            Line::Client {
+                label: _label,
+                name,
+                key,
+            } => self.declare_client(&name, &key),
             line => self.act(rt, line, report, net, draws),
         }
     }
 
-    fn declare_group(&mut self, name: &Name) -> Result<(), Stop> {
+    fn declare_group(&mut self, name: &Name) -> Result<(), Stop>
+        requires name { IsPlainNodeName name.now }
+        requires group { self.old.words.group ≡ true }
+        requires early { self.old.words.events ≡ false }
+        requires named { AreNamed (map string_bytes self.old.labels.items) (group_named name.now) self.old.words }
+        ensures state { OnOk result (state self.new
+            ≡ record { declared = self.old.words; keys = group_named name.now; world = None }) }
+        ensures is { OnOk result (IsProgress self.new) }
+        ensures steps { OnOk result (steps self.new ≡ 0) }
+        ensures err { IfErr result (λ stop. stop ≡ Stop.NoMemory) }
+    {
         self.stage = Stage::Declaring(Group::new(self.alloc, name)?);
         Ok(())
     }
 
-    fn declare_member(&mut self, label: String, node: &Name, key: &[u8]) -> Result<(), Stop> {
+    fn declare_member(&mut self, label: String, node: &Name, key: &[u8]) -> Result<(), Stop>
+        requires node { IsPlainNodeName node.now }
+        requires key { IsKey key.now }
+        requires group { self.old.words.group ≡ true }
+        requires early { self.old.words.events ≡ false }
+        requires there { has_group self.old.stage ≡ true }
+        requires unchanged { has_world self.old.stage ≡ false }
+        requires apart { is_name_taken (keys_in self.old.stage) node.now ≡ false }
+        requires few { length (keys_in self.old.stage).members.names < node_limit }
+        requires named { AreNamed (map string_bytes self.old.labels.items ++ string_bytes label ∷ [])
+            (with_member_too node.now key.now (keys_in self.old.stage)) self.old.words }
+        ensures state { OnOk result (state self.new ≡ record {
+            declared = self.old.words;
+            keys = with_member_too node.now key.now (keys_in self.old.stage);
+            world = None;
+        }) }
+        ensures is { OnOk result (IsProgress self.new) }
+        ensures steps { OnOk result (steps self.new ≡ 0) }
+        ensures err { IfErr result (λ stop. stop ≡ Stop.NoMemory) }
+    {
         self.stage.add_member(node, key)?;
         self.labels.push(label)?;
         Ok(())
     }
 
-    fn declare_client(&mut self, node: &Name, key: &[u8]) -> Result<(), Stop> {
+    fn declare_client(&mut self, node: &Name, key: &[u8]) -> Result<(), Stop>
+        requires node { IsPlainNodeName node.now }
+        requires key { IsKey key.now }
+        requires group { self.old.words.group ≡ true }
+        requires early { self.old.words.events ≡ false }
+        requires there { has_group self.old.stage ≡ true }
+        requires unchanged { has_world self.old.stage ≡ false }
+        requires apart { is_name_taken (keys_in self.old.stage) node.now ≡ false }
+        requires few { length (keys_in self.old.stage).clients.names < node_limit }
+        requires named { AreNamed (map string_bytes self.old.labels.items)
+            (with_client_too node.now key.now (keys_in self.old.stage)) self.old.words }
+        ensures state { OnOk result (state self.new ≡ record {
+            declared = self.old.words;
+            keys = with_client_too node.now key.now (keys_in self.old.stage);
+            world = None;
+        }) }
+        ensures is { OnOk result (IsProgress self.new) }
+        ensures steps { OnOk result (steps self.new ≡ 0) }
+        ensures err { IfErr result (λ stop. stop ≡ Stop.NoMemory) }
+    {
         self.stage.add_client(node, key)
     }
 
@@ -115,13 +185,50 @@ impl Progress {
         report: &mut Vec<u8>,
         net: &N,
         draws: &D,
-    ) -> Result<(), Stop> {
+    ) -> Result<(), Stop>
+        requires fit { StatesFit self.old.words (stated line) }
+        requires named { AreNamed (map string_bytes self.old.labels.items) (keys_in self.old.stage) self.old.words }
+        requires group { self.old.words.group ≡ true }
+        requires events { self.old.words.events ≡ true }
+        requires there { has_group self.old.stage ≡ true }
+        requires few { steps self.old < 100000 }
+        requires empty { report.old.items ≡ [] }
+        ensures taken { OnOk result (acted_by (given_by (D.draw draws.now) (N.passes net.now)) (state self.old) self.old.words (stated line.entry) ≡ says report.new.items (state self.new)) }
+        ensures stopped { IfErr result (IsStop (acted_by (given_by (D.draw draws.now) (N.passes net.now)) (state self.old) self.old.words (stated line.entry))) }
+        ensures is { OnOk result (IsProgress self.new) }
+        ensures steps { OnOk result (steps self.new ≤ steps self.old + 1) }
+    {
         let Some(event) = said(&self.words, line) else {
             return Err(Stop::Refused(Refusal::Syntax));
         };
+        self.carry_out(rt, &event, report, net, draws)
+    }
+
+    // Carries out an event in the world that it finds, which the first one makes.
+    fn carry_out<N: Net + Sync, D: Draws, R: Threads + Sync>(
+        &mut self,
+        rt: &R,
+        event: &Event,
+        report: &mut Vec<u8>,
+        net: &N,
+        draws: &D,
+    ) -> Result<(), Stop>
+        requires ready { IsReady (length self.old.words.members) (event_value event.now) }
+        requires clients { NamesClient (length self.old.words.clients) (event_value event.now) }
+        requires named { AreNamed (map string_bytes self.old.labels.items) (keys_in self.old.stage) self.old.words }
+        requires group { self.old.words.group ≡ true }
+        requires events { self.old.words.events ≡ true }
+        requires there { has_group self.old.stage ≡ true }
+        requires few { steps self.old < 100000 }
+        requires empty { report.old.items ≡ [] }
+        ensures taken { OnOk result (acted (given_by (D.draw draws.now) (N.passes net.now)) (state self.old) self.old.words (event_value event.now) ≡ says report.new.items (state self.new)) }
+        ensures stopped { IfErr result (IsStop (acted (given_by (D.draw draws.now) (N.passes net.now)) (state self.old) self.old.words (event_value event.now))) }
+        ensures is { OnOk result (IsProgress self.new) }
+        ensures steps { OnOk result (steps self.new ≤ steps self.old + 1) }
+    {
         let stage = mem::replace(&mut self.stage, Stage::Opening);
         let mut world = stage.begin(self.alloc, draws)?;
-        carry_out(rt, &mut world, &event, &self.labels, report, net, draws)?;
+        step(rt, &mut world, event, &self.labels, report, net, draws)?;
         self.stage = Stage::Acting(world);
         Ok(())
     }
@@ -139,7 +246,20 @@ impl Progress {
 }
 
 impl Stage {
-    fn add_member(&mut self, node: &Name, key: &[u8]) -> Result<(), Stop> {
+    fn add_member(&mut self, node: &Name, key: &[u8]) -> Result<(), Stop>
+        requires node { IsPlainNodeName node.now }
+        requires key { IsKey key.now }
+        requires there { has_group self.old ≡ true }
+        requires unchanged { has_world self.old ≡ false }
+        requires apart { is_name_taken (keys_in self.old) node.now ≡ false }
+        requires few { length (keys_in self.old).members.names < node_limit }
+        ensures keys { OnOk result (keys_in self.new ≡ with_member_too node.now key.now (keys_in self.old)) }
+        ensures there { OnOk result (has_group self.new ≡ true) }
+        ensures world { OnOk result (world_in self.new ≡ None) }
+        ensures unchanged { OnOk result (has_world self.new ≡ false) }
+        ensures steps { OnOk result (steps_in self.new ≡ 0) }
+        ensures err { IfErr result (λ stop. stop ≡ Stop.NoMemory) }
+    {
         match self {
             Stage::Opening => Err(Stop::Refused(Refusal::NoGroup)),
             Stage::Declaring(group) => {
@@ -150,7 +270,20 @@ impl Stage {
         }
     }
 
-    fn add_client(&mut self, node: &Name, key: &[u8]) -> Result<(), Stop> {
+    fn add_client(&mut self, node: &Name, key: &[u8]) -> Result<(), Stop>
+        requires node { IsPlainNodeName node.now }
+        requires key { IsKey key.now }
+        requires there { has_group self.old ≡ true }
+        requires unchanged { has_world self.old ≡ false }
+        requires apart { is_name_taken (keys_in self.old) node.now ≡ false }
+        requires few { length (keys_in self.old).clients.names < node_limit }
+        ensures keys { OnOk result (keys_in self.new ≡ with_client_too node.now key.now (keys_in self.old)) }
+        ensures there { OnOk result (has_group self.new ≡ true) }
+        ensures world { OnOk result (world_in self.new ≡ None) }
+        ensures unchanged { OnOk result (has_world self.new ≡ false) }
+        ensures steps { OnOk result (steps_in self.new ≡ 0) }
+        ensures err { IfErr result (λ stop. stop ≡ Stop.NoMemory) }
+    {
         match self {
             Stage::Opening => Err(Stop::Refused(Refusal::NoGroup)),
             Stage::Declaring(group) => {
@@ -162,7 +295,14 @@ impl Stage {
     }
 
     // The world that an event finds: its members have nothing before the first.
-    fn begin<D: Draws>(self, alloc: Global, draws: &D) -> Result<World, Stop> {
+    fn begin<D: Draws>(self, alloc: Global, draws: &D) -> Result<World, Stop>
+        requires there { has_group self ≡ true }
+        ensures world { IfOk result (λ world. world_of world ≡ unwrap_or (world_in self.entry)
+            (opening_world (drawing (D.draw draws.now)) (length (keys_in self.entry).members.names))) }
+        ensures keys { IfOk result (λ world. world.keys ≡ keys_in self.entry) }
+        ensures steps { IfOk result (λ world. world.steps ≡ steps_in self.entry) }
+        ensures err { IfErr result (λ stop. stop ≡ Stop.NoMemory) }
+    {
         match self {
             Stage::Opening => Err(Stop::Refused(Refusal::NoGroup)),
             Stage::Declaring(group) => Ok(World::new(alloc, group, draws)?),
@@ -172,7 +312,7 @@ impl Stage {
 }
 
 // Carries out an event, and writes what came of it.
-fn carry_out<N: Net + Sync, D: Draws, R: Threads + Sync>(
+fn step<N: Net + Sync, D: Draws, R: Threads + Sync>(
     rt: &R,
     world: &mut World,
     event: &Event,
@@ -180,7 +320,25 @@ fn carry_out<N: Net + Sync, D: Draws, R: Threads + Sync>(
     report: &mut Vec<u8>,
     net: &N,
     draws: &D,
-) -> Result<(), Stop> {
+) -> Result<(), Stop>
+    requires ready { IsReady (length world.old.keys.members.names) (event_value event.now) }
+    requires clients { NamesClient (length world.old.keys.clients.names) (event_value event.now) }
+    requires few { world.old.steps < 100000 }
+    requires labels { length labels.now ≡ length world.old.keys.members.names }
+    requires empty { report.old.items ≡ [] }
+    ensures taken { OnOk result (refusal (outside world.old.keys (D.draw draws.now) (N.passes net.now))
+        (world_of world.old) (group_event world.old.keys (event_value event.now)) ≡ None) }
+    ensures world { OnOk result (world_of world.new
+        ≡ after_event (outside world.old.keys (D.draw draws.now) (N.passes net.now)) (world_of world.old)
+        (group_event world.old.keys (event_value event.now))) }
+    ensures report { OnOk result (report.new.items ≡ told_text (map string_bytes labels.now)
+        (telling world.old.keys (outside world.old.keys (D.draw draws.now) (N.passes net.now)) (world_of world.old)
+        (event_value event.now))) }
+    ensures keys { OnOk result (world.new.keys ≡ world.old.keys) }
+    ensures steps { OnOk result (world.new.steps ≡ world.old.steps + 1) }
+    ensures stopped { IfErr result (IsStopOf (refusal (outside world.old.keys (D.draw draws.now) (N.passes net.now))
+        (world_of world.old) (group_event world.old.keys (event_value event.now)))) }
+{
     let happened = world.step(rt, event, net, draws)?;
     put_happened(report, labels, &happened)?;
     Ok(())
