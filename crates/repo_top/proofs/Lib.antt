@@ -11,3 +11,4 @@ pub mod CutLaws
 pub mod ReadNames
 pub mod Fitting
 pub mod Judgings
+pub mod Progressings

@@ -54,8 +54,8 @@ abbrev pub steps : Progress → ℕ
 steps p = steps_in p.stage
 
 -- The labels and the group's names are those that lines declare.
-pub record AreNamed (labels : List (List ℕ)) (keys : GroupKeys) (d : Declared) : Type 0 where
-  pub labels : labels ≡ map label_of d.members
+pub record AreNamed (kept : List (List ℕ)) (keys : GroupKeys) (d : Declared) : Type 0 where
+  pub labels : kept ≡ map label_of d.members
   pub members : map node_of d.members ≡ keys.members.names
   pub clients : map node_of d.clients ≡ keys.clients.names
 
