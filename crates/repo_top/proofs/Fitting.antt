@@ -286,7 +286,8 @@ pub record IsKnown (d e : Declared) (s : Stated) : Type 0 where
   pub known : are_known d s ≡ true
 
 taken : (d e : Declared) (s : Stated) → after_event d s ≡ Ok e → IsKnown d e s
-taken d e s h = go d.group (are_known d s) (are_within_limits (with_totals d.totals (adds s.verb s.values))) refl h where
+taken d e s h = go
+    d.group (are_known d s) (are_within_limits (with_totals d.totals (adds s.verb s.values))) refl h where
   go : (group known within : Bool) → are_known d s ≡ known
       → (if not group then Err check_fault.NoGroup else if not known then Err check_fault.UnknownLabel
       else if not within then Err check_fault.TooLarge

@@ -1,5 +1,5 @@
--- How a report writes why octets were refused: the refusal's word, with the offset, type, field, label or number that it
--- has.
+-- How a report writes why octets were refused: the refusal's word, with the offset, type, field, label or number that
+-- it has.
 use Rattle.std.specs.Prelude.{ℕ, List, [], ◌++◌, codes, slice_index_or}
 use Rattle.std.specs.Fmt.{decimal}
 use Rattle.ndn_tlv.specs.declared.tlv_fault.TlvFault.{TlvFault}
