@@ -1,6 +1,6 @@
 -- What a line that is taken states can be carried out: an event names members and clients that are there and is within
 -- its limits, and what is declared has a name and a key that a group takes.
-use Rattle.std.proofs.Common.{◌≡◌, ◌∙◌, ℕ, zero, suc, ◌+◌, ◌-◌, ◌*◌, ◌/◌, ◌%◌, ◌<◌, ◌≤◌, ◌^◌, min, Bool, true, false, not, ◌&&◌, nat_lt, nat_le, List, [], ◌∷◌, ◌++◌, length, map, Option, Some, None, unwrap_or, Ok, Err, refl, sym, ap, subst, arith, if◌then◌else◌}
+use Rattle.std.proofs.Common.{◌≡◌, ◌∙◌, ℕ, zero, suc, ◌+◌, ◌-◌, ◌*◌, ◌/◌, ◌%◌, ◌<◌, ◌≤◌, ◌^◌, min, Bool, true, false, not, ◌&&◌, ◌||◌, nat_lt, nat_le, List, [], ◌∷◌, ◌++◌, length, map, Option, Some, None, unwrap_or, Ok, Err, refl, sym, ap, subst, arith, if◌then◌else◌}
 use Rattle.std.specs.Prelude.{IsTrue}
 use Rattle.std.specs.Int.{div_ceil}
 use Rattle.std.specs.List.{All, list_all, list_any, position, prefix_len}
@@ -39,11 +39,12 @@ use Rattle.repo_top.proofs.ReadNames.{read_name_valid}
 any_within : {X : Type 0} (test : X → Bool) (xs : List X) → list_any test xs ≡ true
     → prefix_len (λ x. not (test x)) xs < length xs
 any_within test [] h = absurd (false≢true h)
-any_within test (x ∷ xs) h = go (test x) h where
-  go : (b : Bool) → (if b then true else list_any test xs) ≡ true
+any_within test (x ∷ xs) h = go (test x) h (any_within test xs) where
+  go : (b : Bool) → (b || list_any test xs) ≡ true
+      → (list_any test xs ≡ true → prefix_len (λ y. not (test y)) xs < length xs)
       → (if not b then 1 + prefix_len (λ y. not (test y)) xs else 0) < length (x ∷ xs)
-  go true k = omega arith
-  go false k = omega (arith, any_within test xs k)
+  go true k behind = omega arith
+  go false k behind = omega (arith, behind k)
 
 place_within : (n : ℕ) (len : ℕ) → n < len → unwrap_or (if nat_lt n len then Some n else None) 0 < len
 place_within n len h = grind (arith, nat_tests)
@@ -285,7 +286,8 @@ pub record IsKnown (d e : Declared) (s : Stated) : Type 0 where
   pub known : are_known d s ≡ true
 
 taken : (d e : Declared) (s : Stated) → after_event d s ≡ Ok e → IsKnown d e s
-taken d e s h = go d.group (are_known d s) (are_within_limits (with_totals d.totals (adds s.verb s.values))) refl h where
+taken d e s h = go
+    d.group (are_known d s) (are_within_limits (with_totals d.totals (adds s.verb s.values))) refl h where
   go : (group known within : Bool) → are_known d s ≡ known
       → (if not group then Err check_fault.NoGroup else if not known then Err check_fault.UnknownLabel
       else if not within then Err check_fault.TooLarge

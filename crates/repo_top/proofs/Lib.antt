@@ -8,6 +8,7 @@ pub mod Inspections
 pub mod Runs
 pub mod Scripts
 pub mod CutLaws
+pub mod Labels
 pub mod ReadNames
 pub mod Fitting
 pub mod Judgings

@@ -27,7 +27,7 @@ value_octets : (value text : List ℕ) → IsValueText value text → IsOctets v
 value_octets value text h = go (are_periods value) (escaped_octets (guarded value) text h) where
   go : (b : Bool) → IsOctets (if b then 46 ∷ 46 ∷ 46 ∷ value else value) → IsOctets value
   go true all i = all (suc (suc (suc i)))
-  go false all = all
+  go false all i = all i
 
 one_octet : (n : ℕ) → n < 2 ^ 8 → IsOctets (to_be_bytes w8 n)
 one_octet n low zero = omega arith
@@ -101,9 +101,9 @@ component_valid c text (sequence tail typ e value) above short =
 path_valid : (at : ℕ) (parts : List Part) (text : List ℕ) → IsPath at parts text
     → list_any is_digest (name_in parts) ≡ false → length (encoding (name_in parts)) < 2 ^ 64 → IsName (name_in parts)
 unfolding encoding
-path_valid at [] text h plain short = tt
-path_valid at (part ∷ parts) text h plain short =
-    let no = or_parts (is_digest part.1) (list_any is_digest (name_in parts)) plain in
+path_valid at [] text h none short = tt
+path_valid at (part ∷ parts) text h none short =
+    let no = or_parts (is_digest part.1) (list_any is_digest (name_in parts)) none in
     let low : nat_le part.1.0 2 ≡ false = no.0 in
     let above : 2 < part.1.0 = grind (arith, nat_tests) in
     let joined = length-append (element part.1.0 part.1.1) (encoding (name_in parts)) in
@@ -115,13 +115,13 @@ path_valid at (part ∷ parts) text h plain short =
 
 rooted_valid : (at : ℕ) (parts : List Part) (text : List ℕ) → IsRooted at parts text
     → list_any is_digest (name_in parts) ≡ false → length (encoding (name_in parts)) < 2 ^ 64 → IsName (name_in parts)
-rooted_valid at [] text h plain short = tt
-rooted_valid at (part ∷ parts) text h plain short = path_valid at (part ∷ parts) text h plain short
+rooted_valid at [] text h none short = tt
+rooted_valid at (part ∷ parts) text h none short = path_valid at (part ∷ parts) text h none short
 
 uri_valid : (parts : List Part) (text : List ℕ) → IsUri parts text
     → list_any is_digest (name_in parts) ≡ false → length (encoding (name_in parts)) < 2 ^ 64 → IsName (name_in parts)
-uri_valid parts text (inl h) plain short = rooted_valid 0 parts text h plain short
-uri_valid parts text (inr h) plain short = rooted_valid 4 parts h.0 h.2 plain short
+uri_valid parts text (inl h) none short = rooted_valid 0 parts text h none short
+uri_valid parts text (inr h) none short = rooted_valid 4 parts h.0 h.2 none short
 
 pub read_name_valid : (name : List Component) (text : List ℕ) → HasUri name text → list_any is_digest name ≡ false
     → length (encoding name) < 2 ^ 64 → IsName name
