@@ -30,7 +30,7 @@ use Rattle.bench_world.specs.EventValues.{EventValue, group_event, telling}
 use Rattle.repo_top.specs.declared.refusal.Refusal.TheVariants as refusal
 use Rattle.repo_top.specs.SaidEvents.{said_event}
 use Rattle.repo_top.specs.ToldTexts.{told_text}
-use Rattle.repo_top.specs.Judging.{Given, State, Verdict, says, refused, acted, acted_by, checked, event_refused, found_world, group_named, judged, judged_line, outside_of, stepped, with_client_too, with_member_too}
+use Rattle.repo_top.specs.Judging.{Given, State, Verdict, says, refused, acted, acted_by, checked, event_refused, found_world, group_named, judged, judged_line, line_taken, outside_of, stepped, with_client_too, with_member_too}
 use Rattle.repo_top.specs.Progressing.{IsStop, node_of}
 use Rattle.repo_top.specs.Stopping.{check_stop, line_stop}
 
@@ -69,28 +69,30 @@ refused_line given s l fault (inr h) = go fault h where
   go check_fault.TooLarge k = rw k refl
   go check_fault.NoMemory k = tt
 
--- ---- declarations
+-- ---- lines that are taken
+
+pub taken_line : (given : Given) (s : State) (d : Declared) (l : Stated) → after_line s.declared l ≡ Ok d
+    → judged_line given s l ≡ line_taken given s d l
+unfolding judged_line
+taken_line given s d l h = rw h refl
 
 pub group_says : (given : Given) (s : State) (d : Declared) (name : List Component)
-    → after_line s.declared (said verb.Group (Named name ∷ [])) ≡ Ok d
-    → judged_line given s (said verb.Group (Named name ∷ []))
+    → line_taken given s d (said verb.Group (Named name ∷ []))
     ≡ says [] (record { declared = d; keys = group_named name; world = s.world })
-unfolding judged_line
-group_says given s d name h = rw h refl
+unfolding line_taken
+group_says given s d name = refl
 
 pub member_says : (given : Given) (s : State) (d : Declared) (label : List ℕ) (node : List Component) (key : List ℕ)
-    → after_line s.declared (said verb.Member (Text label ∷ Named node ∷ Octets key ∷ [])) ≡ Ok d
-    → judged_line given s (said verb.Member (Text label ∷ Named node ∷ Octets key ∷ []))
+    → line_taken given s d (said verb.Member (Text label ∷ Named node ∷ Octets key ∷ []))
     ≡ says [] (record { declared = d; keys = with_member_too node key s.keys; world = s.world })
-unfolding judged_line
-member_says given s d label node key h = rw h refl
+unfolding line_taken
+member_says given s d label node key = refl
 
 pub client_says : (given : Given) (s : State) (d : Declared) (label : List ℕ) (node : List Component) (key : List ℕ)
-    → after_line s.declared (said verb.Client (Text label ∷ Named node ∷ Octets key ∷ [])) ≡ Ok d
-    → judged_line given s (said verb.Client (Text label ∷ Named node ∷ Octets key ∷ []))
+    → line_taken given s d (said verb.Client (Text label ∷ Named node ∷ Octets key ∷ []))
     ≡ says [] (record { declared = d; keys = with_client_too node key s.keys; world = s.world })
-unfolding judged_line
-client_says given s d label node key h = rw h refl
+unfolding line_taken
+client_says given s d label node key = refl
 
 -- A member or a client may be declared where the group is, no event was, nobody has its label or its name, and there are
 -- few of its kind.
@@ -199,13 +201,18 @@ event_after d e l h = go d.group (are_known d l) (are_within_limits (with_totals
       }
 
 pub event_says : (given : Given) (s : State) (d : Declared) (l : Line) → IsEventLine l
-    → after_line s.declared (stated l) ≡ Ok d
-    → IsEvent s.declared d × (judged_line given s (stated l) ≡ acted_by given s d (stated l))
-unfolding judged_line
-event_says given s d (line.Group name) is h = absurd is
-event_says given s d (line.Member label name key) is h = absurd is
-event_says given s d (line.Client label name key) is h = absurd is
-event_says given s d l is h = (event_after s.declared d (stated l) h, rw h refl)
+    → line_taken given s d (stated l) ≡ acted_by given s d (stated l)
+unfolding line_taken
+event_says given s d (line.Group name) is = absurd is
+event_says given s d (line.Member label name key) is = absurd is
+event_says given s d (line.Client label name key) is = absurd is
+event_says given s d l is = refl
+
+pub event_declares : (d e : Declared) (l : Line) → IsEventLine l → after_line d (stated l) ≡ Ok e → IsEvent d e
+event_declares d e (line.Group name) is h = absurd is
+event_declares d e (line.Member label name key) is h = absurd is
+event_declares d e (line.Client label name key) is h = absurd is
+event_declares d e l is h = event_after d e (stated l) h
 
 pub acts : (given : Given) (s : State) (d : Declared) (l : Stated) (e : EventValue) → Some e ≡ said_event d l
     → acted_by given s d l ≡ acted given s d e

@@ -118,6 +118,9 @@ taken_by verb.Member given s d line = with_member s d line.values
 taken_by verb.Client given s d line = with_client s d line.values
 taken_by _ given s d line = acted_by given s d line
 
+unfoldable pub line_taken : Given → State → Declared → Stated → Verdict
+line_taken given s d line = taken_by line.verb given s d line
+
 abbrev pub check_refused : CheckFault → Verdict
 check_refused check_fault.NoGroup = refused refusal.NoGroup
 check_refused check_fault.Late = refused refusal.Late
@@ -128,7 +131,7 @@ check_refused check_fault.TooLarge = refused refusal.TooLarge
 check_refused check_fault.NoMemory = refused refusal.TooLarge
 
 abbrev pub checked : Given → State → Stated → Result Declared CheckFault → Verdict
-checked given s line (Ok d) = taken_by line.verb given s d line
+checked given s line (Ok d) = line_taken given s d line
 checked given s line (Err fault) = check_refused fault
 
 -- What a line comes to that octets are.

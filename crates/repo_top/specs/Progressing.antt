@@ -3,7 +3,7 @@ use Rattle.std.specs.Prelude.{ℕ, ◌≡◌, zero, Bool, true, false, List, map
 use Rattle.ndn_name.specs.Names.{Component}
 use Rattle.script_lang.specs.Forms.{Stated}
 use Rattle.script_lang.specs.Lines.{line_of}
-use Rattle.script_lang.specs.Checking.{Declared, Party, label_of}
+use Rattle.script_lang.specs.Checking.{Declared, Party, after_line, label_of}
 use Rattle.group_model.specs.World.{World}
 use Rattle.group_model.specs.Refusals as group
 use Rattle.repo_member.specs.Groups.{GroupKeys}
@@ -33,8 +33,11 @@ steps_in Opening = zero
 steps_in (Declaring group) = zero
 steps_in (Acting world) = world.steps
 
+abbrev pub state_of : Stage → Declared → State
+state_of stage d = record { declared = d; keys = keys_in stage; world = world_in stage }
+
 abbrev pub state : Progress → State
-state p = record { declared = p.words; keys = keys_in p.stage; world = world_in p.stage }
+state p = state_of p.stage p.words
 
 abbrev pub has_group : Stage → Bool
 has_group Opening = false
@@ -59,11 +62,14 @@ pub record AreNamed (kept : List (List ℕ)) (keys : GroupKeys) (d : Declared) :
   pub members : map node_of d.members ≡ keys.members.names
   pub clients : map node_of d.clients ≡ keys.clients.names
 
--- What is kept is what the words declare: the group stands from its line on, the world from the first event on.
-pub record IsProgress (p : Progress) : Type 0 where
-  pub named : AreNamed (map string_bytes p.labels.items) (keys_in p.stage) p.words
-  pub group : p.words.group ≡ has_group p.stage
-  pub events : p.words.events ≡ has_world p.stage
+-- What is kept is what lines declare: the group stands from its line on, the world from the first event on.
+pub record Stands (labels : List (List ℕ)) (stage : Stage) (d : Declared) : Type 0 where
+  pub named : AreNamed labels (keys_in stage) d
+  pub group : d.group ≡ has_group stage
+  pub events : d.events ≡ has_world stage
+
+abbrev pub IsProgress : Progress → Type 0
+IsProgress p = Stands (map string_bytes p.labels.items) p.stage p.words
 
 -- ---- lines
 
@@ -71,6 +77,13 @@ pub record IsProgress (p : Progress) : Type 0 where
 pub record IsLine (line : Stated) : Type 0 where
   pub octets : List ℕ
   pub read : line_of octets ≡ Ok (Some line)
+
+-- The line is taken behind those whose labels and stage are kept, and so much is declared behind it.
+pub record IsChecked (labels : List (List ℕ)) (stage : Stage) (d : Declared) (s : Stated) : Type 0 where
+  pub line : IsLine s
+  pub before : Declared
+  pub stands : Stands labels stage before
+  pub after : after_line before s ≡ Ok d
 
 -- An event that a line states can be carried out where so much is declared.
 pub record StatesFit (d : Declared) (line : Stated) : Type 0 where

@@ -10,8 +10,8 @@ ghost use Rattle.bench_world.specs.Serving.{outside};
 ghost use Rattle.bench_world.specs.Steps.{IsReady, NamesClient};
 ghost use Rattle.bench_world.specs.Worlds.{drawing, world_of};
 ghost use Rattle.repo_top.specs.ToldTexts.{told_text};
-ghost use Rattle.repo_top.specs.Judging.{acted, acted_by, given_by, group_named, judged, judged_line, opening_state, says, with_client_too, with_member_too};
-ghost use Rattle.repo_top.specs.Progressing.{AreNamed, IsLine, IsProgress, IsStop, IsStopOf, StatesFit, has_group, has_world, keys_in, state, steps, steps_in, world_in};
+ghost use Rattle.repo_top.specs.Judging.{acted, acted_by, given_by, group_named, judged, judged_line, line_taken, opening_state, says, with_client_too, with_member_too};
+ghost use Rattle.repo_top.specs.Progressing.{AreNamed, IsChecked, IsLine, IsProgress, IsStop, IsStopOf, StatesFit, has_group, has_world, keys_in, state, steps, steps_in, world_in};
 
 use crate::refusal::Refusal;
 use crate::said::said;
@@ -96,12 +96,33 @@ impl Progress {
         requires is { IsProgress self.old }
         requires few { steps self.old < 100000 }
         requires empty { report.old.items ≡ [] }
-        ensures taken { OnOk result (judged_line (given_by (D.draw draws.now) (N.passes net.now)) (state self.old) (stated line.entry) ≡ says report.new.items (state self.new)) }
-        ensures stopped { IfErr result (IsStop (judged_line (given_by (D.draw draws.now) (N.passes net.now)) (state self.old) (stated line.entry))) }
+        ensures taken { OnOk result (judged_line (given_by (D.draw draws.now) (N.passes net.now)) (state self.old) (stated line) ≡ says report.new.items (state self.new)) }
+        ensures stopped { IfErr result (IsStop (judged_line (given_by (D.draw draws.now) (N.passes net.now)) (state self.old) (stated line))) }
         ensures is { OnOk result (IsProgress self.new) }
         ensures steps { OnOk result (steps self.new ≤ steps self.old + 1) }
     {
         self.words.check(&line)?;
+        self.follow(rt, line, report, net, draws)
+    }
+
+    // Does what a line says that the words have taken.
+    fn follow<N: Net + Sync, D: Draws, R: Threads + Sync>(
+        &mut self,
+        rt: &R,
+        line: Line,
+        report: &mut Vec<u8>,
+        net: &N,
+        draws: &D,
+    ) -> Result<(), Stop>
+        requires checked { IsChecked (map string_bytes self.old.labels.items) self.old.stage self.old.words (stated line) }
+        requires few { steps self.old < 100000 }
+        requires empty { report.old.items ≡ [] }
+        ensures taken { OnOk result (line_taken (given_by (D.draw draws.now) (N.passes net.now)) (state self.old) self.old.words (stated line)
+            ≡ says report.new.items (state self.new)) }
+        ensures stopped { IfErr result (IsStop (line_taken (given_by (D.draw draws.now) (N.passes net.now)) (state self.old) self.old.words (stated line))) }
+        ensures is { OnOk result (IsProgress self.new) }
+        ensures steps { OnOk result (steps self.new ≤ steps self.old + 1) }
+    {
         match line {
             Line::Group { name } => self.declare_group(&name),
             Line::Member { label, name, key } => self.declare_member(label, &name, &key),
@@ -193,8 +214,8 @@ impl Progress {
         requires there { has_group self.old.stage ≡ true }
         requires few { steps self.old < 100000 }
         requires empty { report.old.items ≡ [] }
-        ensures taken { OnOk result (acted_by (given_by (D.draw draws.now) (N.passes net.now)) (state self.old) self.old.words (stated line.entry) ≡ says report.new.items (state self.new)) }
-        ensures stopped { IfErr result (IsStop (acted_by (given_by (D.draw draws.now) (N.passes net.now)) (state self.old) self.old.words (stated line.entry))) }
+        ensures taken { OnOk result (acted_by (given_by (D.draw draws.now) (N.passes net.now)) (state self.old) self.old.words (stated line) ≡ says report.new.items (state self.new)) }
+        ensures stopped { IfErr result (IsStop (acted_by (given_by (D.draw draws.now) (N.passes net.now)) (state self.old) self.old.words (stated line))) }
         ensures is { OnOk result (IsProgress self.new) }
         ensures steps { OnOk result (steps self.new ≤ steps self.old + 1) }
     {
@@ -235,7 +256,7 @@ impl Progress {
 
     // The world that the events made, if there was one.
     pub(crate) fn into_world(self) -> Option<World>
-        ensures { option_map world_of result ≡ (state self.entry).world }
+        ensures { option_map world_of result ≡ (state self).world }
     {
         let Progress { stage, .. } = self;
         match stage {
@@ -297,10 +318,10 @@ impl Stage {
     // The world that an event finds: its members have nothing before the first.
     fn begin<D: Draws>(self, alloc: Global, draws: &D) -> Result<World, Stop>
         requires there { has_group self ≡ true }
-        ensures world { IfOk result (λ world. world_of world ≡ unwrap_or (world_in self.entry)
-            (opening_world (drawing (D.draw draws.now)) (length (keys_in self.entry).members.names))) }
-        ensures keys { IfOk result (λ world. world.keys ≡ keys_in self.entry) }
-        ensures steps { IfOk result (λ world. world.steps ≡ steps_in self.entry) }
+        ensures world { IfOk result (λ world. world_of world ≡ unwrap_or (world_in self)
+            (opening_world (drawing (D.draw draws.now)) (length (keys_in self).members.names))) }
+        ensures keys { IfOk result (λ world. world.keys ≡ keys_in self) }
+        ensures steps { IfOk result (λ world. world.steps ≡ steps_in self) }
         ensures err { IfErr result (λ stop. stop ≡ Stop.NoMemory) }
     {
         match self {
