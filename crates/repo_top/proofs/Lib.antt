@@ -8,3 +8,8 @@ pub mod Readings
 pub mod Stories
 pub mod Runs
 pub mod Stops
+pub mod Labels
+pub mod ReadNames
+pub mod Fitting
+pub mod Judgings
+pub mod Progressings

@@ -6,6 +6,7 @@ use Rattle.script_lang.specs.declared.line_fault.LineFault.{LineFault}
 use Rattle.script_lang.specs.declared.line_fault.LineFault.TheVariants as line_fault
 use Rattle.script_lang.specs.declared.check_fault.CheckFault.{CheckFault}
 use Rattle.script_lang.specs.declared.check_fault.CheckFault.TheVariants as check_fault
+use Rattle.ndn_name.specs.Names.{Component}
 use Rattle.script_lang.specs.Kinds.{Value, Text, Named, Octets}
 use Rattle.script_lang.specs.Forms.{Stated}
 use Rattle.script_lang.specs.Lines.{line_of}
@@ -72,37 +73,53 @@ stepped out keys d w e None = says (told_text (map label_of d.members) (telling 
     (record { declared = d; keys = keys; world = Some (after_event out w (group_event keys e)) })
 
 -- The event is carried out where the lines declare so much.
-abbrev pub acted : Given → State → Declared → EventValue → Verdict
+unfoldable pub acted : Given → State → Declared → EventValue → Verdict
 acted given s d e = stepped (outside_of given s.keys) s.keys d (found_world given s) e
     (group.refusal (outside_of given s.keys) (found_world given s) (group_event s.keys e))
 
 -- ---- lines
 
+-- A group of this name that nobody is in.
+abbrev pub group_named : List Component → GroupKeys
+group_named name = record { name = name; members = no_nodes; clients = no_nodes }
+
+-- One member more, or one client more.
+abbrev pub with_member_too : List Component → List ℕ → GroupKeys → GroupKeys
+with_member_too node key keys = record keys { members = with_node node key keys.members }
+
+abbrev pub with_client_too : List Component → List ℕ → GroupKeys → GroupKeys
+with_client_too node key keys = record keys { clients = with_node node key keys.clients }
+
 abbrev pub with_group : State → Declared → List Value → Verdict
-with_group s d (Named name ∷ []) =
-    says [] (record { declared = d; keys = record { name = name; members = no_nodes; clients = no_nodes }; world = s.world })
+with_group s d (Named name ∷ []) = says [] (record { declared = d; keys = group_named name; world = s.world })
 with_group s d _ = refused refusal.Syntax
 
 abbrev pub with_member : State → Declared → List Value → Verdict
 with_member s d (Text label ∷ Named node ∷ Octets key ∷ []) =
-    says [] (record { declared = d; keys = record s.keys { members = with_node node key s.keys.members }; world = s.world })
+    says [] (record { declared = d; keys = with_member_too node key s.keys; world = s.world })
 with_member s d _ = refused refusal.Syntax
 
 abbrev pub with_client : State → Declared → List Value → Verdict
 with_client s d (Text label ∷ Named node ∷ Octets key ∷ []) =
-    says [] (record { declared = d; keys = record s.keys { clients = with_node node key s.keys.clients }; world = s.world })
+    says [] (record { declared = d; keys = with_client_too node key s.keys; world = s.world })
 with_client s d _ = refused refusal.Syntax
 
 abbrev pub acted_if : Given → State → Declared → Option EventValue → Verdict
 acted_if given s d (Some e) = acted given s d e
 acted_if given s d None = refused refusal.Syntax
 
+unfoldable pub acted_by : Given → State → Declared → Stated → Verdict
+acted_by given s d line = acted_if given s d (said_event d line)
+
 -- What a line does that nothing before it refuses.
 abbrev pub taken_by : Verb → Given → State → Declared → Stated → Verdict
 taken_by verb.Group given s d line = with_group s d line.values
 taken_by verb.Member given s d line = with_member s d line.values
 taken_by verb.Client given s d line = with_client s d line.values
-taken_by _ given s d line = acted_if given s d (said_event d line)
+taken_by _ given s d line = acted_by given s d line
+
+unfoldable pub line_taken : Given → State → Declared → Stated → Verdict
+line_taken given s d line = taken_by line.verb given s d line
 
 abbrev pub check_refused : CheckFault → Verdict
 check_refused check_fault.NoGroup = refused refusal.NoGroup
@@ -114,12 +131,16 @@ check_refused check_fault.TooLarge = refused refusal.TooLarge
 check_refused check_fault.NoMemory = refused refusal.TooLarge
 
 abbrev pub checked : Given → State → Stated → Result Declared CheckFault → Verdict
-checked given s line (Ok d) = taken_by line.verb given s d line
+checked given s line (Ok d) = line_taken given s d line
 checked given s line (Err fault) = check_refused fault
+
+-- What a line comes to that octets are.
+unfoldable pub judged_line : Given → State → Stated → Verdict
+judged_line given s line = checked given s line (after_line s.declared line)
 
 -- What octets are that no line is: the order of the tests is that of reading, then of what was declared, then of the group.
 abbrev pub read : Given → State → Result (Option Stated) LineFault → Verdict
-read given s (Ok (Some line)) = checked given s line (after_line s.declared line)
+read given s (Ok (Some line)) = judged_line given s line
 read given s (Ok None) = says [] s
 read given s (Err line_fault.Syntax) = refused refusal.Syntax
 read given s (Err line_fault.Limit) = refused refusal.Limit

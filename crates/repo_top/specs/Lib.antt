@@ -7,6 +7,7 @@ pub mod RefusalTexts
 pub mod ToldTexts
 pub mod SaidEvents
 pub mod Judging
+pub mod Stopping
 pub mod Progressing
 pub mod Story
 pub mod Taken

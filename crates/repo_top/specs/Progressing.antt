@@ -1,15 +1,22 @@
 -- What the lines so far came to, as the run keeps it.
-use Rattle.std.specs.Prelude.{ℕ, ◌≡◌, zero, map, length, string_bytes, Option, Some, None}
-use Rattle.script_lang.specs.Checking.{Party, label_of}
+use Rattle.std.specs.Prelude.{ℕ, ◌≡◌, zero, Bool, true, false, List, map, length, string_bytes, Option, Some, None, Ok}
+use Rattle.ndn_name.specs.Names.{Component}
+use Rattle.script_lang.specs.Forms.{Stated}
+use Rattle.script_lang.specs.Lines.{line_of}
+use Rattle.script_lang.specs.Checking.{Declared, Party, after_line, label_of}
 use Rattle.group_model.specs.World.{World}
+use Rattle.group_model.specs.Refusals as group
 use Rattle.repo_member.specs.Groups.{GroupKeys}
 use Rattle.bench_world.specs.Worlds.{world_of}
+use Rattle.bench_world.specs.EventValues.{EventValue}
+use Rattle.bench_world.specs.Steps.{IsReady, NamesClient}
 use Rattle.repo_top.specs.declared.progress.Progress.{Progress}
 use Rattle.repo_top.specs.declared.progress.Stage.{Stage}
 use Rattle.repo_top.specs.declared.progress.Stage.TheVariants.{Opening, Declaring, Acting}
 use Rattle.repo_top.specs.declared.stop.Stop.{Stop}
 use Rattle.repo_top.specs.declared.stop.Stop.TheVariants as stop
-use Rattle.repo_top.specs.Judging.{State, Verdict, no_group, refused, foreign}
+use Rattle.repo_top.specs.SaidEvents.{said_event}
+use Rattle.repo_top.specs.Judging.{State, Verdict, no_group, refused, foreign, event_refused}
 
 abbrev pub keys_in : Stage → GroupKeys
 keys_in Opening = no_group
@@ -26,21 +33,71 @@ steps_in Opening = zero
 steps_in (Declaring group) = zero
 steps_in (Acting world) = world.steps
 
+abbrev pub state_of : Stage → Declared → State
+state_of stage d = record { declared = d; keys = keys_in stage; world = world_in stage }
+
 abbrev pub state : Progress → State
-state p = record { declared = p.words; keys = keys_in p.stage; world = world_in p.stage }
+state p = state_of p.stage p.words
+
+abbrev pub has_group : Stage → Bool
+has_group Opening = false
+has_group (Declaring group) = true
+has_group (Acting world) = true
+
+abbrev pub has_world : Stage → Bool
+has_world Opening = false
+has_world (Declaring group) = false
+has_world (Acting world) = true
+
+abbrev pub node_of : Party → List Component
+node_of p = p.node
 
 -- How many events were carried out.
 abbrev pub steps : Progress → ℕ
 steps p = steps_in p.stage
 
--- The labels and the group are those that the words declare.
-pub record IsProgress (p : Progress) : Type 0 where
-  pub labels : map string_bytes p.labels.items ≡ map label_of p.words.members
-  pub members : map (λ (q : Party). q.node) p.words.members ≡ (keys_in p.stage).members.names
-  pub clients : map (λ (q : Party). q.node) p.words.clients ≡ (keys_in p.stage).clients.names
+-- The labels and the group's names are those that lines declare.
+pub record AreNamed (kept : List (List ℕ)) (keys : GroupKeys) (d : Declared) : Type 0 where
+  pub labels : kept ≡ map label_of d.members
+  pub members : map node_of d.members ≡ keys.members.names
+  pub clients : map node_of d.clients ≡ keys.clients.names
+
+-- What is kept is what lines declare: the group stands from its line on, the world from the first event on.
+pub record Stands (labels : List (List ℕ)) (stage : Stage) (d : Declared) : Type 0 where
+  pub named : AreNamed labels (keys_in stage) d
+  pub group : d.group ≡ has_group stage
+  pub events : d.events ≡ has_world stage
+
+abbrev pub IsProgress : Progress → Type 0
+IsProgress p = Stands (map string_bytes p.labels.items) p.stage p.words
+
+-- ---- lines
+
+-- Some octets are this line.
+pub record IsLine (line : Stated) : Type 0 where
+  pub octets : List ℕ
+  pub read : line_of octets ≡ Ok (Some line)
+
+-- The line is taken behind those whose labels and stage are kept, and so much is declared behind it.
+pub record IsChecked (labels : List (List ℕ)) (stage : Stage) (d : Declared) (s : Stated) : Type 0 where
+  pub line : IsLine s
+  pub before : Declared
+  pub stands : Stands labels stage before
+  pub after : after_line before s ≡ Ok d
+
+-- An event that a line states can be carried out where so much is declared.
+pub record StatesFit (d : Declared) (line : Stated) : Type 0 where
+  pub fits : (e : EventValue) → said_event d line ≡ Some e
+      → IsReady (length d.members) e × NamesClient (length d.clients) e
 
 -- Memory was wanting, or the line stops the run so.
 abbrev pub IsStop : Verdict → Stop → Type 0
 IsStop verdict stop.NoMemory = Unit {0}
 IsStop verdict (stop.Refused refusal) = verdict ≡ refused refusal
 IsStop verdict stop.Foreign = verdict ≡ foreign
+
+-- Memory was wanting, or the event is refused so.
+abbrev pub IsStopOf : Option group.Refusal → Stop → Type 0
+IsStopOf refusal stop.NoMemory = Unit {0}
+IsStopOf None stop = ⊥
+IsStopOf (Some why) stop = IsStop (event_refused why) stop

@@ -1,5 +1,5 @@
--- How a report writes why octets were refused: the refusal's word, with the offset, type, field, label or number that it
--- has.
+-- How a report writes why octets were refused: the refusal's word, with the offset, type, field, label or number that
+-- it has.
 use Rattle.std.specs.Prelude.{ℕ, List, [], ◌++◌, codes, slice_index_or}
 use Rattle.std.specs.Fmt.{decimal}
 use Rattle.ndn_tlv.specs.declared.tlv_fault.TlvFault.{TlvFault}
@@ -45,15 +45,15 @@ packet_fault_text (packet.Tlv fault) = tlv_fault_text fault
 packet_fault_text packet.PacketTooLong = codes "PacketTooLong"
 packet_fault_text (packet.WrongType typ) = codes "WrongType " ++ decimal typ
 packet_fault_text (packet.TrailingOctets at) = codes "TrailingOctets " ++ decimal at
-packet_fault_text (packet.Critical typ at) = codes "Critical " ++ decimal typ ++ codes " " ++ decimal at
+packet_fault_text (packet.Critical typ at) = codes "Critical " ++ (decimal typ ++ (codes " " ++ decimal at))
 packet_fault_text (packet.Missing named) = codes "Missing " ++ field_word named
-packet_fault_text (packet.BadField named at) = codes "BadField " ++ field_word named ++ codes " " ++ decimal at
+packet_fault_text (packet.BadField named at) = codes "BadField " ++ (field_word named ++ (codes " " ++ decimal at))
 
 -- A member is told by its label.
 abbrev pub vector_fault_text : List (List ℕ) → VectorFault → List ℕ
 vector_fault_text labels (vector.BadVector at) = codes "BadVector " ++ decimal at
 vector_fault_text labels (vector.NumberTooLarge m number) =
-    codes "NumberTooLarge " ++ slice_index_or labels m [] ++ codes " " ++ decimal number
+    codes "NumberTooLarge " ++ (slice_index_or labels m [] ++ (codes " " ++ decimal number))
 vector_fault_text labels vector.NoMemory = codes "NoMemory"
 
 abbrev pub sync_refusal_text : List (List ℕ) → SyncRefusal → List ℕ

@@ -1,15 +1,29 @@
-ghost use Rattle.std.specs.Prelude.{◌≡◌, ◌+◌, ◌<◌, ◌≤◌, [], IfErr, IfSome, OnOk};
+ghost use Rattle.std.specs.Prelude.{◌≡◌, ◌+◌, ◌<◌, ◌≤◌, ◌++◌, [], ◌∷◌, length, map, string_bytes, unwrap_or, true, false, None, IfOk, IfErr, IfSome, OnOk};
 ghost use Rattle.std.specs.Option.{option_map};
-ghost use Rattle.bench_world.specs.Worlds.{world_of};
-ghost use Rattle.repo_top.specs.Judging.{given_by, judged, opening_state, says};
-ghost use Rattle.repo_top.specs.Progressing.{IsProgress, IsStop, state, steps, world_in};
+ghost use Rattle.script_lang.specs.Forms.{stated};
+ghost use Rattle.group_model.specs.World.{opening_world};
+ghost use Rattle.group_model.specs.Steps.{after_event};
+ghost use Rattle.group_model.specs.Refusals.{refusal};
+ghost use Rattle.repo_member.specs.Groups.{IsKey, IsPlainNodeName, is_name_taken, node_limit};
+ghost use Rattle.bench_world.specs.EventValues.{event_value, group_event, telling};
+ghost use Rattle.bench_world.specs.Serving.{outside};
+ghost use Rattle.bench_world.specs.Steps.{IsReady, NamesClient};
+ghost use Rattle.bench_world.specs.Worlds.{drawing, world_of};
+ghost use Rattle.repo_top.specs.ToldTexts.{told_text};
+ghost use Rattle.repo_top.specs.Judging.{acted, acted_by, given_by, group_named, judged, judged_line, line_taken, opening_state, says, with_client_too, with_member_too};
+ghost use Rattle.repo_top.specs.Progressing.{AreNamed, IsChecked, IsLine, IsProgress, IsStop, IsStopOf, StatesFit, has_group, has_world, keys_in, state, steps, steps_in, world_in};
 
+use crate::refusal::Refusal;
+use crate::said::said;
 use crate::stop::Stop;
+use crate::telling::put_happened;
 use bench_net::{Draws, Net};
-use bench_world::World;
+use bench_world::{Event, World};
+use ndn_name::Name;
 use repo_member::Group;
-use script_lang::Words;
+use script_lang::{Line, Words, read_line};
 use std::alloc::Global;
+use std::mem;
 use std::thread::Threads;
 
 // Members and clients are declared behind the group, and events follow.
@@ -23,6 +37,7 @@ pub(crate) enum Stage {
 // What the lines so far came to.
 #[derive(Drop)]
 pub(crate) struct Progress {
+    alloc: Global,
     words: Words,
     // The labels of the members.
     labels: Vec<String>,
@@ -37,6 +52,7 @@ impl Progress {
         ensures is { IsProgress result }
     {
         Progress {
+            alloc,
             words: Words::new(alloc),
             labels: Vec::new(alloc),
             stage: Stage::Opening,
@@ -62,18 +78,181 @@ impl Progress {
         ensures is { OnOk result (IsProgress self.new) }
         ensures steps { OnOk result (steps self.new ≤ steps self.old + 1) }
     {
-        Err(Stop::NoMemory)
+        match read_line(self.alloc, line)? {
+            Some(line) => self.take_line(rt, line, report, net, draws),
+            None => Ok(()),
+        }
+    }
+
+    fn take_line<N: Net + Sync, D: Draws, R: Threads + Sync>(
+        &mut self,
+        rt: &R,
+        line: Line,
+        report: &mut Vec<u8>,
+        net: &N,
+        draws: &D,
+    ) -> Result<(), Stop>
+        requires line { IsLine (stated line) }
+        requires is { IsProgress self.old }
+        requires few { steps self.old < 100000 }
+        requires empty { report.old.items ≡ [] }
+        ensures taken { OnOk result (judged_line (given_by (D.draw draws.now) (N.passes net.now)) (state self.old) (stated line) ≡ says report.new.items (state self.new)) }
+        ensures stopped { IfErr result (IsStop (judged_line (given_by (D.draw draws.now) (N.passes net.now)) (state self.old) (stated line))) }
+        ensures is { OnOk result (IsProgress self.new) }
+        ensures steps { OnOk result (steps self.new ≤ steps self.old + 1) }
+    {
+        self.words.check(&line)?;
+        self.follow(rt, line, report, net, draws)
+    }
+
+    // Does what a line says that the words have taken.
+    fn follow<N: Net + Sync, D: Draws, R: Threads + Sync>(
+        &mut self,
+        rt: &R,
+        line: Line,
+        report: &mut Vec<u8>,
+        net: &N,
+        draws: &D,
+    ) -> Result<(), Stop>
+        requires checked { IsChecked (map string_bytes self.old.labels.items) self.old.stage self.old.words (stated line) }
+        requires few { steps self.old < 100000 }
+        requires empty { report.old.items ≡ [] }
+        ensures taken { OnOk result (line_taken (given_by (D.draw draws.now) (N.passes net.now)) (state self.old) self.old.words (stated line)
+            ≡ says report.new.items (state self.new)) }
+        ensures stopped { IfErr result (IsStop (line_taken (given_by (D.draw draws.now) (N.passes net.now)) (state self.old) self.old.words (stated line))) }
+        ensures is { OnOk result (IsProgress self.new) }
+        ensures steps { OnOk result (steps self.new ≤ steps self.old + 1) }
+    {
+        match line {
+            Line::Group { name } => self.declare_group(&name),
+            Line::Member { label, name, key } => self.declare_member(label, &name, &key),
+            Line::Client {
+                label: _label,
+                name,
+                key,
+            } => self.declare_client(&name, &key),
+            line => self.act(rt, line, report, net, draws),
+        }
+    }
+
+    fn declare_group(&mut self, name: &Name) -> Result<(), Stop>
+        requires name { IsPlainNodeName name.now }
+        requires group { self.old.words.group ≡ true }
+        requires early { self.old.words.events ≡ false }
+        requires named { AreNamed (map string_bytes self.old.labels.items) (group_named name.now) self.old.words }
+        ensures state { OnOk result (state self.new
+            ≡ record { declared = self.old.words; keys = group_named name.now; world = None }) }
+        ensures is { OnOk result (IsProgress self.new) }
+        ensures steps { OnOk result (steps self.new ≡ 0) }
+        ensures err { IfErr result (λ stop. stop ≡ Stop.NoMemory) }
+    {
+        self.stage = Stage::Declaring(Group::new(self.alloc, name)?);
+        Ok(())
+    }
+
+    fn declare_member(&mut self, label: String, node: &Name, key: &[u8]) -> Result<(), Stop>
+        requires node { IsPlainNodeName node.now }
+        requires key { IsKey key.now }
+        requires group { self.old.words.group ≡ true }
+        requires early { self.old.words.events ≡ false }
+        requires there { has_group self.old.stage ≡ true }
+        requires unchanged { has_world self.old.stage ≡ false }
+        requires apart { is_name_taken (keys_in self.old.stage) node.now ≡ false }
+        requires few { length (keys_in self.old.stage).members.names < node_limit }
+        requires named { AreNamed (map string_bytes self.old.labels.items ++ string_bytes label ∷ [])
+            (with_member_too node.now key.now (keys_in self.old.stage)) self.old.words }
+        ensures state { OnOk result (state self.new ≡ record {
+            declared = self.old.words;
+            keys = with_member_too node.now key.now (keys_in self.old.stage);
+            world = None;
+        }) }
+        ensures is { OnOk result (IsProgress self.new) }
+        ensures steps { OnOk result (steps self.new ≡ 0) }
+        ensures err { IfErr result (λ stop. stop ≡ Stop.NoMemory) }
+    {
+        self.stage.add_member(node, key)?;
+        self.labels.push(label)?;
+        Ok(())
+    }
+
+    fn declare_client(&mut self, node: &Name, key: &[u8]) -> Result<(), Stop>
+        requires node { IsPlainNodeName node.now }
+        requires key { IsKey key.now }
+        requires group { self.old.words.group ≡ true }
+        requires early { self.old.words.events ≡ false }
+        requires there { has_group self.old.stage ≡ true }
+        requires unchanged { has_world self.old.stage ≡ false }
+        requires apart { is_name_taken (keys_in self.old.stage) node.now ≡ false }
+        requires few { length (keys_in self.old.stage).clients.names < node_limit }
+        requires named { AreNamed (map string_bytes self.old.labels.items)
+            (with_client_too node.now key.now (keys_in self.old.stage)) self.old.words }
+        ensures state { OnOk result (state self.new ≡ record {
+            declared = self.old.words;
+            keys = with_client_too node.now key.now (keys_in self.old.stage);
+            world = None;
+        }) }
+        ensures is { OnOk result (IsProgress self.new) }
+        ensures steps { OnOk result (steps self.new ≡ 0) }
+        ensures err { IfErr result (λ stop. stop ≡ Stop.NoMemory) }
+    {
+        self.stage.add_client(node, key)
+    }
+
+    // Carries out the event that a line states, and writes what came of it.
+    fn act<N: Net + Sync, D: Draws, R: Threads + Sync>(
+        &mut self,
+        rt: &R,
+        line: Line,
+        report: &mut Vec<u8>,
+        net: &N,
+        draws: &D,
+    ) -> Result<(), Stop>
+        requires fit { StatesFit self.old.words (stated line) }
+        requires named { AreNamed (map string_bytes self.old.labels.items) (keys_in self.old.stage) self.old.words }
+        requires group { self.old.words.group ≡ true }
+        requires events { self.old.words.events ≡ true }
+        requires there { has_group self.old.stage ≡ true }
+        requires few { steps self.old < 100000 }
+        requires empty { report.old.items ≡ [] }
+        ensures taken { OnOk result (acted_by (given_by (D.draw draws.now) (N.passes net.now)) (state self.old) self.old.words (stated line) ≡ says report.new.items (state self.new)) }
+        ensures stopped { IfErr result (IsStop (acted_by (given_by (D.draw draws.now) (N.passes net.now)) (state self.old) self.old.words (stated line))) }
+        ensures is { OnOk result (IsProgress self.new) }
+        ensures steps { OnOk result (steps self.new ≤ steps self.old + 1) }
+    {
+        let Some(event) = said(&self.words, line) else {
+            return Err(Stop::Refused(Refusal::Syntax));
+        };
+        self.carry_out(rt, &event, report, net, draws)
+    }
+
+    // Carries out an event in the world that it finds, which the first one makes.
+    fn carry_out<N: Net + Sync, D: Draws, R: Threads + Sync>(
+        &mut self,
+        rt: &R,
+        event: &Event,
+        report: &mut Vec<u8>,
+        net: &N,
+        draws: &D,
+    ) -> Result<(), Stop>
+        requires ready { IsReady (length self.old.words.members) (event_value event.now) }
+        requires clients { NamesClient (length self.old.words.clients) (event_value event.now) }
+        requires named { AreNamed (map string_bytes self.old.labels.items) (keys_in self.old.stage) self.old.words }
+        requires group { self.old.words.group ≡ true }
+        requires events { self.old.words.events ≡ true }
+        requires there { has_group self.old.stage ≡ true }
+        requires few { steps self.old < 100000 }
+        requires empty { report.old.items ≡ [] }
+        ensures taken { OnOk result (acted (given_by (D.draw draws.now) (N.passes net.now)) (state self.old) self.old.words (event_value event.now) ≡ says report.new.items (state self.new)) }
+        ensures stopped { IfErr result (IsStop (acted (given_by (D.draw draws.now) (N.passes net.now)) (state self.old) self.old.words (event_value event.now))) }
+        ensures is { OnOk result (IsProgress self.new) }
+        ensures steps { OnOk result (steps self.new ≤ steps self.old + 1) }
+    {
+        let stage = mem::replace(&mut self.stage, Stage::Opening);
+        let mut world = stage.begin(self.alloc, draws)?;
+        step(rt, &mut world, event, &self.labels, report, net, draws)?;
+        self.stage = Stage::Acting(world);
+        Ok(())
     }
 
     // The world that the events made, if there was one.
     pub(crate) fn into_world(self) -> Option<World>
-        ensures world { option_map world_of result ≡ (state self).world }
-        ensures keys { IfSome result (λ world. world.keys ≡ (state self).keys) }
-    {
-        let Progress { stage, .. } = self;
-        match stage {
-            Stage::Acting(world) => Some(world),
-            _ => None,
-        }
-    }
-}

@@ -1,16 +1,153 @@
-ghost use Rattle.std.specs.Prelude.{◌≡◌, Some, IfOk};
+ghost use Rattle.std.specs.Prelude.{◌≡◌};
 ghost use Rattle.std.specs.Option.{option_map};
 ghost use Rattle.script_lang.specs.Forms.{stated};
 ghost use Rattle.bench_world.specs.EventValues.{event_value};
-ghost use Rattle.repo_top.specs.SaidEvents.{said_event};
+ghost use Rattle.repo_top.specs.SaidEvents.{number_of, said_event};
 
 use bench_world::Event;
 use script_lang::{Line, Words};
-use std::alloc::AllocError;
 
 // The event that a line states, where the words have declared its labels; none of a declaration.
-pub(crate) fn said(words: &Words, line: Line) -> Result<Option<Event>, AllocError>
-    ensures { IfOk result (λ event. option_map event_value event ≡ said_event words.now (stated line)) }
+pub(crate) fn said(words: &Words, line: Line) -> Option<Event>
+    ensures { option_map event_value result ≡ said_event words.now (stated line) }
 {
-    Err(AllocError)
+    let event = match line {
+        Line::Group { .. } | Line::Member { .. } | Line::Client { .. } => return None,
+        Line::Publish {
+            m,
+            name,
+            size,
+            content,
+        } => Event::Publish {
+            m: member(words, &m),
+            name,
+            size,
+            content,
+        },
+        Line::Deliver { k, m } => Event::Deliver {
+            k,
+            m: member(words, &m),
+        },
+        Line::Sync { k } => Event::Sync { k },
+        Line::Advance { ms } => Event::Advance { ms },
+        Line::Fire { m } => Event::Fire {
+            m: member(words, &m),
+        },
+        Line::Restart { m } => Event::Restart {
+            m: member(words, &m),
+        },
+        Line::Vector { m } => Event::Vector {
+            m: member(words, &m),
+        },
+        Line::Catalogue { m } => Event::Catalogue {
+            m: member(words, &m),
+        },
+        Line::Claim { m, f } => Event::Claim {
+            m: member(words, &m),
+            f,
+        },
+        Line::Lose { m, f } => Event::Lose {
+            m: member(words, &m),
+            f,
+        },
+        Line::Answer { m, f, q } => Event::Answer {
+            m: member(words, &m),
+            f,
+            q: member(words, &q),
+        },
+        Line::Fetch {
+            m,
+            workers,
+            tries,
+            loss,
+        } => Event::Fetch {
+            m: member(words, &m),
+            workers,
+            tries,
+            loss,
+        },
+        Line::Settle { workers } => Event::Settle { workers },
+        Line::Dump { m, p, s, x } => Event::Dump {
+            m: member(words, &m),
+            p: member(words, &p),
+            s,
+            x,
+        },
+        Line::Hear { m, octets } => Event::Hear {
+            m: member(words, &m),
+            octets,
+        },
+        Line::Order { m, octets } => Event::Order {
+            m: member(words, &m),
+            octets,
+        },
+        Line::Ask { m, octets } => Event::Ask {
+            m: member(words, &m),
+            octets,
+        },
+        Line::Feed { m, f, octets } => Event::Feed {
+            m: member(words, &m),
+            f,
+            octets,
+        },
+        Line::Insert {
+            m,
+            client: label,
+            name,
+            first,
+            last,
+        } => Event::Insert {
+            m: member(words, &m),
+            client: client(words, &label),
+            name,
+            first,
+            last,
+        },
+        Line::Block {
+            m,
+            process,
+            index,
+            content,
+        } => Event::Block {
+            m: member(words, &m),
+            process,
+            index,
+            content,
+        },
+        Line::Status {
+            m,
+            client: label,
+            process,
+        } => Event::Status {
+            m: member(words, &m),
+            client: client(words, &label),
+            process,
+        },
+        Line::Delete {
+            m,
+            client: label,
+            name,
+        } => Event::Delete {
+            m: member(words, &m),
+            client: client(words, &label),
+            name,
+        },
+        Line::Summary => Event::Summary,
+        Line::Traffic => Event::Traffic,
+    };
+    Some(event)
+}
+
+// The number of the member with this label.
+fn member(words: &Words, label: &str) -> u32
+    ensures { result ≡ number_of label.now words.now.members }
+{
+    words.member(label).unwrap_or(0)
+}
+
+// The number of the client with this label.
+fn client(words: &Words, label: &str) -> u32
+    ensures { result ≡ number_of label.now words.now.clients }
+{
+    words.client(label).unwrap_or(0)
 }

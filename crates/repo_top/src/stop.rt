@@ -1,4 +1,8 @@
 use crate::refusal::Refusal;
+use bench_world::StepFault;
+use repo_member::GroupFault;
+use script_lang::{CheckFault, LineFault};
+use std::alloc::{AllocError, AllocFailed};
 
 // Why a line was not taken.
 #[derive(Clone, Copy, Debug, PartialEq, Eq)]
@@ -7,4 +11,93 @@ pub(crate) enum Stop {
     // It brings octets that pass their checks and that no member made.
     Foreign,
     NoMemory,
+}
+
+impl From<AllocError> for Stop {
+    ghost use Rattle.std.specs.Prelude.{◌≡◌};
+    ghost use Rattle.repo_top.specs.declared.stop.Stop.TheVariants.{NoMemory};
+
+    ghost from_gives = { λ _ stop. stop ≡ NoMemory };
+
+    fn from(_: AllocError) -> Stop {
+        Stop::NoMemory
+    }
+}
+
+impl<T: Drop> From<AllocFailed<T>> for Stop {
+    ghost use Rattle.std.specs.Prelude.{◌≡◌};
+    ghost use Rattle.repo_top.specs.declared.stop.Stop.TheVariants.{NoMemory};
+
+    ghost from_gives = { λ _ stop. stop ≡ NoMemory };
+
+    fn from(_: AllocFailed<T>) -> Stop {
+        Stop::NoMemory
+    }
+}
+
+impl From<LineFault> for Stop {
+    ghost use Rattle.std.specs.Prelude.{◌≡◌};
+    ghost use Rattle.repo_top.specs.Stopping.{line_stop};
+
+    ghost from_gives = { λ fault stop. stop ≡ line_stop fault };
+
+    fn from(fault: LineFault) -> Stop {
+        match fault {
+            LineFault::Syntax => Stop::Refused(Refusal::Syntax),
+            LineFault::Limit => Stop::Refused(Refusal::Limit),
+            LineFault::NoMemory => Stop::NoMemory,
+        }
+    }
+}
+
+impl From<CheckFault> for Stop {
+    ghost use Rattle.std.specs.Prelude.{◌≡◌};
+    ghost use Rattle.repo_top.specs.Stopping.{check_stop};
+
+    ghost from_gives = { λ fault stop. stop ≡ check_stop fault };
+
+    fn from(fault: CheckFault) -> Stop {
+        match fault {
+            CheckFault::NoGroup => Stop::Refused(Refusal::NoGroup),
+            CheckFault::Late => Stop::Refused(Refusal::Late),
+            CheckFault::UnknownLabel => Stop::Refused(Refusal::UnknownLabel),
+            CheckFault::Duplicate => Stop::Refused(Refusal::Duplicate),
+            CheckFault::Limit => Stop::Refused(Refusal::Limit),
+            CheckFault::TooLarge => Stop::Refused(Refusal::TooLarge),
+            CheckFault::NoMemory => Stop::NoMemory,
+        }
+    }
+}
+
+impl From<GroupFault> for Stop {
+    ghost use Rattle.std.specs.Prelude.{◌≡◌};
+    ghost use Rattle.repo_top.specs.Stopping.{group_stop};
+
+    ghost from_gives = { λ fault stop. stop ≡ group_stop fault };
+
+    fn from(fault: GroupFault) -> Stop {
+        match fault {
+            GroupFault::Duplicate => Stop::Refused(Refusal::Duplicate),
+            GroupFault::Full => Stop::Refused(Refusal::Limit),
+            GroupFault::NoMemory => Stop::NoMemory,
+        }
+    }
+}
+
+impl From<StepFault> for Stop {
+    ghost use Rattle.std.specs.Prelude.{◌≡◌};
+    ghost use Rattle.repo_top.specs.Stopping.{step_stop};
+
+    ghost from_gives = { λ fault stop. stop ≡ step_stop fault };
+
+    fn from(fault: StepFault) -> Stop {
+        match fault {
+            StepFault::Refused { number: 5 } => Stop::Refused(Refusal::NoSuchPacket),
+            StepFault::Refused { number: 6 } => Stop::Refused(Refusal::FetcherBusy),
+            StepFault::Refused { number: 7 } => Stop::Refused(Refusal::FetcherIdle),
+            StepFault::Refused { .. } => Stop::Refused(Refusal::NumbersSpent),
+            StepFault::Foreign => Stop::Foreign,
+            StepFault::NoMemory => Stop::NoMemory,
+        }
+    }
 }

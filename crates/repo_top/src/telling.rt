@@ -1,11 +1,24 @@
-ghost use Rattle.std.specs.Prelude.{map, length, string_bytes};
+ghost use Rattle.std.specs.Prelude.{◌≡◌, map, length, string_bytes, IfOk};
 ghost use Rattle.script_report.specs.Pieces.{Appends};
 ghost use Rattle.bench_world.specs.EventValues.{told_value};
 ghost use Rattle.bench_world.specs.Steps.{NamesAll};
-ghost use Rattle.repo_top.specs.ToldTexts.{told_text};
+ghost use Rattle.repo_top.specs.ToldTexts.{label_at, publisher_label, told_text};
 
+mod refusal_text;
+
+use crate::telling::refusal_text::{hear_refusal, packet_fault, part_refusal};
 use bench_world::Happened;
-use std::alloc::AllocError;
+use repo_catalog::Entry;
+use script_report::{
+    put_advance, put_answer_kept, put_answer_none, put_ask_found, put_ask_none, put_ask_refused,
+    put_block_200, put_block_300, put_block_404, put_block_published, put_catalogue,
+    put_claim_none, put_claim_part, put_delete, put_deliver_steady, put_deliver_suppressed,
+    put_dump_hex, put_dump_none, put_feed_kept, put_feed_refused, put_fetch, put_fire_early,
+    put_fire_quiet, put_fire_sent, put_hear_refused, put_hear_steady, put_hear_suppressed,
+    put_insert, put_lose, put_order, put_publish, put_restart, put_settle, put_status, put_summary,
+    put_sync, put_traffic, put_vector,
+};
+use std::alloc::{AllocError, Global};
 
 // Writes the report of what happened, under the labels of the members.
 pub(crate) fn put_happened(
@@ -17,5 +30,188 @@ pub(crate) fn put_happened(
     ensures { Appends (told_text (map string_bytes labels.now) (told_value happened.now))
         report.old.items report.new.items result }
 {
-    Err(AllocError)
+    let alloc = *report.allocator();
+    match happened {
+        Happened::Publish {
+            m,
+            seq,
+            segments,
+            sync,
+        } => put_publish(report, label(labels, *m), *seq, *segments, *sync),
+        Happened::DeliverSteady { k, m } => put_deliver_steady(report, *k, label(labels, *m)),
+        Happened::DeliverSuppressed { k, m } => {
+            put_deliver_suppressed(report, *k, label(labels, *m))
+        }
+        Happened::Sync { k, octets } => put_sync(report, *k, octets),
+        Happened::Advance { now } => put_advance(report, *now),
+        Happened::FireEarly { m } => put_fire_early(report, label(labels, *m)),
+        Happened::FireQuiet { m } => put_fire_quiet(report, label(labels, *m)),
+        Happened::FireSent { m, k } => put_fire_sent(report, label(labels, *m), *k),
+        Happened::Restart { m } => put_restart(report, label(labels, *m)),
+        Happened::Vector { m, numbers, .. } => {
+            put_vector(report, label(labels, *m), labels, numbers)
+        }
+        Happened::Catalogue { m, count, entries } => {
+            let publishers = publishers(alloc, labels, entries)?;
+            put_catalogue(report, label(labels, *m), *count, &publishers, entries)
+        }
+        Happened::ClaimPart {
+            m,
+            f,
+            publisher,
+            seq,
+            x,
+        } => put_claim_part(
+            report,
+            label(labels, *m),
+            *f,
+            label(labels, *publisher),
+            *seq,
+            *x,
+        ),
+        Happened::ClaimNone { m, f } => put_claim_none(report, label(labels, *m), *f),
+        Happened::Lose {
+            m,
+            f,
+            publisher,
+            seq,
+            x,
+        } => put_lose(
+            report,
+            label(labels, *m),
+            *f,
+            label(labels, *publisher),
+            *seq,
+            *x,
+        ),
+        Happened::AnswerKept { m, f } => put_answer_kept(report, label(labels, *m), *f),
+        Happened::AnswerNone { m, f } => put_answer_none(report, label(labels, *m), *f),
+        Happened::Fetch {
+            m,
+            planned,
+            kept,
+            attempts,
+        } => put_fetch(report, label(labels, *m), *planned, *kept, *attempts),
+        Happened::Settle { syncs, kept } => put_settle(report, *syncs, *kept),
+        Happened::DumpHex { m, octets } => put_dump_hex(report, label(labels, *m), octets),
+        Happened::DumpNone { m } => put_dump_none(report, label(labels, *m)),
+        Happened::HearSteady { m } => put_hear_steady(report, label(labels, *m)),
+        Happened::HearSuppressed { m } => put_hear_suppressed(report, label(labels, *m)),
+        Happened::HearRefused { m, refusal } => {
+            let refusal = hear_refusal(alloc, labels, refusal)?;
+            put_hear_refused(report, label(labels, *m), &refusal)
+        }
+        Happened::AskFound { m, octets } => put_ask_found(report, label(labels, *m), octets),
+        Happened::AskNone { m } => put_ask_none(report, label(labels, *m)),
+        Happened::AskRefused { m, refusal } => {
+            let refusal = packet_fault(alloc, refusal)?;
+            put_ask_refused(report, label(labels, *m), &refusal)
+        }
+        Happened::FeedKept { m, f } => put_feed_kept(report, label(labels, *m), *f),
+        Happened::FeedRefused { m, f, refusal } => {
+            let refusal = part_refusal(alloc, refusal)?;
+            put_feed_refused(report, label(labels, *m), *f, &refusal)
+        }
+        Happened::Order {
+            m,
+            code,
+            process,
+            inserted,
+            deleted,
+        } => put_order(
+            report,
+            label(labels, *m),
+            *code,
+            *process,
+            *inserted,
+            *deleted,
+        ),
+        Happened::Insert {
+            m,
+            code,
+            process,
+            inserted,
+            deleted,
+        } => put_insert(
+            report,
+            label(labels, *m),
+            *code,
+            *process,
+            *inserted,
+            *deleted,
+        ),
+        Happened::Status {
+            m,
+            code,
+            process,
+            inserted,
+            deleted,
+        } => put_status(
+            report,
+            label(labels, *m),
+            *code,
+            *process,
+            *inserted,
+            *deleted,
+        ),
+        Happened::Delete {
+            m,
+            code,
+            process,
+            inserted,
+            deleted,
+        } => put_delete(
+            report,
+            label(labels, *m),
+            *code,
+            *process,
+            *inserted,
+            *deleted,
+        ),
+        Happened::Block300 { m } => put_block_300(report, label(labels, *m)),
+        Happened::Block404 { m } => put_block_404(report, label(labels, *m)),
+        Happened::Block200 { m } => put_block_200(report, label(labels, *m)),
+        Happened::BlockPublished { m, seq, sync } => {
+            put_block_published(report, label(labels, *m), *seq, *sync)
+        }
+        Happened::Summary {
+            entries,
+            segments,
+            octets,
+            ..
+        } => put_summary(report, labels, entries, segments, octets),
+        Happened::Traffic {
+            syncs,
+            delivered,
+            attempts,
+            parts,
+            octets,
+        } => put_traffic(report, *syncs, *delivered, *attempts, *parts, *octets),
+    }
+}
+
+// The label of a member, or nothing where there is none.
+pub(crate) fn label(labels: &[String], m: u32) -> &str
+    ensures { result.now ≡ label_at (map string_bytes labels.now) m }
+{
+    match labels.get(m as usize) {
+        Some(label) => label.as_str(),
+        None => "",
+    }
+}
+
+// The labels of the entries' publishers.
+fn publishers(
+    alloc: Global,
+    labels: &[String],
+    entries: &[Entry],
+) -> Result<Vec<String>, AllocError>
+    ensures { IfOk result (λ named. map string_bytes named.items
+        ≡ map (publisher_label (map string_bytes labels.now)) entries.now) }
+{
+    let mut named = Vec::with_capacity(alloc, entries.len())?;
+    for entry in entries {
+        named.push(label(labels, entry.publisher).to_string(alloc)?)?;
+    }
+    Ok(named)
 }

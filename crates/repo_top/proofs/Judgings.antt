@@ -1,0 +1,237 @@
+-- What lines come to, case by case.
+use Rattle.std.proofs.Common.{◌≡◌, ◌∙◌, ℕ, ◌<◌, Bool, true, false, not, ◌&&◌, ◌||◌, List, [], ◌∷◌, ◌++◌, length, map, Option, Some, None, Result, Ok, Err, ◌⊎◌, inl, inr, unwrap_or, nat_le, refl, sym, ap, subst, cc, arith, if◌then◌else◌}
+use Rattle.std.specs.List.{list_any, position}
+use Rattle.std.specs.Str.{bytes_eq}
+use Rattle.std.specs.Prelude.{is_some}
+use Rattle.std.proofs.lemmas.Bool.{or_parts, cases_Bool, false_from_ne_true, true≢false}
+use Rattle.std.proofs.lemmas.Bool.Decides.{nat_tests}
+use Rattle.std.proofs.lemmas.Slice.Eq.{bytes_eq-Decides}
+use Rattle.ndn_name.specs.Names.{Component, encoding}
+use Rattle.script_lang.specs.declared.line.Line.{Line}
+use Rattle.script_lang.specs.declared.line.Line.TheVariants as line
+use Rattle.script_lang.specs.declared.verb.Verb.TheVariants as verb
+use Rattle.script_lang.specs.declared.line_fault.LineFault.{LineFault}
+use Rattle.script_lang.specs.declared.line_fault.LineFault.TheVariants as line_fault
+use Rattle.script_lang.specs.declared.check_fault.CheckFault.{CheckFault}
+use Rattle.script_lang.specs.declared.check_fault.CheckFault.TheVariants as check_fault
+use Rattle.script_lang.specs.Kinds.{Value, Text, Named, Octets}
+use Rattle.script_lang.specs.Forms.{Stated, said, stated}
+use Rattle.script_lang.specs.Lines.{line_of}
+use Rattle.script_lang.specs.Reading.{Tells}
+use Rattle.script_lang.specs.Checking.{Declared, Party, after_line, after_event, after_group, are_known, are_within_limits, with_totals, adds, declared_then, is_among, is_there, label_of, may_declare, party}
+use Rattle.svs_vector.specs.Rosters.{is_same_name, member_of}
+use Rattle.group_model.specs.World.{World, opening_world}
+use Rattle.group_model.specs.Steps.{after_event as after_group_event}
+use Rattle.group_model.specs.Refusals as group
+use Rattle.repo_member.specs.Groups.{GroupKeys, is_name_taken}
+use Rattle.repo_member.proofs.GroupLemmas.{none_found}
+use Rattle.bench_world.specs.Worlds.{drawing}
+use Rattle.bench_world.specs.EventValues.{EventValue, group_event, telling}
+use Rattle.repo_top.specs.declared.refusal.Refusal.TheVariants as refusal
+use Rattle.repo_top.specs.SaidEvents.{said_event}
+use Rattle.repo_top.specs.ToldTexts.{told_text}
+use Rattle.repo_top.specs.Judging.{Given, State, Verdict, says, refused, acted, acted_by, checked, event_refused, found_world, group_named, judged, judged_line, line_taken, outside_of, stepped, with_client_too, with_member_too}
+use Rattle.repo_top.specs.Progressing.{IsStop, node_of}
+use Rattle.repo_top.specs.Stopping.{check_stop, line_stop}
+
+-- ---- octets
+
+pub judged_none : (given : Given) (s : State) (octets : List ℕ) → line_of octets ≡ Ok None → judged given s octets ≡ says [] s
+unfolding judged
+judged_none given s octets h = rw h refl
+
+pub judged_some : (given : Given) (s : State) (octets : List ℕ) (l : Stated) → line_of octets ≡ Ok (Some l)
+    → judged given s octets ≡ judged_line given s l
+unfolding judged
+judged_some given s octets l h = rw h refl
+
+pub judged_fault : (given : Given) (s : State) (octets : List ℕ) (fault : LineFault) → Tells fault (line_of octets)
+    → IsStop (judged given s octets) (line_stop fault)
+unfolding judged
+judged_fault given s octets line_fault.Syntax h = rw h refl
+judged_fault given s octets line_fault.Limit h = rw h refl
+judged_fault given s octets line_fault.NoMemory h = tt
+
+-- ---- lines that are refused
+
+pub refused_line : (given : Given) (s : State) (l : Stated) (fault : CheckFault)
+    → (fault ≡ check_fault.NoMemory) ⊎ (after_line s.declared l ≡ Err fault)
+    → IsStop (judged_line given s l) (check_stop fault)
+refused_line given s l fault (inl out) = subst (λ f. IsStop (judged_line given s l) (check_stop f)) (sym out) tt
+refused_line given s l fault (inr h) = go fault h where
+  go : (f : CheckFault) → after_line s.declared l ≡ Err f → IsStop (judged_line given s l) (check_stop f)
+  unfolding judged_line
+  go check_fault.NoGroup k = rw k refl
+  go check_fault.Late k = rw k refl
+  go check_fault.UnknownLabel k = rw k refl
+  go check_fault.Duplicate k = rw k refl
+  go check_fault.Limit k = rw k refl
+  go check_fault.TooLarge k = rw k refl
+  go check_fault.NoMemory k = tt
+
+-- ---- lines that are taken
+
+pub taken_line : (given : Given) (s : State) (d : Declared) (l : Stated) → after_line s.declared l ≡ Ok d
+    → judged_line given s l ≡ line_taken given s d l
+unfolding judged_line
+taken_line given s d l h = rw h refl
+
+pub group_says : (given : Given) (s : State) (d : Declared) (name : List Component)
+    → line_taken given s d (said verb.Group (Named name ∷ []))
+    ≡ says [] (record { declared = d; keys = group_named name; world = s.world })
+unfolding line_taken
+group_says given s d name = refl
+
+pub member_says : (given : Given) (s : State) (d : Declared) (label : List ℕ) (node : List Component) (key : List ℕ)
+    → line_taken given s d (said verb.Member (Text label ∷ Named node ∷ Octets key ∷ []))
+    ≡ says [] (record { declared = d; keys = with_member_too node key s.keys; world = s.world })
+unfolding line_taken
+member_says given s d label node key = refl
+
+pub client_says : (given : Given) (s : State) (d : Declared) (label : List ℕ) (node : List Component) (key : List ℕ)
+    → line_taken given s d (said verb.Client (Text label ∷ Named node ∷ Octets key ∷ []))
+    ≡ says [] (record { declared = d; keys = with_client_too node key s.keys; world = s.world })
+unfolding line_taken
+client_says given s d label node key = refl
+
+-- A member or a client may be declared where the group is, no event was, nobody has its label or its name, and there are
+-- few of its kind.
+pub record MayDeclare (d : Declared) (p : Party) (count : ℕ) : Type 0 where
+  pub group : d.group ≡ true
+  pub early : d.events ≡ false
+  pub apart : is_there d p ≡ false
+  pub few : count < 16
+
+may : (d : Declared) (p : Party) (count : ℕ) (after e : Declared) → declared_then (may_declare d p count) after ≡ Ok e
+    → MayDeclare d p count × (after ≡ e)
+may d p count after e h = go d.group d.events (is_there d p) (nat_le 16 count) refl refl refl refl h where
+  go : (group events there full : Bool) → d.group ≡ group → d.events ≡ events → is_there d p ≡ there
+      → nat_le 16 count ≡ full
+      → declared_then (if not group then Err check_fault.NoGroup else if events then Err check_fault.Late
+      else if there then Err check_fault.Duplicate else if full then Err check_fault.Limit else Ok tt) after ≡ Ok e
+      → MayDeclare d p count × (after ≡ e)
+  go false events there full g v t f k = absurd cc
+  go true true there full g v t f k = absurd cc
+  go true false true full g v t f k = absurd cc
+  go true false false true g v t f k = absurd cc
+  go true false false false g v t f k =
+      (record { group = g; early = v; apart = t; few = grind (arith, nat_tests, f) }, cc)
+
+pub member_declares : (d e : Declared) (label : List ℕ) (node : List Component) (key : List ℕ)
+    → after_line d (said verb.Member (Text label ∷ Named node ∷ Octets key ∷ [])) ≡ Ok e
+    → MayDeclare d (party label node) (length d.members) × (record d { members = d.members ++ party label node ∷ [] } ≡ e)
+member_declares d e label node key h = may d (party label node) (length d.members) _ e h
+
+pub client_declares : (d e : Declared) (label : List ℕ) (node : List Component) (key : List ℕ)
+    → after_line d (said verb.Client (Text label ∷ Named node ∷ Octets key ∷ [])) ≡ Ok e
+    → MayDeclare d (party label node) (length d.clients) × (record d { clients = d.clients ++ party label node ∷ [] } ≡ e)
+client_declares d e label node key h = may d (party label node) (length d.clients) _ e h
+
+pub group_declares : (d e : Declared) (name : List Component)
+    → after_line d (said verb.Group (Named name ∷ [])) ≡ Ok e
+    → (d.group ≡ false) × (record d { group = true } ≡ e)
+group_declares d e name h = go d.group refl h where
+  go : (group : Bool) → d.group ≡ group → (if group then Err check_fault.Duplicate else Ok (record d { group = true })) ≡ Ok e
+      → (d.group ≡ false) × (record d { group = true } ≡ e)
+  go true g k = absurd cc
+  go false g k = (g, cc)
+
+-- A name that no party has is that of nobody in the group.
+flips : (x y : List ℕ) → bytes_eq x y ≡ bytes_eq y x
+flips x y = elim (cases_Bool (bytes_eq x y)) [
+  | inl same ↦ same ∙ sym ((bytes_eq-Decides y x).1 (sym ((bytes_eq-Decides x y).0 same)))
+  | inr apart ↦ apart ∙ sym (false_from_ne_true (bytes_eq y x)
+      (λ same. true≢false (sym ((bytes_eq-Decides x y).1 (sym ((bytes_eq-Decides y x).0 same))) ∙ apart)))
+]
+
+nobody_has : (label : List ℕ) (node : List Component) (parties : List Party) → is_among (party label node) parties ≡ false
+    → list_any (is_same_name node) (map node_of parties) ≡ false
+nobody_has label node [] h = refl
+nobody_has label node (q ∷ parties) h =
+    let both = or_parts (bytes_eq q.label label || bytes_eq (encoding q.node) (encoding node)) _ h in
+    let apart = or_parts (bytes_eq q.label label) (bytes_eq (encoding q.node) (encoding node)) both.0 in
+    rw (flips (encoding node) (encoding q.node), apart.1) (nobody_has label node parties both.1)
+
+pub is_free : (d : Declared) (keys : GroupKeys) (label : List ℕ) (node : List Component)
+    → map node_of d.members ≡ keys.members.names → map node_of d.clients ≡ keys.clients.names
+    → is_there d (party label node) ≡ false → is_name_taken keys node ≡ false
+is_free d keys label node members clients h =
+    let both = or_parts (is_among (party label node) d.members) (is_among (party label node) d.clients) h in
+    let no_member : member_of node keys.members.names ≡ None = none_found (is_same_name node) keys.members.names
+        (ap (list_any (is_same_name node)) (sym members) ∙ nobody_has label node d.members both.0) in
+    let no_client : member_of node keys.clients.names ≡ None = none_found (is_same_name node) keys.clients.names
+        (ap (list_any (is_same_name node)) (sym clients) ∙ nobody_has label node d.clients both.1) in
+    ap (λ o. is_some o || is_some (member_of node keys.clients.names)) no_member ∙ ap (λ o. is_some o) no_client
+
+-- ---- events
+
+-- The line is no declaration.
+abbrev pub IsEventLine : Line → Type 0
+IsEventLine (line.Group name) = ⊥
+IsEventLine (line.Member label name key) = ⊥
+IsEventLine (line.Client label name key) = ⊥
+IsEventLine _ = Unit {0}
+
+-- An event line that is taken: the group is there, and nothing is declared but that there was an event.
+pub record IsEvent (d e : Declared) : Type 0 where
+  pub group : e.group ≡ true
+  pub there : d.group ≡ true
+  pub events : e.events ≡ true
+  pub members : e.members ≡ d.members
+  pub clients : e.clients ≡ d.clients
+
+event_after : (d e : Declared) (l : Stated) → after_event d l ≡ Ok e → IsEvent d e
+event_after d e l h = go d.group (are_known d l) (are_within_limits (with_totals d.totals (adds l.verb l.values))) refl h where
+  go : (group known within : Bool) → d.group ≡ group
+      → (if not group then Err check_fault.NoGroup else if not known then Err check_fault.UnknownLabel
+      else if not within then Err check_fault.TooLarge
+      else Ok (record d { events = true; totals = with_totals d.totals (adds l.verb l.values) })) ≡ Ok e
+      → IsEvent d e
+  go false known within g k = absurd cc
+  go true false within g k = absurd cc
+  go true true false g k = absurd cc
+  go true true true g k =
+      let after : record d { events = true; totals = with_totals d.totals (adds l.verb l.values) } ≡ e = cc in
+      record {
+        group = ap (λ (f : Declared). f.group) (sym after) ∙ g;
+        there = g;
+        events = ap (λ (f : Declared). f.events) (sym after);
+        members = ap (λ (f : Declared). f.members) (sym after);
+        clients = ap (λ (f : Declared). f.clients) (sym after);
+      }
+
+pub event_says : (given : Given) (s : State) (d : Declared) (l : Line) → IsEventLine l
+    → line_taken given s d (stated l) ≡ acted_by given s d (stated l)
+unfolding line_taken
+event_says given s d (line.Group name) is = absurd is
+event_says given s d (line.Member label name key) is = absurd is
+event_says given s d (line.Client label name key) is = absurd is
+event_says given s d l is = refl
+
+pub event_declares : (d e : Declared) (l : Line) → IsEventLine l → after_line d (stated l) ≡ Ok e → IsEvent d e
+event_declares d e (line.Group name) is h = absurd is
+event_declares d e (line.Member label name key) is h = absurd is
+event_declares d e (line.Client label name key) is h = absurd is
+event_declares d e l is h = event_after d e (stated l) h
+
+pub acts : (given : Given) (s : State) (d : Declared) (l : Stated) (e : EventValue) → Some e ≡ said_event d l
+    → acted_by given s d l ≡ acted given s d e
+unfolding acted_by
+acts given s d l e h = rw (sym h) refl
+
+pub acts_not : (given : Given) (s : State) (d : Declared) (l : Stated) → None ≡ said_event d l
+    → acted_by given s d l ≡ refused refusal.Syntax
+unfolding acted_by
+acts_not given s d l h = rw (sym h) refl
+
+pub acted_says : (given : Given) (s : State) (d : Declared) (e : EventValue)
+    → group.refusal (outside_of given s.keys) (found_world given s) (group_event s.keys e) ≡ None
+    → acted given s d e ≡ says (told_text (map label_of d.members)
+    (telling s.keys (outside_of given s.keys) (found_world given s) e))
+    (record {
+      declared = d;
+      keys = s.keys;
+      world = Some (after_group_event (outside_of given s.keys) (found_world given s) (group_event s.keys e));
+    })
+unfolding acted
+acted_says given s d e h = rw h refl

@@ -1,0 +1,24 @@
+-- The labels of all members, in order, are the labels.
+use Rattle.std.proofs.Common.{◌≡◌, ℕ, ◌+◌, List, [], ◌∷◌, ◌++◌, length, length-append, map, refl, subst, append_assoc}
+use Rattle.std.proofs.Math.Seq.{get_or-append_seam}
+use Rattle.repo_plan.specs.Parts.{numbers_from}
+use Rattle.repo_top.specs.ToldTexts.{label_at}
+
+labels_behind : (front rest : List (List ℕ))
+    → map (label_at (front ++ rest)) (numbers_from (length front) (length rest)) ≡ rest
+labels_behind front [] = refl
+labels_behind front (label ∷ rest) =
+    let all = front ++ label ∷ rest in
+    let longer = front ++ label ∷ [] in
+    let here : label_at all (length front) ≡ label = get_or-append_seam front label rest [] in
+    let named : map (label_at all) (numbers_from (length longer) (length rest)) ≡ rest =
+        subst (λ (labels : List (List ℕ)). map (label_at labels) (numbers_from (length longer) (length rest)) ≡ rest)
+        (append_assoc front (label ∷ []) rest) (labels_behind longer rest) in
+    let behind : map (label_at all) (numbers_from (length front + 1) (length rest)) ≡ rest =
+        subst (λ (n : ℕ). map (label_at all) (numbers_from n (length rest)) ≡ rest)
+        (length-append front (label ∷ [])) named in
+    cc
+
+pub labels_of_all : (labels : List (List ℕ)) (n : ℕ) (members : List ℕ) → n ≡ length labels
+    → members ≡ numbers_from 0 n → map (label_at labels) members ≡ labels
+labels_of_all labels n members count all = rw (all, count) (labels_behind [] labels)

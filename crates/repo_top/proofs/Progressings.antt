@@ -1,0 +1,244 @@
+-- What a line changes of what is kept, by what it states.
+use Rattle.std.proofs.Common.{◌≡◌, ◌∙◌, ℕ, ◌+◌, ◌≤◌, ◌<◌, Bool, true, false, List, [], ◌∷◌, ◌++◌, length, map, Option, Some, None, Ok, refl, sym, ap, subst, cc, arith}
+use Rattle.std.proofs.lemmas.Bool.{true≢false, false≢true}
+use Rattle.std.proofs.lemmas.List.{length-map, map-append}
+use Rattle.ndn_name.specs.Names.{Component}
+use Rattle.script_lang.specs.declared.line.Line.{Line}
+use Rattle.script_lang.specs.declared.verb.Verb.{Verb}
+use Rattle.script_lang.specs.declared.verb.Verb.TheVariants as verb
+use Rattle.script_lang.specs.Kinds.{Text, Named, Octets}
+use Rattle.script_lang.specs.Forms.{Stated, said, stated}
+use Rattle.script_lang.specs.Checking.{Declared, Party, after_line, label_of, party}
+use Rattle.group_model.specs.World.{World}
+use Rattle.repo_member.specs.Groups.{GroupKeys, IsKey, IsPlainNodeName, is_name_taken}
+use Rattle.bench_world.specs.EventValues.{EventValue}
+use Rattle.repo_top.specs.declared.progress.Stage.{Stage}
+use Rattle.repo_top.specs.declared.progress.Stage.TheVariants.{Opening, Declaring, Acting}
+use Rattle.repo_top.specs.Judging.{Given, State, Verdict, says, acted, acted_by, acted_if, group_named, judged_line, line_taken, no_group, taken_by, with_client_too, with_member_too}
+use Rattle.repo_top.specs.Progressing.{AreNamed, IsChecked, IsLine, Stands, StatesFit, has_group, has_world, keys_in, node_of, state_of, world_in}
+use Rattle.repo_top.specs.SaidEvents.{said_event}
+use Rattle.repo_top.proofs.Fitting.{client_fits, event_fits, group_fits, member_fits}
+use Rattle.repo_top.proofs.Judgings.{IsEvent, IsEventLine, MayDeclare, client_declares, client_says, event_declares, event_says, group_declares, group_says, is_free, member_declares, member_says, taken_line}
+
+-- Nothing but what a line declares matters where it is taken.
+same_acted : (given : Given) (stage : Stage) (d e : Declared) (o : Option EventValue)
+    → acted_if given (state_of stage d) e o ≡ acted_if given (state_of stage e) e o
+unfolding acted
+same_acted given stage d e None = refl
+same_acted given stage d e (Some v) = refl
+
+same_acted_by : (given : Given) (stage : Stage) (d e : Declared) (s : Stated)
+    → acted_by given (state_of stage d) e s ≡ acted_by given (state_of stage e) e s
+unfolding acted_by
+same_acted_by given stage d e s = same_acted given stage d e (said_event e s)
+
+same_taken : (given : Given) (stage : Stage) (d e : Declared) (v : Verb) (s : Stated)
+    → taken_by v given (state_of stage d) e s ≡ taken_by v given (state_of stage e) e s
+same_taken given stage d e verb.Group s = refl
+same_taken given stage d e verb.Member s = refl
+same_taken given stage d e verb.Client s = refl
+same_taken given stage d e v s = same_acted_by given stage d e s
+
+pub line_is_taken : (given : Given) (stage : Stage) (d e : Declared) (s : Stated) → after_line d s ≡ Ok e
+    → judged_line given (state_of stage d) s ≡ line_taken given (state_of stage e) e s
+unfolding line_taken
+line_is_taken given stage d e s after =
+    taken_line given (state_of stage d) e s after ∙ same_taken given stage d e s.verb s
+
+no_world : (stage : Stage) → has_world stage ≡ false → world_in stage ≡ None
+no_world Opening h = refl
+no_world (Declaring group) h = refl
+no_world (Acting world) h = absurd (true≢false h)
+
+-- Nothing is kept before the group's line.
+record IsOpening (stage : Stage) : Type 0 where
+  keys : keys_in stage ≡ no_group
+  world : world_in stage ≡ None
+  early : has_world stage ≡ false
+
+is_opening : (stage : Stage) → has_group stage ≡ false → IsOpening stage
+is_opening Opening h = record { keys = refl; world = refl; early = refl }
+is_opening (Declaring group) h = absurd (true≢false h)
+is_opening (Acting world) h = absurd (true≢false h)
+
+-- The verdict of a line that declares something, and has no report.
+abbrev pub Says : Given → Stage → Declared → Stated → GroupKeys → Type 0
+Says given stage e s keys =
+    line_taken given (state_of stage e) e s ≡ says [] (record { declared = e; keys = keys; world = None })
+
+-- ---- the group
+
+pub record Grouped (given : Given) (labels : List (List ℕ)) (stage : Stage) (e : Declared) (s : Stated)
+    (name : List Component) : Type 0 where
+  pub name : IsPlainNodeName name
+  pub group : e.group ≡ true
+  pub early : e.events ≡ false
+  pub named : AreNamed labels (group_named name) e
+  pub says : Says given stage e s (group_named name)
+
+grouped_at : (given : Given) (labels : List (List ℕ)) (stage : Stage) (e : Declared) (name : List Component)
+    → IsChecked labels stage e (said verb.Group (Named name ∷ []))
+    → Grouped given labels stage e (said verb.Group (Named name ∷ [])) name
+grouped_at given labels stage e name c =
+    let opens = group_declares c.before e name c.after in
+    let none = is_opening stage (sym c.stands.group ∙ opens.0) in
+    let empty : AreNamed labels no_group c.before = subst (λ keys. AreNamed labels keys c.before) none.keys c.stands.named in
+    let new : AreNamed labels (group_named name) (record c.before { group = true }) =
+        record { labels = empty.labels; members = empty.members; clients = empty.clients } in
+    record {
+      name = group_fits c.line.octets name c.line.read;
+      group = ap (λ (x : Declared). x.group) (sym opens.1);
+      early = ap (λ (x : Declared). x.events) (sym opens.1) ∙ c.stands.events ∙ none.early;
+      named = subst (AreNamed labels (group_named name)) opens.1 new;
+      says = group_says given (state_of stage e) e name
+          ∙ ap (λ (w : Option World). says [] (record { declared = e; keys = group_named name; world = w })) none.world;
+    }
+
+pub grouped : (given : Given) (labels : List (List ℕ)) (stage : Stage) (e : Declared) (s : Stated) (name : List Component)
+    → s ≡ said verb.Group (Named name ∷ []) → IsChecked labels stage e s → Grouped given labels stage e s name
+grouped given labels stage e s name is c =
+    subst (λ (x : Stated). Grouped given labels stage e x name) (sym is)
+    (grouped_at given labels stage e name (subst (IsChecked labels stage e) is c))
+
+-- ---- members and clients
+
+-- A name and a key are kept in addition, and then the labels and names are these.
+pub record Declares (given : Given) (labels : List (List ℕ)) (stage : Stage) (e : Declared) (s : Stated)
+    (node : List Component) (key : List ℕ) (keys : GroupKeys) : Type 0 where
+  pub node : IsPlainNodeName node
+  pub key : IsKey key
+  pub group : e.group ≡ true
+  pub early : e.events ≡ false
+  pub there : has_group stage ≡ true
+  pub unchanged : has_world stage ≡ false
+  pub apart : is_name_taken (keys_in stage) node ≡ false
+  pub named : AreNamed labels keys e
+  pub says : Says given stage e s keys
+
+abbrev pub MemberDeclares : Given → List (List ℕ) → Stage → Declared → Stated → List ℕ → List Component → List ℕ → Type 0
+MemberDeclares given labels stage e s label node key =
+    Declares given (labels ++ label ∷ []) stage e s node key (with_member_too node key (keys_in stage))
+    × (length (keys_in stage).members.names < 16)
+
+member_at : (given : Given) (labels : List (List ℕ)) (stage : Stage) (e : Declared) (label : List ℕ)
+    (node : List Component) (key : List ℕ)
+    → IsChecked labels stage e (said verb.Member (Text label ∷ Named node ∷ Octets key ∷ []))
+    → MemberDeclares given labels stage e (said verb.Member (Text label ∷ Named node ∷ Octets key ∷ [])) label node key
+member_at given labels stage e label node key c =
+    let d = c.before in
+    let both = member_declares d e label node key c.after in
+    let may = both.0 in
+    let was = c.stands.named in
+    let fits = member_fits c.line.octets label node key c.line.read in
+    let unchanged = sym c.stands.events ∙ may.early in
+    let new : AreNamed (labels ++ label ∷ []) (with_member_too node key (keys_in stage))
+        (record c.before { members = c.before.members ++ party label node ∷ [] }) = record {
+      labels = ap (λ (xs : List (List ℕ)). xs ++ label ∷ []) was.labels ∙ sym (map-append label_of d.members (party label node ∷ []));
+      members = map-append node_of d.members (party label node ∷ [])
+          ∙ ap (λ (xs : List (List Component)). xs ++ node ∷ []) was.members;
+      clients = was.clients;
+    } in
+    (
+      record {
+        node = fits.0;
+        key = fits.1;
+        group = ap (λ (x : Declared). x.group) (sym both.1) ∙ may.group;
+        early = ap (λ (x : Declared). x.events) (sym both.1) ∙ may.early;
+        there = sym c.stands.group ∙ may.group;
+        unchanged = unchanged;
+        apart = is_free d (keys_in stage) label node was.members was.clients may.apart;
+        named = subst (AreNamed (labels ++ label ∷ []) (with_member_too node key (keys_in stage))) both.1 new;
+        says = member_says given (state_of stage e) e label node key
+            ∙ ap (λ (w : Option World). says [] (record {
+              declared = e;
+              keys = with_member_too node key (keys_in stage);
+              world = w;
+            })) (no_world stage unchanged);
+      },
+      subst (λ n. n < 16) (sym (length-map d.members node_of) ∙ ap (λ (xs : List (List Component)). length xs) was.members) may.few,
+    )
+
+pub member_declared : (given : Given) (labels : List (List ℕ)) (stage : Stage) (e : Declared) (s : Stated) (label : List ℕ)
+    (node : List Component) (key : List ℕ) → s ≡ said verb.Member (Text label ∷ Named node ∷ Octets key ∷ [])
+    → IsChecked labels stage e s → MemberDeclares given labels stage e s label node key
+member_declared given labels stage e s label node key is c =
+    subst (λ (x : Stated). MemberDeclares given labels stage e x label node key) (sym is)
+    (member_at given labels stage e label node key (subst (IsChecked labels stage e) is c))
+
+abbrev pub ClientDeclares : Given → List (List ℕ) → Stage → Declared → Stated → List Component → List ℕ → Type 0
+ClientDeclares given labels stage e s node key =
+    Declares given labels stage e s node key (with_client_too node key (keys_in stage))
+    × (length (keys_in stage).clients.names < 16)
+
+client_at : (given : Given) (labels : List (List ℕ)) (stage : Stage) (e : Declared) (label : List ℕ)
+    (node : List Component) (key : List ℕ)
+    → IsChecked labels stage e (said verb.Client (Text label ∷ Named node ∷ Octets key ∷ []))
+    → ClientDeclares given labels stage e (said verb.Client (Text label ∷ Named node ∷ Octets key ∷ [])) node key
+client_at given labels stage e label node key c =
+    let d = c.before in
+    let both = client_declares d e label node key c.after in
+    let may = both.0 in
+    let was = c.stands.named in
+    let fits = client_fits c.line.octets label node key c.line.read in
+    let unchanged = sym c.stands.events ∙ may.early in
+    let new : AreNamed labels (with_client_too node key (keys_in stage))
+        (record c.before { clients = c.before.clients ++ party label node ∷ [] }) = record {
+      labels = was.labels;
+      members = was.members;
+      clients = map-append node_of d.clients (party label node ∷ [])
+          ∙ ap (λ (xs : List (List Component)). xs ++ node ∷ []) was.clients;
+    } in
+    (
+      record {
+        node = fits.0;
+        key = fits.1;
+        group = ap (λ (x : Declared). x.group) (sym both.1) ∙ may.group;
+        early = ap (λ (x : Declared). x.events) (sym both.1) ∙ may.early;
+        there = sym c.stands.group ∙ may.group;
+        unchanged = unchanged;
+        apart = is_free d (keys_in stage) label node was.members was.clients may.apart;
+        named = subst (AreNamed labels (with_client_too node key (keys_in stage))) both.1 new;
+        says = client_says given (state_of stage e) e label node key
+            ∙ ap (λ (w : Option World). says [] (record {
+              declared = e;
+              keys = with_client_too node key (keys_in stage);
+              world = w;
+            })) (no_world stage unchanged);
+      },
+      subst (λ n. n < 16) (sym (length-map d.clients node_of) ∙ ap (λ (xs : List (List Component)). length xs) was.clients) may.few,
+    )
+
+pub client_declared : (given : Given) (labels : List (List ℕ)) (stage : Stage) (e : Declared) (s : Stated) (label : List ℕ)
+    (node : List Component) (key : List ℕ) → s ≡ said verb.Client (Text label ∷ Named node ∷ Octets key ∷ [])
+    → IsChecked labels stage e s → ClientDeclares given labels stage e s node key
+client_declared given labels stage e s label node key is c =
+    subst (λ (x : Stated). ClientDeclares given labels stage e x node key) (sym is)
+    (client_at given labels stage e label node key (subst (IsChecked labels stage e) is c))
+
+-- ---- events
+
+pub record Acts (given : Given) (labels : List (List ℕ)) (stage : Stage) (e : Declared) (s : Stated) : Type 0 where
+  pub fit : StatesFit e s
+  pub named : AreNamed labels (keys_in stage) e
+  pub group : e.group ≡ true
+  pub events : e.events ≡ true
+  pub there : has_group stage ≡ true
+  pub acts : line_taken given (state_of stage e) e s ≡ acted_by given (state_of stage e) e s
+
+pub event_acts : (given : Given) (labels : List (List ℕ)) (stage : Stage) (e : Declared) (l : Line) → IsEventLine l
+    → IsChecked labels stage e (stated l) → Acts given labels stage e (stated l)
+event_acts given labels stage e l is c =
+    let event = event_declares c.before e l is c.after in
+    let was = c.stands.named in
+    record {
+      fit = record { fits = λ v says. event_fits c.line.octets c.before e (stated l) v c.line.read c.after says };
+      named = record {
+        labels = was.labels ∙ ap (map label_of) (sym event.members);
+        members = ap (map node_of) event.members ∙ was.members;
+        clients = ap (map node_of) event.clients ∙ was.clients;
+      };
+      group = event.group;
+      events = event.events;
+      there = sym c.stands.group ∙ event.there;
+      acts = event_says given (state_of stage e) e l is;
+    }

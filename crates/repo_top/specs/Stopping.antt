@@ -1,0 +1,44 @@
+-- Why a line is not taken, by the faults of what it calls for.
+use Rattle.std.specs.Prelude.{ℕ, ◌==◌, if◌then◌else◌}
+use Rattle.script_lang.specs.declared.line_fault.LineFault.{LineFault}
+use Rattle.script_lang.specs.declared.line_fault.LineFault.TheVariants as line_fault
+use Rattle.script_lang.specs.declared.check_fault.CheckFault.{CheckFault}
+use Rattle.script_lang.specs.declared.check_fault.CheckFault.TheVariants as check_fault
+use Rattle.repo_member.specs.declared.group_fault.GroupFault.{GroupFault}
+use Rattle.repo_member.specs.declared.group_fault.GroupFault.TheVariants as group_fault
+use Rattle.bench_world.specs.declared.event.StepFault.{StepFault}
+use Rattle.bench_world.specs.declared.event.StepFault.TheVariants as step_fault
+use Rattle.repo_top.specs.declared.refusal.Refusal.{Refusal}
+use Rattle.repo_top.specs.declared.refusal.Refusal.TheVariants as refusal
+use Rattle.repo_top.specs.declared.stop.Stop.{Stop}
+use Rattle.repo_top.specs.declared.stop.Stop.TheVariants.{Refused, Foreign, NoMemory}
+
+abbrev pub line_stop : LineFault → Stop
+line_stop line_fault.Syntax = Refused refusal.Syntax
+line_stop line_fault.Limit = Refused refusal.Limit
+line_stop line_fault.NoMemory = NoMemory
+
+abbrev pub check_stop : CheckFault → Stop
+check_stop check_fault.NoGroup = Refused refusal.NoGroup
+check_stop check_fault.Late = Refused refusal.Late
+check_stop check_fault.UnknownLabel = Refused refusal.UnknownLabel
+check_stop check_fault.Duplicate = Refused refusal.Duplicate
+check_stop check_fault.Limit = Refused refusal.Limit
+check_stop check_fault.TooLarge = Refused refusal.TooLarge
+check_stop check_fault.NoMemory = NoMemory
+
+abbrev pub group_stop : GroupFault → Stop
+group_stop group_fault.Duplicate = Refused refusal.Duplicate
+group_stop group_fault.Full = Refused refusal.Limit
+group_stop group_fault.NoMemory = NoMemory
+
+-- The refusal of an event that has this number.
+abbrev pub step_refusal : ℕ → Refusal
+step_refusal number =
+    if number == 5 then refusal.NoSuchPacket else if number == 6 then refusal.FetcherBusy
+    else if number == 7 then refusal.FetcherIdle else refusal.NumbersSpent
+
+abbrev pub step_stop : StepFault → Stop
+step_stop (step_fault.Refused number) = Refused (step_refusal number)
+step_stop step_fault.Foreign = Foreign
+step_stop step_fault.NoMemory = NoMemory
