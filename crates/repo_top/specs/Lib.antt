@@ -16,3 +16,4 @@ pub mod Inspection
 pub mod Generator
 pub mod Forms
 pub mod Answers
+pub mod Headline
