@@ -9,3 +9,5 @@ pub mod HeadlineLines
 pub mod HeadlineGroups
 pub mod HeadlineCatalogues
 pub mod HeadlineSettles
+pub mod LineLaws
+pub mod Readings

@@ -1,5 +1,6 @@
-ghost use Rattle.std.specs.Prelude.{◌≡◌, ◌<◌, ◌≤◌, ◌+◌, [], length, drop, Ok, IfOk, IfSome, MatchOption, OnErr};
+ghost use Rattle.std.specs.Prelude.{◌≡◌, ◌<◌, ◌≤◌, ◌+◌, ◌-◌, false, [], length, take, drop, slice_range, Ok, IfOk, IfSome, MatchOption, OnErr, ◌==◌, position};
 ghost use Rattle.std.specs.Io.KnownBytes.{IsAtEnd, Keeps, prepend_known};
+ghost use Rattle.repo_top.specs.Lines.{has_feed};
 ghost use Rattle.repo_top.specs.Outside.{HasRisen};
 ghost use Rattle.repo_top.specs.Reading.{HasLine, IsBegun, IsNext};
 
@@ -98,13 +99,12 @@ impl LineReader {
         ensures few { length self.new ≤ 65536 }
         ensures line { MatchOption result (IsBegun self.new) (λ count. HasLine count self.new) }
     {
-        let unsearched = &self.room[self.searched..self.end];
-        if let Some(at) = unsearched.iter().position(|octet| *octet == b'\n') {
-            return Some(self.searched + at + 1 - self.start);
+        let held = &self.room[self.start..self.end];
+        let found = find_line(held, self.searched - self.start);
+        if found.is_none() {
+            self.searched = self.end;
         }
-        self.searched = self.end;
-        let held = self.end - self.start;
-        (held > LINE_LIMIT).then_some(held)
+        found
     }
 
     // Reads as many octets as one call gives, and tells how many.
@@ -113,20 +113,69 @@ impl LineReader {
         ensures kept { Keeps (prepend_known self.old (S.left source.old)) (prepend_known self.new (S.left source.new)) }
         ensures count { IfOk result (λ n. length self.new ≡ length self.old + n) }
         ensures few { length self.new ≤ 65536 }
-        ensures end { result ≡ Ok 0 → IsAtEnd (S.left source.new) }
-        ensures none { result ≡ Ok 0 → self.new ≡ self.old }
+        ensures end { result ≡ Ok 0 → IsAtEnd (S.left source.new) × (self.new ≡ self.old) }
         ensures failed { OnErr result (self.new ≡ self.old) }
         ensures risen { OnErr result (HasRisen (S.faults source.old) (S.faults source.new)) }
         ensures faults { S.faults source.old ≤ S.faults source.new }
     {
-        if self.end == self.room.len() {
-            self.room.copy_within(self.start..self.end, 0);
-            self.end -= self.start;
-            self.searched -= self.start;
-            self.start = 0;
-        }
-        let count = source.read(&mut self.room[self.end..])?;
-        self.end += count;
+        let held = self.end - self.start;
+        move_to_front(&mut self.room, self.start, self.end);
+        self.start = 0;
+        self.end = held;
+        self.searched = held;
+        let count = read_behind(source, &mut self.room, held)?;
+        self.end = held + count;
         Ok(count)
     }
+}
+
+// How many octets are the first line, of which the first so many have no line feed, or are too long for one.
+fn find_line(held: &[u8], searched: usize) -> Option<usize>
+    requires within { searched ≤ length held.now }
+    requires free { has_feed (take searched held.now) ≡ false }
+    ensures { MatchOption result (IsBegun held.now) (λ count. HasLine count held.now) }
+{
+    let (_, unsearched) = held.split_at(searched);
+    match find_feed(unsearched) {
+        Some(at) => Some(searched + at + 1),
+        None => (held.len() > LINE_LIMIT).then_some(held.len()),
+    }
+}
+
+fn find_feed(octets: &[u8]) -> Option<usize>
+    ensures place { result ≡ position (λ octet. octet == 10) octets.now }
+    ensures within { IfSome result (λ at. at < length octets.now) }
+{
+    octets.iter().position(|octet| *octet == b'\n')
+}
+
+// Moves the octets between two places to the front. The others are of no more use.
+fn move_to_front(room: &mut [u8], start: usize, end: usize)
+    requires low { start ≤ end }
+    requires high { end ≤ length room.old }
+    ensures { take (end - start) room.new ≡ slice_range room.old start end }
+{
+    if start > 0 {
+        room.copy_within(start..end, 0);
+    }
+}
+
+// Reads octets behind the first so many of the room.
+fn read_behind<S: Source>(
+    source: &mut S,
+    room: &mut [u8],
+    held: usize,
+) -> Result<usize, Failed>
+    requires { held < length room.old }
+    ensures front { take held room.new ≡ take held room.old }
+    ensures count { IfOk result (λ n. held + n ≤ length room.old) }
+    ensures kept { IfOk result (λ n. Keeps (prepend_known (take held room.old) (S.left source.old))
+        (prepend_known (take (held + n) room.new) (S.left source.new))) }
+    ensures end { result ≡ Ok 0 → IsAtEnd (S.left source.new) }
+    ensures failed { OnErr result (Keeps (S.left source.old) (S.left source.new)) }
+    ensures risen { OnErr result (HasRisen (S.faults source.old) (S.faults source.new)) }
+    ensures faults { S.faults source.old ≤ S.faults source.new }
+{
+    let (_, free) = room.split_at_mut(held);
+    source.read(free)
 }
