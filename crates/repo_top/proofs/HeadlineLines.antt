@@ -1,10 +1,13 @@
 -- The lines that a story is told by.
-use Rattle.std.proofs.Common.{◌≡◌, ◌∙◌, ℕ, ◌+◌, Bool, true, false, List, [], ◌∷◌, ◌++◌, length, append_assoc, refl, sym, ap, subst, arith, if◌then◌else◌}
+use Rattle.std.proofs.Common.{◌≡◌, ◌∙◌, ℕ, ◌+◌, Bool, nat_le, true, false, List, [], ◌∷◌, ◌++◌, length, append_assoc, refl, sym, ap, subst, arith, if◌then◌else◌}
 use Rattle.std.specs.List.{concat}
+use Rattle.script_report.specs.Limits.{report_octets}
+use Rattle.script_report.specs.Texts.{foreign_text}
 use Rattle.repo_top.specs.declared.ending.Ending.{Ending}
 use Rattle.repo_top.specs.declared.ending.Ending.TheVariants.{Done, Refused, Foreign}
 use Rattle.repo_top.specs.declared.refusal.Refusal.{Refusal}
 use Rattle.repo_top.specs.declared.refusal.Refusal.TheVariants.{Limit, TooLarge}
+use Rattle.repo_top.specs.Refusals.{refusal_number, refusal_text}
 use Rattle.repo_top.specs.Judging.{Given, State, Verdict, says, foreign, judged}
 use Rattle.repo_top.specs.Judging as verdict
 use Rattle.repo_top.specs.Story.{Reached, Story, after, behind, is_within_script, judged_next, nothing_reached, story_from, told, within_report}
@@ -15,9 +18,9 @@ use Rattle.repo_top.specs.Headline.{AreTaken, AreTakenFirst, BeginsWithReports, 
 -- A report that is within bounds is that of the line.
 within : (r : Reached) (v : Verdict) (report : List ℕ) (new : State) → within_report r v ≡ says report new
     → v ≡ says report new
-within r (says told next) report new h = go (nat_le (r.reported + length told) report_octets) h where
-  go : (b : Bool) → (if b then says told next else verdict.refused TooLarge) ≡ says report new
-      → says told next ≡ says report new
+within r (says text next) report new h = go (nat_le (r.reported + length text) report_octets) h where
+  go : (b : Bool) → (if b then says text next else verdict.refused TooLarge) ≡ says report new
+      → says text next ≡ says report new
   go true k = k
   go false k = cc
 within r (verdict.refused why) report new h = h
@@ -113,12 +116,14 @@ unfolding story_from
 begins_from given r [] others [] last taken = ap (λ (s : Reached). story_from given s others) (sym taken)
 begins_from given r [] others (report ∷ reports) last taken = absurd taken
 begins_from given r (line ∷ first) others [] last taken = absurd taken
-begins_from given r (line ∷ first) others (report ∷ reports) last (next, is, taken) =
+begins_from given r (line ∷ first) others (report ∷ reports) last taken =
+    let next : Reached = taken.0 in
+    let is : IsTaken given r line report next = taken.1 in
     let rest : List ℕ = concat reports in
     let s : Story = story_from given last others in
     ap (told (λ (n : Reached). story_from given n (first ++ others)) r line) is.verdict
     ∙ ap (λ (n : Reached). behind report (story_from given n (first ++ others))) (sym is.reached)
-    ∙ ap (behind report) (begins_from given next first others reports last taken)
+    ∙ ap (behind report) (begins_from given next first others reports last taken.2)
     ∙ ap (λ (text : List ℕ). let t : Story = record { text = text; ending = s.ending; keys = s.keys; world = s.world } in t)
     (sym (append_assoc report rest s.text))
 
