@@ -1,8 +1,9 @@
 -- What `catalogue` lines print.
-use Rattle.std.proofs.Common.{◌≡◌, ◌∙◌, inl, inr, ℕ, zero, suc, ◌+◌, ◌-◌, ◌<◌, ◌≤◌, Bool, true, false, not, ◌&&◌, List, [], ◌∷◌, length, get_or, map, Option, Some, None, unwrap_or, Result, Ok, Err, refl, sym, ap, subst, arith, if◌then◌else◌}
+use Rattle.std.proofs.Common.{◌≡◌, ◌∙◌, ◌⊎◌, inl, inr, ℕ, zero, suc, ◌+◌, ◌-◌, ◌<◌, ◌≤◌, Bool, true, false, not, ◌&&◌, ◌||◌, nat_lt, List, [], ◌∷◌, length, get_or, map, Option, Some, None, unwrap_or, Result, Ok, Err, refl, sym, ap, subst, arith, if◌then◌else◌}
 use Rattle.std.specs.List.{All, filter, list_any, position, prefix_len}
 use Rattle.std.specs.Str.{bytes_eq}
 use Rattle.std.proofs.lemmas.Bool.{true≢false, cases_Bool}
+use Rattle.std.proofs.lemmas.Bool.Decides.{nat_tests}
 use Rattle.std.proofs.lemmas.List.{length-map, get_or-map}
 use Rattle.std.proofs.lemmas.List.Sums.{prefix_len_stops}
 use Rattle.std.proofs.lemmas.Slice.Eq.{bytes_eq-Decides}
@@ -15,7 +16,7 @@ use Rattle.group_model.specs.Member.{Member, catalogue, catalogued, holds_all, m
 use Rattle.group_model.specs.World.{Outside, World, catalogue_at, logs, member}
 use Rattle.group_model.specs.Sound.{IsPublished, IsSoundGroup, IsSoundMember}
 use Rattle.group_model.specs.Catalogues.{IsWhollyHeld, ListsRightly}
-use Rattle.group_model.proofs.Lists.{from_filter}
+use Rattle.group_model.proofs.Lists.{from_filter, in_at}
 use Rattle.group_model.proofs.Parts.{IsIn, in_published}
 use Rattle.group_model.proofs.PublicLaws.{lists_those, lists_in_order}
 use Rattle.script_lang.specs.declared.verb.Verb.TheVariants as verb
@@ -93,6 +94,69 @@ record IsNumberOf (label : List ℕ) (parties : List Party) (n : ℕ) : Type 0 w
   there : n < length parties
   labelled : label_at (map label_of parties) n ≡ label
 
-place : List ℕ → List Party → ℕ
-unfolding place
+abbrev place : List ℕ → List Party → ℕ
 place label parties = prefix_len (λ (p : Party). not (bytes_eq p.label label)) parties
+
+at_place : (label : List ℕ) (parties : List Party) → has_label label parties ≡ true
+    → IsNumberOf label parties (place label parties)
+at_place label [] known = cc
+at_place label (p ∷ ps) known = go (bytes_eq p.label label) refl known (at_place label ps) where
+  go : (b : Bool) → bytes_eq p.label label ≡ b → (b || has_label label ps) ≡ true
+      → (has_label label ps ≡ true → IsNumberOf label ps (place label ps))
+      → IsNumberOf label (p ∷ ps) (if not b then 1 + place label ps else 0)
+  go true is k rest = record { there = omega arith; labelled = (bytes_eq-Decides p.label label).0 is }
+  go false is k rest =
+      let behind = rest k in
+      let more : suc (place label ps) ≡ 1 + place label ps = omega arith in
+      let here : IsNumberOf label (p ∷ ps) (suc (place label ps)) =
+          record { there = omega (arith, behind.there); labelled = behind.labelled } in
+      subst (IsNumberOf label (p ∷ ps)) more here
+
+found_number : (n count : ℕ) → n < count → n ≡ unwrap_or (if nat_lt n count then Some n else None) 0
+found_number n count inside = grind (arith, nat_tests)
+
+named_by : (label : List ℕ) (parties : List Party) → has_label label parties ≡ true
+    → IsNumberOf label parties (number_of label parties)
+named_by label parties known =
+    let found = at_place label parties known in
+    subst (IsNumberOf label parties) (found_number (place label parties) (length parties) found.there) found
+
+-- ---- the line
+
+module _ (given : Given) (s : State) (sound : IsSoundState given s) (label report : List ℕ) (new : State) where
+  catalogue_of : StatedTaken given s (said verb.Catalogue (Text label ∷ [])) report new
+      → IsCatalogueOf (found_world given s) (map label_of s.declared.members) label report
+  catalogue_of t =
+      let line : IsEventLine s.declared t.d (said verb.Catalogue (Text label ∷ [])) =
+          event_line s.declared t.d (said verb.Catalogue (Text label ∷ [])) t.after in
+      let same : t.d.members ≡ s.declared.members = ap (λ (x : Declared). x.members) line.is in
+      let m : ℕ = number_of label s.declared.members in
+      let w : World = found_world given s in
+      let named : IsNumberOf label s.declared.members m =
+          named_by label s.declared.members (and_left (has_label label s.declared.members) _ line.known) in
+      let there : m < length w.members = omega (arith, named.there, sound.many) in
+      let text : List Party → List ℕ = λ ps.
+          let labels : List (List ℕ) = map label_of ps in
+          let entries : List Entry = catalogue_at w (number_of label ps) in
+          printed labels (label_at labels (number_of label ps)) entries in
+      let acts : IsActed given s t.d (EventValue.Catalogue (number_of label t.d.members)) report new =
+          acted_by given s t.d (EventValue.Catalogue (number_of label t.d.members)) report new t.is in
+      let labels : List (List ℕ) = map label_of s.declared.members in
+      record {
+        number = m;
+        there = there;
+        named = named.labelled;
+        text = acts.text ∙ ap text same ∙ ap (λ (l : List ℕ). printed labels l (catalogue_at w m)) named.labelled;
+        rightly = list_exactly (outside_of given s.keys) w m sound.sound there;
+      }
+
+pub catalogue_line : (given : Given) (r : Reached) → IsSoundState given r.state → (label report : List ℕ) (new : Reached)
+    → IsCatalogueLine given r label report new → IsCatalogueOf (group_at given r) (labels_at r) label report
+catalogue_line given r sound label report new l =
+    catalogue_of given r.state sound label report new.state
+    (stated_taken given r.state l.line report new.state (said verb.Catalogue (Text label ∷ [])) l.stated
+    (taken_line given r l.line report new l.taken))
+
+pub prints_catalogues : PrintsCatalogues
+prints_catalogues given lines reports r taken label report new l =
+    catalogue_line given r (sound_from_start given lines reports r taken) label report new l
