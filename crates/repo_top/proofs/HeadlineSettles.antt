@@ -22,7 +22,7 @@ use Rattle.repo_top.specs.SaidEvents.{number_of, said_by, said_event}
 use Rattle.repo_top.specs.Judging.{Given, State, acted_if, found_world, outside_of, says, taken_by}
 use Rattle.repo_top.specs.Story.{Reached}
 use Rattle.repo_top.specs.Headline.{AreTaken, IsCatalogueLine, IsCatalogueOf, IsJoined, IsSettleLine, IsTaken, SettlesJoin, changes_nothing, group_at, labels_at, only_tells, printed}
-use Rattle.repo_top.proofs.HeadlineGroups.{IsActed, IsSoundState, LineTaken, StatedTaken, acted_by, acted_said, event_line, sound_from_start, sound_lines, stated_taken, taken_line}
+use Rattle.repo_top.proofs.HeadlineGroups.{IsActed, IsSoundState, LineTaken, StatedTaken, acted_by, acted_said, event_line, nothing, sound_from_start, sound_lines, stated_taken, stating, taken_line}
 use Rattle.repo_top.proofs.HeadlineCatalogues.{catalogue_line}
 
 -- ---- the settle
@@ -97,7 +97,7 @@ form_tells given r stated d report new only form tell after is =
 
 stated_tells : (r : Result (Option Stated) LineFault) (stated : Stated) → r ≡ Ok (Some stated)
     → changes_nothing r ≡ true → only_tells stated.verb ≡ true
-stated_tells r stated is nothing = subst (λ x. changes_nothing x ≡ true) is nothing
+stated_tells r stated is tell = subst (λ x. changes_nothing x ≡ true) is tell
 
 line_tells : (given : Given) (r : Reached) (line report : List ℕ) (new : Reached)
     → LineTaken given r.state line report new.state → changes_nothing (line_of line) ≡ true → IsSame given r new

@@ -9,5 +9,6 @@ pub mod HeadlineLines
 pub mod HeadlineGroups
 pub mod HeadlineCatalogues
 pub mod HeadlineSettles
+pub mod HeadlineDeletions
 pub mod LineLaws
 pub mod Readings
