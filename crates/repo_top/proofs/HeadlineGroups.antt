@@ -65,7 +65,7 @@ not_said refusals.Refusal.Foreign report new h = cc
 says_report : (report told : List ℕ) (new s : State) → says told s ≡ says report new → report ≡ told
 says_report report told new s h = cc
 
-says_state : (report told : List ℕ) (new s : State) → says told s ≡ says report new → new ≡ s
+pub says_state : (report told : List ℕ) (new s : State) → says told s ≡ says report new → new ≡ s
 says_state report told new s h = cc
 
 pub acted_by : (given : Given) (s : State) (d : Declared) (e : EventValue) (report : List ℕ) (new : State)
@@ -170,7 +170,7 @@ record HasNoWorld (given : Given) (s : State) : Type 0 where
   world : s.world ≡ None
   names : length s.keys.members.names ≡ length s.declared.members
 
-opened : (given : Given) (s : State) → s.world ≡ None
+pub opened : (given : Given) (s : State) → s.world ≡ None
     → found_world given s ≡ opening_world (drawing given.draw) (length s.keys.members.names)
 opened given s none =
     ap (λ (o : Option World). unwrap_or o (opening_world (drawing given.draw) (length s.keys.members.names))) none
@@ -188,7 +188,7 @@ none_twice : IsDistinct bytes_eq []
 unfolding IsDistinct
 none_twice = tt
 
-sound_beginning : (given : Given) → IsSoundState given opening_state
+pub sound_beginning : (given : Given) → IsSoundState given opening_state
 sound_beginning given = record {
   ungrouped = λ h. refl;
   uneventful = λ h. refl;
@@ -202,14 +202,14 @@ sound_beginning given = record {
 -- ---- declarations
 
 -- What a group line declares.
-record DeclaresGroup (d e : Declared) : Type 0 where
-  first : d.group ≡ false
-  is : e ≡ record d { group = true }
+pub record DeclaresGroup (d e : Declared) : Type 0 where
+  pub first : d.group ≡ false
+  pub is : e ≡ record d { group = true }
 
 ok_is : (a b : Declared) → (let x : Result Declared CheckFault = Ok a in x) ≡ Ok b → a ≡ b
 ok_is a b h = cc
 
-declares_group : (d e : Declared) → after_group d ≡ Ok e → DeclaresGroup d e
+pub declares_group : (d e : Declared) → after_group d ≡ Ok e → DeclaresGroup d e
 declares_group d e h = go d.group refl h where
   go : (b : Bool) → d.group ≡ b → (if b then Err check_fault.Duplicate else Ok (record d { group = true })) ≡ Ok e
       → DeclaresGroup d e
@@ -217,12 +217,12 @@ declares_group d e h = go d.group refl h where
   go false is k = record { first = is; is = sym (ok_is (record d { group = true }) e k) }
 
 -- A party may be declared behind the group's line, before the first event, under a label of its own.
-record MayDeclare (d : Declared) (p : Party) : Type 0 where
-  grouped : d.group ≡ true
-  before : d.events ≡ false
-  apart : is_there d p ≡ false
+pub record MayDeclare (d : Declared) (p : Party) : Type 0 where
+  pub grouped : d.group ≡ true
+  pub before : d.events ≡ false
+  pub apart : is_there d p ≡ false
 
-may : (d e after : Declared) (p : Party) (count : ℕ) → declared_then (may_declare d p count) after ≡ Ok e
+pub may : (d e after : Declared) (p : Party) (count : ℕ) → declared_then (may_declare d p count) after ≡ Ok e
     → MayDeclare d p × (e ≡ after)
 may d e after p count h = go d.group d.events (is_there d p) (nat_le members_limit count) refl refl refl h where
   go : (group events there full : Bool) → d.group ≡ group → d.events ≡ events → is_there d p ≡ there
@@ -432,7 +432,7 @@ module _ (given : Given) (s : State) (sound : IsSoundState given s) (line : List
 
 -- ---- lines
 
-sound_line : (given : Given) (s : State) (line report : List ℕ) (new : State) → LineTaken given s line report new
+pub sound_line : (given : Given) (s : State) (line report : List ℕ) (new : State) → LineTaken given s line report new
     → IsSoundState given s → IsSoundState given new
 sound_line given s line report new (nothing read same) sound = subst (IsSoundState given) (sym same) sound
 sound_line given s line report new (stating stated d read after is) sound =

@@ -1,6 +1,6 @@
 -- What the report of a script says of its group. A story is told by the lines that are taken, each with its own report:
 -- these definitions say what stands in the reports of `catalogue` lines, and when that is the join of all publications.
-use Rattle.std.specs.Prelude.{ℕ, ◌+◌, ◌≡◌, ◌≤◌, ◌<◌, ◌⊎◌, ◌↔◌, ⊤, Bool, true, false, List, [], ◌∷◌, ◌++◌, map, length, Option, Some, None, Result, Ok, Err}
+use Rattle.std.specs.Prelude.{ℕ, ◌+◌, ◌≡◌, ◌≤◌, ◌<◌, ◌⊎◌, ◌↔◌, ⊤, Bool, true, false, not, List, [], ◌∷◌, ◌++◌, map, length, Option, Some, None, Result, Ok, Err}
 use Rattle.std.specs.List.{All, IsDistinct, concat, list_all}
 use Rattle.std.specs.Str.{bytes_eq}
 use Rattle.repo_plan.specs.Parts.{Pair, part_of}
@@ -162,6 +162,17 @@ changes_nothing (Ok None) = true
 changes_nothing (Ok (Some stated)) = only_tells stated.verb
 changes_nothing (Err fault) = false
 
+-- These forms can delete: an `order` line may bring a command to delete.
+abbrev pub deletes : Verb → Bool
+deletes verb.Delete = true
+deletes verb.Order = true
+deletes other = false
+
+abbrev pub deletes_nothing : Result (Option Stated) LineFault → Bool
+deletes_nothing (Ok None) = true
+deletes_nothing (Ok (Some stated)) = not (deletes stated.verb)
+deletes_nothing (Err fault) = true
+
 -- ---- what is promised
 
 -- Where the first lines of a script are taken, its story begins with their reports.
@@ -195,3 +206,9 @@ abbrev pub SettlesJoin : Type 0
 SettlesJoin = (given : Given) (lines reports : List (List ℕ)) (r : Reached) → AreTakenFirst given lines reports r
     → (report : List ℕ) (new : Reached) → IsSettleLine given r report new → NothingHidden (group_at given new)
     → IsJoined given new
+
+-- Nothing is hidden where no line can have deleted anything.
+abbrev pub HidesByDeletionAlone : Type 0
+HidesByDeletionAlone = (given : Given) (lines reports : List (List ℕ)) (r : Reached)
+    → AreTakenFirst given lines reports r → list_all (λ line. deletes_nothing (line_of line)) lines ≡ true
+    → NothingHidden (group_at given r)

@@ -1,5 +1,5 @@
 ghost use Rattle.std.specs.Prelude.{ℕ, List};
-ghost use Rattle.repo_top.specs.Headline.{BeginsWithReports, IsToldBy, PrintsCatalogues, ReachSoundGroups, SettlesJoin};
+ghost use Rattle.repo_top.specs.Headline.{BeginsWithReports, HidesByDeletionAlone, IsToldBy, PrintsCatalogues, ReachSoundGroups, SettlesJoin};
 ghost use Rattle.repo_top.specs.Judging.{Given};
 ghost use Rattle.repo_top.specs.Lines.{lines};
 ghost use Rattle.repo_top.specs.Story.{nothing_reached, story_of};
@@ -26,7 +26,9 @@ pub fn printed_catalogues_list_what_is_held()
 {}
 
 /// Right after a `settle` line, where nothing is deleted, every member's catalogue is the join of all publications, and
-/// `catalogue` lines print that until a line changes something.
+/// `catalogue` lines print that until a line changes something. Nothing is deleted where no line was taken that can
+/// delete.
 pub fn a_settle_line_joins()
-    ensures { SettlesJoin }
+    ensures joins { SettlesJoin }
+    ensures undeleted { HidesByDeletionAlone }
 {}
