@@ -3,6 +3,13 @@ pub mod Numerals
 pub mod Inspections
 pub mod InspectRuns
 pub mod Scripts
+pub mod ReadNames
+pub mod Fitting
+pub mod HeadlineLines
+pub mod HeadlineGroups
+pub mod HeadlineCatalogues
+pub mod HeadlineSettles
+pub mod HeadlineDeletions
 pub mod LineLaws
 pub mod Readings
 pub mod Stories

@@ -17,3 +17,4 @@ pub mod Inspection
 pub mod Generator
 pub mod Forms
 pub mod Answers
+pub mod Headline

@@ -6,6 +6,7 @@ mod asked;
 mod ending;
 mod failed;
 mod generator;
+mod headline;
 mod inspection;
 mod laws;
 mod line_reader;
@@ -30,6 +31,9 @@ mod write_sink;
 mod writing;
 
 pub use failed::Failed;
+pub use headline::{
+    a_settle_line_joins, lines_reach_sound_groups, printed_catalogues_list_what_is_held, stories_are_their_lines,
+};
 pub use laws::{lines_are_the_input, small_inspections, small_scripts};
 pub use read_source::ReadSource;
 pub use sink::Sink;

@@ -1,0 +1,131 @@
+-- The lines that a story is told by.
+use Rattle.std.proofs.Common.{◌≡◌, ◌∙◌, ℕ, ◌+◌, Bool, nat_le, true, false, List, [], ◌∷◌, ◌++◌, length, append_assoc, refl, sym, ap, subst, arith, if◌then◌else◌}
+use Rattle.std.specs.List.{concat}
+use Rattle.script_report.specs.Limits.{report_octets}
+use Rattle.script_report.specs.Texts.{foreign_text}
+use Rattle.repo_top.specs.declared.ending.Ending.{Ending}
+use Rattle.repo_top.specs.declared.ending.Ending.TheVariants.{Done, Refused, Foreign}
+use Rattle.repo_top.specs.declared.refusal.Refusal.{Refusal}
+use Rattle.repo_top.specs.declared.refusal.Refusal.TheVariants.{Limit, TooLarge}
+use Rattle.repo_top.specs.Refusals.{refusal_number, refusal_text}
+use Rattle.repo_top.specs.Judging.{Given, State, Verdict, says, foreign, judged}
+use Rattle.repo_top.specs.Judging as verdict
+use Rattle.repo_top.specs.Story.{Reached, Story, after, behind, is_within_script, judged_next, nothing_reached, story_from, told, within_report}
+use Rattle.repo_top.specs.Headline.{AreTaken, AreTakenFirst, BeginsWithReports, EndsBy, IsTaken, IsToldBy}
+
+-- ---- one line
+
+-- A report that is within bounds is that of the line.
+within : (r : Reached) (v : Verdict) (report : List ℕ) (new : State) → within_report r v ≡ says report new
+    → v ≡ says report new
+within r (says text next) report new h = go (nat_le (r.reported + length text) report_octets) h where
+  go : (b : Bool) → (if b then says text next else verdict.refused TooLarge) ≡ says report new
+      → says text next ≡ says report new
+  go true k = k
+  go false k = cc
+within r (verdict.refused why) report new h = h
+within r foreign report new h = h
+
+pub judged_by : (given : Given) (r : Reached) (line report : List ℕ) (new : State)
+    → judged_next given r line ≡ says report new → judged given r.state line ≡ says report new
+judged_by given r line report new h = go (is_within_script r line) h where
+  go : (b : Bool)
+      → (if b then within_report r (judged given r.state line) else verdict.refused Limit) ≡ says report new
+      → judged given r.state line ≡ says report new
+  go true k = within r (judged given r.state line) report new k
+  go false k = cc
+
+-- ---- stories
+
+more : (given : Given) (r : Reached) (line report : List ℕ) (next : State) (others : List (List ℕ)) (s : Story)
+    → judged_next given r line ≡ says report next → IsToldBy given (after r line report next) others s
+    → IsToldBy given r (line ∷ others) (behind report s)
+more given r line report next others s is t = record {
+  first = line ∷ t.first;
+  others = t.others;
+  reports = report ∷ t.reports;
+  last = t.last;
+  end = t.end;
+  lines = ap (λ lines. line ∷ lines) t.lines;
+  taken = (after r line report next, record { verdict = is; reached = refl }, t.taken);
+  number = let n : t.last.lines ≡ r.lines + 1 + length t.first = t.number in omega (arith, n);
+  ends = t.ends;
+  text = ap (λ text. report ++ text) t.text ∙ sym (append_assoc report (concat t.reports) t.end);
+  keys = t.keys;
+  world = t.world;
+}
+
+pub told_by : (given : Given) (r : Reached) (script : List (List ℕ)) → IsToldBy given r script (story_from given r script)
+unfolding story_from
+told_by given r [] = record {
+  first = [];
+  others = [];
+  reports = [];
+  last = r;
+  end = [];
+  lines = refl;
+  taken = refl;
+  number = omega arith;
+  ends = (refl, refl);
+  text = refl;
+  keys = refl;
+  world = refl;
+}
+told_by given r (line ∷ others) = go (judged_next given r line) refl (λ next. told_by given next others) where
+  go : (v : Verdict) → judged_next given r line ≡ v
+      → ((next : Reached) → IsToldBy given next others (story_from given next others))
+      → IsToldBy given r (line ∷ others) (told (λ next. story_from given next others) r line v)
+  go (says report next) is rest =
+      more given r line report next others (story_from given (after r line report next) others) is
+      (rest (after r line report next))
+  go (verdict.refused why) is rest = record {
+    first = [];
+    others = line ∷ others;
+    reports = [];
+    last = r;
+    end = refusal_text (r.lines + 1) why;
+    lines = refl;
+    taken = refl;
+    number = omega arith;
+    ends = subst (λ (v : Verdict). EndsBy (r.lines + 1) v (refusal_text (r.lines + 1) why)
+        (Refused (r.lines + 1) (refusal_number why))) (sym is) (refl, refl);
+    text = refl;
+    keys = refl;
+    world = refl;
+  }
+  go foreign is rest = record {
+    first = [];
+    others = line ∷ others;
+    reports = [];
+    last = r;
+    end = foreign_text (r.lines + 1);
+    lines = refl;
+    taken = refl;
+    number = omega arith;
+    ends = subst (λ (v : Verdict). EndsBy (r.lines + 1) v (foreign_text (r.lines + 1)) (Foreign (r.lines + 1)))
+        (sym is) (refl, refl);
+    text = refl;
+    keys = refl;
+    world = refl;
+  }
+
+begins_from : (given : Given) (r : Reached) (first others reports : List (List ℕ)) (last : Reached)
+    → AreTaken given r first reports last
+    → story_from given r (first ++ others) ≡ behind (concat reports) (story_from given last others)
+unfolding story_from
+begins_from given r [] others [] last taken = ap (λ (s : Reached). story_from given s others) (sym taken)
+begins_from given r [] others (report ∷ reports) last taken = absurd taken
+begins_from given r (line ∷ first) others [] last taken = absurd taken
+begins_from given r (line ∷ first) others (report ∷ reports) last taken =
+    let next : Reached = taken.0 in
+    let is : IsTaken given r line report next = taken.1 in
+    let rest : List ℕ = concat reports in
+    let s : Story = story_from given last others in
+    ap (told (λ (n : Reached). story_from given n (first ++ others)) r line) is.verdict
+    ∙ ap (λ (n : Reached). behind report (story_from given n (first ++ others))) (sym is.reached)
+    ∙ ap (behind report) (begins_from given next first others reports last taken.2)
+    ∙ ap (λ (text : List ℕ). let t : Story = record { text = text; ending = s.ending; keys = s.keys; world = s.world } in t)
+    (sym (append_assoc report rest s.text))
+
+pub begins : BeginsWithReports
+begins given first others reports r taken = begins_from given nothing_reached first others reports r taken

@@ -1,0 +1,151 @@
+-- Catalogues right after a settle.
+use Rattle.std.proofs.Common.{◌≡◌, ◌∙◌, ℕ, ◌+◌, ◌<◌, Bool, true, false, ◌&&◌, List, [], ◌∷◌, length, map, Option, Some, None, Result, Ok, Err, refl, sym, ap, subst, arith}
+use Rattle.std.specs.List.{list_all}
+use Rattle.group_model.specs.Publications.{join_of}
+use Rattle.group_model.specs.World.{Outside, World, catalogue_at, logs}
+use Rattle.group_model.specs.Events as group
+use Rattle.group_model.specs.Steps.{after_event}
+use Rattle.group_model.specs.Laws.{AllJoined, NothingHidden}
+use Rattle.group_model.proofs.PublicLaws.{settle_joins}
+use Rattle.repo_member.specs.Groups.{GroupKeys}
+use Rattle.script_lang.specs.declared.line_fault.LineFault.{LineFault}
+use Rattle.script_lang.specs.declared.verb.Verb.{Verb}
+use Rattle.script_lang.specs.declared.verb.Verb.TheVariants as verb
+use Rattle.script_lang.specs.Kinds.{Value, Text, Number, Named, Octets}
+use Rattle.script_lang.specs.Forms.{Stated, said}
+use Rattle.script_lang.specs.Lines.{line_of}
+use Rattle.script_lang.specs.Checking as checking
+use Rattle.script_lang.specs.Checking.{Declared, Party, after_by, label_of}
+use Rattle.script_lang.proofs.Conditions.{and_left, and_right}
+use Rattle.bench_world.specs.EventValues.{EventValue, group_event}
+use Rattle.repo_top.specs.SaidEvents.{number_of, said_by, said_event}
+use Rattle.repo_top.specs.Judging.{Given, State, acted_if, found_world, outside_of, says, taken_by}
+use Rattle.repo_top.specs.Story.{Reached}
+use Rattle.repo_top.specs.Headline.{AreTaken, IsCatalogueLine, IsCatalogueOf, IsJoined, IsSettleLine, IsTaken, SettlesJoin, changes_nothing, group_at, labels_at, only_tells, printed}
+use Rattle.repo_top.proofs.HeadlineGroups.{IsActed, IsSoundState, LineTaken, StatedTaken, acted_by, acted_said, event_line, nothing, sound_from_start, sound_lines, stated_taken, stating, taken_line}
+use Rattle.repo_top.proofs.HeadlineCatalogues.{catalogue_line}
+
+-- ---- the settle
+
+joined : (given : Given) (r : Reached) (report : List ℕ) (new : Reached) → IsSoundState given r.state
+    → IsSettleLine given r report new → NothingHidden (group_at given new) → AllJoined (group_at given new)
+joined given r report new sound l nothing_hidden =
+    let s : State = r.state in
+    let out : Outside = outside_of given s.keys in
+    let w : World = found_world given s in
+    let t = stated_taken given s l.line report new.state (said verb.Settle (Number l.workers ∷ [])) l.stated
+        (taken_line given r l.line report new l.taken) in
+    let acts : IsActed given s t.d (EventValue.Settle l.workers) report new.state =
+        acted_by given s t.d (EventValue.Settle l.workers) report new.state t.is in
+    let settled : group_at given new ≡ after_event out w group.Event.Settle = ap (found_world given) acts.next in
+    subst AllJoined (sym settled) (settle_joins out w sound.sound (subst NothingHidden settled nothing_hidden))
+
+-- ---- lines that only tell
+
+-- An event of such a form leaves the group as it is.
+leaves : (out : Outside) (w : World) (g : GroupKeys) (said_value e : EventValue)
+    → (let o : Option EventValue = Some said_value in o) ≡ Some e
+    → after_event out w (group_event g said_value) ≡ w → after_event out w (group_event g e) ≡ w
+leaves out w g said_value e is same =
+    let one : said_value ≡ e = cc in
+    subst (λ (v : EventValue). after_event out w (group_event g v) ≡ w) one same
+
+tells : (out : Outside) (w : World) (g : GroupKeys) (form : Verb) (d : Declared) (values : List Value) (e : EventValue)
+    → only_tells form ≡ true → said_by form d values ≡ Some e → after_event out w (group_event g e) ≡ w
+tells out w g verb.Sync d (Number k ∷ []) e only is = leaves out w g (EventValue.Sync k) e is refl
+tells out w g verb.Vector d (Text m ∷ []) e only is =
+    leaves out w g (EventValue.Vector (number_of m d.members)) e is refl
+tells out w g verb.Catalogue d (Text m ∷ []) e only is =
+    leaves out w g (EventValue.Catalogue (number_of m d.members)) e is refl
+tells out w g verb.Dump d (Text m ∷ Text p ∷ Number s ∷ Number x ∷ []) e only is =
+    leaves out w g (EventValue.Dump (number_of m d.members) (number_of p d.members) s x) e is refl
+tells out w g verb.Ask d (Text m ∷ Octets octets ∷ []) e only is =
+    leaves out w g (EventValue.Ask (number_of m d.members) octets) e is refl
+tells out w g verb.Summary d [] e only is = leaves out w g EventValue.Summary e is refl
+tells out w g verb.Traffic d [] e only is = leaves out w g EventValue.Traffic e is refl
+tells out w g form d values e only is = cc
+
+-- The group and its labels stay.
+record IsSame (given : Given) (r new : Reached) : Type 0 where
+  group : group_at given new ≡ group_at given r
+  labels : labels_at new ≡ labels_at r
+
+event_tells : (given : Given) (r : Reached) (stated : Stated) (d : Declared) (report : List ℕ) (new : Reached)
+    → only_tells stated.verb ≡ true → checking.after_event r.state.declared stated ≡ Ok d
+    → acted_if given r.state d (said_event d stated) ≡ says report new.state → IsSame given r new
+event_tells given r stated d report new only after is =
+    let s : State = r.state in
+    let acts = acted_said given s d stated report new.state (said_event d stated) refl is in
+    let out : Outside = outside_of given s.keys in
+    let w : World = found_world given s in
+    let line = event_line s.declared d stated after in
+    record {
+      group = ap (found_world given) acts.2.next ∙ tells out w s.keys stated.verb d stated.values acts.0 only acts.1;
+      labels = ap (λ (x : State). map label_of x.declared.members) acts.2.next
+          ∙ ap (λ (x : Declared). map label_of x.members) line.is;
+    }
+
+form_tells : (given : Given) (r : Reached) (stated : Stated) (d : Declared) (report : List ℕ) (new : Reached)
+    → only_tells stated.verb ≡ true → (form : Verb) → only_tells form ≡ true
+    → after_by r.state.declared stated form stated.values ≡ Ok d
+    → taken_by form given r.state d stated ≡ says report new.state → IsSame given r new
+form_tells given r stated d report new only verb.Group tell after is = cc
+form_tells given r stated d report new only verb.Member tell after is = cc
+form_tells given r stated d report new only verb.Client tell after is = cc
+form_tells given r stated d report new only form tell after is =
+    event_tells given r stated d report new only after is
+
+stated_tells : (r : Result (Option Stated) LineFault) (stated : Stated) → r ≡ Ok (Some stated)
+    → changes_nothing r ≡ true → only_tells stated.verb ≡ true
+stated_tells r stated is tell = subst (λ x. changes_nothing x ≡ true) is tell
+
+line_tells : (given : Given) (r : Reached) (line report : List ℕ) (new : Reached)
+    → LineTaken given r.state line report new.state → changes_nothing (line_of line) ≡ true → IsSame given r new
+line_tells given r line report new (nothing is same) tell = record {
+  group = ap (found_world given) same;
+  labels = ap (λ (x : State). map label_of x.declared.members) same;
+}
+line_tells given r line report new (stating stated d is after taken) tell =
+    let only : only_tells stated.verb ≡ true = stated_tells (line_of line) stated is tell in
+    form_tells given r stated d report new only stated.verb only after taken
+
+lines_tell : (given : Given) (r : Reached) (lines reports : List (List ℕ)) (later : Reached)
+    → AreTaken given r lines reports later → list_all (λ line. changes_nothing (line_of line)) lines ≡ true
+    → IsSame given r later
+lines_tell given r [] [] later taken tell =
+    record { group = ap (group_at given) taken; labels = ap labels_at taken }
+lines_tell given r [] (report ∷ reports) later taken tell = absurd taken
+lines_tell given r (line ∷ lines) [] later taken tell = absurd taken
+lines_tell given r (line ∷ lines) (report ∷ reports) later taken tell =
+    let next : Reached = taken.0 in
+    let here = line_tells given r line report next (taken_line given r line report next taken.1)
+        (and_left (changes_nothing (line_of line)) _ tell) in
+    let behind = lines_tell given next lines reports later taken.2
+        (and_right (changes_nothing (line_of line)) _ tell) in
+    record { group = behind.group ∙ here.group; labels = behind.labels ∙ here.labels }
+
+-- ---- what is printed
+
+printed_join : (given : Given) (r later : Reached) (label report : List ℕ) → AllJoined (group_at given r)
+    → IsSame given r later → IsCatalogueOf (group_at given later) (labels_at later) label report
+    → report ≡ printed (labels_at r) label (join_of (logs (group_at given r)))
+printed_join given r later label report all same c =
+    let there : c.number < length (group_at given r).members =
+        subst (λ (w : World). c.number < length w.members) same.group c.there in
+    c.text
+    ∙ ap (λ (w : World). printed (labels_at later) label (catalogue_at w c.number)) same.group
+    ∙ ap (λ (labels : List (List ℕ)). printed labels label (catalogue_at (group_at given r) c.number)) same.labels
+    ∙ ap (printed (labels_at r) label) (all c.number there)
+
+pub settles_join : SettlesJoin
+settles_join given lines reports r taken report new l nothing_hidden =
+    let sound : IsSoundState given r.state = sound_from_start given lines reports r taken in
+    let after : IsSoundState given new.state =
+        sound_lines given r (l.line ∷ []) (report ∷ []) new (new, l.taken, refl) sound in
+    let all : AllJoined (group_at given new) = joined given r report new sound l nothing_hidden in
+    record {
+      all = all;
+      shown = λ between told later go_on tell label text last c.
+          printed_join given new later label text all (lines_tell given new between told later go_on tell)
+          (catalogue_line given later (sound_lines given new between told later go_on after) label text last c);
+    }
