@@ -43,18 +43,11 @@ fn run_over<R: Threads + Sync + AllocGlobal, S: Source, K: Sink, N: Net + Sync, 
     sink: &mut K,
     given: (&N, &D),
     end: &mut Option<World>,
-) -> Result<Status, AllocError> {
+) -> Result<Status, AllocError>
+    requires { end.old ≡ None }
+{
     let words = words_of(rt.alloc(), words)?;
-    Ok(run(
-        rt,
-        rt.alloc(),
-        &words,
-        source,
-        sink,
-        given.0,
-        given.1,
-        end,
-    ))
+    Ok(run(rt, rt.alloc(), &words, source, sink, given.0, given.1, end))
 }
 
 // Runs with these words over an open network. No world is left but by a run that is done.

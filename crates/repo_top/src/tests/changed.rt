@@ -180,13 +180,23 @@ fn put_line(text: &mut String, line: &str, last: &str) -> Result<(), AllocError>
     write!(text, "{line} {last}\n")
 }
 
-fn put_octets(alloc: Global, script: &mut String, line: &str, octets: &[u8]) -> Result<(), AllocError> {
+fn put_octets(
+    alloc: Global,
+    script: &mut String,
+    line: &str,
+    octets: &[u8],
+) -> Result<(), AllocError> {
     let digits = hex::encode(alloc, octets)?;
     put_line(script, line, &digits)
 }
 
 // The octets cut, flipped, too long, and as they are.
-fn put_changes(alloc: Global, script: &mut String, line: &str, octets: &mut [u8]) -> Result<(), AllocError> {
+fn put_changes(
+    alloc: Global,
+    script: &mut String,
+    line: &str,
+    octets: &mut [u8],
+) -> Result<(), AllocError> {
     for n in 1..octets.len() {
         put_octets(alloc, script, line, &octets[..n])?;
     }
@@ -218,7 +228,10 @@ fn put_answers(report: &mut String, changes: &Changes) -> Result<(), AllocError>
     put_line(report, changes.line, changes.whole)
 }
 
-fn expect_changes<R: Threads + Sync + AllocGlobal + Abort>(rt: &R, changes: &Changes) -> Result<(), Fail> {
+fn expect_changes<R: Threads + Sync + AllocGlobal + Abort>(
+    rt: &R,
+    changes: &Changes,
+) -> Result<(), Fail> {
     let alloc = rt.alloc();
     let mut octets = hex::decode(alloc, changes.octets)?;
     let mut script = script_of(alloc, PRE, changes.before)?;

@@ -1,3 +1,5 @@
+ghost use Rattle.std.specs.Prelude.{◌≡◌, None};
+
 use super::run_over;
 use crate::*;
 use bench_net::{FixedDraws, OpenNet};
@@ -20,7 +22,9 @@ fn run_slice<R: Threads + Sync + AllocGlobal>(
     words: &str,
     input: &str,
     end: &mut Option<World>,
-) -> Result<Status, AllocError> {
+) -> Result<Status, AllocError>
+    requires { end.old ≡ None }
+{
     let mut source = ReadSource::new(input.as_bytes());
     let mut sink = WriteSink::new(Vec::<u8>::new(rt.alloc()));
     let given = (&OpenNet::new(), &FixedDraws::new(100));
@@ -32,7 +36,8 @@ fn entries(world: &World) -> Option<(usize, usize)> {
     if world.members() != 2 {
         return None;
     }
-    let [alice, bob] = [0, 1].map(|m| world.member(m).catalogue().entries().len());
+    let alice = world.member(0).catalogue().entries().len();
+    let bob = world.member(1).catalogue().entries().len();
     Some((alice, bob))
 }
 

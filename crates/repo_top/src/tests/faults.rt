@@ -91,7 +91,11 @@ fn expect_read_fault<R: Threads + Sync + AllocGlobal + Abort>(
     let mut sink = VecSink::new(rt.alloc(), 100, Vec::new(rt.alloc()));
     let answered = from_failing(rt, script, call, &mut sink)?;
     assert_eq!(rt; answered, Status::ReadFault, "call {call}");
-    assert_eq!(rt; str::from_utf8(sink.octets()), Ok(report.as_str()), "call {call}");
+    assert_eq!(rt;
+        str::from_utf8(sink.octets()),
+        Ok(report.as_str()),
+        "call {call}"
+    );
     Ok(())
 }
 

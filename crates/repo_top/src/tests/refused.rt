@@ -95,7 +95,10 @@ const REFUSED: [(&str, &str, Status); 23] = [
          > vector bob alice=0 bob=0\n\
          member dan /dan 6b35\n\
          > refused 5 11 Late\n",
-        Status::Refused { line: 5, number: 11 },
+        Status::Refused {
+            line: 5,
+            number: 11,
+        },
     ),
     (
         "",
@@ -128,7 +131,10 @@ const REFUSED: [(&str, &str, Status); 23] = [
          > vector bob alice=0 bob=0\n\
          member bob /bob 6b32\n\
          > refused 5 11 Late\n",
-        Status::Refused { line: 5, number: 11 },
+        Status::Refused {
+            line: 5,
+            number: 11,
+        },
     ),
     (
         PRE,

@@ -46,7 +46,10 @@ fn fetching(alloc: Global, lines: &[(u32, u32, u32)]) -> Result<String, AllocErr
 fn workers_make_no_difference(rt: HostRuntime) -> Result<(), Fail> {
     let alloc = rt.alloc();
     for workers in [1, 2, 16] {
-        let script = fetching(alloc, &[(workers, 16, 1_000), (workers, 16, 0), (workers, 16, 0)])?;
+        let script = fetching(
+            alloc,
+            &[(workers, 16, 1_000), (workers, 16, 0), (workers, 16, 0)],
+        )?;
         let report = "publish alice 1 segments 3 sync 1\n\
             deliver 1 bob steady\n\
             fetch bob planned 1 kept 0 attempts 16\n\
@@ -62,27 +65,31 @@ fn workers_make_no_difference(rt: HostRuntime) -> Result<(), Fail> {
     Ok(())
 }
 
-// How many segments the i-th publication of a week has.
-fn week_segments(i: u32) -> u32 {
-    1 + i.saturating_sub(1) % 30
-}
-
-// Twenty publications by five members, one after another, of which the first is the i-th of all.
-fn put_publications(script: &mut String, first: u32) -> Result<(), AllocError> {
-    for i in (1..=40).filter(|i| *i >= first && *i < first + 20) {
-        let m = 1 + (i - 1) % 5;
-        let octets = 100 * week_segments(i);
-        write!(script, "publish m{m} /site/files/f{i} 100 fill:{octets}:65\n")?;
+// Forty publications by five members, counted from 0. Those of the first or the second half, one after another.
+fn put_publications(script: &mut String, half: u32) -> Result<(), AllocError> {
+    for i in 0..40u32 {
+        if i / 20 == half {
+            let (m, f, octets) = (1 + i % 5, 1 + i, 100 * (1 + i % 30));
+            write!(
+                script,
+                "publish m{m} /site/files/f{f} 100 fill:{octets}:65\n"
+            )?;
+        }
     }
     Ok(())
 }
 
-// What they print, where so many sync Interests were sent before.
-fn put_published(report: &mut String, first: u32, sent: u32) -> Result<(), AllocError> {
-    for i in (1..=40).filter(|i| *i >= first && *i < first + 20) {
-        let (m, seq) = (1 + (i - 1) % 5, 1 + (i - 1) / 5);
-        let (segments, sync) = (week_segments(i), sent + 1 + i - first);
-        write!(report, "publish m{m} {seq} segments {segments} sync {sync}\n")?;
+// What they print, where so many sync Interests were sent besides.
+fn put_published(report: &mut String, half: u32, besides: u32) -> Result<(), AllocError> {
+    for i in 0..40u32 {
+        if i / 20 == half {
+            let (m, seq, segments) = (1 + i % 5, 1 + i / 5, 1 + i % 30);
+            let sync = besides.saturating_add(1 + i);
+            write!(
+                report,
+                "publish m{m} {seq} segments {segments} sync {sync}\n"
+            )?;
+        }
     }
     Ok(())
 }
@@ -92,10 +99,10 @@ fn week_script(alloc: Global) -> Result<String, AllocError> {
     for m in 1..=5 {
         write!(script, "member m{m} /site/m{m} 6b3{m}\n")?;
     }
-    put_publications(&mut script, 1)?;
+    put_publications(&mut script, 0)?;
     script.push_str("deliver 20 m1\ndeliver 20 m2\n")?;
     script.push_str("fetch m1 4 8 200\nfetch m2 4 8 200\nsettle 4\n")?;
-    put_publications(&mut script, 21)?;
+    put_publications(&mut script, 1)?;
     script.push_str("settle 4\nsummary\n")?;
     Ok(script)
 }
@@ -103,15 +110,18 @@ fn week_script(alloc: Global) -> Result<String, AllocError> {
 // 230 parts of 20 publications reach four members each, but for 4 that two members fetched before; then 330 parts.
 fn week_report(alloc: Global) -> Result<String, AllocError> {
     let mut report = String::new(alloc);
-    put_published(&mut report, 1, 0)?;
+    put_published(&mut report, 0, 0)?;
     report.push_str("deliver 20 m1 suppressed\ndeliver 20 m2 suppressed\n")?;
     report.push_str("fetch m1 planned 4 kept 4 attempts 7\n")?;
     report.push_str("fetch m2 planned 4 kept 4 attempts 5\n")?;
     report.push_str("settle syncs 5 kept 912\n")?;
-    put_published(&mut report, 21, 25)?;
+    put_published(&mut report, 1, 5)?;
     report.push_str("settle syncs 5 kept 1320\n")?;
     for m in 1..=5 {
-        write!(report, "summary m{m} entries 40 segments 520 octets 52000\n")?;
+        write!(
+            report,
+            "summary m{m} entries 40 segments 520 octets 52000\n"
+        )?;
     }
     Ok(report)
 }

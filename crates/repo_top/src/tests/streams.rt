@@ -13,7 +13,11 @@ const fn refused(line: u32, number: u32) -> Status {
 
 // Lines of which the last ends the run, with the number of the sink's call that fails.
 const ENDINGS: [(&str, u64, Status); 3] = [
-    ("settle 1\nsettle 0\n", 0, Status::Refused { line: 5, number: 4 }),
+    (
+        "settle 1\nsettle 0\n",
+        0,
+        Status::Refused { line: 5, number: 4 },
+    ),
     // bob tells that alice has published, and nobody has.
     (
         "settle 1\n\
@@ -188,27 +192,40 @@ impl Source for Repeated {
     }
 }
 
-// Endless comments, and comments that end with a limit or right behind it.
+// A line of so many spaces, and its end, again and again.
+fn expect_repeated<R: Threads + Sync + AllocGlobal + Abort>(
+    rt: &R,
+    line: (usize, &str),
+    times: u64,
+    wanted: Status,
+    text: &str,
+) -> Result<(), AllocError> {
+    let mut source = Repeated {
+        line: filled(rt.alloc(), "", line.0, line.1)?,
+        at: 0,
+        times,
+    };
+    expect_from(rt, "run", &mut source, wanted, text)
+}
+
+// A script without an end ends at a limit, and so does one that goes right past it.
 #[test]
 fn an_endless_script_ends(rt: HostRuntime) -> Result<(), Fail> {
-    let lines = "refused 100001 4 Limit\n";
-    let octets = "refused 4097 4 Limit\n";
-    for (octets_of_line, end, times, wanted, text) in [
-        (0, "\n", 100_000, Status::Done, ""),
-        (0, "\n", 100_001, refused(100_001, 4), lines),
-        (1, "\n", u64::MAX, refused(100_001, 4), lines),
-        (4_095, "\n", 4_096, Status::Done, ""),
-        (4_095, "\n", 4_097, refused(4_097, 4), octets),
-        (4_095, "\n", u64::MAX, refused(4_097, 4), octets),
-        (1, "", u64::MAX, refused(1, 4), "refused 1 4 Limit\n"),
+    for (octets, end, wanted, text) in [
+        (1, "", refused(1, 4), "refused 1 4 Limit\n"),
+        (1, "\n", refused(100_001, 4), "refused 100001 4 Limit\n"),
+        (32_767, "\n", refused(513, 4), "refused 513 4 Limit\n"),
     ] {
-        let mut source = Repeated {
-            line: filled(rt.alloc(), "", octets_of_line, end)?,
-            at: 0,
-            times,
-        };
-        expect_from(&rt, "run", &mut source, wanted, text)?;
+        expect_repeated(&rt, (octets, end), u64::MAX, wanted, text)?;
     }
+    Ok(())
+}
+
+// 100,000 lines, and 16,777,216 octets.
+#[test]
+fn a_script_is_so_long(rt: HostRuntime) -> Result<(), Fail> {
+    expect_repeated(&rt, (0, "\n"), 100_000, Status::Done, "")?;
+    expect_repeated(&rt, (32_767, "\n"), 512, Status::Done, "")?;
     Ok(())
 }
 
@@ -225,6 +242,13 @@ fn settles_are_counted(rt: HostRuntime) -> Result<(), Fail> {
     expect(&rt, "run", 5_000, script.as_bytes(), Status::Done, &report)?;
     script.push_str("settle 1\n")?;
     report.push_str("refused 1004 10 TooLarge\n")?;
-    expect(&rt, "run", 5_000, script.as_bytes(), refused(1_004, 10), &report)?;
+    expect(
+        &rt,
+        "run",
+        5_000,
+        script.as_bytes(),
+        refused(1_004, 10),
+        &report,
+    )?;
     Ok(())
 }
