@@ -1,0 +1,251 @@
+use super::{PRE, expect, report_of, script_of};
+use crate::*;
+use std::alloc::{AllocError, Global};
+use std::process::Abort;
+use std::test::*;
+use std::thread::Threads;
+
+// Octets from outside that are changed in each place, and what a member says of them.
+struct Changes {
+    // Lines before, each with what it prints behind it.
+    before: &'static str,
+    // What stands in front of the octets in their line, and of what it prints.
+    line: &'static str,
+    octets: &'static str,
+    // What is printed of the first octet alone, and of more that are not all.
+    cut: [&'static str; 2],
+    // What is printed where the lowest bit of one octet is another, for so many octets after each other.
+    flipped: &'static [(u32, &'static str)],
+    // What is printed of 8,800 octets 05, and of one more.
+    long: [&'static str; 2],
+    // What is printed of the octets as they are, in the end: what was changed has changed nothing.
+    whole: &'static str,
+}
+
+const CHANGES: [Changes; 4] = [
+    // A sync Interest that alice sent.
+    Changes {
+        before: "publish alice /doc 10 text:abc\n\
+             > publish alice 1 segments 1 sync 1\n",
+        line: "hear bob",
+        octets: "0573072808016736010202206f504a90c15c79060eb22e95a6f5a26d5ac53df3312f58b4aae5e23af1b299fd2410c90eca0c07070\
+             805616c696365cc01012c131b01041c0e070c0805616c69636508034b45592e20f15b2fa4ae603e113ad456498d48ae98fcecb04b\
+             9e9117633457038bde17139b",
+        cut: ["refused Truncated 1", "refused Truncated 0"],
+        flipped: &[
+            (1, "refused WrongType 4"),
+            (1, "refused TrailingOctets 116"),
+            (1, "refused Critical 6 2"),
+            (1, "refused Truncated 45"),
+            (1, "refused WrongGroup"),
+            (1, "refused Truncated 6"),
+            (2, "refused WrongGroup"),
+            (1, "refused BadField Name 2"),
+            (1, "refused WrongGroup"),
+            (1, "refused Missing ParametersDigest"),
+            (1, "refused Truncated 10"),
+            (32, "refused ParamsDigest"),
+            (1, "refused Critical 37 44"),
+            (1, "refused Critical 19 63"),
+            (16, "refused ParamsDigest"),
+            (1, "refused Critical 45 62"),
+            (1, "refused Truncated 67"),
+            (1, "refused Critical 26 64"),
+            (1, "refused BadField SignatureType 64"),
+            (1, "refused ParamsDigest"),
+            (1, "refused Critical 29 67"),
+            (1, "refused Truncated 67"),
+            (1, "refused BadField KeyLocator 67"),
+            (1, "refused Truncated 69"),
+            (1, "refused ParamsDigest"),
+            (1, "refused Truncated 77"),
+            (6, "refused ParamsDigest"),
+            (1, "refused Truncated 83"),
+            (3, "refused ParamsDigest"),
+            (1, "refused Critical 47 83"),
+            (1, "refused Truncated 83"),
+            (32, "refused ParamsDigest"),
+        ],
+        long: ["refused TrailingOctets 7", "refused PacketTooLong"],
+        whole: "steady",
+    },
+    // The record that bob claims.
+    Changes {
+        before: "publish alice /doc 10 text:abc\n\
+             > publish alice 1 segments 1 sync 1\n\
+             deliver 1 bob\n\
+             > deliver 1 bob steady\n\
+             claim bob 1\n\
+             > claim bob 1 part alice 1 0\n",
+        line: "feed bob 1",
+        octets: "0674070d0805616c6963650801673a0101152c07050803646f638101018320a81e4ec9e732923effbeb940256a1765187d04a99b4\
+             40057e515a292ec9a722d16131b01041c0e070c0805616c69636508034b455917207e61911ee2099d3402db77699bdf35c543e343\
+             abbd0f01476e9ff22338ef5d98",
+        cut: ["refused Truncated 1", "refused Truncated 0"],
+        flipped: &[
+            (1, "refused WrongType 7"),
+            (1, "refused Truncated 0"),
+            (1, "refused Critical 6 2"),
+            (1, "refused Truncated 14"),
+            (1, "refused OtherName"),
+            (1, "refused Truncated 10"),
+            (6, "refused OtherName"),
+            (1, "refused Truncated 13"),
+            (2, "refused OtherName"),
+            (1, "refused Truncated 17"),
+            (1, "refused OtherName"),
+            (1, "refused Critical 7 19"),
+            (1, "refused Critical 19 64"),
+            (44, "refused BadSignature"),
+            (1, "refused Critical 23 84"),
+            (1, "refused Truncated 68"),
+            (1, "refused Critical 26 65"),
+            (1, "refused BadField SignatureType 65"),
+            (1, "refused UnknownKey"),
+            (1, "refused Critical 29 68"),
+            (1, "refused Truncated 68"),
+            (1, "refused BadField KeyLocator 68"),
+            (1, "refused Truncated 70"),
+            (1, "refused UnknownKey"),
+            (1, "refused Truncated 78"),
+            (6, "refused UnknownKey"),
+            (1, "refused Truncated 84"),
+            (3, "refused UnknownKey"),
+            (1, "refused Critical 22 84"),
+            (1, "refused Truncated 84"),
+            (32, "refused BadSignature"),
+        ],
+        long: ["refused WrongType 5", "refused PacketTooLong"],
+        whole: "kept",
+    },
+    // An Interest for that record.
+    Changes {
+        before: "publish alice /doc 10 text:abc\n\
+             > publish alice 1 segments 1 sync 1\n",
+        line: "ask alice",
+        octets: "050f070d0805616c6963650801673a0101",
+        cut: ["refused Truncated 1", "refused Truncated 0"],
+        flipped: &[
+            (1, "refused WrongType 4"),
+            (1, "refused TrailingOctets 16"),
+            (1, "refused Critical 6 2"),
+            (1, "refused Truncated 14"),
+            (1, "none"),
+            (1, "refused Truncated 10"),
+            (6, "none"),
+            (1, "refused Truncated 13"),
+            (2, "none"),
+            (1, "refused Truncated 17"),
+            (1, "none"),
+        ],
+        long: ["refused TrailingOctets 7", "refused PacketTooLong"],
+        whole: "found 0674070d0805616c6963650801673a0101152c07050803646f638101018320a81e4ec9e732923effbeb940256a1765187d0\
+             4a99b440057e515a292ec9a722d16131b01041c0e070c0805616c69636508034b455917207e61911ee2099d3402db77699bdf35c5\
+             43e343abbd0f01476e9ff22338ef5d98",
+    },
+    // A command that carl made.
+    Changes {
+        before: "client carl /carl 6b34\n\
+             delete alice carl /doc\n\
+             > delete alice 404\n\
+             publish alice /doc 10 text:abc\n\
+             > publish alice 1 segments 1 sync 1\n",
+        line: "order alice",
+        octets: "057407310805616c696365080664656c657465022027490a2bd5f0f89936a752be977e1a1140fdfbc08557f92f9c440b692ee2ea1\
+             b2409c90707050803646f632c121b01041c0d070b08046361726c08034b45592e20fb1c29fb23da22f7c7d7f2b39d686140a6bf7a\
+             99bce7770bcec3ee5fbacf4562",
+        cut: ["403", "403"],
+        flipped: &[
+            (21, "403"),
+            (32, "401"),
+            (2, "403"),
+            (9, "401"),
+            (4, "403"),
+            (1, "401"),
+            (4, "403"),
+            (1, "401"),
+            (1, "403"),
+            (5, "401"),
+            (1, "403"),
+            (3, "401"),
+            (2, "403"),
+            (32, "401"),
+        ],
+        long: ["403", "403"],
+        whole: "200 packets 2",
+    },
+];
+
+fn put_line(text: &mut String, line: &str, last: &str) -> Result<(), AllocError> {
+    write!(text, "{line} {last}\n")
+}
+
+fn put_octets(
+    alloc: Global,
+    script: &mut String,
+    line: &str,
+    octets: &[u8],
+) -> Result<(), AllocError> {
+    let digits = hex::encode(alloc, octets)?;
+    put_line(script, line, &digits)
+}
+
+// The octets cut, flipped, too long, and as they are.
+fn put_changes(
+    alloc: Global,
+    script: &mut String,
+    line: &str,
+    octets: &mut [u8],
+) -> Result<(), AllocError> {
+    for n in 1..octets.len() {
+        put_octets(alloc, script, line, &octets[..n])?;
+    }
+    for at in 0..octets.len() {
+        octets[at] ^= 1;
+        put_octets(alloc, script, line, octets)?;
+        octets[at] ^= 1;
+    }
+    for n in [8_800, 8_801] {
+        put_octets(alloc, script, line, &vec![in alloc; 5; n]?)?;
+    }
+    put_octets(alloc, script, line, octets)
+}
+
+fn put_answers(report: &mut String, changes: &Changes) -> Result<(), AllocError> {
+    let [first, more] = changes.cut;
+    put_line(report, changes.line, first)?;
+    for _ in 2..changes.octets.len() / 2 {
+        put_line(report, changes.line, more)?;
+    }
+    for (count, answer) in changes.flipped {
+        for _ in 0..*count {
+            put_line(report, changes.line, answer)?;
+        }
+    }
+    for answer in changes.long {
+        put_line(report, changes.line, answer)?;
+    }
+    put_line(report, changes.line, changes.whole)
+}
+
+fn expect_changes<R: Threads + Sync + AllocGlobal + Abort>(
+    rt: &R,
+    changes: &Changes,
+) -> Result<(), Fail> {
+    let alloc = rt.alloc();
+    let mut octets = hex::decode(alloc, changes.octets)?;
+    let mut script = script_of(alloc, PRE, changes.before)?;
+    put_changes(alloc, &mut script, changes.line, &mut octets)?;
+    let mut report = report_of(alloc, changes.before)?;
+    put_answers(&mut report, changes)?;
+    expect(rt, "run", 5_000, script.as_bytes(), Status::Done, &report)?;
+    Ok(())
+}
+
+#[test]
+fn changed_octets_are_refused(rt: HostRuntime) -> Result<(), Fail> {
+    for changes in &CHANGES {
+        expect_changes(&rt, changes)?;
+    }
+    Ok(())
+}

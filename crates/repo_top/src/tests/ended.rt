@@ -1,0 +1,81 @@
+ghost use Rattle.std.specs.Prelude.{◌≡◌, None};
+
+use super::run_over;
+use crate::*;
+use bench_net::{FixedDraws, OpenNet};
+use bench_world::World;
+use std::alloc::AllocError;
+use std::test::*;
+use std::thread::Threads;
+
+const FIRST: &str = "group /g\n\
+    member alice /alice 6b31\n\
+    member bob /bob 6b32\n\
+    publish alice /doc 10 text:abc\n\
+    settle 2\n\
+    catalogue alice\n\
+    catalogue bob\n";
+
+// Runs on an input from a slice, and leaves the world.
+fn run_slice<R: Threads + Sync + AllocGlobal>(
+    rt: &R,
+    words: &str,
+    input: &str,
+    end: &mut Option<World>,
+) -> Result<Status, AllocError>
+    requires { end.old ≡ None }
+{
+    let mut source = ReadSource::new(input.as_bytes());
+    let mut sink = WriteSink::new(Vec::<u8>::new(rt.alloc()));
+    let given = (&OpenNet::new(), &FixedDraws::new(100));
+    run_over(rt, words, &mut source, &mut sink, given, end)
+}
+
+// How many entries each of two members catalogues.
+fn entries(world: &World) -> Option<(usize, usize)> {
+    if world.members() != 2 {
+        return None;
+    }
+    let alice = world.member(0).catalogue().entries().len();
+    let bob = world.member(1).catalogue().entries().len();
+    Some((alice, bob))
+}
+
+#[test]
+fn the_last_world_is_left(rt: HostRuntime) -> Result<(), Fail> {
+    let mut end = None;
+    assert_eq!(rt; run_slice(&rt, "run", FIRST, &mut end)?, Status::Done);
+    assert_eq!(rt; end.as_ref().and_then(entries), Some((1, 1)));
+    Ok(())
+}
+
+#[test]
+fn no_world_is_left(rt: HostRuntime) -> Result<(), Fail> {
+    for (words, input, wanted) in [
+        ("run", "", Status::Done),
+        ("run", "group /g\nmember alice /alice 6b31\n", Status::Done),
+        ("inspect", "0700", Status::Done),
+        ("gen 1 1 1", "", Status::Done),
+        ("gen", "", Status::Usage),
+        (
+            "run",
+            "group /g\nsettle 1\nsettle 0\n",
+            Status::Refused { line: 3, number: 4 },
+        ),
+    ] {
+        let mut end = None;
+        assert_eq!(rt; run_slice(&rt, words, input, &mut end)?, wanted, "{words}");
+        assert!(rt; end.is_none(), "{words}");
+    }
+    Ok(())
+}
+
+#[test]
+fn real_readers_and_writers(rt: HostRuntime) {
+    let mut octets = [0; 4];
+    let mut source = ReadSource::new(b"abc".as_slice());
+    assert_eq!(rt; source.read(&mut octets), Ok(3));
+    assert_eq!(rt; source.read(&mut octets), Ok(0));
+    let mut sink = WriteSink::new(Vec::<u8>::new(rt.alloc()));
+    assert_eq!(rt; sink.write(b"abc"), Ok(3));
+}

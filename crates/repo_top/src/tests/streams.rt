@@ -1,0 +1,254 @@
+ghost use Rattle.std.specs.Prelude.{◌≤◌};
+
+use super::{PRE, expect, expect_from, report_of, script_of, status_of};
+use crate::*;
+use std::alloc::{AllocError, Global};
+use std::process::Abort;
+use std::test::*;
+use std::thread::Threads;
+
+const fn refused(line: u32, number: u32) -> Status {
+    Status::Refused { line, number }
+}
+
+// Lines of which the last ends the run, with the number of the sink's call that fails.
+const ENDINGS: [(&str, u64, Status); 3] = [
+    (
+        "settle 1\nsettle 0\n",
+        0,
+        Status::Refused { line: 5, number: 4 },
+    ),
+    // bob tells that alice has published, and nobody has.
+    (
+        "settle 1\n\
+         hear bob 0571072808016736010202206cd855fdbf3b84d34fecd34746db6228f93b53a9d0fc8051edbacf236e0500662410c90eca0c\
+         07070805616c696365cc01012c111b01041c0c070a0803626f6208034b45592e20e625fa34c78bd51883fa4703a4eff2f9e30aa8e71a\
+         e252b4092fc134c0c5d043\n",
+        0,
+        Status::Foreign { line: 5 },
+    ),
+    ("settle 1\n", 1, Status::WriteFault),
+];
+
+// Appends so many lines of comment, of 100 octets each.
+fn put_comments(script: &mut String, lines: u32) -> Result<(), AllocError> {
+    for _ in 0..lines {
+        write!(script, "{:#>99}\n", "")?;
+    }
+    Ok(())
+}
+
+// How many octets a source of pieces of 4,096 has left, where they are few.
+fn octets_left(source: &mut VecSource) -> usize {
+    let mut piece = [0; 4_096];
+    let mut left: usize = 0;
+    for _ in 0..1_000 {
+        left = left.saturating_add(source.read(&mut piece).unwrap_or(0));
+    }
+    left
+}
+
+fn expect_ending<R: Threads + Sync + AllocGlobal + Abort>(
+    rt: &R,
+    source: &mut VecSource,
+    fails: u64,
+    wanted: Status,
+) -> Result<(), AllocError> {
+    let alloc = rt.alloc();
+    let mut sink = VecSink::new(alloc, 5_000, vec![in alloc; fails]?);
+    let answered = status_of(rt, "run", source, &mut sink)?;
+    assert_eq!(rt; answered, wanted);
+    Ok(())
+}
+
+// Of 1,000,000 octets behind the line that ends the run at most 65,536 are taken.
+#[test]
+fn little_is_read_behind_the_end(rt: HostRuntime) -> Result<(), Fail> {
+    let alloc = rt.alloc();
+    for (lines, fails, wanted) in ENDINGS {
+        let mut script = String::from_str(alloc, PRE)?;
+        script.push_str(lines)?;
+        put_comments(&mut script, 10_000)?;
+        let mut source = VecSource::new(script.into_bytes(), 4_096, Vec::new(alloc));
+        expect_ending(&rt, &mut source, fails, wanted)?;
+        assert!(rt; octets_left(&mut source) >= 1_000_000 - 65_536);
+    }
+    Ok(())
+}
+
+// Each line with what it prints behind it.
+const LINES: &str = "group /g\n\
+    member alice /alice 6b31\n\
+    member bob /bob 6b32\n\
+    publish alice /doc 10 text:abc\n\
+    > publish alice 1 segments 1 sync 1\n\
+    settle 2\n\
+    > settle syncs 2 kept 2\n\
+    catalogue bob\n\
+    > catalogue bob 1\n\
+    > entry alice 1 /doc segments 1 octets 3 sha256 \
+    ba7816bf8f01cfea414140de5dae2223b00361a396177a9cb410ff61f20015ad\n\
+    vector bob\n\
+    > vector bob alice=1 bob=0\n";
+
+#[test]
+fn pieces_make_no_difference(rt: HostRuntime) -> Result<(), Fail> {
+    let script = script_of(rt.alloc(), "", LINES)?;
+    let report = report_of(rt.alloc(), LINES)?;
+    for piece in [1, 7, 100, 5_000] {
+        expect(&rt, "run", piece, script.as_bytes(), Status::Done, &report)?;
+    }
+    // The last line may lack its line feed.
+    let cut = script.strip_suffix('\n').ok_or("a line feed")?;
+    expect(&rt, "run", 100, cut.as_bytes(), Status::Done, &report)?;
+    Ok(())
+}
+
+// Comments of so many octets, at least 32,769, in two lines.
+fn comments(alloc: Global, octets: usize) -> Result<Vec<u8>, AllocError> {
+    let mut script = Vec::new(alloc);
+    script.resize(32_767, b'#')?;
+    script.push(b'\n')?;
+    script.resize(octets.saturating_sub(1), b'#')?;
+    script.push(b'\n')?;
+    Ok(script)
+}
+
+// Each place of the lines comes to stand behind 65,536 octets. The number of the refused line tells how many were taken.
+#[test]
+fn lines_stand_anywhere(rt: HostRuntime) -> Result<(), Fail> {
+    let alloc = rt.alloc();
+    let lines = script_of(alloc, "", LINES)?;
+    let mut report = report_of(alloc, LINES)?;
+    report.push_str("refused 10 4 Limit\n")?;
+    for before in 0..=lines.len() {
+        let mut script = comments(alloc, 65_536usize.saturating_sub(before))?;
+        script.extend_from_slice(lines.as_bytes())?;
+        script.extend_from_slice(b"settle 0\n")?;
+        expect(&rt, "run", 100_000, &script, refused(10, 4), &report)?;
+    }
+    Ok(())
+}
+
+// A line, filled with spaces to so many octets, and what ends it.
+fn filled(alloc: Global, line: &str, octets: usize, end: &str) -> Result<Vec<u8>, AllocError> {
+    let mut script = line.as_bytes().to_vec(alloc)?;
+    script.resize(octets, b' ')?;
+    script.extend_from_slice(end.as_bytes())?;
+    Ok(script)
+}
+
+// A line has 32,768 octets at most, its carriage return among them.
+#[test]
+fn a_line_is_so_long(rt: HostRuntime) -> Result<(), Fail> {
+    let limit = "refused 1 4 Limit\n";
+    for (line, octets, end, wanted, text) in [
+        ("#", 32_768, "\n", Status::Done, ""),
+        ("#", 32_768, "", Status::Done, ""),
+        ("group /g", 32_768, "\n", Status::Done, ""),
+        ("group /g", 32_767, "\r\n", Status::Done, ""),
+        ("#", 32_769, "\n", refused(1, 4), limit),
+        ("#", 32_769, "", refused(1, 4), limit),
+        ("group /g", 32_769, "\n", refused(1, 4), limit),
+        ("group /g", 32_768, "\r\n", refused(1, 4), limit),
+        // The limit comes before the grammar.
+        ("\t", 32_769, "\n", refused(1, 4), limit),
+        ("\t", 32_768, "\n", refused(1, 1), "refused 1 1 Syntax\n"),
+    ] {
+        let script = filled(rt.alloc(), line, octets, end)?;
+        expect(&rt, "run", 5_000, &script, wanted, text)?;
+    }
+    Ok(())
+}
+
+// A source that gives one line so often.
+#[derive(Drop)]
+struct Repeated {
+    line: Vec<u8>,
+    at: usize,
+    times: u64,
+}
+
+impl Source for Repeated {
+    ghost use Rattle.std.specs.Prelude.{None};
+
+    ghost left = { λ s. None };
+
+    ghost faults = { λ s. 0 };
+
+    fn read(&mut self, buf: &mut [u8]) -> Result<usize, Failed> {
+        let rest = self.line.get(self.at..).unwrap_or(&[]);
+        let n = rest.len().min(buf.len());
+        if self.times == 0 {
+            return Ok(0);
+        }
+        buf[..n].copy_from_slice(&rest[..n]);
+        self.at = self.at.saturating_add(n);
+        if self.at == self.line.len() {
+            self.at = 0;
+            self.times = self.times.saturating_sub(1);
+        }
+        Ok(n)
+    }
+}
+
+// A line of so many spaces, and its end, again and again.
+fn expect_repeated<R: Threads + Sync + AllocGlobal + Abort>(
+    rt: &R,
+    line: (usize, &str),
+    times: u64,
+    wanted: Status,
+    text: &str,
+) -> Result<(), AllocError> {
+    let mut source = Repeated {
+        line: filled(rt.alloc(), "", line.0, line.1)?,
+        at: 0,
+        times,
+    };
+    expect_from(rt, "run", &mut source, wanted, text)
+}
+
+// A script without an end ends at a limit, and so does one that goes right past it.
+#[test]
+fn an_endless_script_ends(rt: HostRuntime) -> Result<(), Fail> {
+    for (octets, end, wanted, text) in [
+        (1, "", refused(1, 4), "refused 1 4 Limit\n"),
+        (1, "\n", refused(100_001, 4), "refused 100001 4 Limit\n"),
+        (32_767, "\n", refused(513, 4), "refused 513 4 Limit\n"),
+    ] {
+        expect_repeated(&rt, (octets, end), u64::MAX, wanted, text)?;
+    }
+    Ok(())
+}
+
+// 100,000 lines, and 16,777,216 octets.
+#[test]
+fn a_script_is_so_long(rt: HostRuntime) -> Result<(), Fail> {
+    expect_repeated(&rt, (0, "\n"), 100_000, Status::Done, "")?;
+    expect_repeated(&rt, (32_767, "\n"), 512, Status::Done, "")?;
+    Ok(())
+}
+
+// Of 1,001 settles the last is too many.
+#[test]
+fn settles_are_counted(rt: HostRuntime) -> Result<(), Fail> {
+    let alloc = rt.alloc();
+    let mut script = String::from_str(alloc, PRE)?;
+    let mut report = String::new(alloc);
+    for _ in 0..1_000 {
+        script.push_str("settle 1\n")?;
+        report.push_str("settle syncs 2 kept 0\n")?;
+    }
+    expect(&rt, "run", 5_000, script.as_bytes(), Status::Done, &report)?;
+    script.push_str("settle 1\n")?;
+    report.push_str("refused 1004 10 TooLarge\n")?;
+    expect(
+        &rt,
+        "run",
+        5_000,
+        script.as_bytes(),
+        refused(1_004, 10),
+        &report,
+    )?;
+    Ok(())
+}

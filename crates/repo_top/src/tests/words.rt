@@ -1,0 +1,57 @@
+use super::status_of;
+use crate::*;
+use std::alloc::AllocError;
+use std::process::Abort;
+use std::test::*;
+use std::thread::Threads;
+
+// Words of no form are answered at once, though each call would fail.
+fn expect_usage<R: Threads + Sync + AllocGlobal + Abort>(
+    rt: &R,
+    words: &str,
+) -> Result<(), AllocError> {
+    let alloc = rt.alloc();
+    let mut source = VecSource::new(Vec::new(alloc), 100, vec![in alloc; 1]?);
+    let mut sink = VecSink::new(alloc, 100, vec![in alloc; 1]?);
+    let answered = status_of(rt, words, &mut source, &mut sink)?;
+    assert_eq!(rt; answered, Status::Usage);
+    assert_eq!(rt; sink.octets().len(), 0);
+    Ok(())
+}
+
+#[test]
+fn other_words_touch_nothing(rt: HostRuntime) -> Result<(), Fail> {
+    for words in [
+        "",
+        "run x",
+        "inspect run",
+        "gen",
+        "gen 1 1",
+        "gen 1 1 1 1",
+        "run 1 1 1",
+        "gen 0 1 1",
+        "gen 17 1 1",
+        "gen 1 0 1",
+        "gen 1 2001 1",
+        "gen 1 1 1000000000000000000",
+        "gen 01 1 1",
+        "gen 1 1 00",
+        "gen 1 1 +1",
+        "gen 1 1 x",
+    ] {
+        expect_usage(&rt, words)?;
+    }
+    Ok(())
+}
+
+#[test]
+fn statuses_have_their_codes(rt: HostRuntime) {
+    let refused = Status::Refused { line: 9, number: 4 };
+    assert_eq!(rt; Status::Done.code(), 0);
+    assert_eq!(rt; Status::Usage.code(), 1);
+    assert_eq!(rt; refused.code(), 2);
+    assert_eq!(rt; Status::ReadFault.code(), 3);
+    assert_eq!(rt; Status::WriteFault.code(), 4);
+    assert_eq!(rt; Status::NoMemory.code(), 5);
+    assert_eq!(rt; Status::Foreign { line: 9 }.code(), 6);
+}
