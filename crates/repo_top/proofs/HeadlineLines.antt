@@ -11,7 +11,7 @@ use Rattle.repo_top.specs.Refusals.{refusal_number, refusal_text}
 use Rattle.repo_top.specs.Judging.{Given, State, Verdict, says, foreign, judged}
 use Rattle.repo_top.specs.Judging as verdict
 use Rattle.repo_top.specs.Story.{Reached, Story, after, behind, is_within_script, judged_next, nothing_reached, story_from, told, within_report}
-use Rattle.repo_top.specs.Headline.{AreTaken, AreTakenFirst, BeginsWithReports, EndsBy, IsTaken, IsToldBy}
+use Rattle.repo_top.specs.Headline.{AreTaken, AreTakenFirst, BeginsWithReports, EachIsTaken, EndsBy, IsTaken, IsTakenAmid, IsToldBy}
 
 -- ---- one line
 
@@ -129,3 +129,61 @@ begins_from given r (line ∷ first) others (report ∷ reports) last taken =
 
 pub begins : BeginsWithReports
 begins given first others reports r taken = begins_from given nothing_reached first others reports r taken
+
+-- Lines amid others, from anywhere.
+record IsTakenFrom (given : Given) (r : Reached) (before : List (List ℕ)) (line : List ℕ) (others reports : List (List ℕ))
+    (last : Reached) : Type 0 where
+  here : Reached
+  new : Reached
+  told : List (List ℕ)
+  report : List ℕ
+  later : List (List ℕ)
+  reports_are : reports ≡ told ++ report ∷ later
+  before_it : AreTaken given r before told here
+  it : IsTaken given here line report new
+  behind_it : AreTaken given new others later last
+
+taken_from : (given : Given) (r : Reached) (before : List (List ℕ)) (line : List ℕ) (others reports : List (List ℕ))
+    (last : Reached) → AreTaken given r (before ++ line ∷ others) reports last
+    → IsTakenFrom given r before line others reports last
+taken_from given r [] line others [] last taken = absurd taken
+taken_from given r [] line others (report ∷ reports) last taken = record {
+  here = r;
+  new = taken.0;
+  told = [];
+  report = report;
+  later = reports;
+  reports_are = refl;
+  before_it = refl;
+  it = taken.1;
+  behind_it = taken.2;
+}
+taken_from given r (first ∷ before) line others [] last taken = absurd taken
+taken_from given r (first ∷ before) line others (report ∷ reports) last taken =
+    let t = taken_from given taken.0 before line others reports last taken.2 in
+    record {
+      here = t.here;
+      new = t.new;
+      told = report ∷ t.told;
+      report = t.report;
+      later = t.later;
+      reports_are = ap (λ (rs : List (List ℕ)). report ∷ rs) t.reports_are;
+      before_it = (taken.0, taken.1, t.before_it);
+      it = t.it;
+      behind_it = t.behind_it;
+    }
+
+pub each_is_taken : EachIsTaken
+each_is_taken given before line others reports last taken =
+    let t = taken_from given nothing_reached before line others reports last taken in
+    record {
+      here = t.here;
+      new = t.new;
+      told = t.told;
+      report = t.report;
+      later = t.later;
+      reports_are = t.reports_are;
+      before_it = t.before_it;
+      it = t.it;
+      behind_it = t.behind_it;
+    }

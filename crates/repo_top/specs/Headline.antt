@@ -45,6 +45,19 @@ AreTaken given r lines reports last = ⊥
 abbrev pub AreTakenFirst : Given → List (List ℕ) → List (List ℕ) → Reached → Type 0
 AreTakenFirst given lines reports last = AreTaken given nothing_reached lines reports last
 
+-- One line amid those that are taken: what was reached and reported before it, and what comes behind it.
+pub record IsTakenAmid (given : Given) (before : List (List ℕ)) (line : List ℕ) (others reports : List (List ℕ))
+    (last : Reached) : Type 0 where
+  pub here : Reached
+  pub new : Reached
+  pub told : List (List ℕ)
+  pub report : List ℕ
+  pub later : List (List ℕ)
+  pub reports_are : reports ≡ told ++ report ∷ later
+  pub before_it : AreTakenFirst given before told here
+  pub it : IsTaken given here line report new
+  pub behind_it : AreTaken given new others later last
+
 -- ---- stories
 
 -- How a story ends behind a line of this number that comes to this: a taken line ends none.
@@ -162,6 +175,11 @@ changes_nothing (Ok None) = true
 changes_nothing (Ok (Some stated)) = only_tells stated.verb
 changes_nothing (Err fault) = false
 
+-- The group is the same, and so are the labels.
+pub record IsSameGroup (given : Given) (r new : Reached) : Type 0 where
+  pub group : group_at given new ≡ group_at given r
+  pub labels : labels_at new ≡ labels_at r
+
 -- These forms can delete: an `order` line may bring a command to delete.
 abbrev pub deletes : Verb → Bool
 deletes verb.Delete = true
@@ -181,10 +199,20 @@ BeginsWithReports = (given : Given) (first others reports : List (List ℕ)) (r 
     → AreTakenFirst given first reports r
     → story_from given nothing_reached (first ++ others) ≡ behind (concat reports) (story_from given r others)
 
+-- Each of the lines that are taken has its report at its place.
+abbrev pub EachIsTaken : Type 0
+EachIsTaken = (given : Given) (before : List (List ℕ)) (line : List ℕ) (others reports : List (List ℕ)) (last : Reached)
+    → AreTakenFirst given (before ++ line ∷ others) reports last → IsTakenAmid given before line others reports last
+
 -- Whatever lines are taken, the group is sound then.
 abbrev pub ReachSoundGroups : Type 0
 ReachSoundGroups = (given : Given) (lines reports : List (List ℕ)) (r : Reached) → AreTakenFirst given lines reports r
     → IsGroupOfLines given r
+
+-- The lines that change nothing leave the group as it is.
+abbrev pub TellingChangesNothing : Type 0
+TellingChangesNothing = (given : Given) (r : Reached) (line report : List ℕ) (new : Reached)
+    → IsTaken given r line report new → changes_nothing (line_of line) ≡ true → IsSameGroup given r new
 
 -- A `catalogue` line prints exactly the undeleted objects that the member published or wholly holds.
 abbrev pub PrintsCatalogues : Type 0
