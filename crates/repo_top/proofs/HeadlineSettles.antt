@@ -1,5 +1,5 @@
 -- Catalogues right after a settle.
-use Rattle.std.proofs.Common.{◌≡◌, ◌∙◌, ℕ, ◌+◌, ◌<◌, Bool, true, false, ◌&&◌, List, [], ◌∷◌, length, map, Option, Some, None, Result, Ok, Err, refl, sym, ap, subst, arith}
+use Rattle.std.proofs.Common.{◌≡◌, ◌∙◌, ℕ, ◌<◌, true, List, [], ◌∷◌, length, map, Option, Some, Result, Ok, refl, sym, ap, subst}
 use Rattle.std.specs.List.{list_all}
 use Rattle.group_model.specs.Publications.{join_of}
 use Rattle.group_model.specs.World.{Outside, World, catalogue_at, logs}
@@ -11,7 +11,7 @@ use Rattle.repo_member.specs.Groups.{GroupKeys}
 use Rattle.script_lang.specs.declared.line_fault.LineFault.{LineFault}
 use Rattle.script_lang.specs.declared.verb.Verb.{Verb}
 use Rattle.script_lang.specs.declared.verb.Verb.TheVariants as verb
-use Rattle.script_lang.specs.Kinds.{Value, Text, Number, Named, Octets}
+use Rattle.script_lang.specs.Kinds.{Value, Text, Number, Octets}
 use Rattle.script_lang.specs.Forms.{Stated, said}
 use Rattle.script_lang.specs.Lines.{line_of}
 use Rattle.script_lang.specs.Checking as checking
@@ -21,8 +21,8 @@ use Rattle.bench_world.specs.EventValues.{EventValue, group_event}
 use Rattle.repo_top.specs.SaidEvents.{number_of, said_by, said_event}
 use Rattle.repo_top.specs.Judging.{Given, State, acted_if, found_world, outside_of, says, taken_by}
 use Rattle.repo_top.specs.Story.{Reached}
-use Rattle.repo_top.specs.Headline.{AreTaken, IsCatalogueLine, IsCatalogueOf, IsJoined, IsSameGroup, IsSettleLine, IsTaken, SettlesJoin, TellingChangesNothing, changes_nothing, group_at, labels_at, only_tells, printed}
-use Rattle.repo_top.proofs.HeadlineGroups.{IsActed, IsSoundState, LineTaken, StatedTaken, acted_by, acted_said, event_line, nothing, sound_from_start, sound_lines, stated_taken, stating, taken_line}
+use Rattle.repo_top.specs.Headline.{AreTaken, IsCatalogueOf, IsSameGroup, IsSettleLine, SettlesJoin, TellingChangesNothing, changes_nothing, group_at, labels_at, only_tells, printed}
+use Rattle.repo_top.proofs.HeadlineGroups.{IsActed, IsSoundState, LineTaken, acted_by, acted_said, event_line, nothing, sound_from_start, sound_lines, stated_taken, stating, taken_line}
 use Rattle.repo_top.proofs.HeadlineCatalogues.{catalogue_line}
 
 -- ---- the settle
@@ -34,9 +34,9 @@ joined given r report new sound l nothing_hidden =
     let out : Outside = outside_of given s.keys in
     let w : World = found_world given s in
     let t = stated_taken given s l.line report new.state (said verb.Settle (Number l.workers ∷ [])) l.stated
-        (taken_line given r l.line report new l.taken) in
+    (taken_line given r l.line report new l.taken) in
     let acts : IsActed given s t.d (EventValue.Settle l.workers) report new.state =
-        acted_by given s t.d (EventValue.Settle l.workers) report new.state t.is in
+    acted_by given s t.d (EventValue.Settle l.workers) report new.state t.is in
     let settled : group_at given new ≡ after_event out w group.Event.Settle = ap (found_world given) acts.next in
     subst AllJoined (sym settled) (settle_joins out w sound.sound (subst NothingHidden settled nothing_hidden))
 
@@ -118,9 +118,9 @@ lines_tell given r (line ∷ lines) [] later taken tell = absurd taken
 lines_tell given r (line ∷ lines) (report ∷ reports) later taken tell =
     let next : Reached = taken.0 in
     let here = telling_changes_nothing given r line report next taken.1
-        (and_left (changes_nothing (line_of line)) _ tell) in
+    (and_left (changes_nothing (line_of line)) _ tell) in
     let behind = lines_tell given next lines reports later taken.2
-        (and_right (changes_nothing (line_of line)) _ tell) in
+    (and_right (changes_nothing (line_of line)) _ tell) in
     record { group = behind.group ∙ here.group; labels = behind.labels ∙ here.labels }
 
 -- ---- what is printed
@@ -130,7 +130,7 @@ printed_join : (given : Given) (r later : Reached) (label report : List ℕ) →
     → report ≡ printed (labels_at r) label (join_of (logs (group_at given r)))
 printed_join given r later label report all same c =
     let there : c.number < length (group_at given r).members =
-        subst (λ (w : World). c.number < length w.members) same.group c.there in
+    subst (λ (w : World). c.number < length w.members) same.group c.there in
     c.text
     ∙ ap (λ (w : World). printed (labels_at later) label (catalogue_at w c.number)) same.group
     ∙ ap (λ (labels : List (List ℕ)). printed labels label (catalogue_at (group_at given r) c.number)) same.labels
@@ -140,7 +140,7 @@ pub settles_join : SettlesJoin
 settles_join given lines reports r taken report new l nothing_hidden =
     let sound : IsSoundState given r.state = sound_from_start given lines reports r taken in
     let after : IsSoundState given new.state =
-        sound_lines given r (l.line ∷ []) (report ∷ []) new (new, l.taken, refl) sound in
+    sound_lines given r (l.line ∷ []) (report ∷ []) new (new, l.taken, refl) sound in
     let all : AllJoined (group_at given new) = joined given r report new sound l nothing_hidden in
     record {
       all = all;
