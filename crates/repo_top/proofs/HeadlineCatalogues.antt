@@ -1,18 +1,16 @@
 -- What `catalogue` lines print.
-use Rattle.std.proofs.Common.{◌≡◌, ◌∙◌, ◌⊎◌, inl, inr, ℕ, zero, suc, ◌+◌, ◌-◌, ◌<◌, ◌≤◌, Bool, true, false, not, ◌&&◌, ◌||◌, nat_lt, List, [], ◌∷◌, length, get_or, map, Option, Some, None, unwrap_or, Result, Ok, Err, refl, sym, ap, subst, arith, if◌then◌else◌}
-use Rattle.std.specs.List.{All, filter, list_any, position, prefix_len}
+use Rattle.std.proofs.Common.{◌≡◌, ◌∙◌, ◌⊎◌, inl, inr, ℕ, suc, ◌+◌, ◌<◌, Bool, true, false, not, ◌||◌, nat_lt, List, [], ◌∷◌, length, get_or, map, Some, None, unwrap_or, refl, sym, ap, subst, arith, if◌then◌else◌}
+use Rattle.std.specs.List.{prefix_len}
 use Rattle.std.specs.Str.{bytes_eq}
 use Rattle.std.proofs.lemmas.Bool.{true≢false, cases_Bool}
 use Rattle.std.proofs.lemmas.Bool.Decides.{nat_tests}
-use Rattle.std.proofs.lemmas.List.{length-map, get_or-map}
-use Rattle.std.proofs.lemmas.List.Sums.{prefix_len_stops}
 use Rattle.std.proofs.lemmas.Slice.Eq.{bytes_eq-Decides}
-use Rattle.repo_plan.specs.Parts.{Pair, part_of}
+use Rattle.repo_plan.specs.Parts.{Pair}
 use Rattle.repo_plan.proofs.Sets.{In, from_map}
 use Rattle.repo_catalog.specs.declared.entry.Entry.{Entry}
 use Rattle.repo_catalog.specs.Entries.{lists, publication_of}
-use Rattle.group_model.specs.Publications.{Logs, Publication, count, pair_in, published, published_entry}
-use Rattle.group_model.specs.Member.{Member, catalogue, catalogued, holds_all, member_hides, member_holds}
+use Rattle.group_model.specs.Publications.{Logs, Publication, count, published, published_entry}
+use Rattle.group_model.specs.Member.{Member, catalogue, catalogued, holds_all, member_hides}
 use Rattle.group_model.specs.World.{Outside, World, catalogue_at, logs, member}
 use Rattle.group_model.specs.Sound.{IsPublished, IsSoundGroup, IsSoundMember}
 use Rattle.group_model.specs.Catalogues.{IsWhollyHeld, ListsRightly}
@@ -21,7 +19,7 @@ use Rattle.group_model.proofs.Parts.{IsIn, in_published}
 use Rattle.group_model.proofs.PublicLaws.{lists_those, lists_in_order}
 use Rattle.script_lang.specs.declared.verb.Verb.TheVariants as verb
 use Rattle.script_lang.specs.Kinds.{Text}
-use Rattle.script_lang.specs.Forms.{Stated, said}
+use Rattle.script_lang.specs.Forms.{said}
 use Rattle.script_lang.specs.Checking.{Declared, Party, has_label, label_of}
 use Rattle.script_lang.proofs.Conditions.{and_left}
 use Rattle.bench_world.specs.EventValues.{EventValue}
@@ -29,7 +27,7 @@ use Rattle.repo_top.specs.SaidEvents.{number_of}
 use Rattle.repo_top.specs.ToldTexts.{label_at}
 use Rattle.repo_top.specs.Judging.{Given, State, found_world, outside_of}
 use Rattle.repo_top.specs.Story.{Reached}
-use Rattle.repo_top.specs.Headline.{AreTakenFirst, HoldsAllOf, IsCatalogueLine, IsCatalogueOf, IsToBeListed, ListExactly, PrintsCatalogues, group_at, labels_at, printed, publication_at}
+use Rattle.repo_top.specs.Headline.{HoldsAllOf, IsCatalogueLine, IsCatalogueOf, IsToBeListed, ListExactly, PrintsCatalogues, group_at, labels_at, printed, publication_at}
 use Rattle.repo_top.proofs.HeadlineGroups.{IsActed, IsEventLine, IsSoundState, StatedTaken, acted_by, event_line, sound_from_start, stated_taken, taken_line}
 
 -- ---- a catalogue
@@ -38,11 +36,11 @@ told_entry : (ls : Logs) (m : Member) (e : Entry) → In e (catalogue ls m)
     → e ≡ published_entry (publication_at ls (publication_of e))
 told_entry ls m e among =
     let q : (q : Publication) × (In q (catalogued ls m)) × (e ≡ published_entry q) =
-        from_map published_entry (catalogued ls m) e among in
+    from_map published_entry (catalogued ls m) e among in
     let there : IsIn ls q.0 = in_published ls q.0 (from_filter (holds_all m) (published ls) q.0 q.1).0 in
     let Tells : Entry → Type 0 = λ x. x ≡ published_entry (publication_at ls (publication_of x)) in
     let here : Tells (published_entry q.0) =
-        ap (λ o. published_entry (record { publisher = q.0.publisher; seq = q.0.seq; object = o })) there.object in
+    ap (λ o. published_entry (record { publisher = q.0.publisher; seq = q.0.seq; object = o })) there.object in
     subst Tells (sym q.2) here
 
 -- The member's own publications are held, unless it hides them.
@@ -66,15 +64,15 @@ list_exactly out w m sound there = record {
   exactly = λ pair.
       let lists_it : ListsRightly w m pair = lists_those out w sound m pair there in
       let to : lists pair (catalogue_at w m) ≡ true → IsToBeListed w m pair = λ listed.
-          let whole : IsWhollyHeld (logs w) (member w m) pair = lists_it.exactly.0 listed in
-          record {
-            published = whole.published;
-            undeleted = not_hidden pair listed lists_it;
-            had = inr whole.held;
-          } in
+      let whole : IsWhollyHeld (logs w) (member w m) pair = lists_it.exactly.0 listed in
+      record {
+        published = whole.published;
+        undeleted = not_hidden pair listed lists_it;
+        had = inr whole.held;
+      } in
       let from : IsToBeListed w m pair → lists pair (catalogue_at w m) ≡ true = λ t.
-          lists_it.exactly.1
-          (record { published = t.published; held = held_by w m pair (sound.members m there) t }) in
+      lists_it.exactly.1
+      (record { published = t.published; held = held_by w m pair (sound.members m there) t }) in
       (to, from);
   in_order = lists_in_order (logs w) (member w m);
   told = λ k d inside. told_entry (logs w) (member w m) (get_or (catalogue_at w m) k d)
@@ -109,7 +107,7 @@ at_place label (p ∷ ps) known = go (bytes_eq p.label label) refl known (at_pla
       let behind = rest k in
       let more : suc (place label ps) ≡ 1 + place label ps = omega arith in
       let here : IsNumberOf label (p ∷ ps) (suc (place label ps)) =
-          record { there = omega (arith, behind.there); labelled = behind.labelled } in
+      record { there = omega (arith, behind.there); labelled = behind.labelled } in
       subst (IsNumberOf label (p ∷ ps)) more here
 
 found_number : (n count : ℕ) → n < count → n ≡ unwrap_or (if nat_lt n count then Some n else None) 0
@@ -128,19 +126,19 @@ module _ (given : Given) (s : State) (sound : IsSoundState given s) (label repor
       → IsCatalogueOf (found_world given s) (map label_of s.declared.members) label report
   catalogue_of t =
       let line : IsEventLine s.declared t.d (said verb.Catalogue (Text label ∷ [])) =
-          event_line s.declared t.d (said verb.Catalogue (Text label ∷ [])) t.after in
+      event_line s.declared t.d (said verb.Catalogue (Text label ∷ [])) t.after in
       let same : t.d.members ≡ s.declared.members = ap (λ (x : Declared). x.members) line.is in
       let m : ℕ = number_of label s.declared.members in
       let w : World = found_world given s in
       let named : IsNumberOf label s.declared.members m =
-          named_by label s.declared.members (and_left (has_label label s.declared.members) _ line.known) in
+      named_by label s.declared.members (and_left (has_label label s.declared.members) _ line.known) in
       let there : m < length w.members = omega (arith, named.there, sound.many) in
       let text : List Party → List ℕ = λ ps.
-          let labels : List (List ℕ) = map label_of ps in
-          let entries : List Entry = catalogue_at w (number_of label ps) in
-          printed labels (label_at labels (number_of label ps)) entries in
+      let labels : List (List ℕ) = map label_of ps in
+      let entries : List Entry = catalogue_at w (number_of label ps) in
+      printed labels (label_at labels (number_of label ps)) entries in
       let acts : IsActed given s t.d (EventValue.Catalogue (number_of label t.d.members)) report new =
-          acted_by given s t.d (EventValue.Catalogue (number_of label t.d.members)) report new t.is in
+      acted_by given s t.d (EventValue.Catalogue (number_of label t.d.members)) report new t.is in
       let labels : List (List ℕ) = map label_of s.declared.members in
       record {
         number = m;
@@ -150,8 +148,8 @@ module _ (given : Given) (s : State) (sound : IsSoundState given s) (label repor
         rightly = list_exactly (outside_of given s.keys) w m sound.sound there;
       }
 
-pub catalogue_line : (given : Given) (r : Reached) → IsSoundState given r.state → (label report : List ℕ) (new : Reached)
-    → IsCatalogueLine given r label report new → IsCatalogueOf (group_at given r) (labels_at r) label report
+pub catalogue_line : (given : Given) (r : Reached) → IsSoundState given r.state
+    → (label report : List ℕ) (new : Reached) → IsCatalogueLine given r label report new → IsCatalogueOf (group_at given r) (labels_at r) label report
 catalogue_line given r sound label report new l =
     catalogue_of given r.state sound label report new.state
     (stated_taken given r.state l.line report new.state (said verb.Catalogue (Text label ∷ [])) l.stated

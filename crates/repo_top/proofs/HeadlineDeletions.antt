@@ -1,5 +1,5 @@
 -- Only deletions hide publications.
-use Rattle.std.proofs.Common.{◌≡◌, ◌∙◌, ℕ, zero, suc, ◌+◌, ◌<◌, Bool, true, false, cond, not, ◌&&◌, List, [], ◌∷◌, ◌++◌, length, get_or, set, map, Option, Some, None, Result, Ok, Err, refl, sym, ap, subst, arith}
+use Rattle.std.proofs.Common.{◌≡◌, ◌∙◌, ℕ, zero, suc, ◌<◌, Bool, true, false, cond, not, List, [], ◌∷◌, ◌++◌, length, get_or, set, map, Option, Some, None, Result, Ok, refl, sym, ap, subst, arith}
 use Rattle.std.specs.List.{list_all}
 use Rattle.std.specs.Option.{IfSome}
 use Rattle.std.proofs.lemmas.List.{length-set}
@@ -34,7 +34,7 @@ use Rattle.bench_world.specs.EventValues.{EventValue, group_event}
 use Rattle.repo_top.specs.SaidEvents.{said_by, said_event}
 use Rattle.repo_top.specs.Judging.{Given, State, acted_if, found_world, outside_of, says, taken_by, with_client, with_group, with_member}
 use Rattle.repo_top.specs.Story.{Reached, nothing_reached}
-use Rattle.repo_top.specs.Headline.{AreTaken, AreTakenFirst, HidesByDeletionAlone, deletes, deletes_nothing, group_at}
+use Rattle.repo_top.specs.Headline.{AreTaken, HidesByDeletionAlone, deletes, deletes_nothing, group_at}
 use Rattle.repo_top.proofs.HeadlineGroups.{IsSoundState, LineTaken, acted_said, declares_group, event_line, may, nothing, opened, says_state, sound_beginning, sound_line, stating, taken_line}
 
 -- ---- events
@@ -217,10 +217,10 @@ module _ (given : Given) (s : State) (sound : IsSoundState given s) (line : List
       let declares = event_line s.declared d stated taken in
       let count : length d.members ≡ length s.declared.members = ap (λ (x : Declared). length x.members) declares.is in
       let kept : length new.declared.members ≡ length d.members =
-          ap (λ (x : State). length x.declared.members) acts.2.next in
+      ap (λ (x : State). length x.declared.members) acts.2.next in
       let before : j < length w.members = omega (arith, inside, count, kept, sound.many, sound_new.many) in
       let spares : IsNoDeletionEvent (group_event s.keys acts.0) =
-          undeleting_some s.keys (said_event d stated) acts.0 acts.1 (undeleting s.keys stated.verb d stated.values only) in
+      undeleting_some s.keys (said_event d stated) acts.0 acts.1 (undeleting s.keys stated.verb d stated.values only) in
       ap (λ (x : State). (member (found_world given x) j).hidden) acts.2.next
       ∙ hides_as_before out w (group_event s.keys acts.0) spares j before ∙ nothing_hidden j before
 
@@ -254,7 +254,7 @@ module _ (given : Given) (s : State) (sound : IsSoundState given s) (line : List
       → with_member s d values ≡ says report new → d.events ≡ false
   member_early (Text label ∷ Named node ∷ Octets key ∷ []) taken is =
       let m = may s.declared d (record s.declared { members = s.declared.members ++ party label node ∷ [] })
-          (party label node) (length s.declared.members) taken in
+      (party label node) (length s.declared.members) taken in
       ap (λ (x : Declared). x.events) m.1 ∙ m.0.before
   member_early values taken is = cc
 
@@ -262,7 +262,7 @@ module _ (given : Given) (s : State) (sound : IsSoundState given s) (line : List
       → with_client s d values ≡ says report new → d.events ≡ false
   client_early (Text label ∷ Named node ∷ Octets key ∷ []) taken is =
       let m = may s.declared d (record s.declared { clients = s.declared.clients ++ party label node ∷ [] })
-          (party label node) (length s.declared.clients) taken in
+      (party label node) (length s.declared.clients) taken in
       ap (λ (x : Declared). x.events) m.1 ∙ m.0.before
   client_early values taken is = cc
 
@@ -302,11 +302,12 @@ lines_hide given r (line ∷ lines) (report ∷ reports) last taken keep sound n
     let next : Reached = taken.0 in
     let here : LineTaken given r.state line report next.state = taken_line given r line report next taken.1 in
     let sound_next : IsSoundState given next.state =
-        sound_line given r.state line report next.state here sound in
+    sound_line given r.state line report next.state here sound in
     lines_hide given next lines reports last taken.2 (and_right (deletes_nothing (line_of line)) _ keep) sound_next
     (line_hides given r.state line report next.state here (and_left (deletes_nothing (line_of line)) _ keep) sound
     sound_next nothing_hidden)
 
 pub hides_by_deletion_alone : HidesByDeletionAlone
 hides_by_deletion_alone given lines reports r taken keep =
-    lines_hide given nothing_reached lines reports r taken keep (sound_beginning given) (λ j inside. absurd (omega arith))
+    lines_hide given nothing_reached lines reports r taken keep (sound_beginning given)
+    (λ j inside. absurd (omega arith))

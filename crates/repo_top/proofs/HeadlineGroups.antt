@@ -1,13 +1,13 @@
 -- The group behind lines that are taken is sound: an event names members that are there, and members are declared only
 -- before the first event.
-use Rattle.std.proofs.Common.{◌≡◌, ◌∙◌, ℕ, zero, suc, ◌+◌, ◌<◌, ◌≤◌, Bool, true, false, not, ◌&&◌, ◌||◌, nat_le, List, [], ◌∷◌, ◌++◌, length, length-append, map, Option, Some, None, unwrap_or, Result, Ok, Err, refl, sym, ap, subst, arith, if◌then◌else◌}
+use Rattle.std.proofs.Common.{◌≡◌, ◌∙◌, ℕ, ◌+◌, Bool, true, false, not, ◌||◌, nat_le, List, [], ◌∷◌, ◌++◌, length, length-append, map, Option, Some, None, unwrap_or, Result, Ok, Err, refl, sym, ap, subst, arith, if◌then◌else◌}
 use Rattle.std.specs.List.{IsDistinct, list_any}
 use Rattle.std.specs.Str.{bytes_eq}
 use Rattle.std.proofs.lemmas.Bool.{or_parts, true≢false}
 use Rattle.std.proofs.lemmas.Cmp.{nat_list_eq_equiv}
 use Rattle.std.proofs.lemmas.List.{length-map, map-append}
 use Rattle.std.proofs.lemmas.Map.Keys.{IsDistinct-push}
-use Rattle.ndn_name.specs.Names.{Component, encoding}
+use Rattle.ndn_name.specs.Names.{encoding}
 use Rattle.group_model.specs.Events as group
 use Rattle.group_model.specs.World.{Outside, World, opening_world}
 use Rattle.group_model.specs.Steps.{after_event}
@@ -28,7 +28,7 @@ use Rattle.script_lang.specs.declared.check_fault.CheckFault.{CheckFault}
 use Rattle.script_lang.specs.declared.check_fault.CheckFault.TheVariants as check_fault
 use Rattle.script_lang.specs.declared.verb.Verb.{Verb}
 use Rattle.script_lang.specs.declared.verb.Verb.TheVariants as verb
-use Rattle.script_lang.specs.Kinds.{Value, Text, Number, Named, Octets}
+use Rattle.script_lang.specs.Kinds.{Value, Text, Named, Octets}
 use Rattle.script_lang.specs.Forms.{Stated}
 use Rattle.script_lang.specs.Lines.{line_of}
 use Rattle.script_lang.specs.Limits.{members_limit}
@@ -36,16 +36,17 @@ use Rattle.script_lang.specs.Checking as checking
 use Rattle.script_lang.specs.Checking.{Declared, Party, Totals, adds, after_by, after_group, after_line, are_known, are_within_limits, declared_then, is_among, is_there, label_of, may_declare, party, with_totals}
 use Rattle.repo_top.specs.SaidEvents.{said_event}
 use Rattle.repo_top.specs.ToldTexts.{told_text}
-use Rattle.repo_top.specs.Judging.{Given, State, Verdict, acted, acted_if, check_refused, checked, event_refused, found_world, judged, opening_state, outside_of, read, says, stepped, taken_by, with_client, with_group, with_member}
+use Rattle.repo_top.specs.Judging.{Given, State, acted, acted_if, check_refused, checked, event_refused, found_world, judged, opening_state, outside_of, read, says, stepped, taken_by, with_client, with_group, with_member}
 use Rattle.repo_top.specs.Story.{Reached, nothing_reached}
-use Rattle.repo_top.specs.Headline.{AreTaken, AreTakenFirst, IsGroupOfLines, IsTaken, ReachSoundGroups, group_at}
-use Rattle.repo_top.proofs.Fitting.{event_fits, event_keeps}
+use Rattle.repo_top.specs.Headline.{AreTaken, AreTakenFirst, IsTaken, ReachSoundGroups}
+use Rattle.repo_top.proofs.Fitting.{event_fits}
 use Rattle.repo_top.proofs.HeadlineLines.{judged_by}
 
 -- ---- what a line that is taken comes to
 
 -- An event was carried out.
-pub record IsActed (given : Given) (s : State) (d : Declared) (e : EventValue) (report : List ℕ) (new : State) : Type 0 where
+pub record IsActed (given : Given) (s : State) (d : Declared) (e : EventValue) (report : List ℕ)
+    (new : State) : Type 0 where
   pub taken : refusals.refusal (outside_of given s.keys) (found_world given s) (group_event s.keys e) ≡ None
   pub text : report ≡ told_text (map label_of d.members)
       (telling s.keys (outside_of given s.keys) (found_world given s) e)
@@ -283,7 +284,8 @@ module _ (given : Given) (s : State) (sound : IsSoundState given s) (d : Declare
         sound = sound_before given next no;
         many = many_before given next no;
       } in
-      let same : new ≡ next = says_state report [] new _ is ∙ ap (λ (e : Declared). record next { declared = e }) declares.is in
+      let same : new ≡ next =
+      says_state report [] new _ is ∙ ap (λ (e : Declared). record next { declared = e }) declares.is in
       subst (IsSoundState given) (sym same) result
   after_group_line values after is = cc
 
@@ -299,8 +301,8 @@ module _ (given : Given) (s : State) (sound : IsSoundState given s) (d : Declare
         world = s.world;
       } in
       let names : length (s.keys.members.names ++ node ∷ []) ≡ length (s.declared.members ++ p ∷ []) =
-          length-append s.keys.members.names (node ∷ []) ∙ ap (λ n. n + 1) sound.names
-          ∙ sym (length-append s.declared.members (p ∷ [])) in
+      length-append s.keys.members.names (node ∷ []) ∙ ap (λ n. n + 1) sound.names
+      ∙ sym (length-append s.declared.members (p ∷ [])) in
       let no : HasNoWorld given next = record { world = sound.begun m.0.before; names = names } in
       let result : IsSoundState given next = record {
         ungrouped = λ h. absurd (true≢false (sym m.0.grouped ∙ h));
@@ -457,7 +459,7 @@ pub reach_sound : ReachSoundGroups
 reach_sound given lines reports r taken =
     let s : IsSoundState given r.state = sound_from_start given lines reports r taken in
     let count : length (map label_of r.state.declared.members) ≡ length r.state.declared.members =
-        length-map r.state.declared.members label_of in
+    length-map r.state.declared.members label_of in
     record {
       sound = s.sound;
       members = s.many ∙ sym count;

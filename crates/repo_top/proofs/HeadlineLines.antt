@@ -3,15 +3,13 @@ use Rattle.std.proofs.Common.{◌≡◌, ◌∙◌, ℕ, ◌+◌, Bool, nat_le, 
 use Rattle.std.specs.List.{concat}
 use Rattle.script_report.specs.Limits.{report_octets}
 use Rattle.script_report.specs.Texts.{foreign_text}
-use Rattle.repo_top.specs.declared.ending.Ending.{Ending}
-use Rattle.repo_top.specs.declared.ending.Ending.TheVariants.{Done, Refused, Foreign}
-use Rattle.repo_top.specs.declared.refusal.Refusal.{Refusal}
+use Rattle.repo_top.specs.declared.ending.Ending.TheVariants.{Refused, Foreign}
 use Rattle.repo_top.specs.declared.refusal.Refusal.TheVariants.{Limit, TooLarge}
 use Rattle.repo_top.specs.Refusals.{refusal_number, refusal_text}
 use Rattle.repo_top.specs.Judging.{Given, State, Verdict, says, foreign, judged}
 use Rattle.repo_top.specs.Judging as verdict
 use Rattle.repo_top.specs.Story.{Reached, Story, after, behind, is_within_script, judged_next, nothing_reached, story_from, told, within_report}
-use Rattle.repo_top.specs.Headline.{AreTaken, AreTakenFirst, BeginsWithReports, EndsBy, IsTaken, IsToldBy}
+use Rattle.repo_top.specs.Headline.{AreTaken, BeginsWithReports, EachIsTaken, EndsBy, IsTaken, IsToldBy}
 
 -- ---- one line
 
@@ -55,7 +53,8 @@ more given r line report next others s is t = record {
   world = t.world;
 }
 
-pub told_by : (given : Given) (r : Reached) (script : List (List ℕ)) → IsToldBy given r script (story_from given r script)
+pub told_by : (given : Given) (r : Reached) (script : List (List ℕ))
+    → IsToldBy given r script (story_from given r script)
 unfolding story_from
 told_by given r [] = record {
   first = [];
@@ -121,11 +120,40 @@ begins_from given r (line ∷ first) others (report ∷ reports) last taken =
     let is : IsTaken given r line report next = taken.1 in
     let rest : List ℕ = concat reports in
     let s : Story = story_from given last others in
+    let with_text : List ℕ → Story =
+    λ text. record { text = text; ending = s.ending; keys = s.keys; world = s.world } in
     ap (told (λ (n : Reached). story_from given n (first ++ others)) r line) is.verdict
     ∙ ap (λ (n : Reached). behind report (story_from given n (first ++ others))) (sym is.reached)
     ∙ ap (behind report) (begins_from given next first others reports last taken.2)
-    ∙ ap (λ (text : List ℕ). let t : Story = record { text = text; ending = s.ending; keys = s.keys; world = s.world } in t)
-    (sym (append_assoc report rest s.text))
+    ∙ ap with_text (sym (append_assoc report rest s.text))
 
 pub begins : BeginsWithReports
 begins given first others reports r taken = begins_from given nothing_reached first others reports r taken
+
+pub each_is_taken : EachIsTaken
+each_is_taken given r [] line others [] last taken = absurd taken
+each_is_taken given r [] line others (report ∷ reports) last taken = record {
+  here = r;
+  new = taken.0;
+  told = [];
+  report = report;
+  later = reports;
+  reports_are = refl;
+  before_it = refl;
+  it = taken.1;
+  behind_it = taken.2;
+}
+each_is_taken given r (first ∷ before) line others [] last taken = absurd taken
+each_is_taken given r (first ∷ before) line others (report ∷ reports) last taken =
+    let t = each_is_taken given taken.0 before line others reports last taken.2 in
+    record {
+      here = t.here;
+      new = t.new;
+      told = report ∷ t.told;
+      report = t.report;
+      later = t.later;
+      reports_are = ap (λ (rs : List (List ℕ)). report ∷ rs) t.reports_are;
+      before_it = (taken.0, taken.1, t.before_it);
+      it = t.it;
+      behind_it = t.behind_it;
+    }

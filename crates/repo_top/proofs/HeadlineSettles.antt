@@ -1,5 +1,5 @@
 -- Catalogues right after a settle.
-use Rattle.std.proofs.Common.{◌≡◌, ◌∙◌, ℕ, ◌+◌, ◌<◌, Bool, true, false, ◌&&◌, List, [], ◌∷◌, length, map, Option, Some, None, Result, Ok, Err, refl, sym, ap, subst, arith}
+use Rattle.std.proofs.Common.{◌≡◌, ◌∙◌, ℕ, ◌<◌, true, List, [], ◌∷◌, length, map, Option, Some, Result, Ok, refl, sym, ap, subst}
 use Rattle.std.specs.List.{list_all}
 use Rattle.group_model.specs.Publications.{join_of}
 use Rattle.group_model.specs.World.{Outside, World, catalogue_at, logs}
@@ -11,7 +11,7 @@ use Rattle.repo_member.specs.Groups.{GroupKeys}
 use Rattle.script_lang.specs.declared.line_fault.LineFault.{LineFault}
 use Rattle.script_lang.specs.declared.verb.Verb.{Verb}
 use Rattle.script_lang.specs.declared.verb.Verb.TheVariants as verb
-use Rattle.script_lang.specs.Kinds.{Value, Text, Number, Named, Octets}
+use Rattle.script_lang.specs.Kinds.{Value, Text, Number, Octets}
 use Rattle.script_lang.specs.Forms.{Stated, said}
 use Rattle.script_lang.specs.Lines.{line_of}
 use Rattle.script_lang.specs.Checking as checking
@@ -21,8 +21,8 @@ use Rattle.bench_world.specs.EventValues.{EventValue, group_event}
 use Rattle.repo_top.specs.SaidEvents.{number_of, said_by, said_event}
 use Rattle.repo_top.specs.Judging.{Given, State, acted_if, found_world, outside_of, says, taken_by}
 use Rattle.repo_top.specs.Story.{Reached}
-use Rattle.repo_top.specs.Headline.{AreTaken, IsCatalogueLine, IsCatalogueOf, IsJoined, IsSettleLine, IsTaken, SettlesJoin, changes_nothing, group_at, labels_at, only_tells, printed}
-use Rattle.repo_top.proofs.HeadlineGroups.{IsActed, IsSoundState, LineTaken, StatedTaken, acted_by, acted_said, event_line, nothing, sound_from_start, sound_lines, stated_taken, stating, taken_line}
+use Rattle.repo_top.specs.Headline.{AreTaken, IsCatalogueOf, IsSameGroup, IsSettleLine, SettlesJoin, TellingChangesNothing, changes_nothing, group_at, labels_at, only_tells, printed}
+use Rattle.repo_top.proofs.HeadlineGroups.{IsActed, IsSoundState, LineTaken, acted_by, acted_said, event_line, nothing, sound_from_start, sound_lines, stated_taken, stating, taken_line}
 use Rattle.repo_top.proofs.HeadlineCatalogues.{catalogue_line}
 
 -- ---- the settle
@@ -34,9 +34,9 @@ joined given r report new sound l nothing_hidden =
     let out : Outside = outside_of given s.keys in
     let w : World = found_world given s in
     let t = stated_taken given s l.line report new.state (said verb.Settle (Number l.workers ∷ [])) l.stated
-        (taken_line given r l.line report new l.taken) in
+    (taken_line given r l.line report new l.taken) in
     let acts : IsActed given s t.d (EventValue.Settle l.workers) report new.state =
-        acted_by given s t.d (EventValue.Settle l.workers) report new.state t.is in
+    acted_by given s t.d (EventValue.Settle l.workers) report new.state t.is in
     let settled : group_at given new ≡ after_event out w group.Event.Settle = ap (found_world given) acts.next in
     subst AllJoined (sym settled) (settle_joins out w sound.sound (subst NothingHidden settled nothing_hidden))
 
@@ -65,14 +65,9 @@ tells out w g verb.Summary d [] e only is = leaves out w g EventValue.Summary e 
 tells out w g verb.Traffic d [] e only is = leaves out w g EventValue.Traffic e is refl
 tells out w g form d values e only is = cc
 
--- The group and its labels stay.
-record IsSame (given : Given) (r new : Reached) : Type 0 where
-  group : group_at given new ≡ group_at given r
-  labels : labels_at new ≡ labels_at r
-
 event_tells : (given : Given) (r : Reached) (stated : Stated) (d : Declared) (report : List ℕ) (new : Reached)
     → only_tells stated.verb ≡ true → checking.after_event r.state.declared stated ≡ Ok d
-    → acted_if given r.state d (said_event d stated) ≡ says report new.state → IsSame given r new
+    → acted_if given r.state d (said_event d stated) ≡ says report new.state → IsSameGroup given r new
 event_tells given r stated d report new only after is =
     let s : State = r.state in
     let acts = acted_said given s d stated report new.state (said_event d stated) refl is in
@@ -88,7 +83,7 @@ event_tells given r stated d report new only after is =
 form_tells : (given : Given) (r : Reached) (stated : Stated) (d : Declared) (report : List ℕ) (new : Reached)
     → only_tells stated.verb ≡ true → (form : Verb) → only_tells form ≡ true
     → after_by r.state.declared stated form stated.values ≡ Ok d
-    → taken_by form given r.state d stated ≡ says report new.state → IsSame given r new
+    → taken_by form given r.state d stated ≡ says report new.state → IsSameGroup given r new
 form_tells given r stated d report new only verb.Group tell after is = cc
 form_tells given r stated d report new only verb.Member tell after is = cc
 form_tells given r stated d report new only verb.Client tell after is = cc
@@ -100,7 +95,7 @@ stated_tells : (r : Result (Option Stated) LineFault) (stated : Stated) → r �
 stated_tells r stated is tell = subst (λ x. changes_nothing x ≡ true) is tell
 
 line_tells : (given : Given) (r : Reached) (line report : List ℕ) (new : Reached)
-    → LineTaken given r.state line report new.state → changes_nothing (line_of line) ≡ true → IsSame given r new
+    → LineTaken given r.state line report new.state → changes_nothing (line_of line) ≡ true → IsSameGroup given r new
 line_tells given r line report new (nothing is same) tell = record {
   group = ap (found_world given) same;
   labels = ap (λ (x : State). map label_of x.declared.members) same;
@@ -109,29 +104,33 @@ line_tells given r line report new (stating stated d is after taken) tell =
     let only : only_tells stated.verb ≡ true = stated_tells (line_of line) stated is tell in
     form_tells given r stated d report new only stated.verb only after taken
 
+pub telling_changes_nothing : TellingChangesNothing
+telling_changes_nothing given r line report new taken tell =
+    line_tells given r line report new (taken_line given r line report new taken) tell
+
 lines_tell : (given : Given) (r : Reached) (lines reports : List (List ℕ)) (later : Reached)
     → AreTaken given r lines reports later → list_all (λ line. changes_nothing (line_of line)) lines ≡ true
-    → IsSame given r later
+    → IsSameGroup given r later
 lines_tell given r [] [] later taken tell =
     record { group = ap (group_at given) taken; labels = ap labels_at taken }
 lines_tell given r [] (report ∷ reports) later taken tell = absurd taken
 lines_tell given r (line ∷ lines) [] later taken tell = absurd taken
 lines_tell given r (line ∷ lines) (report ∷ reports) later taken tell =
     let next : Reached = taken.0 in
-    let here = line_tells given r line report next (taken_line given r line report next taken.1)
-        (and_left (changes_nothing (line_of line)) _ tell) in
+    let here = telling_changes_nothing given r line report next taken.1
+    (and_left (changes_nothing (line_of line)) _ tell) in
     let behind = lines_tell given next lines reports later taken.2
-        (and_right (changes_nothing (line_of line)) _ tell) in
+    (and_right (changes_nothing (line_of line)) _ tell) in
     record { group = behind.group ∙ here.group; labels = behind.labels ∙ here.labels }
 
 -- ---- what is printed
 
 printed_join : (given : Given) (r later : Reached) (label report : List ℕ) → AllJoined (group_at given r)
-    → IsSame given r later → IsCatalogueOf (group_at given later) (labels_at later) label report
+    → IsSameGroup given r later → IsCatalogueOf (group_at given later) (labels_at later) label report
     → report ≡ printed (labels_at r) label (join_of (logs (group_at given r)))
 printed_join given r later label report all same c =
     let there : c.number < length (group_at given r).members =
-        subst (λ (w : World). c.number < length w.members) same.group c.there in
+    subst (λ (w : World). c.number < length w.members) same.group c.there in
     c.text
     ∙ ap (λ (w : World). printed (labels_at later) label (catalogue_at w c.number)) same.group
     ∙ ap (λ (labels : List (List ℕ)). printed labels label (catalogue_at (group_at given r) c.number)) same.labels
@@ -141,7 +140,7 @@ pub settles_join : SettlesJoin
 settles_join given lines reports r taken report new l nothing_hidden =
     let sound : IsSoundState given r.state = sound_from_start given lines reports r taken in
     let after : IsSoundState given new.state =
-        sound_lines given r (l.line ∷ []) (report ∷ []) new (new, l.taken, refl) sound in
+    sound_lines given r (l.line ∷ []) (report ∷ []) new (new, l.taken, refl) sound in
     let all : AllJoined (group_at given new) = joined given r report new sound l nothing_hidden in
     record {
       all = all;

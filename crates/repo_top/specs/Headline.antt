@@ -1,6 +1,7 @@
--- What the report of a script says of its group. A story is told by the lines that are taken, each with its own report:
--- these definitions say what stands in the reports of `catalogue` lines, and when that is the join of all publications.
-use Rattle.std.specs.Prelude.{ℕ, ◌+◌, ◌≡◌, ◌≤◌, ◌<◌, ◌⊎◌, ◌↔◌, ⊤, Bool, true, false, not, List, [], ◌∷◌, ◌++◌, map, length, Option, Some, None, Result, Ok, Err}
+-- What the report of a script says of its group. A story is told by the lines that are taken, each with its own report.
+-- What stands in the report of a `catalogue` line is said in the words of the group that the lines before it reach: its
+-- members, what they published, hold and have deleted.
+use Rattle.std.specs.Prelude.{ℕ, ◌+◌, ◌≡◌, ◌≤◌, ◌<◌, ◌⊎◌, ◌↔◌, Bool, true, false, not, List, [], ◌∷◌, ◌++◌, map, length, Option, Some, None, Result, Ok, Err}
 use Rattle.std.specs.List.{All, IsDistinct, concat, list_all}
 use Rattle.std.specs.Str.{bytes_eq}
 use Rattle.repo_plan.specs.Parts.{Pair, part_of}
@@ -45,6 +46,19 @@ AreTaken given r lines reports last = ⊥
 abbrev pub AreTakenFirst : Given → List (List ℕ) → List (List ℕ) → Reached → Type 0
 AreTakenFirst given lines reports last = AreTaken given nothing_reached lines reports last
 
+-- One line amid those that are taken: what was reached and reported before it, and what comes behind it.
+pub record IsTakenAmid (given : Given) (r : Reached) (before : List (List ℕ)) (line : List ℕ)
+    (others reports : List (List ℕ)) (last : Reached) : Type 0 where
+  pub here : Reached
+  pub new : Reached
+  pub told : List (List ℕ)
+  pub report : List ℕ
+  pub later : List (List ℕ)
+  pub reports_are : reports ≡ told ++ report ∷ later
+  pub before_it : AreTaken given r before told here
+  pub it : IsTaken given here line report new
+  pub behind_it : AreTaken given new others later last
+
 -- ---- stories
 
 -- How a story ends behind a line of this number that comes to this: a taken line ends none.
@@ -54,13 +68,14 @@ EndsBy number (verdict.refused why) text ending =
     (text ≡ refusal_text number why) × (ending ≡ Refused number (refusal_number why))
 EndsBy number foreign text ending = (text ≡ foreign_text number) × (ending ≡ Foreign number)
 
--- How it ends with these lines left: there are none, or the first of them is refused or foreign, and its number is written.
+-- How it ends with these lines left: there are none, or the first of them is refused or foreign, and its number is
+-- written.
 abbrev pub EndsWith : Given → Reached → List (List ℕ) → List ℕ → Ending → Type 0
 EndsWith given r [] text ending = (text ≡ []) × (ending ≡ Done)
 EndsWith given r (line ∷ others) text ending = EndsBy (r.lines + 1) (judged_next given r line) text ending
 
--- A story, told by the lines: the first ones are taken, and their reports are the text, with what the next line is written
--- that is refused or foreign. The names, keys and world are those behind the last line that is taken.
+-- A story, told by its lines: the first ones are taken, and the text is their reports and what is written of the next
+-- line, which is refused or foreign. The names, keys and world are those behind the last line that is taken.
 pub record IsToldBy (given : Given) (r : Reached) (script : List (List ℕ)) (s : Story) : Type 0 where
   pub first : List (List ℕ)
   pub others : List (List ℕ)
@@ -105,8 +120,8 @@ publication_at logs pair = record { publisher = pair.0; seq = pair.1; object = o
 abbrev pub HoldsAllOf : World → ℕ → Pair → Type 0
 HoldsAllOf w m pair = (x : ℕ) → x ≤ count (logs w) pair → member_holds (member w m) (part_of pair x) ≡ true
 
--- What a member's catalogue is to list: an object that was published, that the member hasn't deleted, and that it published
--- or wholly holds.
+-- What a member's catalogue is to list: an object that was published, that the member hasn't deleted, and that it
+-- published itself or wholly holds.
 pub record IsToBeListed (w : World) (m : ℕ) (pair : Pair) : Type 0 where
   pub published : IsPublished (logs w) pair
   pub undeleted : member_hides (member w m) pair ≡ false
@@ -162,6 +177,11 @@ changes_nothing (Ok None) = true
 changes_nothing (Ok (Some stated)) = only_tells stated.verb
 changes_nothing (Err fault) = false
 
+-- The group is the same, and so are the labels.
+pub record IsSameGroup (given : Given) (r new : Reached) : Type 0 where
+  pub group : group_at given new ≡ group_at given r
+  pub labels : labels_at new ≡ labels_at r
+
 -- These forms can delete: an `order` line may bring a command to delete.
 abbrev pub deletes : Verb → Bool
 deletes verb.Delete = true
@@ -181,10 +201,21 @@ BeginsWithReports = (given : Given) (first others reports : List (List ℕ)) (r 
     → AreTakenFirst given first reports r
     → story_from given nothing_reached (first ++ others) ≡ behind (concat reports) (story_from given r others)
 
+-- Each of the lines that are taken has its report at its place.
+abbrev pub EachIsTaken : Type 0
+EachIsTaken = (given : Given) (r : Reached) (before : List (List ℕ)) (line : List ℕ) (others reports : List (List ℕ))
+    (last : Reached) → AreTaken given r (before ++ line ∷ others) reports last
+    → IsTakenAmid given r before line others reports last
+
 -- Whatever lines are taken, the group is sound then.
 abbrev pub ReachSoundGroups : Type 0
 ReachSoundGroups = (given : Given) (lines reports : List (List ℕ)) (r : Reached) → AreTakenFirst given lines reports r
     → IsGroupOfLines given r
+
+-- The lines that change nothing leave the group as it is.
+abbrev pub TellingChangesNothing : Type 0
+TellingChangesNothing = (given : Given) (r : Reached) (line report : List ℕ) (new : Reached)
+    → IsTaken given r line report new → changes_nothing (line_of line) ≡ true → IsSameGroup given r new
 
 -- A `catalogue` line prints exactly the undeleted objects that the member published or wholly holds.
 abbrev pub PrintsCatalogues : Type 0
@@ -192,8 +223,8 @@ PrintsCatalogues = (given : Given) (lines reports : List (List ℕ)) (r : Reache
     → (label report : List ℕ) (new : Reached) → IsCatalogueLine given r label report new
     → IsCatalogueOf (group_at given r) (labels_at r) label report
 
--- Each member's catalogue is the join of all publications; and that is what `catalogue` lines print, behind any lines that
--- change nothing.
+-- Each member's catalogue is the join of all publications; and that is what `catalogue` lines print, behind any lines
+-- that change nothing.
 pub record IsJoined (given : Given) (r : Reached) : Type 0 where
   pub all : AllJoined (group_at given r)
   pub shown : (lines reports : List (List ℕ)) (later : Reached) → AreTaken given r lines reports later

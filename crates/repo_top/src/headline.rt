@@ -1,22 +1,24 @@
 ghost use Rattle.std.specs.Prelude.{ℕ, List};
-ghost use Rattle.repo_top.specs.Headline.{BeginsWithReports, HidesByDeletionAlone, IsToldBy, PrintsCatalogues, ReachSoundGroups, SettlesJoin};
+ghost use Rattle.repo_top.specs.Headline.{BeginsWithReports, EachIsTaken, HidesByDeletionAlone, IsToldBy, PrintsCatalogues, ReachSoundGroups, SettlesJoin, TellingChangesNothing};
 ghost use Rattle.repo_top.specs.Judging.{Given};
 ghost use Rattle.repo_top.specs.Lines.{lines};
 ghost use Rattle.repo_top.specs.Story.{nothing_reached, story_of};
 
 /// The story of an input is told by its lines: the first of them are taken one after the other, their reports are its
-/// text, and the next line, if there is one, is refused or foreign. However the script goes on behind lines that are
-/// taken, its story begins with their reports.
+/// text, and the next line, if there is one, is refused or foreign. Each line that is taken has its report at its place.
+/// However the script goes on behind lines that are taken, its story begins with their reports.
 pub fn stories_are_their_lines()
     ensures told { (given : Given) (input : List ℕ)
         → IsToldBy given nothing_reached (lines input) (story_of given input) }
+    ensures each { EachIsTaken }
     ensures begins { BeginsWithReports }
 {}
 
 /// Behind any lines that are taken the group is sound, and its members are those that the lines declared, no two under
-/// one label.
+/// one label. Lines that only tell of the group leave it as it is.
 pub fn lines_reach_sound_groups()
-    ensures { ReachSoundGroups }
+    ensures sound { ReachSoundGroups }
+    ensures unchanged { TellingChangesNothing }
 {}
 
 /// In every story a printed catalogue lists exactly the objects that the member published or wholly holds and hasn't

@@ -32,7 +32,8 @@ mod writing;
 
 pub use failed::Failed;
 pub use headline::{
-    a_settle_line_joins, lines_reach_sound_groups, printed_catalogues_list_what_is_held, stories_are_their_lines,
+    a_settle_line_joins, lines_reach_sound_groups, printed_catalogues_list_what_is_held,
+    stories_are_their_lines,
 };
 pub use laws::{lines_are_the_input, small_inspections, small_scripts};
 pub use read_source::ReadSource;
