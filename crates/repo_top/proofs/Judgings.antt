@@ -1,9 +1,9 @@
 -- What lines come to, case by case.
-use Rattle.std.proofs.Common.{◌≡◌, ◌∙◌, ℕ, ◌<◌, Bool, true, false, not, ◌&&◌, ◌||◌, List, [], ◌∷◌, ◌++◌, length, map, Option, Some, None, Result, Ok, Err, ◌⊎◌, inl, inr, unwrap_or, nat_le, refl, sym, ap, subst, cc, arith, if◌then◌else◌}
-use Rattle.std.specs.List.{list_any, position}
+use Rattle.std.proofs.Common.{◌≡◌, ◌∙◌, ℕ, ◌<◌, Bool, true, false, not, ◌&&◌, ◌||◌, List, [], ◌∷◌, ◌++◌, length, map, Option, Some, None, Result, Ok, Err, ◌⊎◌, inl, inr, unwrap_or, nat_le, nat_lt, cond, ◌+◌, refl, sym, ap, subst, arith, if◌then◌else◌}
+use Rattle.std.specs.List.{list_any, position, prefix_len}
 use Rattle.std.specs.Str.{bytes_eq}
 use Rattle.std.specs.Prelude.{is_some}
-use Rattle.std.proofs.lemmas.Bool.{or_parts, cases_Bool, false_from_ne_true, true≢false}
+use Rattle.std.proofs.lemmas.Bool.{or_parts, cases_Bool, false_from_ne_true, le-ltb, true≢false}
 use Rattle.std.proofs.lemmas.Bool.Decides.{nat_tests}
 use Rattle.std.proofs.lemmas.Slice.Eq.{bytes_eq-Decides}
 use Rattle.ndn_name.specs.Names.{Component, encoding}
@@ -20,18 +20,19 @@ use Rattle.script_lang.specs.Lines.{line_of}
 use Rattle.script_lang.specs.Reading.{Tells}
 use Rattle.script_lang.specs.Checking.{Declared, Party, after_line, after_event, after_group, are_known, are_within_limits, with_totals, adds, declared_then, is_among, is_there, label_of, may_declare, party}
 use Rattle.svs_vector.specs.Rosters.{is_same_name, member_of}
-use Rattle.group_model.specs.World.{World, opening_world}
+use Rattle.group_model.specs.World.{Outside, World, opening_world}
 use Rattle.group_model.specs.Steps.{after_event as after_group_event}
 use Rattle.group_model.specs.Refusals as group
 use Rattle.repo_member.specs.Groups.{GroupKeys, is_name_taken}
-use Rattle.repo_member.proofs.GroupLemmas.{none_found}
 use Rattle.bench_world.specs.Worlds.{drawing}
 use Rattle.bench_world.specs.EventValues.{EventValue, group_event, telling}
 use Rattle.repo_top.specs.declared.refusal.Refusal.TheVariants as refusal
 use Rattle.repo_top.specs.SaidEvents.{said_event}
 use Rattle.repo_top.specs.ToldTexts.{told_text}
 use Rattle.repo_top.specs.Judging.{Given, State, Verdict, says, refused, acted, acted_by, checked, event_refused, found_world, group_named, judged, judged_line, line_taken, outside_of, stepped, with_client_too, with_member_too}
-use Rattle.repo_top.specs.Progressing.{IsStop, node_of}
+use Rattle.repo_top.specs.declared.stop.Stop.{Stop}
+use Rattle.repo_top.specs.declared.stop.Stop.TheVariants as stop
+use Rattle.repo_top.specs.Progressing.{IsStop, IsStopOf, node_of}
 use Rattle.repo_top.specs.Stopping.{check_stop, line_stop}
 
 -- ---- octets
@@ -54,20 +55,22 @@ judged_fault given s octets line_fault.NoMemory h = tt
 
 -- ---- lines that are refused
 
+stops_at : (given : Given) (s : State) (l : Stated) (fault : CheckFault) → after_line s.declared l ≡ Err fault
+    → IsStop (judged_line given s l) (check_stop fault)
+unfolding judged_line
+stops_at given s l check_fault.NoGroup h = rw h refl
+stops_at given s l check_fault.Late h = rw h refl
+stops_at given s l check_fault.UnknownLabel h = rw h refl
+stops_at given s l check_fault.Duplicate h = rw h refl
+stops_at given s l check_fault.Limit h = rw h refl
+stops_at given s l check_fault.TooLarge h = rw h refl
+stops_at given s l check_fault.NoMemory h = tt
+
 pub refused_line : (given : Given) (s : State) (l : Stated) (fault : CheckFault)
     → (fault ≡ check_fault.NoMemory) ⊎ (after_line s.declared l ≡ Err fault)
     → IsStop (judged_line given s l) (check_stop fault)
-refused_line given s l fault (inl out) = subst (λ f. IsStop (judged_line given s l) (check_stop f)) (sym out) tt
-refused_line given s l fault (inr h) = go fault h where
-  go : (f : CheckFault) → after_line s.declared l ≡ Err f → IsStop (judged_line given s l) (check_stop f)
-  unfolding judged_line
-  go check_fault.NoGroup k = rw k refl
-  go check_fault.Late k = rw k refl
-  go check_fault.UnknownLabel k = rw k refl
-  go check_fault.Duplicate k = rw k refl
-  go check_fault.Limit k = rw k refl
-  go check_fault.TooLarge k = rw k refl
-  go check_fault.NoMemory k = tt
+refused_line given s l fault (inl out) = subst (λ (f : CheckFault). IsStop (judged_line given s l) (check_stop f)) (sym out) tt
+refused_line given s l fault (inr h) = stops_at given s l fault h
 
 -- ---- lines that are taken
 
@@ -135,6 +138,19 @@ group_declares d e name h = go d.group refl h where
       → (d.group ≡ false) × (record d { group = true } ≡ e)
   go true g k = absurd cc
   go false g k = (g, cc)
+
+-- No place is found where no test passes.
+none_at : {X : Type 0} (p : X → Bool) (xs : List X) → list_any p xs ≡ false → prefix_len (λ x. not (p x)) xs ≡ length xs
+none_at p [] h = refl
+none_at p (x ∷ xs) h =
+    let both = or_parts (p x) (list_any p xs) h in
+    ap (λ (b : Bool). cond (not b) (1 + prefix_len (λ y. not (p y)) xs) 0) both.0
+    ∙ ap (λ (n : ℕ). 1 + n) (none_at p xs both.1) ∙ omega arith
+
+none_found : {X : Type 0} (p : X → Bool) (xs : List X) → list_any p xs ≡ false → position p xs ≡ None
+none_found p xs h =
+    ap (λ (n : ℕ). cond (nat_lt n (length xs)) (Some n) None) (none_at p xs h)
+    ∙ ap (λ (b : Bool). cond b (Some (length xs)) None) (le-ltb (length xs) (length xs) (omega arith))
 
 -- A name that no party has is that of nobody in the group.
 flips : (x y : List ℕ) → bytes_eq x y ≡ bytes_eq y x
@@ -235,3 +251,18 @@ pub acted_says : (given : Given) (s : State) (d : Declared) (e : EventValue)
     })
 unfolding acted
 acted_says given s d e h = rw h refl
+
+stepped_stops : (out : Outside) (keys : GroupKeys) (d : Declared) (w : World) (e : EventValue) (why : Option group.Refusal)
+    (stop : Stop) → IsStopOf why stop → IsStop (stepped out keys d w e why) stop
+stepped_stops out keys d w e why stop.NoMemory h = tt
+stepped_stops out keys d w e None (stop.Refused r) h = absurd h
+stepped_stops out keys d w e None stop.Foreign h = absurd h
+stepped_stops out keys d w e (Some why) (stop.Refused r) h = h
+stepped_stops out keys d w e (Some why) stop.Foreign h = h
+
+pub acted_stops : (given : Given) (s : State) (d : Declared) (e : EventValue) (stop : Stop)
+    → IsStopOf (group.refusal (outside_of given s.keys) (found_world given s) (group_event s.keys e)) stop
+    → IsStop (acted given s d e) stop
+unfolding acted
+acted_stops given s d e stop h = stepped_stops (outside_of given s.keys) s.keys d (found_world given s) e
+    (group.refusal (outside_of given s.keys) (found_world given s) (group_event s.keys e)) stop h

@@ -1,9 +1,13 @@
 -- What a line changes of what is kept, by what it states.
-use Rattle.std.proofs.Common.{◌≡◌, ◌∙◌, ℕ, ◌+◌, ◌≤◌, ◌<◌, Bool, true, false, List, [], ◌∷◌, ◌++◌, length, map, Option, Some, None, Ok, refl, sym, ap, subst, cc, arith}
-use Rattle.std.proofs.lemmas.Bool.{true≢false, false≢true}
+use Rattle.std.proofs.Common.{◌≡◌, ◌∙◌, ℕ, ◌+◌, ◌≤◌, ◌<◌, Bool, true, false, List, [], ◌∷◌, ◌++◌, length, map, Option, Some, None, Result, Ok, Err, String, Global, Vec, refl, sym, ap, subst, arith}
+use Rattle.std.specs.Prelude.{IfErr, OnOk}
+use Rattle.std.specs.Result.{IsErrAnd}
+use Rattle.std.proofs.lemmas.Bool.{true≢false}
 use Rattle.std.proofs.lemmas.List.{length-map, map-append}
 use Rattle.ndn_name.specs.Names.{Component}
+use Rattle.ndn_name.specs.declared.name.Name.{Name}
 use Rattle.script_lang.specs.declared.line.Line.{Line}
+use Rattle.script_lang.specs.declared.line.Line.TheVariants as line
 use Rattle.script_lang.specs.declared.verb.Verb.{Verb}
 use Rattle.script_lang.specs.declared.verb.Verb.TheVariants as verb
 use Rattle.script_lang.specs.Kinds.{Text, Named, Octets}
@@ -11,14 +15,18 @@ use Rattle.script_lang.specs.Forms.{Stated, said, stated}
 use Rattle.script_lang.specs.Checking.{Declared, Party, after_line, label_of, party}
 use Rattle.group_model.specs.World.{World}
 use Rattle.repo_member.specs.Groups.{GroupKeys, IsKey, IsPlainNodeName, is_name_taken}
-use Rattle.bench_world.specs.EventValues.{EventValue}
+use Rattle.group_model.specs.Steps.{after_event}
+use Rattle.group_model.specs.Refusals as group
+use Rattle.bench_world.specs.EventValues.{EventValue, group_event, telling}
 use Rattle.repo_top.specs.declared.progress.Stage.{Stage}
 use Rattle.repo_top.specs.declared.progress.Stage.TheVariants.{Opening, Declaring, Acting}
-use Rattle.repo_top.specs.Judging.{Given, State, Verdict, says, acted, acted_by, acted_if, group_named, judged_line, line_taken, no_group, taken_by, with_client_too, with_member_too}
-use Rattle.repo_top.specs.Progressing.{AreNamed, IsChecked, IsLine, Stands, StatesFit, has_group, has_world, keys_in, node_of, state_of, world_in}
+use Rattle.repo_top.specs.Judging.{Given, State, Verdict, says, acted, acted_by, acted_if, found_world, group_named, outside_of, judged_line, line_taken, no_group, taken_by, with_client_too, with_member_too}
+use Rattle.repo_top.specs.Progressing.{AreNamed, IsChecked, IsLine, IsStop, IsStopOf, Stands, StatesFit, has_group, has_world, keys_in, node_of, state_of, world_in}
+use Rattle.repo_top.specs.declared.stop.Stop.{Stop}
+use Rattle.repo_top.specs.ToldTexts.{told_text}
 use Rattle.repo_top.specs.SaidEvents.{said_event}
 use Rattle.repo_top.proofs.Fitting.{client_fits, event_fits, group_fits, member_fits}
-use Rattle.repo_top.proofs.Judgings.{IsEvent, IsEventLine, MayDeclare, client_declares, client_says, event_declares, event_says, group_declares, group_says, is_free, member_declares, member_says, taken_line}
+use Rattle.repo_top.proofs.Judgings.{acted_says, acted_stops, IsEvent, IsEventLine, MayDeclare, client_declares, client_says, event_declares, event_says, group_declares, group_says, is_free, member_declares, member_says, taken_line}
 
 -- Nothing but what a line declares matters where it is taken.
 same_acted : (given : Given) (stage : Stage) (d e : Declared) (o : Option EventValue)
@@ -70,7 +78,7 @@ Says given stage e s keys =
 
 pub record Grouped (given : Given) (labels : List (List ℕ)) (stage : Stage) (e : Declared) (s : Stated)
     (name : List Component) : Type 0 where
-  pub name : IsPlainNodeName name
+  pub plain : IsPlainNodeName name
   pub group : e.group ≡ true
   pub early : e.events ≡ false
   pub named : AreNamed labels (group_named name) e
@@ -86,7 +94,7 @@ grouped_at given labels stage e name c =
     let new : AreNamed labels (group_named name) (record c.before { group = true }) =
         record { labels = empty.labels; members = empty.members; clients = empty.clients } in
     record {
-      name = group_fits c.line.octets name c.line.read;
+      plain = group_fits c.line.octets name c.line.read;
       group = ap (λ (x : Declared). x.group) (sym opens.1);
       early = ap (λ (x : Declared). x.events) (sym opens.1) ∙ c.stands.events ∙ none.early;
       named = subst (AreNamed labels (group_named name)) opens.1 new;
@@ -105,8 +113,8 @@ grouped given labels stage e s name is c =
 -- A name and a key are kept in addition, and then the labels and names are these.
 pub record Declares (given : Given) (labels : List (List ℕ)) (stage : Stage) (e : Declared) (s : Stated)
     (node : List Component) (key : List ℕ) (keys : GroupKeys) : Type 0 where
-  pub node : IsPlainNodeName node
-  pub key : IsKey key
+  pub plain : IsPlainNodeName node
+  pub fits : IsKey key
   pub group : e.group ≡ true
   pub early : e.events ≡ false
   pub there : has_group stage ≡ true
@@ -129,7 +137,7 @@ member_at given labels stage e label node key c =
     let both = member_declares d e label node key c.after in
     let may = both.0 in
     let was = c.stands.named in
-    let fits = member_fits c.line.octets label node key c.line.read in
+    let both_fit = member_fits c.line.octets label node key c.line.read in
     let unchanged = sym c.stands.events ∙ may.early in
     let new : AreNamed (labels ++ label ∷ []) (with_member_too node key (keys_in stage))
         (record c.before { members = c.before.members ++ party label node ∷ [] }) = record {
@@ -140,8 +148,8 @@ member_at given labels stage e label node key c =
     } in
     (
       record {
-        node = fits.0;
-        key = fits.1;
+        plain = both_fit.0;
+        fits = both_fit.1;
         group = ap (λ (x : Declared). x.group) (sym both.1) ∙ may.group;
         early = ap (λ (x : Declared). x.events) (sym both.1) ∙ may.early;
         there = sym c.stands.group ∙ may.group;
@@ -179,7 +187,7 @@ client_at given labels stage e label node key c =
     let both = client_declares d e label node key c.after in
     let may = both.0 in
     let was = c.stands.named in
-    let fits = client_fits c.line.octets label node key c.line.read in
+    let both_fit = client_fits c.line.octets label node key c.line.read in
     let unchanged = sym c.stands.events ∙ may.early in
     let new : AreNamed labels (with_client_too node key (keys_in stage))
         (record c.before { clients = c.before.clients ++ party label node ∷ [] }) = record {
@@ -190,8 +198,8 @@ client_at given labels stage e label node key c =
     } in
     (
       record {
-        node = fits.0;
-        key = fits.1;
+        plain = both_fit.0;
+        fits = both_fit.1;
         group = ap (λ (x : Declared). x.group) (sym both.1) ∙ may.group;
         early = ap (λ (x : Declared). x.events) (sym both.1) ∙ may.early;
         there = sym c.stands.group ∙ may.group;
@@ -242,3 +250,80 @@ event_acts given labels stage e l is c =
       there = sym c.stands.group ∙ event.there;
       acts = event_says given (state_of stage e) e l is;
     }
+
+-- There are as many labels as names.
+pub as_many : {X : Type 0} (f : X → List ℕ) (xs : List X) (keys : GroupKeys) (d : Declared) → AreNamed (map f xs) keys d
+    → length xs ≡ length keys.members.names
+as_many f xs keys d n =
+    sym (length-map xs f) ∙ ap (λ (ls : List (List ℕ)). length ls) n.labels ∙ length-map d.members label_of
+    ∙ sym (length-map d.members node_of) ∙ ap (λ (names : List (List Component)). length names) n.members
+
+module _ (given : Given) (stage found : Stage) (d : Declared) (e : EventValue) (keys : GroupKeys) (w : World)
+  (is : found ≡ stage) (k : keys ≡ keys_in found) (v : w ≡ found_world given (state_of found d)) where
+
+  keys_is : keys ≡ keys_in stage
+  keys_is = k ∙ ap keys_in is
+
+  world_is : w ≡ found_world given (state_of stage d)
+  world_is = v ∙ ap (λ (s : Stage). found_world given (state_of s d)) is
+
+  -- What is told of the event and what comes of it, by the world that was found.
+  pub carried_says : (labels : List (List ℕ)) (report : List ℕ) (keys_new : GroupKeys) (next : World)
+      → group.refusal (outside_of given keys) w (group_event keys e) ≡ None
+      → report ≡ told_text labels (telling keys (outside_of given keys) w e)
+      → next ≡ after_event (outside_of given keys) w (group_event keys e)
+      → keys_new ≡ keys → labels ≡ map label_of d.members
+      → acted given (state_of stage d) d e ≡ says report (record { declared = d; keys = keys_new; world = Some next })
+  carried_says labels report keys_new next taken told after kept named =
+      let taken_so : group.refusal (outside_of given (keys_in stage)) (found_world given (state_of stage d))
+          (group_event (keys_in stage) e) ≡ None =
+          subst (λ (x : World). group.refusal (outside_of given (keys_in stage)) x (group_event (keys_in stage) e) ≡ None) world_is
+          (subst (λ (x : GroupKeys). group.refusal (outside_of given x) w (group_event x e) ≡ None) keys_is taken) in
+      let told_so : report ≡ told_text (map label_of d.members) (telling (keys_in stage) (outside_of given (keys_in stage))
+          (found_world given (state_of stage d)) e) =
+          told ∙ ap (λ (x : List (List ℕ)). told_text x (telling keys (outside_of given keys) w e)) named
+          ∙ ap (λ (x : GroupKeys). told_text (map label_of d.members) (telling x (outside_of given x) w e)) keys_is
+          ∙ ap (λ (x : World). told_text (map label_of d.members)
+          (telling (keys_in stage) (outside_of given (keys_in stage)) x e)) world_is in
+      let after_so : next ≡ after_event (outside_of given (keys_in stage)) (found_world given (state_of stage d))
+          (group_event (keys_in stage) e) =
+          after ∙ ap (λ (x : GroupKeys). after_event (outside_of given x) w (group_event x e)) keys_is
+          ∙ ap (λ (x : World). after_event (outside_of given (keys_in stage)) x (group_event (keys_in stage) e)) world_is in
+      acted_says given (state_of stage d) d e taken_so
+      ∙ ap (λ (x : List ℕ). says x (record {
+        declared = d;
+        keys = keys_in stage;
+        world = Some (after_event (outside_of given (keys_in stage)) (found_world given (state_of stage d))
+            (group_event (keys_in stage) e));
+      })) (sym told_so)
+      ∙ ap (λ (x : World). says report (record { declared = d; keys = keys_in stage; world = Some x })) (sym after_so)
+      ∙ ap (λ (x : GroupKeys). says report (record { declared = d; keys = x; world = Some next })) (sym (kept ∙ keys_is))
+
+  pub carried_stops : (stop : Stop) → IsStopOf (group.refusal (outside_of given keys) w (group_event keys e)) stop
+      → IsStop (acted given (state_of stage d) d e) stop
+  carried_stops stop h = acted_stops given (state_of stage d) d e stop
+      (subst (λ (x : World). IsStopOf (group.refusal (outside_of given (keys_in stage)) x (group_event (keys_in stage) e)) stop)
+      world_is
+      (subst (λ (x : GroupKeys). IsStopOf (group.refusal (outside_of given x) w (group_event x e)) stop) keys_is h))
+
+-- ---- what a call tells
+
+-- The line is none of the declarations.
+pub is_event : (l : Line) → ((name : Name) → l ≡ line.Group name → ⊥)
+    → ((label : String Global) (name : Name) (key : Vec ℕ Global) → l ≡ line.Member label name key → ⊥)
+    → ((label : String Global) (name : Name) (key : Vec ℕ Global) → l ≡ line.Client label name key → ⊥) → IsEventLine l
+is_event (line.Group name) g m k = g name refl
+is_event (line.Member label name key) g m k = m label name key refl
+is_event (line.Client label name key) g m k = k label name key refl
+is_event l g m k = tt
+
+-- A declaration has no report.
+pub declared_says : {A : Type 0} (r : Result A Stop) (v : Verdict) (report : List ℕ) (s t : State) → v ≡ says [] t
+    → report ≡ [] → OnOk r (s ≡ t) → OnOk r (v ≡ says report s)
+declared_says (Ok x) v report s t h none is = h ∙ ap (λ (text : List ℕ). says text t) (sym none) ∙ ap (λ (u : State). says report u) (sym is)
+declared_says (Err stop) v report s t h none is = tt
+
+-- The stop that a fault is.
+pub stops_so : {A : Type 0} (r : Result A Stop) (P : Stop → Type 0) (stop : Stop) → IsErrAnd r (λ s. s ≡ stop) → P stop → IfErr r P
+stops_so (Ok x) P stop h p = tt
+stops_so (Err s) P stop h p = subst P (sym h) p
