@@ -8,3 +8,4 @@ pub mod Readings
 pub mod Stories
 pub mod Runs
 pub mod Stops
+pub mod Ends
