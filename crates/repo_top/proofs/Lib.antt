@@ -20,3 +20,4 @@ pub mod ReadNames
 pub mod Fitting
 pub mod Judgings
 pub mod Progressings
+pub mod Ends

@@ -22,7 +22,7 @@ use Rattle.repo_top.specs.Answers.{IsTold, status_of}
 use Rattle.repo_top.specs.Taken.{IsStoppedAt, IsTakenNear, Lacks, can_be_judged, end_of_line, lines_so_far, lines_taken, report_of, report_through, taken}
 use Rattle.repo_top.specs.Carrying.{Carried, EndsIn, Finishes, IsStopping, Known, Ran, Stops, Tells, Took}
 use Rattle.repo_top.proofs.LineLaws.{open_line, whole_first}
-use Rattle.repo_top.proofs.Outputs.{front_behind, front_so_far, front_whole, nothing_gained}
+use Rattle.repo_top.proofs.Outputs.{front_behind, front_none, front_so_far, front_whole, nothing_gained}
 use Rattle.repo_top.proofs.Stories.{behind_behind, first_line_story, goes_on, long_refused, no_lines, refused_story}
 
 -- ---- what a status says of a story
@@ -359,6 +359,19 @@ module _ (given : Given) (a : Option (List ℕ)) where
   known_finished held r next b d None now status end few f h = tt
   known_finished held r next b d (Some input) None status end few f h = absurd h
   known_finished held r next b d (Some input) (Some rest) status end few f h = ran_finished given held r next a b d input rest status h end few f
+
+-- nothing was read or written
+pub known_untouched : (Last : Story → Type 0) (given : Given) (a before : Option (List ℕ)) → Known before before (Ran given a a NoMemory Last)
+known_untouched Last given a None = tt
+known_untouched Last given a (Some input) = record {
+  tells = record { ending = λ told. absurd told; text = λ told. absurd told; front = front_none a (story_of given input).text; lacks = λ e. absurd cc };
+  read_to_end = λ e. absurd cc;
+  front_of_taken = front_none a (report_of given (lines_taken input input));
+  near_line = λ line at. absurd at;
+  near_fault = λ e. absurd cc;
+  exact = λ e. absurd cc;
+  last = λ e. absurd cc;
+}
 
 -- what is said of the story's end may be said otherwise
 pub ran_as : (given : Given) (a b : Option (List ℕ)) (status : Status) (P Q : Story → Type 0) → (status ≡ Done → (s : Story) → P s → Q s) → (before now : Option (List ℕ)) → Known before now (Ran given a b status P) → Known before now (Ran given a b status Q)

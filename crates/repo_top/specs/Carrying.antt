@@ -90,7 +90,12 @@ pub record EndsIn (state : State) (s : Story) : Type 0 where
   pub keys : s.keys ≡ state.keys
   pub world : s.world ≡ state.world
 
--- The same of the world that a run leaves, if there is one.
+-- The world that is left is that of the group.
+pub record Leaving (state : State) (end : Option GroupState) : Type 0 where
+  pub world : option_map world_of end ≡ state.world
+  pub keys : IfSome end (λ world. world.keys ≡ state.keys)
+
+-- The world that is left is that of the story.
 pub record Leaves (end : Option GroupState) (s : Story) : Type 0 where
   pub world : option_map world_of end ≡ s.world
   pub keys : IfSome end (λ world. world.keys ≡ s.keys)

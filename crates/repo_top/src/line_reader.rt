@@ -64,6 +64,15 @@ impl LineReader {
         &self.room[self.start..self.end]
     }
 
+    // The first octets held.
+    pub(crate) fn front(&self, count: usize) -> &[u8]
+        requires { count ≤ length self.now }
+        ensures { result.now ≡ take count self.now }
+    {
+        let (front, _) = self.held().split_at(count);
+        front
+    }
+
     // Passes over the first octets held.
     pub(crate) fn pass(&mut self, count: usize)
         requires { count ≤ length self.old }
@@ -78,7 +87,7 @@ impl LineReader {
         ensures kept { Keeps (prepend_known self.old (S.left source.old)) (prepend_known self.new (S.left source.new)) }
         ensures few { length self.new ≤ 65536 }
         ensures next { IfOk result (IsNext self.new) }
-        ensures last { result ≡ Ok Next.Last → IsAtEnd (S.left source.new) }
+        ensures last { IfOk result (λ next. next ≡ Next.Last → IsAtEnd (S.left source.new)) }
         ensures failed { OnErr result (IsBegun self.new) }
         ensures risen { OnErr result (HasRisen (S.faults source.old) (S.faults source.new)) }
         ensures faults { S.faults source.old ≤ S.faults source.new }

@@ -4,7 +4,7 @@ ghost use Rattle.repo_top.specs.Judging.{given_by};
 ghost use Rattle.repo_top.specs.Lines.{lines};
 ghost use Rattle.repo_top.specs.Story.{nothing_reached};
 ghost use Rattle.repo_top.specs.Reading.{IsBegun};
-ghost use Rattle.repo_top.specs.Carrying.{EndsIn, Finishes, IsScript, Known, Leaves, Ran, reached};
+ghost use Rattle.repo_top.specs.Carrying.{EndsIn, Finishes, IsScript, Known, Leaves, Leaving, Ran, reached};
 
 use crate::line_reader::{LineReader, Next};
 use crate::script::Script;
@@ -48,10 +48,18 @@ pub(crate) fn run_script<
     };
     let mut script = Script::new(alloc);
     let status = run_lines(rt, &mut reader, &mut script, source, sink, net, draws);
+    leave_world(script, status, end);
+    status
+}
+
+// Leaves the world of a script that is done.
+fn leave_world(script: Script, status: Status, end: &mut Option<World>)
+    ensures done { status ≡ Status.Done → Leaving (reached script).state end.new }
+    ensures other { status ≢ Status.Done → end.new ≡ end.old }
+{
     if status == Status::Done {
         *end = script.into_world();
     }
-    status
 }
 
 // Carries out one line after another, each before more is read than stands in the reader's room.
@@ -79,7 +87,7 @@ fn run_lines<R: Threads + Sync, S: Source, K: Sink, N: Net + Sync, D: Draws>(
     loop {
         match reader.next(source) {
             Ok(Next::Line(count)) => {
-                let line = &reader.held()[..count];
+                let line = reader.front(count);
                 if let Err(status) = script.carry_out(rt, line, sink, net, draws) {
                     return status;
                 }
