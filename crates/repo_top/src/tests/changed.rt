@@ -28,9 +28,9 @@ const CHANGES: [Changes; 4] = [
         before: "publish alice /doc 10 text:abc\n\
              > publish alice 1 segments 1 sync 1\n",
         line: "hear bob",
-        octets: "0573072808016736010202206f504a90c15c79060eb22e95a6f5a26d5ac53df3312f58b4aae5e23af1b299fd2410c90eca0c07070\
-             805616c696365cc01012c131b01041c0e070c0805616c69636508034b45592e20f15b2fa4ae603e113ad456498d48ae98fcecb04b\
-             9e9117633457038bde17139b",
+        octets: "0573072808016736010202206f504a90c15c79060eb22e95a6f5a26d5ac53df3312f58b4aae5e23af1b299fd2410c90eca0\
+             c07070805616c696365cc01012c131b01041c0e070c0805616c69636508034b45592e20f15b2fa4ae603e113ad456498d48\
+             ae98fcecb04b9e9117633457038bde17139b",
         cut: ["refused Truncated 1", "refused Truncated 0"],
         flipped: &[
             (1, "refused WrongType 4"),
@@ -78,9 +78,9 @@ const CHANGES: [Changes; 4] = [
              claim bob 1\n\
              > claim bob 1 part alice 1 0\n",
         line: "feed bob 1",
-        octets: "0674070d0805616c6963650801673a0101152c07050803646f638101018320a81e4ec9e732923effbeb940256a1765187d04a99b4\
-             40057e515a292ec9a722d16131b01041c0e070c0805616c69636508034b455917207e61911ee2099d3402db77699bdf35c543e343\
-             abbd0f01476e9ff22338ef5d98",
+        octets: "0674070d0805616c6963650801673a0101152c07050803646f638101018320a81e4ec9e732923effbeb940256a1765187d0\
+             4a99b440057e515a292ec9a722d16131b01041c0e070c0805616c69636508034b455917207e61911ee2099d3402db77699b\
+             df35c543e343abbd0f01476e9ff22338ef5d98",
         cut: ["refused Truncated 1", "refused Truncated 0"],
         flipped: &[
             (1, "refused WrongType 7"),
@@ -139,9 +139,9 @@ const CHANGES: [Changes; 4] = [
             (1, "none"),
         ],
         long: ["refused TrailingOctets 7", "refused PacketTooLong"],
-        whole: "found 0674070d0805616c6963650801673a0101152c07050803646f638101018320a81e4ec9e732923effbeb940256a1765187d0\
-             4a99b440057e515a292ec9a722d16131b01041c0e070c0805616c69636508034b455917207e61911ee2099d3402db77699bdf35c5\
-             43e343abbd0f01476e9ff22338ef5d98",
+        whole: "found 0674070d0805616c6963650801673a0101152c07050803646f638101018320a81e4ec9e732923effbeb940256a176\
+             5187d04a99b440057e515a292ec9a722d16131b01041c0e070c0805616c69636508034b455917207e61911ee2099d3402db\
+             77699bdf35c543e343abbd0f01476e9ff22338ef5d98",
     },
     // A command that carl made.
     Changes {
@@ -151,9 +151,9 @@ const CHANGES: [Changes; 4] = [
              publish alice /doc 10 text:abc\n\
              > publish alice 1 segments 1 sync 1\n",
         line: "order alice",
-        octets: "057407310805616c696365080664656c657465022027490a2bd5f0f89936a752be977e1a1140fdfbc08557f92f9c440b692ee2ea1\
-             b2409c90707050803646f632c121b01041c0d070b08046361726c08034b45592e20fb1c29fb23da22f7c7d7f2b39d686140a6bf7a\
-             99bce7770bcec3ee5fbacf4562",
+        octets: "057407310805616c696365080664656c657465022027490a2bd5f0f89936a752be977e1a1140fdfbc08557f92f9c440b692\
+             ee2ea1b2409c90707050803646f632c121b01041c0d070b08046361726c08034b45592e20fb1c29fb23da22f7c7d7f2b39d\
+             686140a6bf7a99bce7770bcec3ee5fbacf4562",
         cut: ["403", "403"],
         flipped: &[
             (21, "403"),

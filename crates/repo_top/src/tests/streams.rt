@@ -114,7 +114,7 @@ fn comments(alloc: Global, octets: usize) -> Result<Vec<u8>, AllocError> {
     Ok(script)
 }
 
-// Each place of the lines comes to stand behind 65,536 octets. The number of the refused line tells how many were taken.
+// Each place of the lines comes to stand behind 65,536 octets. The last line is refused by its number.
 #[test]
 fn lines_stand_anywhere(rt: HostRuntime) -> Result<(), Fail> {
     let alloc = rt.alloc();
