@@ -1,6 +1,7 @@
 -- What lines come to, case by case.
 use Rattle.std.proofs.Common.{◌≡◌, ◌∙◌, ℕ, ◌<◌, Bool, true, false, not, ◌&&◌, ◌||◌, List, [], ◌∷◌, ◌++◌, length, map, Option, Some, None, Result, Ok, Err, ◌⊎◌, inl, inr, unwrap_or, nat_le, nat_lt, cond, ◌+◌, refl, sym, ap, subst, arith, if◌then◌else◌}
 use Rattle.std.specs.List.{list_any, position, prefix_len}
+use Rattle.std.specs.Option.{option_map}
 use Rattle.std.specs.Str.{bytes_eq}
 use Rattle.std.specs.Prelude.{is_some}
 use Rattle.std.proofs.lemmas.Bool.{or_parts, cases_Bool, false_from_ne_true, le-ltb, true≢false}
@@ -29,7 +30,7 @@ use Rattle.bench_world.specs.EventValues.{EventValue, group_event, telling}
 use Rattle.repo_top.specs.declared.refusal.Refusal.TheVariants as refusal
 use Rattle.repo_top.specs.SaidEvents.{said_event}
 use Rattle.repo_top.specs.ToldTexts.{told_text}
-use Rattle.repo_top.specs.Judging.{Given, State, Verdict, says, refused, acted, acted_by, checked, event_refused, found_world, group_named, judged, judged_line, line_taken, outside_of, stepped, with_client_too, with_member_too}
+use Rattle.repo_top.specs.Judging.{Given, State, Verdict, says, refused, acted, acted_by, checked, event_refused, found_world, group_named, judged, judged_line, line_taken, outside_of, read, stepped, with_client_too, with_member_too}
 use Rattle.repo_top.specs.declared.stop.Stop.{Stop}
 use Rattle.repo_top.specs.declared.stop.Stop.TheVariants as stop
 use Rattle.repo_top.specs.Progressing.{IsStop, IsStopOf, node_of}
@@ -37,14 +38,12 @@ use Rattle.repo_top.specs.Stopping.{check_stop, line_stop}
 
 -- ---- octets
 
-pub judged_none : (given : Given) (s : State) (octets : List ℕ) → line_of octets ≡ Ok None → judged given s octets ≡ says [] s
+pub judged_read : (given : Given) (s : State) (octets : List ℕ) (found one : Option Line)
+    → line_of octets ≡ Ok (option_map stated found) → found ≡ one
+    → judged given s octets ≡ read given s (Ok (option_map stated one))
 unfolding judged
-judged_none given s octets h = rw h refl
-
-pub judged_some : (given : Given) (s : State) (octets : List ℕ) (l : Stated) → line_of octets ≡ Ok (Some l)
-    → judged given s octets ≡ judged_line given s l
-unfolding judged
-judged_some given s octets l h = rw h refl
+judged_read given s octets found one h is =
+    ap (read given s) h ∙ ap (λ (o : Option Line). read given s (Ok (option_map stated o))) is
 
 pub judged_fault : (given : Given) (s : State) (octets : List ℕ) (fault : LineFault) → Tells fault (line_of octets)
     → IsStop (judged given s octets) (line_stop fault)
