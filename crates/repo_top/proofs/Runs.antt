@@ -386,11 +386,6 @@ ran_as given a b status P Q f before now = known_map (Ran given a b status P) (R
 }) before now
 
 -- what holds of a run over what is known
-pub of_known : (P : List ℕ → List ℕ → Type 0) (Q : List ℕ → Type 0) → ((input rest : List ℕ) → P input rest → Q input) → (before now : Option (List ℕ)) → Known before now P → IfSome before Q
-of_known P Q f None now h = tt
-of_known P Q f (Some input) None h = absurd h
-of_known P Q f (Some input) (Some rest) h = f input rest h
-
 pub of_both : (P Q : List ℕ → List ℕ → Type 0) → ((input rest : List ℕ) → P input rest → Q input rest) → (before now : Option (List ℕ)) → Known before now P → IfSome before (λ input. IfSome now (λ rest. Q input rest))
 of_both P Q f None now h = tt
 of_both P Q f (Some input) None h = absurd h

@@ -57,7 +57,7 @@ fn leave_world(script: Script, status: Status, end: &mut Option<World>)
     ensures done { status ≡ Status.Done → Leaving (reached script).state end.new }
     ensures other { status ≢ Status.Done → end.new ≡ end.old }
 {
-    if status == Status::Done {
+    if let Status::Done = status {
         *end = script.into_world();
     }
 }

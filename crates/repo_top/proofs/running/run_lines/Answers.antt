@@ -5,8 +5,8 @@ use Rattle.repo_top.specs.Lines.{lines}
 use Rattle.repo_top.proofs.Runs.{known_finished, known_line, known_none, known_read, known_stopped, known_unread}
 use Rattle.repo_top.proofs.running.run_lines.Goals as goal
 
-pub front-requires : goal.front-requires
-front-requires g c = let h = rw c.in-Ok-Line.field-0-is at c.in-Ok-Line.ensures.next in h.within
+pub front-line-requires : goal.front-line-requires
+front-line-requires g c = let h = rw c.in-Ok-Line.field-0-is at c.in-Ok-Line.ensures.next in h.within
 
 pub pass-requires : goal.pass-requires
 pass-requires g c = let h = rw c.in-Ok-Line.field-0-is at c.in-Ok-Line.ensures.next in h.within
@@ -20,7 +20,7 @@ returns-in-Err-carry_out-clause-ran g c =
     let so_far = known_read given out c.loop-count.reader held r (g.K.Sink.out c.loop-count.sink) (g.S.Source.left c.args.source.now) (g.S.Source.left c.loop-count.source) (g.S.Source.left c.next.new.source) c.in-Ok-Line.ensures.kept c.loop-count.invariant.so_far in
     let h = rw c.in-Ok-Line.field-0-is at c.in-Ok-Line.ensures.next in
     let P : List ℕ → Type 0 = λ line. Stops given r line (g.K.Sink.out c.loop-count.sink) (g.K.Sink.out c.carry_out.new.sink) c.in-Err-carry_out.status in
-    known_stopped given out held r (reached c.carry_out.new.self) (g.K.Sink.out c.loop-count.sink) (g.K.Sink.out c.carry_out.new.sink) (g.S.Source.left c.args.source.now) (g.S.Source.left c.next.new.source) c.in-Ok-Line.count (EndsIn (reached c.carry_out.new.self).state) c.in-Err-carry_out.status h c.in-Ok-Line.ensures.few (subst P c.front.ensures c.in-Err-carry_out.ensures.stops) so_far
+    known_stopped given out held r (reached c.carry_out.new.self) (g.K.Sink.out c.loop-count.sink) (g.K.Sink.out c.carry_out.new.sink) (g.S.Source.left c.args.source.now) (g.S.Source.left c.next.new.source) c.in-Ok-Line.count (EndsIn (reached c.carry_out.new.self).state) c.in-Err-carry_out.status h c.in-Ok-Line.ensures.few (subst P c.front-line.ensures c.in-Err-carry_out.ensures.stops) so_far
 
 pub loop-count-preserved : goal.loop-count-preserved
 loop-count-preserved g c =
@@ -33,7 +33,7 @@ loop-count-preserved g c =
     let h = rw c.in-Ok-Line.field-0-is at c.in-Ok-Line.ensures.next in
     let P : List ℕ → Type 0 = λ line. Took given r line next (g.K.Sink.out c.loop-count.sink) (g.K.Sink.out c.carry_out.new.sink) in
     let Q : List ℕ → Type 0 = λ held. Known (g.S.Source.left c.args.source.now) (g.S.Source.left c.next.new.source) (Carried given held next out (g.K.Sink.out c.carry_out.new.sink)) in
-    let line = known_line given out held r next (g.K.Sink.out c.loop-count.sink) (g.K.Sink.out c.carry_out.new.sink) (g.S.Source.left c.args.source.now) (g.S.Source.left c.next.new.source) c.in-Ok-Line.count h (subst P c.front.ensures c.in_default.ensures.took) so_far in
+    let line = known_line given out held r next (g.K.Sink.out c.loop-count.sink) (g.K.Sink.out c.carry_out.new.sink) (g.S.Source.left c.args.source.now) (g.S.Source.left c.next.new.source) c.in-Ok-Line.count h (subst P c.front-line.ensures c.in_default.ensures.took) so_far in
     record {
       so_far = subst Q (sym c.pass.ensures) line;
       is = c.in_default.ensures.is;
