@@ -144,6 +144,11 @@ fn fails_at<R: Threads + Sync + AllocGlobal + Abort>(
     let answered = status_of(rt, "run", &mut source, &mut sink)?;
     let written = sink.octets();
     assert!(rt; report.as_bytes().starts_with(written), "call {call}");
+    let most = call.saturating_sub(1).saturating_mul(8);
+    assert!(rt;
+        answered == Status::Done || written.len() as u64 <= most,
+        "call {call}"
+    );
     if answered == Status::WriteFault {
         assert!(rt; written.len() < report.len(), "call {call}");
         return Ok(true);
