@@ -16,8 +16,6 @@ pub mod Stories
 pub mod Runs
 pub mod Stops
 pub mod Labels
-pub mod ReadNames
-pub mod Fitting
 pub mod Judgings
 pub mod Progressings
 pub mod Ends

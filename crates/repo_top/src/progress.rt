@@ -256,3 +256,112 @@ impl Progress {
 
     // The world that the events made, if there was one.
     pub(crate) fn into_world(self) -> Option<World>
+        ensures world { option_map world_of result ≡ (state self).world }
+        ensures keys { IfSome result (λ world. world.keys ≡ (state self).keys) }
+    {
+        let Progress { stage, .. } = self;
+        match stage {
+            Stage::Acting(world) => Some(world),
+            _ => None,
+        }
+    }
+}
+
+impl Stage {
+    fn add_member(&mut self, node: &Name, key: &[u8]) -> Result<(), Stop>
+        requires node { IsPlainNodeName node.now }
+        requires key { IsKey key.now }
+        requires there { has_group self.old ≡ true }
+        requires unchanged { has_world self.old ≡ false }
+        requires apart { is_name_taken (keys_in self.old) node.now ≡ false }
+        requires few { length (keys_in self.old).members.names < node_limit }
+        ensures keys { OnOk result (keys_in self.new ≡ with_member_too node.now key.now (keys_in self.old)) }
+        ensures there { OnOk result (has_group self.new ≡ true) }
+        ensures world { OnOk result (world_in self.new ≡ None) }
+        ensures unchanged { OnOk result (has_world self.new ≡ false) }
+        ensures steps { OnOk result (steps_in self.new ≡ 0) }
+        ensures err { IfErr result (λ stop. stop ≡ Stop.NoMemory) }
+    {
+        match self {
+            Stage::Opening => Err(Stop::Refused(Refusal::NoGroup)),
+            Stage::Declaring(group) => {
+                group.add_member(node, key)?;
+                Ok(())
+            }
+            Stage::Acting(_) => Err(Stop::Refused(Refusal::Late)),
+        }
+    }
+
+    fn add_client(&mut self, node: &Name, key: &[u8]) -> Result<(), Stop>
+        requires node { IsPlainNodeName node.now }
+        requires key { IsKey key.now }
+        requires there { has_group self.old ≡ true }
+        requires unchanged { has_world self.old ≡ false }
+        requires apart { is_name_taken (keys_in self.old) node.now ≡ false }
+        requires few { length (keys_in self.old).clients.names < node_limit }
+        ensures keys { OnOk result (keys_in self.new ≡ with_client_too node.now key.now (keys_in self.old)) }
+        ensures there { OnOk result (has_group self.new ≡ true) }
+        ensures world { OnOk result (world_in self.new ≡ None) }
+        ensures unchanged { OnOk result (has_world self.new ≡ false) }
+        ensures steps { OnOk result (steps_in self.new ≡ 0) }
+        ensures err { IfErr result (λ stop. stop ≡ Stop.NoMemory) }
+    {
+        match self {
+            Stage::Opening => Err(Stop::Refused(Refusal::NoGroup)),
+            Stage::Declaring(group) => {
+                group.add_client(node, key)?;
+                Ok(())
+            }
+            Stage::Acting(_) => Err(Stop::Refused(Refusal::Late)),
+        }
+    }
+
+    // The world that an event finds: its members have nothing before the first.
+    fn begin<D: Draws>(self, alloc: Global, draws: &D) -> Result<World, Stop>
+        requires there { has_group self ≡ true }
+        ensures world { IfOk result (λ world. world_of world ≡ unwrap_or (world_in self)
+            (opening_world (drawing (D.draw draws.now)) (length (keys_in self).members.names))) }
+        ensures keys { IfOk result (λ world. world.keys ≡ keys_in self) }
+        ensures steps { IfOk result (λ world. world.steps ≡ steps_in self) }
+        ensures err { IfErr result (λ stop. stop ≡ Stop.NoMemory) }
+    {
+        match self {
+            Stage::Opening => Err(Stop::Refused(Refusal::NoGroup)),
+            Stage::Declaring(group) => Ok(World::new(alloc, group, draws)?),
+            Stage::Acting(world) => Ok(world),
+        }
+    }
+}
+
+// Carries out an event, and writes what came of it.
+fn step<N: Net + Sync, D: Draws, R: Threads + Sync>(
+    rt: &R,
+    world: &mut World,
+    event: &Event,
+    labels: &[String],
+    report: &mut Vec<u8>,
+    net: &N,
+    draws: &D,
+) -> Result<(), Stop>
+    requires ready { IsReady (length world.old.keys.members.names) (event_value event.now) }
+    requires clients { NamesClient (length world.old.keys.clients.names) (event_value event.now) }
+    requires few { world.old.steps < 100000 }
+    requires labels { length labels.now ≡ length world.old.keys.members.names }
+    requires empty { report.old.items ≡ [] }
+    ensures taken { OnOk result (refusal (outside world.old.keys (D.draw draws.now) (N.passes net.now))
+        (world_of world.old) (group_event world.old.keys (event_value event.now)) ≡ None) }
+    ensures world { OnOk result (world_of world.new
+        ≡ after_event (outside world.old.keys (D.draw draws.now) (N.passes net.now)) (world_of world.old)
+        (group_event world.old.keys (event_value event.now))) }
+    ensures report { OnOk result (report.new.items ≡ told_text (map string_bytes labels.now)
+        (telling world.old.keys (outside world.old.keys (D.draw draws.now) (N.passes net.now)) (world_of world.old)
+        (event_value event.now))) }
+    ensures keys { OnOk result (world.new.keys ≡ world.old.keys) }
+    ensures steps { OnOk result (world.new.steps ≡ world.old.steps + 1) }
+    ensures stopped { IfErr result (IsStopOf (refusal (outside world.old.keys (D.draw draws.now) (N.passes net.now))
+        (world_of world.old) (group_event world.old.keys (event_value event.now)))) }
+{
+    let happened = world.step(rt, event, net, draws)?;
+    put_happened(report, labels, &happened)?;
+    Ok(())
+}
