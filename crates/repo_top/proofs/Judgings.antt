@@ -1,5 +1,5 @@
 -- What lines come to, case by case.
-use Rattle.std.proofs.Common.{◌≡◌, ◌∙◌, ℕ, ◌<◌, Bool, true, false, not, ◌&&◌, ◌||◌, List, [], ◌∷◌, ◌++◌, length, map, Option, Some, None, Result, Ok, Err, ◌⊎◌, inl, inr, unwrap_or, nat_le, nat_lt, cond, ◌+◌, refl, sym, ap, subst, arith, if◌then◌else◌}
+use Rattle.std.proofs.Common.{◌≡◌, ◌∙◌, ℕ, ◌<◌, Bool, true, false, not, ◌||◌, List, [], ◌∷◌, ◌++◌, length, map, Option, Some, None, Ok, Err, ◌⊎◌, inl, inr, nat_le, nat_lt, cond, ◌+◌, refl, sym, ap, subst, arith, if◌then◌else◌}
 use Rattle.std.specs.List.{list_any, position, prefix_len}
 use Rattle.std.specs.Option.{option_map}
 use Rattle.std.specs.Str.{bytes_eq}
@@ -15,22 +15,21 @@ use Rattle.script_lang.specs.declared.line_fault.LineFault.{LineFault}
 use Rattle.script_lang.specs.declared.line_fault.LineFault.TheVariants as line_fault
 use Rattle.script_lang.specs.declared.check_fault.CheckFault.{CheckFault}
 use Rattle.script_lang.specs.declared.check_fault.CheckFault.TheVariants as check_fault
-use Rattle.script_lang.specs.Kinds.{Value, Text, Named, Octets}
+use Rattle.script_lang.specs.Kinds.{Text, Named, Octets}
 use Rattle.script_lang.specs.Forms.{Stated, said, stated}
 use Rattle.script_lang.specs.Lines.{line_of}
 use Rattle.script_lang.specs.Reading.{Tells}
-use Rattle.script_lang.specs.Checking.{Declared, Party, after_line, after_event, after_group, are_known, are_within_limits, with_totals, adds, declared_then, is_among, is_there, label_of, may_declare, party}
+use Rattle.script_lang.specs.Checking.{Declared, Party, after_line, after_event, are_known, are_within_limits, with_totals, adds, declared_then, is_among, is_there, label_of, may_declare, party}
 use Rattle.svs_vector.specs.Rosters.{is_same_name, member_of}
-use Rattle.group_model.specs.World.{Outside, World, opening_world}
+use Rattle.group_model.specs.World.{Outside, World}
 use Rattle.group_model.specs.Steps.{after_event as after_group_event}
 use Rattle.group_model.specs.Refusals as group
 use Rattle.repo_member.specs.Groups.{GroupKeys, is_name_taken}
-use Rattle.bench_world.specs.Worlds.{drawing}
 use Rattle.bench_world.specs.EventValues.{EventValue, group_event, telling}
 use Rattle.repo_top.specs.declared.refusal.Refusal.TheVariants as refusal
 use Rattle.repo_top.specs.SaidEvents.{said_event}
 use Rattle.repo_top.specs.ToldTexts.{told_text}
-use Rattle.repo_top.specs.Judging.{Given, State, Verdict, says, refused, acted, acted_by, checked, event_refused, found_world, group_named, judged, judged_line, line_taken, outside_of, read, stepped, with_client_too, with_member_too}
+use Rattle.repo_top.specs.Judging.{Given, State, says, refused, acted, acted_by, found_world, group_named, judged, judged_line, line_taken, outside_of, read, stepped, with_client_too, with_member_too}
 use Rattle.repo_top.specs.declared.stop.Stop.{Stop}
 use Rattle.repo_top.specs.declared.stop.Stop.TheVariants as stop
 use Rattle.repo_top.specs.Progressing.{IsStop, IsStopOf, node_of}
@@ -173,9 +172,9 @@ pub is_free : (d : Declared) (keys : GroupKeys) (label : List ℕ) (node : List 
 is_free d keys label node members clients h =
     let both = or_parts (is_among (party label node) d.members) (is_among (party label node) d.clients) h in
     let no_member : member_of node keys.members.names ≡ None = none_found (is_same_name node) keys.members.names
-        (ap (list_any (is_same_name node)) (sym members) ∙ nobody_has label node d.members both.0) in
+    (ap (list_any (is_same_name node)) (sym members) ∙ nobody_has label node d.members both.0) in
     let no_client : member_of node keys.clients.names ≡ None = none_found (is_same_name node) keys.clients.names
-        (ap (list_any (is_same_name node)) (sym clients) ∙ nobody_has label node d.clients both.1) in
+    (ap (list_any (is_same_name node)) (sym clients) ∙ nobody_has label node d.clients both.1) in
     ap (λ o. is_some o || is_some (member_of node keys.clients.names)) no_member ∙ ap (λ o. is_some o) no_client
 
 -- ---- events

@@ -1,5 +1,5 @@
 -- What a line changes of what is kept, by what it states.
-use Rattle.std.proofs.Common.{◌≡◌, ◌∙◌, ℕ, ◌+◌, ◌≤◌, ◌<◌, Bool, true, false, List, [], ◌∷◌, ◌++◌, length, map, Option, Some, None, Result, Ok, Err, String, Global, Vec, refl, sym, ap, subst, arith}
+use Rattle.std.proofs.Common.{◌≡◌, ◌∙◌, ℕ, ◌<◌, true, false, List, [], ◌∷◌, ◌++◌, length, map, Option, Some, None, Result, Ok, Err, String, Global, Vec, refl, sym, ap, subst}
 use Rattle.std.specs.Prelude.{IfErr, OnOk}
 use Rattle.std.specs.Result.{IsErrAnd}
 use Rattle.std.proofs.lemmas.Bool.{true≢false}
@@ -12,7 +12,7 @@ use Rattle.script_lang.specs.declared.verb.Verb.{Verb}
 use Rattle.script_lang.specs.declared.verb.Verb.TheVariants as verb
 use Rattle.script_lang.specs.Kinds.{Text, Named, Octets}
 use Rattle.script_lang.specs.Forms.{Stated, said, stated}
-use Rattle.script_lang.specs.Checking.{Declared, Party, after_line, label_of, party}
+use Rattle.script_lang.specs.Checking.{Declared, after_line, label_of, party}
 use Rattle.group_model.specs.World.{World}
 use Rattle.repo_member.specs.Groups.{GroupKeys, IsKey, IsPlainNodeName, is_name_taken}
 use Rattle.group_model.specs.Steps.{after_event}
@@ -21,12 +21,12 @@ use Rattle.bench_world.specs.EventValues.{EventValue, group_event, telling}
 use Rattle.repo_top.specs.declared.progress.Stage.{Stage}
 use Rattle.repo_top.specs.declared.progress.Stage.TheVariants.{Opening, Declaring, Acting}
 use Rattle.repo_top.specs.Judging.{Given, State, Verdict, says, acted, acted_by, acted_if, found_world, group_named, outside_of, judged_line, line_taken, no_group, taken_by, with_client_too, with_member_too}
-use Rattle.repo_top.specs.Progressing.{AreNamed, IsChecked, IsLine, IsStop, IsStopOf, Stands, StatesFit, has_group, has_world, keys_in, node_of, state_of, world_in}
+use Rattle.repo_top.specs.Progressing.{AreNamed, IsChecked, IsStop, IsStopOf, StatesFit, has_group, has_world, keys_in, node_of, state_of, world_in}
 use Rattle.repo_top.specs.declared.stop.Stop.{Stop}
 use Rattle.repo_top.specs.ToldTexts.{told_text}
 use Rattle.repo_top.specs.SaidEvents.{said_event}
 use Rattle.repo_top.proofs.Fitting.{client_fits, event_fits, group_fits, member_fits}
-use Rattle.repo_top.proofs.Judgings.{acted_says, acted_stops, IsEvent, IsEventLine, MayDeclare, client_declares, client_says, event_declares, event_says, group_declares, group_says, is_free, member_declares, member_says, taken_line}
+use Rattle.repo_top.proofs.Judgings.{acted_says, acted_stops, IsEventLine, client_declares, client_says, event_declares, event_says, group_declares, group_says, is_free, member_declares, member_says, taken_line}
 
 -- Nothing but what a line declares matters where it is taken.
 same_acted : (given : Given) (stage : Stage) (d e : Declared) (o : Option EventValue)
@@ -92,7 +92,7 @@ grouped_at given labels stage e name c =
     let none = is_opening stage (sym c.stands.group ∙ opens.0) in
     let empty : AreNamed labels no_group c.before = subst (λ keys. AreNamed labels keys c.before) none.keys c.stands.named in
     let new : AreNamed labels (group_named name) (record c.before { group = true }) =
-        record { labels = empty.labels; members = empty.members; clients = empty.clients } in
+    record { labels = empty.labels; members = empty.members; clients = empty.clients } in
     record {
       plain = group_fits c.line.octets name c.line.read;
       group = ap (λ (x : Declared). x.group) (sym opens.1);
@@ -140,13 +140,12 @@ member_at given labels stage e label node key c =
     let both_fit = member_fits c.line.octets label node key c.line.read in
     let unchanged = sym c.stands.events ∙ may.early in
     let new : AreNamed (labels ++ label ∷ []) (with_member_too node key (keys_in stage))
-        (record c.before { members = c.before.members ++ party label node ∷ [] }) = record {
+    (record c.before { members = c.before.members ++ party label node ∷ [] }) = record {
       labels = ap (λ (xs : List (List ℕ)). xs ++ label ∷ []) was.labels ∙ sym (map-append label_of d.members (party label node ∷ []));
       members = map-append node_of d.members (party label node ∷ [])
           ∙ ap (λ (xs : List (List Component)). xs ++ node ∷ []) was.members;
       clients = was.clients;
-    } in
-    (
+    } in (
       record {
         plain = both_fit.0;
         fits = both_fit.1;
@@ -190,13 +189,12 @@ client_at given labels stage e label node key c =
     let both_fit = client_fits c.line.octets label node key c.line.read in
     let unchanged = sym c.stands.events ∙ may.early in
     let new : AreNamed labels (with_client_too node key (keys_in stage))
-        (record c.before { clients = c.before.clients ++ party label node ∷ [] }) = record {
+    (record c.before { clients = c.before.clients ++ party label node ∷ [] }) = record {
       labels = was.labels;
       members = was.members;
       clients = map-append node_of d.clients (party label node ∷ [])
           ∙ ap (λ (xs : List (List Component)). xs ++ node ∷ []) was.clients;
-    } in
-    (
+    } in (
       record {
         plain = both_fit.0;
         fits = both_fit.1;
@@ -259,8 +257,7 @@ as_many f xs keys d n =
     ∙ sym (length-map d.members node_of) ∙ ap (λ (names : List (List Component)). length names) n.members
 
 module _ (given : Given) (stage found : Stage) (d : Declared) (e : EventValue) (keys : GroupKeys) (w : World)
-  (is : found ≡ stage) (k : keys ≡ keys_in found) (v : w ≡ found_world given (state_of found d)) where
-
+    (is : found ≡ stage) (k : keys ≡ keys_in found) (v : w ≡ found_world given (state_of found d)) where
   keys_is : keys ≡ keys_in stage
   keys_is = k ∙ ap keys_in is
 
@@ -276,19 +273,19 @@ module _ (given : Given) (stage found : Stage) (d : Declared) (e : EventValue) (
       → acted given (state_of stage d) d e ≡ says report (record { declared = d; keys = keys_new; world = Some next })
   carried_says labels report keys_new next taken told after kept named =
       let taken_so : group.refusal (outside_of given (keys_in stage)) (found_world given (state_of stage d))
-          (group_event (keys_in stage) e) ≡ None =
-          subst (λ (x : World). group.refusal (outside_of given (keys_in stage)) x (group_event (keys_in stage) e) ≡ None) world_is
-          (subst (λ (x : GroupKeys). group.refusal (outside_of given x) w (group_event x e) ≡ None) keys_is taken) in
+      (group_event (keys_in stage) e) ≡ None =
+      subst (λ (x : World). group.refusal (outside_of given (keys_in stage)) x (group_event (keys_in stage) e) ≡ None) world_is
+      (subst (λ (x : GroupKeys). group.refusal (outside_of given x) w (group_event x e) ≡ None) keys_is taken) in
       let told_so : report ≡ told_text (map label_of d.members) (telling (keys_in stage) (outside_of given (keys_in stage))
-          (found_world given (state_of stage d)) e) =
-          told ∙ ap (λ (x : List (List ℕ)). told_text x (telling keys (outside_of given keys) w e)) named
-          ∙ ap (λ (x : GroupKeys). told_text (map label_of d.members) (telling x (outside_of given x) w e)) keys_is
-          ∙ ap (λ (x : World). told_text (map label_of d.members)
-          (telling (keys_in stage) (outside_of given (keys_in stage)) x e)) world_is in
+      (found_world given (state_of stage d)) e) =
+      told ∙ ap (λ (x : List (List ℕ)). told_text x (telling keys (outside_of given keys) w e)) named
+      ∙ ap (λ (x : GroupKeys). told_text (map label_of d.members) (telling x (outside_of given x) w e)) keys_is
+      ∙ ap (λ (x : World). told_text (map label_of d.members)
+      (telling (keys_in stage) (outside_of given (keys_in stage)) x e)) world_is in
       let after_so : next ≡ after_event (outside_of given (keys_in stage)) (found_world given (state_of stage d))
-          (group_event (keys_in stage) e) =
-          after ∙ ap (λ (x : GroupKeys). after_event (outside_of given x) w (group_event x e)) keys_is
-          ∙ ap (λ (x : World). after_event (outside_of given (keys_in stage)) x (group_event (keys_in stage) e)) world_is in
+      (group_event (keys_in stage) e) =
+      after ∙ ap (λ (x : GroupKeys). after_event (outside_of given x) w (group_event x e)) keys_is
+      ∙ ap (λ (x : World). after_event (outside_of given (keys_in stage)) x (group_event (keys_in stage) e)) world_is in
       acted_says given (state_of stage d) d e taken_so
       ∙ ap (λ (x : List ℕ). says x (record {
         declared = d;

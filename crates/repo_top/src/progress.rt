@@ -162,9 +162,9 @@ impl Progress {
         requires named { AreNamed (map string_bytes self.old.labels.items ++ string_bytes label ∷ [])
             (with_member_too node.now key.now (keys_in self.old.stage)) self.old.words }
         ensures state { OnOk result (state self.new ≡ record {
-            declared = self.old.words;
-            keys = with_member_too node.now key.now (keys_in self.old.stage);
-            world = None;
+          declared = self.old.words;
+          keys = with_member_too node.now key.now (keys_in self.old.stage);
+          world = None;
         }) }
         ensures is { OnOk result (IsProgress self.new) }
         ensures steps { OnOk result (steps self.new ≡ 0) }
@@ -187,9 +187,9 @@ impl Progress {
         requires named { AreNamed (map string_bytes self.old.labels.items)
             (with_client_too node.now key.now (keys_in self.old.stage)) self.old.words }
         ensures state { OnOk result (state self.new ≡ record {
-            declared = self.old.words;
-            keys = with_client_too node.now key.now (keys_in self.old.stage);
-            world = None;
+          declared = self.old.words;
+          keys = with_client_too node.now key.now (keys_in self.old.stage);
+          world = None;
         }) }
         ensures is { OnOk result (IsProgress self.new) }
         ensures steps { OnOk result (steps self.new ≡ 0) }

@@ -1,4 +1,4 @@
-use Rattle.std.proofs.Common.{◌≡◌, ◌∙◌, List, map, length, sym, ap}
+use Rattle.std.proofs.Common.{◌∙◌, map, length, sym, ap}
 use Rattle.std.specs.String.{string_bytes}
 use Rattle.repo_member.specs.Groups.{GroupKeys}
 use Rattle.bench_world.specs.EventValues.{event_value}
@@ -11,7 +11,7 @@ use Rattle.repo_top.proofs.progress.Progress.carry_out.Goals as goal
 pub step-requires-clause-labels : goal.step-requires-clause-labels
 step-requires-clause-labels g c κs within =
     let many = as_many string_bytes c.args.self.now.labels.items (keys_in c.args.self.now.stage) c.args.self.now.words
-        c.requires.named in
+    c.requires.named in
     let keys = c.in_ok-world.ensures.keys ∙ ap keys_in c.replace-stage.ensures.value in
     ap (λ xs. length xs) c.deref.ensures.value ∙ many ∙ ap (λ (k : GroupKeys). length k.members.names) (sym keys)
 

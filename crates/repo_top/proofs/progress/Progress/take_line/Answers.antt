@@ -1,4 +1,4 @@
-use Rattle.std.proofs.Common.{◌≡◌, ◌∙◌, sym, ap, subst}
+use Rattle.std.proofs.Common.{◌≡◌, sym, subst}
 use Rattle.std.specs.Prelude.{OnOk, IfErr}
 use Rattle.script_lang.specs.Forms.{stated}
 use Rattle.repo_top.specs.Judging.{Verdict, given_by, judged_line, says}
