@@ -1,9 +1,3 @@
-pub mod HoldingLemmas
-pub mod Sets
-pub mod Entries
-pub mod Settles
-pub mod Additions
-pub mod Publishes
 pub mod SetSums
 pub mod NextParts
 pub mod Attempts

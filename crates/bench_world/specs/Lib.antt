@@ -1,7 +1,3 @@
-pub use Rattle.svs_vector.specs.Vectors as Vectors
-pub mod Publications
-pub mod PlainModel
-pub mod Holdings
 pub mod Worlds
 pub mod Kept
 pub mod Truth
