@@ -1,9 +1,9 @@
 -- What a line that is taken states can be carried out: an event names members and clients that are there and is within
 -- its limits, and what is declared has a name and a key that a group takes.
-use Rattle.std.proofs.Common.{◌≡◌, ◌∙◌, ℕ, zero, suc, ◌+◌, ◌-◌, ◌*◌, ◌/◌, ◌%◌, ◌<◌, ◌≤◌, ◌^◌, min, Bool, true, false, not, ◌&&◌, ◌||◌, nat_lt, nat_le, List, [], ◌∷◌, ◌++◌, length, map, Option, Some, None, unwrap_or, Ok, Err, refl, sym, ap, subst, arith, if◌then◌else◌}
+use Rattle.std.proofs.Common.{◌≡◌, ℕ, zero, suc, ◌+◌, ◌-◌, ◌*◌, ◌<◌, ◌≤◌, Bool, true, false, not, ◌||◌, nat_lt, nat_le, List, [], ◌∷◌, length, Option, Some, None, unwrap_or, Ok, Err, refl, sym, ap, subst, arith, if◌then◌else◌}
 use Rattle.std.specs.Prelude.{IsTrue}
 use Rattle.std.specs.Int.{div_ceil}
-use Rattle.std.specs.List.{All, list_all, list_any, position, prefix_len}
+use Rattle.std.specs.List.{All, list_all, list_any, prefix_len}
 use Rattle.std.specs.Option.{IfSome}
 use Rattle.std.specs.Str.{bytes_eq}
 use Rattle.std.proofs.Math.Nat.{lt_of_mul-lt-mul_right}
@@ -24,7 +24,7 @@ use Rattle.script_lang.specs.declared.verb.Verb.TheVariants as verb
 use Rattle.script_lang.specs.Kinds.{Kind, Value, Text, Number, Named, Octets}
 use Rattle.script_lang.specs.Forms.{Stated, form, said}
 use Rattle.script_lang.specs.Lines.{are_within, line_of}
-use Rattle.script_lang.specs.Checking.{Declared, Party, place_of, has_label, labels_in, are_known, are_known_by, are_within_limits, with_totals, adds, after_by, after_event, after_line}
+use Rattle.script_lang.specs.Checking.{Declared, Party, has_label, labels_in, are_known, are_known_by, are_within_limits, with_totals, adds, after_by, after_event, after_line}
 use Rattle.script_lang.specs.Texts.{AreOf, AreWordTexts, IsLineText, IsWordText}
 use Rattle.script_lang.proofs.Conditions.{and_left, and_right, and_both, le_test, le_tested, lt_tested}
 use Rattle.script_lang.proofs.LineTexts.{line_texts}
@@ -52,9 +52,9 @@ place_within n len h = grind (arith, nat_tests)
 -- a label that is known has the number of a party
 number_within : (label : List ℕ) (a b : List Party) → b ≡ a → has_label label a ≡ true → number_of label b < length b
 number_within label a b same known = rw same (
-  place_within (prefix_len (λ (p : Party). not (bytes_eq p.label label)) a) (length a)
+    place_within (prefix_len (λ (p : Party). not (bytes_eq p.label label)) a) (length a)
     (any_within (λ (p : Party). bytes_eq p.label label) a known)
-)
+    )
 
 -- ---- names and contents
 
@@ -80,9 +80,13 @@ few_pieces size content some short =
     let times = div_ceil_times (length content) size some in
     let fewer : div_ceil (length content) size * size < 201 * size = omega (arith, times.1) in
     let count : div_ceil (length content) size < 201 =
-        lt_of_mul-lt-mul_right size {m = div_ceil (length content) size} {n = 201} fewer in
-    omega (arith, count, length-map (numbers_from 0 (div_ceil (length content) size)) (piece size content),
-      length-numbers 0 (div_ceil (length content) size))
+    lt_of_mul-lt-mul_right size {m = div_ceil (length content) size} {n = 201} fewer in
+    omega (
+      arith,
+      count,
+      length-map (numbers_from 0 (div_ceil (length content) size)) (piece size content),
+      length-numbers 0 (div_ceil (length content) size),
+    )
 
 -- ---- events, form by form
 
@@ -215,8 +219,7 @@ feed_fits d e values same of within known = tt
 insert_fits : FormFits verb.Insert
 insert_fits d e (Text m ∷ Text client ∷ Named name ∷ Number first ∷ Number last ∷ []) same of within known =
     let rises : first ≤ last = le_tested first last (and_left (nat_le first last) _ within) in
-    let few : last - first < 200 = lt_tested (last - first) 200 (and_right (nat_le first last) _ within) in
-    (
+    let few : last - first < 200 = lt_tested (last - first) 200 (and_right (nat_le first last) _ within) in (
       (member_within d e same m (and_left _ _ known), object_name name of.1.1.0, rises, omega arith),
       client_within d e same client (and_right (has_label m d.members) _ known),
     )
@@ -288,23 +291,23 @@ pub record IsKnown (d e : Declared) (s : Stated) : Type 0 where
 taken : (d e : Declared) (s : Stated) → after_event d s ≡ Ok e → IsKnown d e s
 taken d e s h = go
     d.group (are_known d s) (are_within_limits (with_totals d.totals (adds s.verb s.values))) refl h where
-  go : (group known within : Bool) → are_known d s ≡ known
-      → (if not group then Err check_fault.NoGroup else if not known then Err check_fault.UnknownLabel
-      else if not within then Err check_fault.TooLarge
-      else Ok (record d { events = true; totals = with_totals d.totals (adds s.verb s.values) })) ≡ Ok e
-      → IsKnown d e s
-  go false known within is k = cc
-  go true false within is k = cc
-  go true true false is k = cc
-  go true true true is k =
-      let after : record d { events = true; totals = with_totals d.totals (adds s.verb s.values) } ≡ e = cc in
-      record {
-        same = record {
-          members = ap (λ (f : Declared). f.members) (sym after);
-          clients = ap (λ (f : Declared). f.clients) (sym after);
-        };
-        known = is;
-      }
+      go : (group known within : Bool) → are_known d s ≡ known
+          → (if not group then Err check_fault.NoGroup else if not known then Err check_fault.UnknownLabel
+          else if not within then Err check_fault.TooLarge
+          else Ok (record d { events = true; totals = with_totals d.totals (adds s.verb s.values) })) ≡ Ok e
+          → IsKnown d e s
+      go false known within is k = cc
+      go true false within is k = cc
+      go true true false is k = cc
+      go true true true is k =
+          let after : record d { events = true; totals = with_totals d.totals (adds s.verb s.values) } ≡ e = cc in
+          record {
+            same = record {
+              members = ap (λ (f : Declared). f.members) (sym after);
+              clients = ap (λ (f : Declared). f.clients) (sym after);
+            };
+            known = is;
+          }
 
 event_taken : (form_verb : Verb) (d e : Declared) (s : Stated) (values : List Value) (v : EventValue)
     → after_by d s form_verb values ≡ Ok e → said_by form_verb e values ≡ Some v → IsKnown d e s

@@ -12,11 +12,11 @@ labels_behind front (label ∷ rest) =
     let longer = front ++ label ∷ [] in
     let here : label_at all (length front) ≡ label = get_or-append_seam front label rest [] in
     let named : map (label_at all) (numbers_from (length longer) (length rest)) ≡ rest =
-        subst (λ (labels : List (List ℕ)). map (label_at labels) (numbers_from (length longer) (length rest)) ≡ rest)
-        (append_assoc front (label ∷ []) rest) (labels_behind longer rest) in
+    subst (λ (labels : List (List ℕ)). map (label_at labels) (numbers_from (length longer) (length rest)) ≡ rest)
+    (append_assoc front (label ∷ []) rest) (labels_behind longer rest) in
     let behind : map (label_at all) (numbers_from (length front + 1) (length rest)) ≡ rest =
-        subst (λ (n : ℕ). map (label_at all) (numbers_from n (length rest)) ≡ rest)
-        (length-append front (label ∷ [])) named in
+    subst (λ (n : ℕ). map (label_at all) (numbers_from n (length rest)) ≡ rest)
+    (length-append front (label ∷ [])) named in
     cc
 
 pub labels_of_all : (labels : List (List ℕ)) (n : ℕ) (members : List ℕ) → n ≡ length labels

@@ -1,5 +1,5 @@
 -- A name that a text is the URI of is valid, where no component is a digest and it is short.
-use Rattle.std.proofs.Common.{◌≡◌, ℕ, zero, suc, ◌+◌, ◌*◌, ◌<◌, ◌≤◌, ◌^◌, Bool, true, false, ◌||◌, nat_le, List, [], ◌∷◌, ◌++◌, length, length-append, map, refl, sym, subst, inl, inr, arith, if◌then◌else◌}
+use Rattle.std.proofs.Common.{◌≡◌, ℕ, zero, suc, ◌+◌, ◌<◌, ◌≤◌, ◌^◌, Bool, true, false, nat_le, List, [], ◌∷◌, length, length-append, sym, subst, inl, inr, arith, if◌then◌else◌}
 use Rattle.std.specs.Int.{w8, w16, w32, w64, to_be_bytes}
 use Rattle.std.specs.List.{list_any}
 use Rattle.std.proofs.lemmas.Bool.{cases_lt, lt-ltb, le-ltb, or_parts}
@@ -8,7 +8,7 @@ use Rattle.ndn_tlv.specs.Elements.{IsOctets}
 use Rattle.ndn_tlv.specs.NumberField.{number_field}
 use Rattle.ndn_tlv.specs.Spelling.{head, element}
 use Rattle.ndn_name.specs.Names.{Component, IsComponent, IsName, encoding}
-use Rattle.ndn_name.specs.Uri.{is_unreserved, IsOctetText, plain, escape, IsEscaped, are_periods, guarded, IsValueText, IsNumberText, IsComponentText, generic, typed, implicit_digest, parameters_digest, segment, version, sequence, Part, IsPath, IsRooted, IsUri, name_in}
+use Rattle.ndn_name.specs.Uri.{IsOctetText, plain, escape, IsEscaped, are_periods, guarded, IsValueText, IsNumberText, IsComponentText, generic, typed, implicit_digest, parameters_digest, segment, version, sequence, Part, IsPath, IsRooted, IsUri, name_in}
 use Rattle.ndn_name.specs.UriText.{is_digest}
 use Rattle.ndn_name.specs.UriVerdict.{HasUri}
 
@@ -107,8 +107,7 @@ path_valid at (part ∷ parts) text h none short =
     let low : nat_le part.1.0 2 ≡ false = no.0 in
     let above : 2 < part.1.0 = grind (arith, nat_tests) in
     let joined = length-append (element part.1.0 part.1.1) (encoding (name_in parts)) in
-    let ended = length-append (head part.1.0 (length part.1.1)) part.1.1 in
-    (
+    let ended = length-append (head part.1.0 (length part.1.1)) part.1.1 in (
       component_valid part.1 h.0 h.4 above (omega (arith, joined, ended)),
       path_valid (at + 1 + length h.0) parts h.1 h.5 no.1 (omega (arith, joined)),
     )
@@ -127,5 +126,5 @@ pub read_name_valid : (name : List Component) (text : List ℕ) → HasUri name 
     → length (encoding name) < 2 ^ 64 → IsName name
 read_name_valid name text h =
     let P : List Component → Type 0 =
-        λ n. list_any is_digest n ≡ false → length (encoding n) < 2 ^ 64 → IsName n in
+    λ n. list_any is_digest n ≡ false → length (encoding n) < 2 ^ 64 → IsName n in
     subst P (sym h.2) (uri_valid h.0 text h.1)

@@ -9,8 +9,8 @@ returns-in-Vector c =
     let given = c.args.labels.now in
     let all = rw c.in-Vector.is at c.requires.all in
     let named =
-        labels_of_all (map string_bytes given) (length given) c.in-Vector.members.items
-        (sym (length-map given string_bytes)) all.0 in
+    labels_of_all (map string_bytes given) (length given) c.in-Vector.members.items
+    (sym (length-map given string_bytes)) all.0 in
     rw (c.in-Vector.is, named, ← c.label-in-Vector.ensures, ← c.deref-in-Vector.ensures.value) c.put_vector.ensures
 
 pub returns-in-Summary : goal.returns-in-Summary
@@ -18,8 +18,8 @@ returns-in-Summary c =
     let given = c.args.labels.now in
     let all = rw c.in-Summary.is at c.requires.all in
     let named =
-        labels_of_all (map string_bytes given) (length given) c.in-Summary.members.items
-        (sym (length-map given string_bytes)) all.0 in
+    labels_of_all (map string_bytes given) (length given) c.in-Summary.members.items
+    (sym (length-map given string_bytes)) all.0 in
     rw (
       c.in-Summary.is,
       named,
