@@ -90,7 +90,8 @@ grouped_at : (given : Given) (labels : List (List ℕ)) (stage : Stage) (e : Dec
 grouped_at given labels stage e name c =
     let opens = group_declares c.before e name c.after in
     let none = is_opening stage (sym c.stands.group ∙ opens.0) in
-    let empty : AreNamed labels no_group c.before = subst (λ keys. AreNamed labels keys c.before) none.keys c.stands.named in
+    let empty : AreNamed labels no_group c.before = subst (λ keys. AreNamed labels keys c.before) none.keys
+    c.stands.named in
     let new : AreNamed labels (group_named name) (record c.before { group = true }) =
     record { labels = empty.labels; members = empty.members; clients = empty.clients } in
     record {
@@ -102,7 +103,8 @@ grouped_at given labels stage e name c =
           ∙ ap (λ (w : Option World). says [] (record { declared = e; keys = group_named name; world = w })) none.world;
     }
 
-pub grouped : (given : Given) (labels : List (List ℕ)) (stage : Stage) (e : Declared) (s : Stated) (name : List Component)
+pub grouped : (given : Given) (labels : List (List ℕ)) (stage : Stage) (e : Declared) (s : Stated)
+    (name : List Component)
     → s ≡ said verb.Group (Named name ∷ []) → IsChecked labels stage e s → Grouped given labels stage e s name
 grouped given labels stage e s name is c =
     subst (λ (x : Stated). Grouped given labels stage e x name) (sym is)
@@ -123,7 +125,8 @@ pub record Declares (given : Given) (labels : List (List ℕ)) (stage : Stage) (
   pub named : AreNamed labels keys e
   pub says : Says given stage e s keys
 
-abbrev pub MemberDeclares : Given → List (List ℕ) → Stage → Declared → Stated → List ℕ → List Component → List ℕ → Type 0
+abbrev pub MemberDeclares : Given → List (List ℕ) → Stage → Declared → Stated → List ℕ → List Component → List ℕ
+    → Type 0
 MemberDeclares given labels stage e s label node key =
     Declares given (labels ++ label ∷ []) stage e s node key (with_member_too node key (keys_in stage))
     × (length (keys_in stage).members.names < 16)
@@ -141,7 +144,8 @@ member_at given labels stage e label node key c =
     let unchanged = sym c.stands.events ∙ may.early in
     let new : AreNamed (labels ++ label ∷ []) (with_member_too node key (keys_in stage))
     (record c.before { members = c.before.members ++ party label node ∷ [] }) = record {
-      labels = ap (λ (xs : List (List ℕ)). xs ++ label ∷ []) was.labels ∙ sym (map-append label_of d.members (party label node ∷ []));
+      labels = ap (λ (xs : List (List ℕ)). xs ++ label ∷ []) was.labels
+          ∙ sym (map-append label_of d.members (party label node ∷ []));
       members = map-append node_of d.members (party label node ∷ [])
           ∙ ap (λ (xs : List (List Component)). xs ++ node ∷ []) was.members;
       clients = was.clients;
@@ -162,15 +166,18 @@ member_at given labels stage e label node key c =
               world = w;
             })) (no_world stage unchanged);
       },
-      subst (λ n. n < 16) (sym (length-map d.members node_of) ∙ ap (λ (xs : List (List Component)). length xs) was.members) may.few,
+      subst (λ n. n < 16) (sym (length-map d.members node_of)
+          ∙ ap (λ (xs : List (List Component)). length xs) was.members) may.few,
     )
 
-pub member_declared : (given : Given) (labels : List (List ℕ)) (stage : Stage) (e : Declared) (s : Stated) (label : List ℕ)
-    (node : List Component) (key : List ℕ) → s ≡ said verb.Member (Text label ∷ Named node ∷ Octets key ∷ [])
-    → IsChecked labels stage e s → MemberDeclares given labels stage e s label node key
-member_declared given labels stage e s label node key is c =
-    subst (λ (x : Stated). MemberDeclares given labels stage e x label node key) (sym is)
-    (member_at given labels stage e label node key (subst (IsChecked labels stage e) is c))
+pub member_declared : (given : Given) (labels : List (List ℕ)) (stage : Stage) (e : Declared) (s : Stated)
+    (label : List ℕ) (node : List Component) (octets key : List ℕ) → s ≡ said verb.Member (Text label ∷ Named node ∷ Octets octets ∷ [])
+    → key ≡ octets → IsChecked labels stage e s → MemberDeclares given labels stage e s label node key
+member_declared given labels stage e s label node octets key is same c =
+    let is_key : s ≡ said verb.Member (Text label ∷ Named node ∷ Octets key ∷ []) =
+    is ∙ ap (λ (k : List ℕ). said verb.Member (Text label ∷ Named node ∷ Octets k ∷ [])) (sym same) in
+    subst (λ (x : Stated). MemberDeclares given labels stage e x label node key) (sym is_key)
+    (member_at given labels stage e label node key (subst (IsChecked labels stage e) is_key c))
 
 abbrev pub ClientDeclares : Given → List (List ℕ) → Stage → Declared → Stated → List Component → List ℕ → Type 0
 ClientDeclares given labels stage e s node key =
@@ -211,15 +218,18 @@ client_at given labels stage e label node key c =
               world = w;
             })) (no_world stage unchanged);
       },
-      subst (λ n. n < 16) (sym (length-map d.clients node_of) ∙ ap (λ (xs : List (List Component)). length xs) was.clients) may.few,
+      subst (λ n. n < 16) (sym (length-map d.clients node_of)
+          ∙ ap (λ (xs : List (List Component)). length xs) was.clients) may.few,
     )
 
-pub client_declared : (given : Given) (labels : List (List ℕ)) (stage : Stage) (e : Declared) (s : Stated) (label : List ℕ)
-    (node : List Component) (key : List ℕ) → s ≡ said verb.Client (Text label ∷ Named node ∷ Octets key ∷ [])
-    → IsChecked labels stage e s → ClientDeclares given labels stage e s node key
-client_declared given labels stage e s label node key is c =
-    subst (λ (x : Stated). ClientDeclares given labels stage e x node key) (sym is)
-    (client_at given labels stage e label node key (subst (IsChecked labels stage e) is c))
+pub client_declared : (given : Given) (labels : List (List ℕ)) (stage : Stage) (e : Declared) (s : Stated)
+    (label : List ℕ) (node : List Component) (octets key : List ℕ) → s ≡ said verb.Client (Text label ∷ Named node ∷ Octets octets ∷ [])
+    → key ≡ octets → IsChecked labels stage e s → ClientDeclares given labels stage e s node key
+client_declared given labels stage e s label node octets key is same c =
+    let is_key : s ≡ said verb.Client (Text label ∷ Named node ∷ Octets key ∷ []) =
+    is ∙ ap (λ (k : List ℕ). said verb.Client (Text label ∷ Named node ∷ Octets k ∷ [])) (sym same) in
+    subst (λ (x : Stated). ClientDeclares given labels stage e x node key) (sym is_key)
+    (client_at given labels stage e label node key (subst (IsChecked labels stage e) is_key c))
 
 -- ---- events
 
@@ -274,9 +284,11 @@ module _ (given : Given) (stage found : Stage) (d : Declared) (e : EventValue) (
   carried_says labels report keys_new next taken told after kept named =
       let taken_so : group.refusal (outside_of given (keys_in stage)) (found_world given (state_of stage d))
       (group_event (keys_in stage) e) ≡ None =
-      subst (λ (x : World). group.refusal (outside_of given (keys_in stage)) x (group_event (keys_in stage) e) ≡ None) world_is
+      subst (λ (x : World). group.refusal (outside_of given (keys_in stage)) x (group_event (keys_in stage) e) ≡ None)
+      world_is
       (subst (λ (x : GroupKeys). group.refusal (outside_of given x) w (group_event x e) ≡ None) keys_is taken) in
-      let told_so : report ≡ told_text (map label_of d.members) (telling (keys_in stage) (outside_of given (keys_in stage))
+      let told_so : report ≡ told_text (map label_of d.members) (telling (keys_in stage)
+      (outside_of given (keys_in stage))
       (found_world given (state_of stage d)) e) =
       told ∙ ap (λ (x : List (List ℕ)). told_text x (telling keys (outside_of given keys) w e)) named
       ∙ ap (λ (x : GroupKeys). told_text (map label_of d.members) (telling x (outside_of given x) w e)) keys_is
@@ -294,12 +306,14 @@ module _ (given : Given) (stage found : Stage) (d : Declared) (e : EventValue) (
             (group_event (keys_in stage) e));
       })) (sym told_so)
       ∙ ap (λ (x : World). says report (record { declared = d; keys = keys_in stage; world = Some x })) (sym after_so)
-      ∙ ap (λ (x : GroupKeys). says report (record { declared = d; keys = x; world = Some next })) (sym (kept ∙ keys_is))
+      ∙ ap (λ (x : GroupKeys). says report (record { declared = d; keys = x; world = Some next }))
+      (sym (kept ∙ keys_is))
 
   pub carried_stops : (stop : Stop) → IsStopOf (group.refusal (outside_of given keys) w (group_event keys e)) stop
       → IsStop (acted given (state_of stage d) d e) stop
   carried_stops stop h = acted_stops given (state_of stage d) d e stop
-      (subst (λ (x : World). IsStopOf (group.refusal (outside_of given (keys_in stage)) x (group_event (keys_in stage) e)) stop)
+      (subst (λ (x : World). IsStopOf (group.refusal (outside_of given (keys_in stage)) x
+      (group_event (keys_in stage) e)) stop)
       world_is
       (subst (λ (x : GroupKeys). IsStopOf (group.refusal (outside_of given x) w (group_event x e)) stop) keys_is h))
 
@@ -317,10 +331,12 @@ is_event l g m k = tt
 -- A declaration has no report.
 pub declared_says : {A : Type 0} (r : Result A Stop) (v : Verdict) (report : List ℕ) (s t : State) → v ≡ says [] t
     → report ≡ [] → OnOk r (s ≡ t) → OnOk r (v ≡ says report s)
-declared_says (Ok x) v report s t h none is = h ∙ ap (λ (text : List ℕ). says text t) (sym none) ∙ ap (λ (u : State). says report u) (sym is)
+declared_says (Ok x) v report s t h none is = h ∙ ap (λ (text : List ℕ). says text t) (sym none)
+    ∙ ap (λ (u : State). says report u) (sym is)
 declared_says (Err stop) v report s t h none is = tt
 
 -- The stop that a fault is.
-pub stops_so : {A : Type 0} (r : Result A Stop) (P : Stop → Type 0) (stop : Stop) → IsErrAnd r (λ s. s ≡ stop) → P stop → IfErr r P
+pub stops_so : {A : Type 0} (r : Result A Stop) (P : Stop → Type 0) (stop : Stop) → IsErrAnd r (λ s. s ≡ stop)
+    → P stop → IfErr r P
 stops_so (Ok x) P stop h p = tt
 stops_so (Err s) P stop h p = subst P (sym h) p
