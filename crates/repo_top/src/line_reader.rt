@@ -170,11 +170,7 @@ fn move_to_front(room: &mut [u8], start: usize, end: usize)
 }
 
 // Reads octets behind the first so many of the room.
-fn read_behind<S: Source>(
-    source: &mut S,
-    room: &mut [u8],
-    held: usize,
-) -> Result<usize, Failed>
+fn read_behind<S: Source>(source: &mut S, room: &mut [u8], held: usize) -> Result<usize, Failed>
     requires { held < length room.old }
     ensures front { take held room.new ≡ take held room.old }
     ensures count { IfOk result (λ n. held + n ≤ length room.old) }

@@ -17,13 +17,7 @@ use std::alloc::Global;
 use std::thread::Threads;
 
 // Carries out the script of the source, and leaves its last world.
-pub(crate) fn run_script<
-    R: Threads + Sync,
-    S: Source,
-    K: Sink,
-    N: Net + Sync,
-    D: Draws,
->(
+pub(crate) fn run_script<R: Threads + Sync, S: Source, K: Sink, N: Net + Sync, D: Draws>(
     rt: &R,
     alloc: Global,
     source: &mut S,

@@ -97,8 +97,7 @@ impl Script {
             return Err(Stop::Refused(Refusal::Limit));
         }
         self.report.clear();
-        self.progress
-            .take(rt, line, &mut self.report, net, draws)?;
+        self.progress.take(rt, line, &mut self.report, net, draws)?;
         if self.report.len() > REPORT_LIMIT - self.reported {
             return Err(Stop::Refused(Refusal::TooLarge));
         }
