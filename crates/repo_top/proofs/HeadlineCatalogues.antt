@@ -25,10 +25,10 @@ use Rattle.script_lang.proofs.Conditions.{and_left}
 use Rattle.bench_world.specs.EventValues.{EventValue}
 use Rattle.repo_top.specs.SaidEvents.{number_of}
 use Rattle.repo_top.specs.ToldTexts.{label_at}
-use Rattle.repo_top.specs.Judging.{Given, State, found_world, outside_of}
+use Rattle.repo_top.specs.Judging.{Given, State, acted_by, found_world, outside_of}
 use Rattle.repo_top.specs.Story.{Reached}
 use Rattle.repo_top.specs.Headline.{HoldsAllOf, IsCatalogueLine, IsCatalogueOf, IsToBeListed, ListExactly, PrintsCatalogues, group_at, labels_at, printed, publication_at}
-use Rattle.repo_top.proofs.HeadlineGroups.{IsActed, IsEventLine, IsSoundState, StatedTaken, acted_by, event_line, sound_from_start, stated_taken, taken_line}
+use Rattle.repo_top.proofs.HeadlineGroups.{IsActed, IsEventLine, IsSoundState, StatedTaken, acts_so, event_line, sound_from_start, stated_taken, taken_line}
 
 -- ---- a catalogue
 
@@ -124,6 +124,7 @@ named_by label parties known =
 module _ (given : Given) (s : State) (sound : IsSoundState given s) (label report : List ℕ) (new : State) where
   catalogue_of : StatedTaken given s (said verb.Catalogue (Text label ∷ [])) report new
       → IsCatalogueOf (found_world given s) (map label_of s.declared.members) label report
+  unfolding acted_by
   catalogue_of t =
       let line : IsEventLine s.declared t.d (said verb.Catalogue (Text label ∷ [])) =
       event_line s.declared t.d (said verb.Catalogue (Text label ∷ [])) t.after in
@@ -138,7 +139,7 @@ module _ (given : Given) (s : State) (sound : IsSoundState given s) (label repor
       let entries : List Entry = catalogue_at w (number_of label ps) in
       printed labels (label_at labels (number_of label ps)) entries in
       let acts : IsActed given s t.d (EventValue.Catalogue (number_of label t.d.members)) report new =
-      acted_by given s t.d (EventValue.Catalogue (number_of label t.d.members)) report new t.is in
+      acts_so given s t.d (EventValue.Catalogue (number_of label t.d.members)) report new t.is in
       let labels : List (List ℕ) = map label_of s.declared.members in
       record {
         number = m;

@@ -32,7 +32,7 @@ use Rattle.script_lang.specs.Checking.{Declared, after_by, after_group, after_li
 use Rattle.script_lang.proofs.Conditions.{and_left, and_right}
 use Rattle.bench_world.specs.EventValues.{EventValue, group_event}
 use Rattle.repo_top.specs.SaidEvents.{said_by, said_event}
-use Rattle.repo_top.specs.Judging.{Given, State, acted_if, found_world, outside_of, says, taken_by, with_client, with_group, with_member}
+use Rattle.repo_top.specs.Judging.{Given, State, acted_by, acted_if, found_world, outside_of, says, taken_by, with_client, with_group, with_member}
 use Rattle.repo_top.specs.Story.{Reached, nothing_reached}
 use Rattle.repo_top.specs.Headline.{AreTaken, HidesByDeletionAlone, deletes, deletes_nothing, group_at}
 use Rattle.repo_top.proofs.HeadlineGroups.{IsSoundState, LineTaken, acted_said, declares_group, event_line, may, nothing, opened, says_state, sound_beginning, sound_line, stating, taken_line}
@@ -269,6 +269,7 @@ module _ (given : Given) (s : State) (sound : IsSoundState given s) (line : List
   form_hides : (form : Verb) → deletes stated.verb ≡ false → after_by s.declared stated form stated.values ≡ Ok d
       → taken_by form given s d stated ≡ says report new
       → NothingHidden (found_world given s) → NothingHidden (found_world given new)
+  unfolding acted_by
   form_hides verb.Group only taken is nothing_hidden = early (group_declared stated.values is) (group_early taken)
   form_hides verb.Member only taken is nothing_hidden =
       early (member_declared stated.values is) (member_early stated.values taken is)

@@ -36,7 +36,7 @@ use Rattle.script_lang.specs.Checking as checking
 use Rattle.script_lang.specs.Checking.{Declared, Party, Totals, adds, after_by, after_group, after_line, are_known, are_within_limits, declared_then, is_among, is_there, label_of, may_declare, party, with_totals}
 use Rattle.repo_top.specs.SaidEvents.{said_event}
 use Rattle.repo_top.specs.ToldTexts.{told_text}
-use Rattle.repo_top.specs.Judging.{Given, State, acted, acted_if, check_refused, checked, event_refused, found_world, judged, opening_state, outside_of, read, says, stepped, taken_by, with_client, with_group, with_member}
+use Rattle.repo_top.specs.Judging.{Given, State, acted, acted_by, acted_if, check_refused, checked, event_refused, found_world, judged, judged_line, line_taken, opening_state, outside_of, read, says, stepped, taken_by, with_client, with_group, with_member}
 use Rattle.repo_top.specs.Story.{Reached, nothing_reached}
 use Rattle.repo_top.specs.Headline.{AreTaken, AreTakenFirst, IsTaken, ReachSoundGroups}
 use Rattle.repo_top.proofs.Fitting.{event_fits}
@@ -69,9 +69,10 @@ says_report report told new s h = cc
 pub says_state : (report told : List ℕ) (new s : State) → says told s ≡ says report new → new ≡ s
 says_state report told new s h = cc
 
-pub acted_by : (given : Given) (s : State) (d : Declared) (e : EventValue) (report : List ℕ) (new : State)
+pub acts_so : (given : Given) (s : State) (d : Declared) (e : EventValue) (report : List ℕ) (new : State)
     → acted given s d e ≡ says report new → IsActed given s d e report new
-acted_by given s d e report new h = go (refusals.refusal out w (group_event s.keys e)) refl h where
+unfolding acted
+acts_so given s d e report new h = go (refusals.refusal out w (group_event s.keys e)) refl h where
   out : Outside
   out = outside_of given s.keys
 
@@ -102,10 +103,10 @@ not_checked check_fault.Limit report new h = cc
 not_checked check_fault.TooLarge report new h = cc
 not_checked check_fault.NoMemory report new h = cc
 
-line_taken : (given : Given) (s : State) (line report : List ℕ) (new : State) → judged given s line ≡ says report new
+says_line : (given : Given) (s : State) (line report : List ℕ) (new : State) → judged given s line ≡ says report new
     → LineTaken given s line report new
-unfolding judged
-line_taken given s line report new h = go (line_of line) refl h where
+unfolding judged judged_line line_taken
+says_line given s line report new h = go (line_of line) refl h where
   by_check : (stated : Stated) → line_of line ≡ Ok (Some stated) → (r : Result Declared CheckFault)
       → after_line s.declared stated ≡ r → checked given s stated r ≡ says report new
       → LineTaken given s line report new
@@ -123,7 +124,7 @@ line_taken given s line report new h = go (line_of line) refl h where
 pub taken_line : (given : Given) (r : Reached) (line report : List ℕ) (new : Reached) → IsTaken given r line report new
     → LineTaken given r.state line report new.state
 taken_line given r line report new t =
-    line_taken given r.state line report new.state (judged_by given r line report new.state t.verdict)
+    says_line given r.state line report new.state (judged_by given r line report new.state t.verdict)
 
 none_or_stated : (r : Result (Option Stated) LineFault) (stated : Stated) → r ≡ Ok None → r ≡ Ok (Some stated) → ⊥
 none_or_stated r stated none some = cc
@@ -149,7 +150,7 @@ stated_taken given s line report new stated is (stating other d read after taken
 pub acted_said : (given : Given) (s : State) (d : Declared) (stated : Stated) (report : List ℕ) (new : State)
     → (o : Option EventValue) → said_event d stated ≡ o → acted_if given s d o ≡ says report new
     → (e : EventValue) × (said_event d stated ≡ Some e) × IsActed given s d e report new
-acted_said given s d stated report new (Some e) is h = (e, is, acted_by given s d e report new h)
+acted_said given s d stated report new (Some e) is h = (e, is, acts_so given s d e report new h)
 acted_said given s d stated report new None is h = cc
 
 -- ---- what holds behind lines
@@ -427,6 +428,7 @@ module _ (given : Given) (s : State) (sound : IsSoundState given s) (line : List
 
   after_stated : (form : Verb) → after_by s.declared stated form stated.values ≡ Ok d
       → taken_by form given s d stated ≡ says report new → IsSoundState given new
+  unfolding acted_by
   after_stated verb.Group k is = after_group_line given s sound d report new stated.values k is
   after_stated verb.Member k is = after_member_line given s sound d report new stated stated.values k is
   after_stated verb.Client k is = after_client_line given s sound d report new stated stated.values k is

@@ -19,16 +19,17 @@ use Rattle.script_lang.specs.Checking.{Declared, Party, after_by, label_of}
 use Rattle.script_lang.proofs.Conditions.{and_left, and_right}
 use Rattle.bench_world.specs.EventValues.{EventValue, group_event}
 use Rattle.repo_top.specs.SaidEvents.{number_of, said_by, said_event}
-use Rattle.repo_top.specs.Judging.{Given, State, acted_if, found_world, outside_of, says, taken_by}
+use Rattle.repo_top.specs.Judging.{Given, State, acted_by, acted_if, found_world, outside_of, says, taken_by}
 use Rattle.repo_top.specs.Story.{Reached}
 use Rattle.repo_top.specs.Headline.{AreTaken, IsCatalogueOf, IsSameGroup, IsSettleLine, SettlesJoin, TellingChangesNothing, changes_nothing, group_at, labels_at, only_tells, printed}
-use Rattle.repo_top.proofs.HeadlineGroups.{IsActed, IsSoundState, LineTaken, acted_by, acted_said, event_line, nothing, sound_from_start, sound_lines, stated_taken, stating, taken_line}
+use Rattle.repo_top.proofs.HeadlineGroups.{IsActed, IsSoundState, LineTaken, acts_so, acted_said, event_line, nothing, sound_from_start, sound_lines, stated_taken, stating, taken_line}
 use Rattle.repo_top.proofs.HeadlineCatalogues.{catalogue_line}
 
 -- ---- the settle
 
 joined : (given : Given) (r : Reached) (report : List ℕ) (new : Reached) → IsSoundState given r.state
     → IsSettleLine given r report new → NothingHidden (group_at given new) → AllJoined (group_at given new)
+unfolding acted_by
 joined given r report new sound l nothing_hidden =
     let s : State = r.state in
     let out : Outside = outside_of given s.keys in
@@ -36,7 +37,7 @@ joined given r report new sound l nothing_hidden =
     let t = stated_taken given s l.line report new.state (said verb.Settle (Number l.workers ∷ [])) l.stated
     (taken_line given r l.line report new l.taken) in
     let acts : IsActed given s t.d (EventValue.Settle l.workers) report new.state =
-    acted_by given s t.d (EventValue.Settle l.workers) report new.state t.is in
+    acts_so given s t.d (EventValue.Settle l.workers) report new.state t.is in
     let settled : group_at given new ≡ after_event out w group.Event.Settle = ap (found_world given) acts.next in
     subst AllJoined (sym settled) (settle_joins out w sound.sound (subst NothingHidden settled nothing_hidden))
 
@@ -84,6 +85,7 @@ form_tells : (given : Given) (r : Reached) (stated : Stated) (d : Declared) (rep
     → only_tells stated.verb ≡ true → (form : Verb) → only_tells form ≡ true
     → after_by r.state.declared stated form stated.values ≡ Ok d
     → taken_by form given r.state d stated ≡ says report new.state → IsSameGroup given r new
+unfolding acted_by
 form_tells given r stated d report new only verb.Group tell after is = cc
 form_tells given r stated d report new only verb.Member tell after is = cc
 form_tells given r stated d report new only verb.Client tell after is = cc

@@ -1,5 +1,5 @@
 -- What lines come to, case by case.
-use Rattle.std.proofs.Common.{◌≡◌, ◌∙◌, ℕ, ◌<◌, Bool, true, false, not, ◌&&◌, ◌||◌, List, [], ◌∷◌, ◌++◌, length, map, Option, Some, None, Result, Ok, Err, ◌⊎◌, inl, inr, unwrap_or, nat_le, nat_lt, cond, ◌+◌, refl, sym, ap, subst, arith, if◌then◌else◌}
+use Rattle.std.proofs.Common.{◌≡◌, ◌∙◌, ℕ, ◌<◌, Bool, true, false, not, ◌||◌, List, [], ◌∷◌, ◌++◌, length, map, Option, Some, None, Ok, Err, ◌⊎◌, inl, inr, nat_le, nat_lt, cond, ◌+◌, refl, sym, ap, subst, arith, if◌then◌else◌}
 use Rattle.std.specs.List.{list_any, position, prefix_len}
 use Rattle.std.specs.Option.{option_map}
 use Rattle.std.specs.Str.{bytes_eq}
@@ -15,22 +15,21 @@ use Rattle.script_lang.specs.declared.line_fault.LineFault.{LineFault}
 use Rattle.script_lang.specs.declared.line_fault.LineFault.TheVariants as line_fault
 use Rattle.script_lang.specs.declared.check_fault.CheckFault.{CheckFault}
 use Rattle.script_lang.specs.declared.check_fault.CheckFault.TheVariants as check_fault
-use Rattle.script_lang.specs.Kinds.{Value, Text, Named, Octets}
+use Rattle.script_lang.specs.Kinds.{Text, Named, Octets}
 use Rattle.script_lang.specs.Forms.{Stated, said, stated}
 use Rattle.script_lang.specs.Lines.{line_of}
 use Rattle.script_lang.specs.Reading.{Tells}
-use Rattle.script_lang.specs.Checking.{Declared, Party, after_line, after_event, after_group, are_known, are_within_limits, with_totals, adds, declared_then, is_among, is_there, label_of, may_declare, party}
+use Rattle.script_lang.specs.Checking.{Declared, Party, after_line, after_event, are_known, are_within_limits, with_totals, adds, declared_then, is_among, is_there, label_of, may_declare, party}
 use Rattle.svs_vector.specs.Rosters.{is_same_name, member_of}
-use Rattle.group_model.specs.World.{Outside, World, opening_world}
+use Rattle.group_model.specs.World.{Outside, World}
 use Rattle.group_model.specs.Steps.{after_event as after_group_event}
 use Rattle.group_model.specs.Refusals as group
 use Rattle.repo_member.specs.Groups.{GroupKeys, is_name_taken}
-use Rattle.bench_world.specs.Worlds.{drawing}
 use Rattle.bench_world.specs.EventValues.{EventValue, group_event, telling}
 use Rattle.repo_top.specs.declared.refusal.Refusal.TheVariants as refusal
 use Rattle.repo_top.specs.SaidEvents.{said_event}
 use Rattle.repo_top.specs.ToldTexts.{told_text}
-use Rattle.repo_top.specs.Judging.{Given, State, Verdict, says, refused, acted, acted_by, checked, event_refused, found_world, group_named, judged, judged_line, line_taken, outside_of, read, stepped, with_client_too, with_member_too}
+use Rattle.repo_top.specs.Judging.{Given, State, says, refused, acted, acted_by, found_world, group_named, judged, judged_line, line_taken, outside_of, read, stepped, with_client_too, with_member_too}
 use Rattle.repo_top.specs.declared.stop.Stop.{Stop}
 use Rattle.repo_top.specs.declared.stop.Stop.TheVariants as stop
 use Rattle.repo_top.specs.Progressing.{IsStop, IsStopOf, node_of}
@@ -68,7 +67,8 @@ stops_at given s l check_fault.NoMemory h = tt
 pub refused_line : (given : Given) (s : State) (l : Stated) (fault : CheckFault)
     → (fault ≡ check_fault.NoMemory) ⊎ (after_line s.declared l ≡ Err fault)
     → IsStop (judged_line given s l) (check_stop fault)
-refused_line given s l fault (inl out) = subst (λ (f : CheckFault). IsStop (judged_line given s l) (check_stop f)) (sym out) tt
+refused_line given s l fault (inl out) =
+    subst (λ (f : CheckFault). IsStop (judged_line given s l) (check_stop f)) (sym out) tt
 refused_line given s l fault (inr h) = stops_at given s l fault h
 
 -- ---- lines that are taken
@@ -96,8 +96,8 @@ pub client_says : (given : Given) (s : State) (d : Declared) (label : List ℕ) 
 unfolding line_taken
 client_says given s d label node key = refl
 
--- A member or a client may be declared where the group is, no event was, nobody has its label or its name, and there are
--- few of its kind.
+-- A member or a client may be declared where the group is, no event was, nobody has its label or its name, and
+-- there are few of its kind.
 pub record MayDeclare (d : Declared) (p : Party) (count : ℕ) : Type 0 where
   pub group : d.group ≡ true
   pub early : d.events ≡ false
@@ -121,19 +121,22 @@ may d p count after e h = go d.group d.events (is_there d p) (nat_le 16 count) r
 
 pub member_declares : (d e : Declared) (label : List ℕ) (node : List Component) (key : List ℕ)
     → after_line d (said verb.Member (Text label ∷ Named node ∷ Octets key ∷ [])) ≡ Ok e
-    → MayDeclare d (party label node) (length d.members) × (record d { members = d.members ++ party label node ∷ [] } ≡ e)
+    → MayDeclare d (party label node) (length d.members)
+    × (record d { members = d.members ++ party label node ∷ [] } ≡ e)
 member_declares d e label node key h = may d (party label node) (length d.members) _ e h
 
 pub client_declares : (d e : Declared) (label : List ℕ) (node : List Component) (key : List ℕ)
     → after_line d (said verb.Client (Text label ∷ Named node ∷ Octets key ∷ [])) ≡ Ok e
-    → MayDeclare d (party label node) (length d.clients) × (record d { clients = d.clients ++ party label node ∷ [] } ≡ e)
+    → MayDeclare d (party label node) (length d.clients)
+    × (record d { clients = d.clients ++ party label node ∷ [] } ≡ e)
 client_declares d e label node key h = may d (party label node) (length d.clients) _ e h
 
 pub group_declares : (d e : Declared) (name : List Component)
     → after_line d (said verb.Group (Named name ∷ [])) ≡ Ok e
     → (d.group ≡ false) × (record d { group = true } ≡ e)
 group_declares d e name h = go d.group refl h where
-  go : (group : Bool) → d.group ≡ group → (if group then Err check_fault.Duplicate else Ok (record d { group = true })) ≡ Ok e
+  go : (group : Bool) → d.group ≡ group
+      → (if group then Err check_fault.Duplicate else Ok (record d { group = true })) ≡ Ok e
       → (d.group ≡ false) × (record d { group = true } ≡ e)
   go true g k = absurd cc
   go false g k = (g, cc)
@@ -159,7 +162,8 @@ flips x y = elim (cases_Bool (bytes_eq x y)) [
       (λ same. true≢false (sym ((bytes_eq-Decides x y).1 (sym ((bytes_eq-Decides y x).0 same))) ∙ apart)))
 ]
 
-nobody_has : (label : List ℕ) (node : List Component) (parties : List Party) → is_among (party label node) parties ≡ false
+nobody_has : (label : List ℕ) (node : List Component) (parties : List Party)
+    → is_among (party label node) parties ≡ false
     → list_any (is_same_name node) (map node_of parties) ≡ false
 nobody_has label node [] h = refl
 nobody_has label node (q ∷ parties) h =
@@ -173,9 +177,9 @@ pub is_free : (d : Declared) (keys : GroupKeys) (label : List ℕ) (node : List 
 is_free d keys label node members clients h =
     let both = or_parts (is_among (party label node) d.members) (is_among (party label node) d.clients) h in
     let no_member : member_of node keys.members.names ≡ None = none_found (is_same_name node) keys.members.names
-        (ap (list_any (is_same_name node)) (sym members) ∙ nobody_has label node d.members both.0) in
+    (ap (list_any (is_same_name node)) (sym members) ∙ nobody_has label node d.members both.0) in
     let no_client : member_of node keys.clients.names ≡ None = none_found (is_same_name node) keys.clients.names
-        (ap (list_any (is_same_name node)) (sym clients) ∙ nobody_has label node d.clients both.1) in
+    (ap (list_any (is_same_name node)) (sym clients) ∙ nobody_has label node d.clients both.1) in
     ap (λ o. is_some o || is_some (member_of node keys.clients.names)) no_member ∙ ap (λ o. is_some o) no_client
 
 -- ---- events
@@ -196,24 +200,25 @@ pub record IsEvent (d e : Declared) : Type 0 where
   pub clients : e.clients ≡ d.clients
 
 event_after : (d e : Declared) (l : Stated) → after_event d l ≡ Ok e → IsEvent d e
-event_after d e l h = go d.group (are_known d l) (are_within_limits (with_totals d.totals (adds l.verb l.values))) refl h where
-  go : (group known within : Bool) → d.group ≡ group
-      → (if not group then Err check_fault.NoGroup else if not known then Err check_fault.UnknownLabel
-      else if not within then Err check_fault.TooLarge
-      else Ok (record d { events = true; totals = with_totals d.totals (adds l.verb l.values) })) ≡ Ok e
-      → IsEvent d e
-  go false known within g k = absurd cc
-  go true false within g k = absurd cc
-  go true true false g k = absurd cc
-  go true true true g k =
-      let after : record d { events = true; totals = with_totals d.totals (adds l.verb l.values) } ≡ e = cc in
-      record {
-        group = ap (λ (f : Declared). f.group) (sym after) ∙ g;
-        there = g;
-        events = ap (λ (f : Declared). f.events) (sym after);
-        members = ap (λ (f : Declared). f.members) (sym after);
-        clients = ap (λ (f : Declared). f.clients) (sym after);
-      }
+event_after d e l h =
+    go d.group (are_known d l) (are_within_limits (with_totals d.totals (adds l.verb l.values))) refl h where
+      go : (group known within : Bool) → d.group ≡ group
+          → (if not group then Err check_fault.NoGroup else if not known then Err check_fault.UnknownLabel
+          else if not within then Err check_fault.TooLarge
+          else Ok (record d { events = true; totals = with_totals d.totals (adds l.verb l.values) })) ≡ Ok e
+          → IsEvent d e
+      go false known within g k = absurd cc
+      go true false within g k = absurd cc
+      go true true false g k = absurd cc
+      go true true true g k =
+          let after : record d { events = true; totals = with_totals d.totals (adds l.verb l.values) } ≡ e = cc in
+          record {
+            group = ap (λ (f : Declared). f.group) (sym after) ∙ g;
+            there = g;
+            events = ap (λ (f : Declared). f.events) (sym after);
+            members = ap (λ (f : Declared). f.members) (sym after);
+            clients = ap (λ (f : Declared). f.clients) (sym after);
+          }
 
 pub event_says : (given : Given) (s : State) (d : Declared) (l : Line) → IsEventLine l
     → line_taken given s d (stated l) ≡ acted_by given s d (stated l)
@@ -251,8 +256,8 @@ pub acted_says : (given : Given) (s : State) (d : Declared) (e : EventValue)
 unfolding acted
 acted_says given s d e h = rw h refl
 
-stepped_stops : (out : Outside) (keys : GroupKeys) (d : Declared) (w : World) (e : EventValue) (why : Option group.Refusal)
-    (stop : Stop) → IsStopOf why stop → IsStop (stepped out keys d w e why) stop
+stepped_stops : (out : Outside) (keys : GroupKeys) (d : Declared) (w : World) (e : EventValue)
+    (why : Option group.Refusal) (stop : Stop) → IsStopOf why stop → IsStop (stepped out keys d w e why) stop
 stepped_stops out keys d w e why stop.NoMemory h = tt
 stepped_stops out keys d w e None (stop.Refused r) h = absurd h
 stepped_stops out keys d w e None stop.Foreign h = absurd h

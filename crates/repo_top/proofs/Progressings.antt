@@ -1,5 +1,5 @@
 -- What a line changes of what is kept, by what it states.
-use Rattle.std.proofs.Common.{◌≡◌, ◌∙◌, ℕ, ◌+◌, ◌≤◌, ◌<◌, Bool, true, false, List, [], ◌∷◌, ◌++◌, length, map, Option, Some, None, Result, Ok, Err, String, Global, Vec, refl, sym, ap, subst, arith}
+use Rattle.std.proofs.Common.{◌≡◌, ◌∙◌, ℕ, ◌<◌, true, false, List, [], ◌∷◌, ◌++◌, length, map, Option, Some, None, Result, Ok, Err, String, Global, Vec, refl, sym, ap, subst}
 use Rattle.std.specs.Prelude.{IfErr, OnOk}
 use Rattle.std.specs.Result.{IsErrAnd}
 use Rattle.std.proofs.lemmas.Bool.{true≢false}
@@ -12,7 +12,7 @@ use Rattle.script_lang.specs.declared.verb.Verb.{Verb}
 use Rattle.script_lang.specs.declared.verb.Verb.TheVariants as verb
 use Rattle.script_lang.specs.Kinds.{Text, Named, Octets}
 use Rattle.script_lang.specs.Forms.{Stated, said, stated}
-use Rattle.script_lang.specs.Checking.{Declared, Party, after_line, label_of, party}
+use Rattle.script_lang.specs.Checking.{Declared, after_line, label_of, party}
 use Rattle.group_model.specs.World.{World}
 use Rattle.repo_member.specs.Groups.{GroupKeys, IsKey, IsPlainNodeName, is_name_taken}
 use Rattle.group_model.specs.Steps.{after_event}
@@ -21,12 +21,12 @@ use Rattle.bench_world.specs.EventValues.{EventValue, group_event, telling}
 use Rattle.repo_top.specs.declared.progress.Stage.{Stage}
 use Rattle.repo_top.specs.declared.progress.Stage.TheVariants.{Opening, Declaring, Acting}
 use Rattle.repo_top.specs.Judging.{Given, State, Verdict, says, acted, acted_by, acted_if, found_world, group_named, outside_of, judged_line, line_taken, no_group, taken_by, with_client_too, with_member_too}
-use Rattle.repo_top.specs.Progressing.{AreNamed, IsChecked, IsLine, IsStop, IsStopOf, Stands, StatesFit, has_group, has_world, keys_in, node_of, state_of, world_in}
+use Rattle.repo_top.specs.Progressing.{AreNamed, IsChecked, IsStop, IsStopOf, StatesFit, has_group, has_world, keys_in, node_of, state_of, world_in}
 use Rattle.repo_top.specs.declared.stop.Stop.{Stop}
 use Rattle.repo_top.specs.ToldTexts.{told_text}
 use Rattle.repo_top.specs.SaidEvents.{said_event}
 use Rattle.repo_top.proofs.Fitting.{client_fits, event_fits, group_fits, member_fits}
-use Rattle.repo_top.proofs.Judgings.{acted_says, acted_stops, IsEvent, IsEventLine, MayDeclare, client_declares, client_says, event_declares, event_says, group_declares, group_says, is_free, member_declares, member_says, taken_line}
+use Rattle.repo_top.proofs.Judgings.{acted_says, acted_stops, IsEventLine, client_declares, client_says, event_declares, event_says, group_declares, group_says, is_free, member_declares, member_says, taken_line}
 
 -- Nothing but what a line declares matters where it is taken.
 same_acted : (given : Given) (stage : Stage) (d e : Declared) (o : Option EventValue)
@@ -90,9 +90,10 @@ grouped_at : (given : Given) (labels : List (List ℕ)) (stage : Stage) (e : Dec
 grouped_at given labels stage e name c =
     let opens = group_declares c.before e name c.after in
     let none = is_opening stage (sym c.stands.group ∙ opens.0) in
-    let empty : AreNamed labels no_group c.before = subst (λ keys. AreNamed labels keys c.before) none.keys c.stands.named in
+    let empty : AreNamed labels no_group c.before = subst (λ keys. AreNamed labels keys c.before) none.keys
+    c.stands.named in
     let new : AreNamed labels (group_named name) (record c.before { group = true }) =
-        record { labels = empty.labels; members = empty.members; clients = empty.clients } in
+    record { labels = empty.labels; members = empty.members; clients = empty.clients } in
     record {
       plain = group_fits c.line.octets name c.line.read;
       group = ap (λ (x : Declared). x.group) (sym opens.1);
@@ -102,7 +103,8 @@ grouped_at given labels stage e name c =
           ∙ ap (λ (w : Option World). says [] (record { declared = e; keys = group_named name; world = w })) none.world;
     }
 
-pub grouped : (given : Given) (labels : List (List ℕ)) (stage : Stage) (e : Declared) (s : Stated) (name : List Component)
+pub grouped : (given : Given) (labels : List (List ℕ)) (stage : Stage) (e : Declared) (s : Stated)
+    (name : List Component)
     → s ≡ said verb.Group (Named name ∷ []) → IsChecked labels stage e s → Grouped given labels stage e s name
 grouped given labels stage e s name is c =
     subst (λ (x : Stated). Grouped given labels stage e x name) (sym is)
@@ -123,7 +125,8 @@ pub record Declares (given : Given) (labels : List (List ℕ)) (stage : Stage) (
   pub named : AreNamed labels keys e
   pub says : Says given stage e s keys
 
-abbrev pub MemberDeclares : Given → List (List ℕ) → Stage → Declared → Stated → List ℕ → List Component → List ℕ → Type 0
+abbrev pub MemberDeclares : Given → List (List ℕ) → Stage → Declared → Stated → List ℕ → List Component → List ℕ
+    → Type 0
 MemberDeclares given labels stage e s label node key =
     Declares given (labels ++ label ∷ []) stage e s node key (with_member_too node key (keys_in stage))
     × (length (keys_in stage).members.names < 16)
@@ -140,13 +143,13 @@ member_at given labels stage e label node key c =
     let both_fit = member_fits c.line.octets label node key c.line.read in
     let unchanged = sym c.stands.events ∙ may.early in
     let new : AreNamed (labels ++ label ∷ []) (with_member_too node key (keys_in stage))
-        (record c.before { members = c.before.members ++ party label node ∷ [] }) = record {
-      labels = ap (λ (xs : List (List ℕ)). xs ++ label ∷ []) was.labels ∙ sym (map-append label_of d.members (party label node ∷ []));
+    (record c.before { members = c.before.members ++ party label node ∷ [] }) = record {
+      labels = ap (λ (xs : List (List ℕ)). xs ++ label ∷ []) was.labels
+          ∙ sym (map-append label_of d.members (party label node ∷ []));
       members = map-append node_of d.members (party label node ∷ [])
           ∙ ap (λ (xs : List (List Component)). xs ++ node ∷ []) was.members;
       clients = was.clients;
-    } in
-    (
+    } in (
       record {
         plain = both_fit.0;
         fits = both_fit.1;
@@ -163,15 +166,18 @@ member_at given labels stage e label node key c =
               world = w;
             })) (no_world stage unchanged);
       },
-      subst (λ n. n < 16) (sym (length-map d.members node_of) ∙ ap (λ (xs : List (List Component)). length xs) was.members) may.few,
+      subst (λ n. n < 16) (sym (length-map d.members node_of)
+          ∙ ap (λ (xs : List (List Component)). length xs) was.members) may.few,
     )
 
-pub member_declared : (given : Given) (labels : List (List ℕ)) (stage : Stage) (e : Declared) (s : Stated) (label : List ℕ)
-    (node : List Component) (key : List ℕ) → s ≡ said verb.Member (Text label ∷ Named node ∷ Octets key ∷ [])
-    → IsChecked labels stage e s → MemberDeclares given labels stage e s label node key
-member_declared given labels stage e s label node key is c =
-    subst (λ (x : Stated). MemberDeclares given labels stage e x label node key) (sym is)
-    (member_at given labels stage e label node key (subst (IsChecked labels stage e) is c))
+pub member_declared : (given : Given) (labels : List (List ℕ)) (stage : Stage) (e : Declared) (s : Stated)
+    (label : List ℕ) (node : List Component) (octets key : List ℕ) → s ≡ said verb.Member (Text label ∷ Named node ∷ Octets octets ∷ [])
+    → key ≡ octets → IsChecked labels stage e s → MemberDeclares given labels stage e s label node key
+member_declared given labels stage e s label node octets key is same c =
+    let is_key : s ≡ said verb.Member (Text label ∷ Named node ∷ Octets key ∷ []) =
+    is ∙ ap (λ (k : List ℕ). said verb.Member (Text label ∷ Named node ∷ Octets k ∷ [])) (sym same) in
+    subst (λ (x : Stated). MemberDeclares given labels stage e x label node key) (sym is_key)
+    (member_at given labels stage e label node key (subst (IsChecked labels stage e) is_key c))
 
 abbrev pub ClientDeclares : Given → List (List ℕ) → Stage → Declared → Stated → List Component → List ℕ → Type 0
 ClientDeclares given labels stage e s node key =
@@ -190,13 +196,12 @@ client_at given labels stage e label node key c =
     let both_fit = client_fits c.line.octets label node key c.line.read in
     let unchanged = sym c.stands.events ∙ may.early in
     let new : AreNamed labels (with_client_too node key (keys_in stage))
-        (record c.before { clients = c.before.clients ++ party label node ∷ [] }) = record {
+    (record c.before { clients = c.before.clients ++ party label node ∷ [] }) = record {
       labels = was.labels;
       members = was.members;
       clients = map-append node_of d.clients (party label node ∷ [])
           ∙ ap (λ (xs : List (List Component)). xs ++ node ∷ []) was.clients;
-    } in
-    (
+    } in (
       record {
         plain = both_fit.0;
         fits = both_fit.1;
@@ -213,15 +218,18 @@ client_at given labels stage e label node key c =
               world = w;
             })) (no_world stage unchanged);
       },
-      subst (λ n. n < 16) (sym (length-map d.clients node_of) ∙ ap (λ (xs : List (List Component)). length xs) was.clients) may.few,
+      subst (λ n. n < 16) (sym (length-map d.clients node_of)
+          ∙ ap (λ (xs : List (List Component)). length xs) was.clients) may.few,
     )
 
-pub client_declared : (given : Given) (labels : List (List ℕ)) (stage : Stage) (e : Declared) (s : Stated) (label : List ℕ)
-    (node : List Component) (key : List ℕ) → s ≡ said verb.Client (Text label ∷ Named node ∷ Octets key ∷ [])
-    → IsChecked labels stage e s → ClientDeclares given labels stage e s node key
-client_declared given labels stage e s label node key is c =
-    subst (λ (x : Stated). ClientDeclares given labels stage e x node key) (sym is)
-    (client_at given labels stage e label node key (subst (IsChecked labels stage e) is c))
+pub client_declared : (given : Given) (labels : List (List ℕ)) (stage : Stage) (e : Declared) (s : Stated)
+    (label : List ℕ) (node : List Component) (octets key : List ℕ) → s ≡ said verb.Client (Text label ∷ Named node ∷ Octets octets ∷ [])
+    → key ≡ octets → IsChecked labels stage e s → ClientDeclares given labels stage e s node key
+client_declared given labels stage e s label node octets key is same c =
+    let is_key : s ≡ said verb.Client (Text label ∷ Named node ∷ Octets key ∷ []) =
+    is ∙ ap (λ (k : List ℕ). said verb.Client (Text label ∷ Named node ∷ Octets k ∷ [])) (sym same) in
+    subst (λ (x : Stated). ClientDeclares given labels stage e x node key) (sym is_key)
+    (client_at given labels stage e label node key (subst (IsChecked labels stage e) is_key c))
 
 -- ---- events
 
@@ -259,8 +267,7 @@ as_many f xs keys d n =
     ∙ sym (length-map d.members node_of) ∙ ap (λ (names : List (List Component)). length names) n.members
 
 module _ (given : Given) (stage found : Stage) (d : Declared) (e : EventValue) (keys : GroupKeys) (w : World)
-  (is : found ≡ stage) (k : keys ≡ keys_in found) (v : w ≡ found_world given (state_of found d)) where
-
+    (is : found ≡ stage) (k : keys ≡ keys_in found) (v : w ≡ found_world given (state_of found d)) where
   keys_is : keys ≡ keys_in stage
   keys_is = k ∙ ap keys_in is
 
@@ -276,19 +283,21 @@ module _ (given : Given) (stage found : Stage) (d : Declared) (e : EventValue) (
       → acted given (state_of stage d) d e ≡ says report (record { declared = d; keys = keys_new; world = Some next })
   carried_says labels report keys_new next taken told after kept named =
       let taken_so : group.refusal (outside_of given (keys_in stage)) (found_world given (state_of stage d))
-          (group_event (keys_in stage) e) ≡ None =
-          subst (λ (x : World). group.refusal (outside_of given (keys_in stage)) x (group_event (keys_in stage) e) ≡ None) world_is
-          (subst (λ (x : GroupKeys). group.refusal (outside_of given x) w (group_event x e) ≡ None) keys_is taken) in
-      let told_so : report ≡ told_text (map label_of d.members) (telling (keys_in stage) (outside_of given (keys_in stage))
-          (found_world given (state_of stage d)) e) =
-          told ∙ ap (λ (x : List (List ℕ)). told_text x (telling keys (outside_of given keys) w e)) named
-          ∙ ap (λ (x : GroupKeys). told_text (map label_of d.members) (telling x (outside_of given x) w e)) keys_is
-          ∙ ap (λ (x : World). told_text (map label_of d.members)
-          (telling (keys_in stage) (outside_of given (keys_in stage)) x e)) world_is in
+      (group_event (keys_in stage) e) ≡ None =
+      subst (λ (x : World). group.refusal (outside_of given (keys_in stage)) x (group_event (keys_in stage) e) ≡ None)
+      world_is
+      (subst (λ (x : GroupKeys). group.refusal (outside_of given x) w (group_event x e) ≡ None) keys_is taken) in
+      let told_so : report ≡ told_text (map label_of d.members) (telling (keys_in stage)
+      (outside_of given (keys_in stage))
+      (found_world given (state_of stage d)) e) =
+      told ∙ ap (λ (x : List (List ℕ)). told_text x (telling keys (outside_of given keys) w e)) named
+      ∙ ap (λ (x : GroupKeys). told_text (map label_of d.members) (telling x (outside_of given x) w e)) keys_is
+      ∙ ap (λ (x : World). told_text (map label_of d.members)
+      (telling (keys_in stage) (outside_of given (keys_in stage)) x e)) world_is in
       let after_so : next ≡ after_event (outside_of given (keys_in stage)) (found_world given (state_of stage d))
-          (group_event (keys_in stage) e) =
-          after ∙ ap (λ (x : GroupKeys). after_event (outside_of given x) w (group_event x e)) keys_is
-          ∙ ap (λ (x : World). after_event (outside_of given (keys_in stage)) x (group_event (keys_in stage) e)) world_is in
+      (group_event (keys_in stage) e) =
+      after ∙ ap (λ (x : GroupKeys). after_event (outside_of given x) w (group_event x e)) keys_is
+      ∙ ap (λ (x : World). after_event (outside_of given (keys_in stage)) x (group_event (keys_in stage) e)) world_is in
       acted_says given (state_of stage d) d e taken_so
       ∙ ap (λ (x : List ℕ). says x (record {
         declared = d;
@@ -297,12 +306,14 @@ module _ (given : Given) (stage found : Stage) (d : Declared) (e : EventValue) (
             (group_event (keys_in stage) e));
       })) (sym told_so)
       ∙ ap (λ (x : World). says report (record { declared = d; keys = keys_in stage; world = Some x })) (sym after_so)
-      ∙ ap (λ (x : GroupKeys). says report (record { declared = d; keys = x; world = Some next })) (sym (kept ∙ keys_is))
+      ∙ ap (λ (x : GroupKeys). says report (record { declared = d; keys = x; world = Some next }))
+      (sym (kept ∙ keys_is))
 
   pub carried_stops : (stop : Stop) → IsStopOf (group.refusal (outside_of given keys) w (group_event keys e)) stop
       → IsStop (acted given (state_of stage d) d e) stop
   carried_stops stop h = acted_stops given (state_of stage d) d e stop
-      (subst (λ (x : World). IsStopOf (group.refusal (outside_of given (keys_in stage)) x (group_event (keys_in stage) e)) stop)
+      (subst (λ (x : World). IsStopOf (group.refusal (outside_of given (keys_in stage)) x
+      (group_event (keys_in stage) e)) stop)
       world_is
       (subst (λ (x : GroupKeys). IsStopOf (group.refusal (outside_of given x) w (group_event x e)) stop) keys_is h))
 
@@ -320,10 +331,12 @@ is_event l g m k = tt
 -- A declaration has no report.
 pub declared_says : {A : Type 0} (r : Result A Stop) (v : Verdict) (report : List ℕ) (s t : State) → v ≡ says [] t
     → report ≡ [] → OnOk r (s ≡ t) → OnOk r (v ≡ says report s)
-declared_says (Ok x) v report s t h none is = h ∙ ap (λ (text : List ℕ). says text t) (sym none) ∙ ap (λ (u : State). says report u) (sym is)
+declared_says (Ok x) v report s t h none is = h ∙ ap (λ (text : List ℕ). says text t) (sym none)
+    ∙ ap (λ (u : State). says report u) (sym is)
 declared_says (Err stop) v report s t h none is = tt
 
 -- The stop that a fault is.
-pub stops_so : {A : Type 0} (r : Result A Stop) (P : Stop → Type 0) (stop : Stop) → IsErrAnd r (λ s. s ≡ stop) → P stop → IfErr r P
+pub stops_so : {A : Type 0} (r : Result A Stop) (P : Stop → Type 0) (stop : Stop) → IsErrAnd r (λ s. s ≡ stop)
+    → P stop → IfErr r P
 stops_so (Ok x) P stop h p = tt
 stops_so (Err s) P stop h p = subst P (sym h) p

@@ -31,8 +31,8 @@ pub record Given : Type 0 where
 abbrev pub given_by : (ℕ → ℕ → ℕ) → (ℕ → ℕ → ℕ → ℕ → ℕ → ℕ → Bool) → Given
 given_by draw passes = record { draw = draw; passes = passes }
 
--- What the lines so far came to: what they declared, the names and keys of the group, and the group itself once there was
--- an event.
+-- What the lines so far came to: what they declared, the names and keys of the group, and the group itself once
+-- there was an event.
 pub record State : Type 0 where
   pub declared : Declared
   pub keys : GroupKeys
@@ -138,7 +138,8 @@ checked given s line (Err fault) = check_refused fault
 unfoldable pub judged_line : Given → State → Stated → Verdict
 judged_line given s line = checked given s line (after_line s.declared line)
 
--- What octets are that no line is: the order of the tests is that of reading, then of what was declared, then of the group.
+-- What octets are that no line is: the order of the tests is that of reading, then of what was declared, then of
+-- the group.
 abbrev pub read : Given → State → Result (Option Stated) LineFault → Verdict
 read given s (Ok (Some line)) = judged_line given s line
 read given s (Ok None) = says [] s

@@ -96,8 +96,11 @@ impl Progress {
         requires is { IsProgress self.old }
         requires few { steps self.old < 100000 }
         requires empty { report.old.items ≡ [] }
-        ensures taken { OnOk result (judged_line (given_by (D.draw draws.now) (N.passes net.now)) (state self.old) (stated line) ≡ says report.new.items (state self.new)) }
-        ensures stopped { IfErr result (IsStop (judged_line (given_by (D.draw draws.now) (N.passes net.now)) (state self.old) (stated line))) }
+        ensures taken { OnOk result (judged_line (given_by (D.draw draws.now) (N.passes net.now)) (state self.old)
+            (stated line) ≡ says report.new.items (state self.new)) }
+        ensures stopped { IfErr result
+            (IsStop (judged_line (given_by (D.draw draws.now) (N.passes net.now)) (state self.old)
+            (stated line))) }
         ensures is { OnOk result (IsProgress self.new) }
         ensures steps { OnOk result (steps self.new ≤ steps self.old + 1) }
     {
@@ -114,12 +117,15 @@ impl Progress {
         net: &N,
         draws: &D,
     ) -> Result<(), Stop>
-        requires checked { IsChecked (map string_bytes self.old.labels.items) self.old.stage self.old.words (stated line) }
+        requires checked { IsChecked (map string_bytes self.old.labels.items) self.old.stage self.old.words
+            (stated line) }
         requires few { steps self.old < 100000 }
         requires empty { report.old.items ≡ [] }
-        ensures taken { OnOk result (line_taken (given_by (D.draw draws.now) (N.passes net.now)) (state self.old) self.old.words (stated line)
-            ≡ says report.new.items (state self.new)) }
-        ensures stopped { IfErr result (IsStop (line_taken (given_by (D.draw draws.now) (N.passes net.now)) (state self.old) self.old.words (stated line))) }
+        ensures taken { OnOk result (line_taken (given_by (D.draw draws.now) (N.passes net.now)) (state self.old)
+            self.old.words (stated line) ≡ says report.new.items (state self.new)) }
+        ensures stopped { IfErr result
+            (IsStop (line_taken (given_by (D.draw draws.now) (N.passes net.now)) (state self.old)
+            self.old.words (stated line))) }
         ensures is { OnOk result (IsProgress self.new) }
         ensures steps { OnOk result (steps self.new ≤ steps self.old + 1) }
     {
@@ -162,9 +168,9 @@ impl Progress {
         requires named { AreNamed (map string_bytes self.old.labels.items ++ string_bytes label ∷ [])
             (with_member_too node.now key.now (keys_in self.old.stage)) self.old.words }
         ensures state { OnOk result (state self.new ≡ record {
-            declared = self.old.words;
-            keys = with_member_too node.now key.now (keys_in self.old.stage);
-            world = None;
+          declared = self.old.words;
+          keys = with_member_too node.now key.now (keys_in self.old.stage);
+          world = None;
         }) }
         ensures is { OnOk result (IsProgress self.new) }
         ensures steps { OnOk result (steps self.new ≡ 0) }
@@ -187,9 +193,9 @@ impl Progress {
         requires named { AreNamed (map string_bytes self.old.labels.items)
             (with_client_too node.now key.now (keys_in self.old.stage)) self.old.words }
         ensures state { OnOk result (state self.new ≡ record {
-            declared = self.old.words;
-            keys = with_client_too node.now key.now (keys_in self.old.stage);
-            world = None;
+          declared = self.old.words;
+          keys = with_client_too node.now key.now (keys_in self.old.stage);
+          world = None;
         }) }
         ensures is { OnOk result (IsProgress self.new) }
         ensures steps { OnOk result (steps self.new ≡ 0) }
@@ -214,8 +220,11 @@ impl Progress {
         requires there { has_group self.old.stage ≡ true }
         requires few { steps self.old < 100000 }
         requires empty { report.old.items ≡ [] }
-        ensures taken { OnOk result (acted_by (given_by (D.draw draws.now) (N.passes net.now)) (state self.old) self.old.words (stated line) ≡ says report.new.items (state self.new)) }
-        ensures stopped { IfErr result (IsStop (acted_by (given_by (D.draw draws.now) (N.passes net.now)) (state self.old) self.old.words (stated line))) }
+        ensures taken { OnOk result (acted_by (given_by (D.draw draws.now) (N.passes net.now)) (state self.old)
+            self.old.words (stated line) ≡ says report.new.items (state self.new)) }
+        ensures stopped { IfErr result
+            (IsStop (acted_by (given_by (D.draw draws.now) (N.passes net.now)) (state self.old)
+            self.old.words (stated line))) }
         ensures is { OnOk result (IsProgress self.new) }
         ensures steps { OnOk result (steps self.new ≤ steps self.old + 1) }
     {
@@ -242,8 +251,11 @@ impl Progress {
         requires there { has_group self.old.stage ≡ true }
         requires few { steps self.old < 100000 }
         requires empty { report.old.items ≡ [] }
-        ensures taken { OnOk result (acted (given_by (D.draw draws.now) (N.passes net.now)) (state self.old) self.old.words (event_value event.now) ≡ says report.new.items (state self.new)) }
-        ensures stopped { IfErr result (IsStop (acted (given_by (D.draw draws.now) (N.passes net.now)) (state self.old) self.old.words (event_value event.now))) }
+        ensures taken { OnOk result (acted (given_by (D.draw draws.now) (N.passes net.now)) (state self.old)
+            self.old.words (event_value event.now) ≡ says report.new.items (state self.new)) }
+        ensures stopped { IfErr result
+            (IsStop (acted (given_by (D.draw draws.now) (N.passes net.now)) (state self.old)
+            self.old.words (event_value event.now))) }
         ensures is { OnOk result (IsProgress self.new) }
         ensures steps { OnOk result (steps self.new ≤ steps self.old + 1) }
     {

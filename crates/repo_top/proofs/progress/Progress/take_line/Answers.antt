@@ -1,4 +1,4 @@
-use Rattle.std.proofs.Common.{◌≡◌, ◌∙◌, sym, ap, subst}
+use Rattle.std.proofs.Common.{◌≡◌, sym, subst}
 use Rattle.std.specs.Prelude.{OnOk, IfErr}
 use Rattle.script_lang.specs.Forms.{stated}
 use Rattle.repo_top.specs.Judging.{Verdict, given_by, judged_line, says}
@@ -11,18 +11,22 @@ use Rattle.repo_top.proofs.progress.Progress.take_line.Goals as goal
 pub returns-in_err-check-clause-stopped : goal.returns-in_err-check-clause-stopped
 returns-in_err-check-clause-stopped g c =
     stops_so c.from_residual.result
-    (IsStop (judged_line (given_by (g.D.Draws.draw c.args.draws.now) (g.N.Net.passes c.args.net.now)) (state c.args.self.now) (stated c.args.line)))
+    (IsStop (judged_line (given_by (g.D.Draws.draw c.args.draws.now) (g.N.Net.passes c.args.net.now)) (state
+    c.args.self.now) (stated c.args.line)))
     (check_stop c.in_err-check.field-0.0) c.from_residual.ensures.1
-    (refused_line (given_by (g.D.Draws.draw c.args.draws.now) (g.N.Net.passes c.args.net.now)) (state c.args.self.now) (stated c.args.line) c.in_err-check.field-0.0 c.in_err-check.ensures.refused)
+    (refused_line (given_by (g.D.Draws.draw c.args.draws.now) (g.N.Net.passes c.args.net.now)) (state c.args.self.now)
+    (stated c.args.line) c.in_err-check.field-0.0 c.in_err-check.ensures.refused)
 
 pub returns-clause-taken : goal.returns-clause-taken
 returns-clause-taken g c =
     subst (λ (v : Verdict). OnOk c.follow.result (v ≡ says c.follow.new.report.items (state c.follow.new.self)))
-    (sym (line_is_taken (given_by (g.D.Draws.draw c.args.draws.now) (g.N.Net.passes c.args.net.now)) c.args.self.now.stage
+    (sym (line_is_taken (given_by (g.D.Draws.draw c.args.draws.now) (g.N.Net.passes c.args.net.now))
+    c.args.self.now.stage
     c.args.self.now.words c.check.new.self (stated c.args.line) c.in_ok-check.ensures.ok)) c.follow.ensures.taken
 
 pub returns-clause-stopped : goal.returns-clause-stopped
 returns-clause-stopped g c =
     subst (λ (v : Verdict). IfErr c.follow.result (IsStop v))
-    (sym (line_is_taken (given_by (g.D.Draws.draw c.args.draws.now) (g.N.Net.passes c.args.net.now)) c.args.self.now.stage
+    (sym (line_is_taken (given_by (g.D.Draws.draw c.args.draws.now) (g.N.Net.passes c.args.net.now))
+    c.args.self.now.stage
     c.args.self.now.words c.check.new.self (stated c.args.line) c.in_ok-check.ensures.ok)) c.follow.ensures.stopped
