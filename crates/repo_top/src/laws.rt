@@ -31,6 +31,18 @@ pub fn small_stories()
         ++ codes "claim bob 1 part alice 1 0\ncatalogue bob 0\nrefused 9 5 NoSuchPacket\n") (Refused 9 5) }
 {}
 
+/// One publication that reaches two catalogues, worked out.
+pub fn first_story()
+    ensures { (given : Given) → Reports given
+        (codes "group /g\nmember alice /alice 6b31\nmember bob /bob 6b32\npublish alice /doc 10 text:abc\nsettle 2\n"
+        ++ codes "catalogue alice\ncatalogue bob\n")
+        (codes "publish alice 1 segments 1 sync 1\nsettle syncs 2 kept 2\n"
+        ++ codes "catalogue alice 1\nentry alice 1 /doc segments 1 octets 3 sha256 "
+        ++ codes "ba7816bf8f01cfea414140de5dae2223b00361a396177a9cb410ff61f20015ad\n"
+        ++ codes "catalogue bob 1\nentry alice 1 /doc segments 1 octets 3 sha256 "
+        ++ codes "ba7816bf8f01cfea414140de5dae2223b00361a396177a9cb410ff61f20015ad\n") Done }
+{}
+
 /// The stories of four small inputs that are inspected, worked out.
 pub fn small_inspections()
     ensures name { inspect_story (codes "0706 080161\t320100\r\n") ≡ plain_story
