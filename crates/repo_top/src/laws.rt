@@ -35,12 +35,13 @@ pub fn small_stories()
 pub fn first_story()
     ensures { (given : Given) → Reports given
         (codes "group /g\nmember alice /alice 6b31\nmember bob /bob 6b32\npublish alice /doc 10 text:abc\nsettle 2\n"
-        ++ codes "catalogue alice\ncatalogue bob\n")
+        ++ codes "catalogue alice\ncatalogue bob\ntraffic\n")
         (codes "publish alice 1 segments 1 sync 1\nsettle syncs 2 kept 2\n"
         ++ codes "catalogue alice 1\nentry alice 1 /doc segments 1 octets 3 sha256 "
         ++ codes "ba7816bf8f01cfea414140de5dae2223b00361a396177a9cb410ff61f20015ad\n"
         ++ codes "catalogue bob 1\nentry alice 1 /doc segments 1 octets 3 sha256 "
-        ++ codes "ba7816bf8f01cfea414140de5dae2223b00361a396177a9cb410ff61f20015ad\n") Done }
+        ++ codes "ba7816bf8f01cfea414140de5dae2223b00361a396177a9cb410ff61f20015ad\n"
+        ++ codes "traffic syncs 3 delivered 2 attempts 0 parts 2 octets 197\n") Done }
 {}
 
 /// The stories of four small inputs that are inspected, worked out.
