@@ -56,36 +56,3 @@ pub inspected_world : (given : Given) (asked : Option Asked) (before : Option (L
 inspected_world given asked before left e none =
     let P : Option Asked → Type 0 = λ k. IfSome (asked_story given k before) (λ story. option_map world_of left ≡ story.world) in
     subst P (sym e) (none_inspected before left none)
-
--- ---- what is said of the words of a run
-
-story_known : (given : Given) (P : List ℕ → List ℕ → Type 0) (Q : Story → Type 0) → ((input rest : List ℕ) → P input rest → Q (story_of given input)) → (before now : Option (List ℕ)) → Known before now P → IfSome (option_map (story_of given) before) Q
-story_known given P Q f None now h = tt
-story_known given P Q f (Some input) None h = absurd h
-story_known given P Q f (Some input) (Some rest) h = f input rest h
-
-end_known : (P : List ℕ → List ℕ → Type 0) → ((input rest : List ℕ) → P input rest → rest ≡ []) → (before now : Option (List ℕ)) → Known before now P → IfSome before (λ input. now ≡ Some [])
-end_known P f None now h = tt
-end_known P f (Some input) None h = absurd h
-end_known P f (Some input) (Some rest) h = ap (λ (t : List ℕ). Some t) (f input rest h)
-
-pub told_or_fault : (status : Status) (e : Ending) → (IsTold status → status ≡ status_of e) → status ≢ Usage → status ≢ ReadFault → status ≢ WriteFault → (status ≡ status_of e) ⊎ (status ≡ NoMemory)
-told_or_fault Done e told u r w = inl (told tt)
-told_or_fault Usage e told u r w = absurd (u refl)
-told_or_fault (Refused line number) e told u r w = inl (told tt)
-told_or_fault ReadFault e told u r w = absurd (r refl)
-told_or_fault WriteFault e told u r w = absurd (w refl)
-told_or_fault NoMemory e told u r w = inr refl
-told_or_fault (Foreign line) e told u r w = inl (told tt)
-
-module _ (given : Given) (asked : Option Asked) (e : asked ≡ Some Run) (a d before now : Option (List ℕ)) (status : Status) (Last : Story → Type 0) (ran : Known before now (Ran given a d status Last)) where
-  pub of_story : (Q : Story → Type 0) → ((input rest : List ℕ) → Ran given a d status Last input rest → Q (story_of given input)) → IfSome (asked_story given asked before) Q
-  of_story Q f =
-      let P : Option Asked → Type 0 = λ k. IfSome (asked_story given k before) Q in
-      subst P (sym e) (story_known given (Ran given a d status Last) Q f before now ran)
-
-  pub of_end : status ≡ Done → IfSome before (λ input. now ≡ Some [])
-  of_end done = end_known (Ran given a d status Last) (λ input rest r. r.read_to_end done) before now ran
-
-  pub of_input : (Q : List ℕ → List ℕ → Type 0) → ((input rest : List ℕ) → Ran given a d status Last input rest → Q input rest) → IfSome before (λ input. IfSome now (λ rest. Q input rest))
-  of_input Q f = of_both (Ran given a d status Last) Q f before now ran

@@ -45,20 +45,6 @@ tells_behind s a b d text status p t = record {
 
 -- ---- lines that were carried out
 
-pub carried_none : (given : Given) (a : Option (List ℕ)) (input : List ℕ) → Carried given [] nothing_reached a a input input
-carried_none given a input = record {
-  done = [];
-  octets = [];
-  text = [];
-  parts = refl;
-  cut = λ more. refl;
-  joined = refl;
-  count = refl;
-  judged = refl;
-  goes = λ others. refl;
-  gained = nothing_gained a;
-}
-
 module _ (given : Given) (held : List ℕ) (r : Reached) (a b : Option (List ℕ)) (input rest : List ℕ) (so_far : Carried given held r a b input rest) where
   -- octets were read
   pub carried_read : (held' rest' : List ℕ) → held' ++ rest' ≡ held ++ rest → Carried given held' r a b input rest'
@@ -335,10 +321,6 @@ known_map P Q f (Some input) None h = absurd h
 known_map P Q f (Some input) (Some rest) h = f input rest h
 
 module _ (given : Given) (a : Option (List ℕ)) where
-  pub known_none : (before : Option (List ℕ)) → Known before before (Carried given [] nothing_reached a a)
-  known_none None = tt
-  known_none (Some input) = carried_none given a input
-
   pub known_read : (held held' : List ℕ) (r : Reached) (b before now now' : Option (List ℕ)) → Keeps (prepend_known held now) (prepend_known held' now') → Known before now (Carried given held r a b) → Known before now' (Carried given held' r a b)
   known_read held held' r b None now now' k h = tt
   known_read held held' r b (Some input) None now' k h = absurd h
@@ -360,19 +342,6 @@ module _ (given : Given) (a : Option (List ℕ)) where
   known_finished held r next b d (Some input) None status end few f h = absurd h
   known_finished held r next b d (Some input) (Some rest) status end few f h = ran_finished given held r next a b d input rest status h end few f
 
--- nothing was read or written
-pub known_untouched : (Last : Story → Type 0) (given : Given) (a before : Option (List ℕ)) → Known before before (Ran given a a NoMemory Last)
-known_untouched Last given a None = tt
-known_untouched Last given a (Some input) = record {
-  tells = record { ending = λ told. absurd told; text = λ told. absurd told; front = front_none a (story_of given input).text; lacks = λ e. absurd cc };
-  read_to_end = λ e. absurd cc;
-  front_of_taken = front_none a (report_of given (lines_taken input input));
-  near_line = λ line at. absurd at;
-  near_fault = λ e. absurd cc;
-  exact = λ e. absurd cc;
-  last = λ e. absurd cc;
-}
-
 -- what is said of the story's end may be said otherwise
 pub ran_as : (given : Given) (a b : Option (List ℕ)) (status : Status) (P Q : Story → Type 0) → (status ≡ Done → (s : Story) → P s → Q s) → (before now : Option (List ℕ)) → Known before now (Ran given a b status P) → Known before now (Ran given a b status Q)
 ran_as given a b status P Q f before now = known_map (Ran given a b status P) (Ran given a b status Q) (λ input rest ran. record {
@@ -384,9 +353,3 @@ ran_as given a b status P Q f before now = known_map (Ran given a b status P) (R
   exact = ran.exact;
   last = λ e. f e (story_of given input) (ran.last e);
 }) before now
-
--- what holds of a run over what is known
-pub of_both : (P Q : List ℕ → List ℕ → Type 0) → ((input rest : List ℕ) → P input rest → Q input rest) → (before now : Option (List ℕ)) → Known before now P → IfSome before (λ input. IfSome now (λ rest. Q input rest))
-of_both P Q f None now h = tt
-of_both P Q f (Some input) None h = absurd h
-of_both P Q f (Some input) (Some rest) h = f input rest h

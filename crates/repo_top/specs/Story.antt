@@ -1,5 +1,5 @@
 -- What a script comes to: the text of its report, its end, and the group behind its last line.
-use Rattle.std.specs.Prelude.{ℕ, ◌+◌, Bool, ◌&&◌, List, [], ◌∷◌, ◌++◌, length, Option, Some, None, nat_lt, nat_le, if◌then◌else◌}
+use Rattle.std.specs.Prelude.{◌≡◌, ℕ, ◌+◌, Bool, ◌&&◌, List, [], ◌∷◌, ◌++◌, length, Option, Some, None, nat_lt, nat_le, if◌then◌else◌}
 use Rattle.script_lang.specs.Limits.{script_lines, script_octets}
 use Rattle.script_report.specs.Limits.{report_octets}
 use Rattle.script_report.specs.Texts.{foreign_text}
@@ -95,3 +95,8 @@ plain_story text ending = record { text = text; ending = ending; keys = no_group
 -- The input as its first line is refused.
 abbrev pub refused : Refusal → Story
 refused why = plain_story (refusal_text 1 why) (Refused 1 (refusal_number why))
+
+-- A script reports this text, and ends so.
+pub record Reports (given : Given) (script text : List ℕ) (ending : Ending) : Type 0 where
+  pub text_is : (story_of given script).text ≡ text
+  pub ending_is : (story_of given script).ending ≡ ending

@@ -5,13 +5,43 @@ ghost use Rattle.repo_top.specs.Forms.{asked_of, asked_story};
 ghost use Rattle.repo_top.specs.Inspection.{inspect_story};
 ghost use Rattle.repo_top.specs.Judging.{Given};
 ghost use Rattle.repo_top.specs.Lines.{AreLines, lines};
-ghost use Rattle.repo_top.specs.Story.{plain_story, story_of};
+ghost use Rattle.repo_top.specs.Story.{Reports, plain_story};
 
 /// The lines of an input are the one way to cut it into lines.
 pub fn lines_are_the_input()
     ensures joined { (input : List ℕ) → concat (lines input) ≡ input }
     ensures each { (input : List ℕ) → AreLines (lines input) }
     ensures only { (cut : List (List ℕ)) → AreLines cut → lines (concat cut) ≡ cut }
+{}
+
+/// What small scripts report, worked out, whatever the draws and the network are.
+pub fn small_stories()
+    ensures nothing { (given : Given) → Reports given [] [] Done }
+    ensures no_group { (given : Given)
+        → Reports given (codes "settle 1\n") (codes "refused 1 9 NoGroup\n") (Refused 1 9) }
+    ensures group_alone { (given : Given) → Reports given (codes "group /g\r\nsettle 1\n\n  # moment\nadvance 5")
+        (codes "settle syncs 0 kept 0\nadvance now 5\n") Done }
+    ensures nobody { (given : Given)
+        → Reports given (codes "group /g\nmember alice /alice 6b31\nvector alice\nvector bob\nsummary\n")
+        (codes "vector alice alice=0\nrefused 4 2 UnknownLabel\n") (Refused 4 2) }
+    ensures published { (given : Given)
+        → Reports given (codes "group /g\nmember alice /alice 6b31\nmember bob /bob 6b32\npublish alice /doc 1 text:abc\n"
+        ++ codes "deliver 1 bob\nvector bob\nclaim bob 1\ncatalogue bob\ndeliver 2 bob\n")
+        (codes "publish alice 1 segments 3 sync 1\ndeliver 1 bob steady\nvector bob alice=1 bob=0\n"
+        ++ codes "claim bob 1 part alice 1 0\ncatalogue bob 0\nrefused 9 5 NoSuchPacket\n") (Refused 9 5) }
+{}
+
+/// One publication that reaches two catalogues, worked out.
+pub fn first_story()
+    ensures { (given : Given) → Reports given
+        (codes "group /g\nmember alice /alice 6b31\nmember bob /bob 6b32\npublish alice /doc 10 text:abc\nsettle 2\n"
+        ++ codes "catalogue alice\ncatalogue bob\ntraffic\n")
+        (codes "publish alice 1 segments 1 sync 1\nsettle syncs 2 kept 2\n"
+        ++ codes "catalogue alice 1\nentry alice 1 /doc segments 1 octets 3 sha256 "
+        ++ codes "ba7816bf8f01cfea414140de5dae2223b00361a396177a9cb410ff61f20015ad\n"
+        ++ codes "catalogue bob 1\nentry alice 1 /doc segments 1 octets 3 sha256 "
+        ++ codes "ba7816bf8f01cfea414140de5dae2223b00361a396177a9cb410ff61f20015ad\n"
+        ++ codes "traffic syncs 3 delivered 2 attempts 0 parts 2 octets 197\n") Done }
 {}
 
 /// The stories of four small inputs that are inspected, worked out.
