@@ -23,3 +23,6 @@ pub use event::{Event, Happened, StepFault};
 pub use laws::claimed_parts_can_be_answered;
 pub use settling::a_settle_can_be_made_again;
 pub use world::World;
+
+#[cfg(test)]
+mod tests;
