@@ -17,7 +17,7 @@ use Rattle.repo_top.specs.Inspection.{decoded_story, inspect_story, lines_story,
 use Rattle.repo_top.specs.Judging.{Given, State}
 use Rattle.repo_top.specs.Story.{Story, refused, story_of}
 use Rattle.repo_top.specs.Carrying.{EndsIn, Known, Leaves, Leaving, Ran}
-use Rattle.repo_top.proofs.Runs.{of_both, ran_as}
+use Rattle.repo_top.proofs.Runs.{ran_as}
 
 same_keys : (left : Option GroupState) (state : State) (s : Story) → s.keys ≡ state.keys → IfSome left (λ world. world.keys ≡ state.keys) → IfSome left (λ world. world.keys ≡ s.keys)
 same_keys None state s e h = tt
