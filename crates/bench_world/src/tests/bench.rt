@@ -126,9 +126,9 @@ impl Bench {
     pub(super) fn lists_all(&self, rt: &impl Abort) {
         assert_eq!(rt; self.world.members(), 2);
         let (first, second) = (self.world.member(0), self.world.member(1));
-        let published = self.world.published(0) + self.world.published(1);
+        let published = u64::from(self.world.published(0)) + u64::from(self.world.published(1));
         let listed = first.catalogue().entries();
-        assert_eq!(rt; listed.len(), published as usize);
+        assert_eq!(rt; listed.len() as u64, published);
         assert!(rt; listed == second.catalogue().entries());
     }
 }
