@@ -35,9 +35,7 @@ pub use headline::{
     a_settle_line_joins, lines_reach_sound_groups, printed_catalogues_list_what_is_held,
     stories_are_their_lines,
 };
-pub use laws::{
-    first_story, lines_are_the_input, small_inspections, small_scripts, small_stories,
-};
+pub use laws::{first_story, lines_are_the_input, small_inspections, small_scripts, small_stories};
 pub use read_source::ReadSource;
 pub use sink::Sink;
 pub use source::Source;
