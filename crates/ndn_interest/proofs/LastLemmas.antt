@@ -1,11 +1,12 @@
--- The last component of a name, where it is a digest.
-use Rattle.std.proofs.Common.{◌≡◌, ℕ, zero, suc, ◌-◌, ◌<◌, true, false, eqb, List, [], ◌∷◌, ◌++◌, length, take, Option, Some, None, slice_get, refl, ap, subst, ◌∙◌, arith}
+-- The last component of a name, where it was pushed and where it is a digest.
+use Rattle.std.proofs.Common.{◌≡◌, ℕ, zero, suc, ◌-◌, ◌<◌, true, false, eqb, List, [], ◌∷◌, ◌++◌, length, length-append, take, take_at, Option, Some, None, slice_get, refl, ap, subst, ◌∙◌, arith}
 use Rattle.std.specs.Option.{option_map_or}
 use Rattle.std.proofs.lemmas.List.{nil_from_length}
 use Rattle.std.proofs.lemmas.Bool.{eqb-true}
 use Rattle.ndn_tlv.specs.Spelling.{element}
 use Rattle.ndn_name.specs.Names.{Component, IsComponent, IsName, encoding}
 use Rattle.ndn_name.proofs.Encodings.{encoding-push}
+use Rattle.ndn_packet.proofs.Ends.{slice_get-push}
 use Rattle.ndn_packet.proofs.Lengths.{length-digest_element}
 use Rattle.ndn_interest.specs.Interest.{last_component, without_last, ends_in_digest}
 
@@ -52,3 +53,17 @@ digest_ends name valid h =
       spelled = ap encoding parts ∙ encoding-push (without_last name) (2, c.1);
       size = length-digest_element 2 c.1 (omega arith) long;
     }
+
+-- ---- a name and a component behind it
+
+last_place : (name : List Component) (c : Component) → length (name ++ c ∷ []) - 1 ≡ length name
+last_place name c = omega (arith, length-append name (c ∷ []))
+
+pub last-push : (name : List Component) (c : Component) → last_component (name ++ c ∷ []) ≡ Some c
+last-push name c = ap (slice_get (name ++ c ∷ [])) (last_place name c) ∙ slice_get-push name c
+
+pub without-push : (name : List Component) (c : Component) → without_last (name ++ c ∷ []) ≡ name
+without-push name c = ap (λ (n : ℕ). take n (name ++ c ∷ [])) (last_place name c) ∙ take_at name (c ∷ []) (length name) refl
+
+pub ends-push : (name : List Component) (digest : List ℕ) → ends_in_digest (name ++ (2, digest) ∷ []) ≡ true
+ends-push name digest = ap (λ (o : Option Component). option_map_or (λ c. eqb c.0 2) o false) (last-push name (2, digest))

@@ -3,3 +3,4 @@ pub mod WriteLemmas
 pub mod DigestLemmas
 pub mod ReadBackLemmas
 pub mod SpelledLemmas
+pub mod SignerLemmas

@@ -1,6 +1,5 @@
 -- An Interest that was written is read back.
-use Rattle.std.proofs.Common.{◌≡◌, ℕ, ◌+◌, ◌-◌, ◌<◌, ◌≤◌, Bool, true, false, cond, not, eqb, List, [], ◌∷◌, ◌++◌, length, length-append, take, drop, take_at, drop_at, append_assoc, slice_get, slice_range, Option, Some, None, Result, Ok, Err, refl, sym, ap, ◌∙◌, arith}
-use Rattle.std.specs.Option.{option_map_or}
+use Rattle.std.proofs.Common.{◌≡◌, ℕ, ◌+◌, ◌-◌, ◌<◌, ◌≤◌, Bool, true, false, cond, not, List, [], ◌∷◌, ◌++◌, length, length-append, take, drop, take_at, drop_at, append_assoc, slice_range, Some, None, Result, Ok, Err, refl, sym, ap, ◌∙◌, arith}
 use Rattle.std.proofs.lemmas.List.{append-nil}
 use Rattle.sha2.specs.Sha256.{sha256}
 use Rattle.sha2.proofs.Facts256.{length-sha256}
@@ -18,13 +17,13 @@ use Rattle.ndn_name.proofs.Encodings.{IsName-append}
 use Rattle.ndn_sign.specs.Hmac.{hmac}
 use Rattle.ndn_packet.specs.SignatureInfo.{Info}
 use Rattle.ndn_packet.specs.Written.{written_info}
-use Rattle.ndn_packet.proofs.Ends.{slice_get-push}
 use Rattle.ndn_packet.proofs.Lengths.{length-element}
 use Rattle.ndn_packet.proofs.ReadBack.{alone, followed, outer_again, name_again, info_again, gathers, gathered-nothing}
 use Rattle.ndn_interest.specs.declared.interest_fields.InterestField.TheVariants.{Name, CanBePrefix, ApplicationParameters, InterestSignatureInfo, InterestSignatureValue}
-use Rattle.ndn_interest.specs.Interest.{interest_table, Interest, InterestSoFar, no_field, some_name, interest_name_in, with_interest_field, interest_fields, last_component, without_last, ends_in_digest, interest_from, interest_of}
+use Rattle.ndn_interest.specs.Interest.{interest_table, Interest, InterestSoFar, no_field, some_name, interest_name_in, with_interest_field, interest_fields, last_component, without_last, interest_from, interest_of}
 use Rattle.ndn_interest.specs.WrittenInterest.{written_plain, written_parameters, written_digested, written_interest, read_plain, read_signed}
 use Rattle.ndn_interest.proofs.DigestLemmas.{IsOctets-sha256}
+use Rattle.ndn_interest.proofs.LastLemmas.{last-push, without-push, ends-push}
 
 -- ---- names
 
@@ -37,18 +36,6 @@ interest_name_again : (o : ℕ) (name : List Component) → IsName name → 0 < 
 interest_name_again o name valid some =
     let bad = BadField field.Name o in
     ap (λ (r : Result (List Component) PacketFault). r >>= some_name bad) (name_again bad o 0x07 name valid) ∙ some_again bad name some
-
-last_place : (name : List Component) (c : Component) → length (name ++ c ∷ []) - 1 ≡ length name
-last_place name c = omega (arith, length-append name (c ∷ []))
-
-last-push : (name : List Component) (c : Component) → last_component (name ++ c ∷ []) ≡ Some c
-last-push name c = ap (slice_get (name ++ c ∷ [])) (last_place name c) ∙ slice_get-push name c
-
-without-push : (name : List Component) (c : Component) → without_last (name ++ c ∷ []) ≡ name
-without-push name c = ap (λ (n : ℕ). take n (name ++ c ∷ [])) (last_place name c) ∙ take_at name (c ∷ []) (length name) refl
-
-ends-push : (name : List Component) (digest : List ℕ) → ends_in_digest (name ++ (2, digest) ∷ []) ≡ true
-ends-push name digest = ap (λ (o : Option Component). option_map_or (λ c. eqb c.0 2) o false) (last-push name (2, digest))
 
 digest_component : (digested : List ℕ) → IsComponent (2, sha256 digested)
 digest_component digested =

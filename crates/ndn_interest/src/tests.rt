@@ -5,7 +5,7 @@ mod hostile;
 use super::*;
 use hostile::HOSTILE;
 use ndn_name::{Name, NameFault, NameView, PacketFault};
-use ndn_sign::{digest, hmac};
+use ndn_sign::{KeyRing, digest, hmac};
 use ndn_tlv::TlvFault;
 use std::alloc::Global;
 use std::test::*;
@@ -238,5 +238,44 @@ fn strangers_are_passed_over_and_signed(rt: HostRuntime) -> Result<(), Fail> {
         assert_eq!(rt; interest.signature, Some([0].as_slice()));
         assert!(rt; !interest.params_digest_matches());
     }
+    Ok(())
+}
+
+// A ring in which alice's key has the number 1.
+fn ring(alloc: Global, key: &[u8]) -> Result<KeyRing, Fail> {
+    let mut ring = KeyRing::new(alloc);
+    ring.add(SYNC_2, KEY)?;
+    ring.add(ALICE_KEY, key)?;
+    Ok(ring)
+}
+
+// Who signed these octets, by a ring with this key.
+fn signer(alloc: Global, octets: &[u8], key: &[u8]) -> Result<Result<u32, SignatureRefusal>, Fail> {
+    let interest = InterestView::read(octets)?;
+    let ring = ring(alloc, key)?;
+    Ok(signer_of(&interest, &ring))
+}
+
+#[test]
+fn signers_of_interests(rt: HostRuntime) -> Result<(), Fail> {
+    let alloc = rt.alloc();
+    let mut changed = SYNC;
+    changed[59] = 2;
+    assert_eq!(rt; signer(alloc, &SYNC, KEY)?, Ok(1));
+    assert_eq!(rt;
+        signer(alloc, &SYNC, b"k2")?,
+        Err(SignatureRefusal::BadSignature)
+    );
+    assert_eq!(rt;
+        signer(alloc, &changed, KEY)?,
+        Err(SignatureRefusal::ParamsDigest)
+    );
+    assert_eq!(rt;
+        signer(alloc, &PLAIN, KEY)?,
+        Err(SignatureRefusal::Unsigned)
+    );
+    let interest = InterestView::read(&SYNC)?;
+    let none = signer_of(&interest, &KeyRing::new(alloc));
+    assert_eq!(rt; none, Err(SignatureRefusal::UnknownKey));
     Ok(())
 }

@@ -1,5 +1,6 @@
 -- An answer that was written is read back.
 use Rattle.std.proofs.Common.{◌≡◌, ℕ, ◌+◌, ◌^◌, ◌<◌, ◌≤◌, List, [], ◌∷◌, ◌++◌, length, length-append, append_assoc, Option, Some, None, Result, Ok, refl, ap, ◌∙◌, arith}
+use Rattle.std.specs.Prelude.{ok_or}
 use Rattle.std.specs.Option.{option_and_then}
 use Rattle.std.specs.Result.{result_ok}
 use Rattle.std.proofs.lemmas.Bool.{lt-ltb}
@@ -17,7 +18,6 @@ use Rattle.repo_command.specs.declared.answer.Answer.{Answer}
 use Rattle.repo_command.specs.declared.answer_fields.AnswerField.{AnswerField}
 use Rattle.repo_command.specs.declared.answer_fields.AnswerField.TheVariants.{ProcessId, StatusCode, InsertNum, DeleteNum}
 use Rattle.repo_command.specs.OrderTables.{repo_command_response}
-use Rattle.repo_command.specs.Signer.{or_refused}
 use Rattle.repo_command.specs.Answers.{IsSmall, IsAnswer, NoAnswer, none, written_field, response_value, written_answer, AnswerSoFar, no_number, with_number, with_answer_field, bad_field, answer_fields, whole_answer, response_among, answer_in, answer_of}
 use Rattle.repo_command.proofs.LengthLemmas.{field_short, number_element-size}
 use Rattle.repo_command.proofs.FieldLemmas.{field_again, fields_end}
@@ -42,7 +42,7 @@ with_some s field (Some n) = with_number s field n
 number_taken : (s : AnswerSoFar) (field : AnswerField) (o typ n : ℕ) → n < 2 ^ 64
     → with_answer_field s (field, placed o typ (number_field n)) ≡ Ok (with_number s field n)
 number_taken s field o typ n small =
-    ap (λ (r : Option ℕ). or_refused none r >>= λ m. Ok (with_number s field m)) (number_of-number_field n small)
+    ap (λ (r : Option ℕ). ok_or r none >>= λ m. Ok (with_number s field m)) (number_of-number_field n small)
 
 next_number : (places behind : List (Place AnswerField)) (field : AnswerField) (o typ n : ℕ) (rest : List ℕ) (s : AnswerSoFar)
     → place_of typ places ≡ Some (field, behind) → 0 < typ → typ < 2 ^ 32 → n < 2 ^ 64

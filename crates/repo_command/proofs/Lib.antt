@@ -2,7 +2,6 @@ pub mod NameLemmas
 pub mod LengthLemmas
 pub mod VerdictLemmas
 pub mod FieldLemmas
-pub mod TestLemmas
 pub mod AnswerLemmas
 pub mod MadeLemmas
 pub mod TakenLemmas

@@ -1,7 +1,6 @@
 -- The verdict on a command that was made, and what every command is within that is taken.
 use Rattle.std.proofs.Common.{◌≡◌, ℕ, ◌+◌, ◌-◌, ◌^◌, ◌<◌, ◌≤◌, Bool, true, false, ◌&&◌, leb, ltb, List, [], ◌∷◌, ◌++◌, length, slice_get, Option, Some, None, Result, Ok, Err, if◌then◌else◌, refl, ap, ◌∙◌, arith}
-use Rattle.std.specs.Str.{bytes_eq}
-use Rattle.std.proofs.lemmas.Slice.Eq.{bytes_eq-Decides}
+use Rattle.std.specs.Prelude.{ok_or}
 use Rattle.sha2.specs.Sha256.{sha256}
 use Rattle.ndn_tlv.specs.declared.order_table.Place.{Place}
 use Rattle.ndn_tlv.specs.declared.tlv_fault.TlvFault.{TlvFault}
@@ -15,11 +14,11 @@ use Rattle.ndn_name.specs.declared.fault.PacketFault.{PacketFault}
 use Rattle.ndn_name.specs.declared.name_fault.NameFault.{NameFault}
 use Rattle.ndn_name.specs.Names.{Component, IsName, encoding}
 use Rattle.ndn_name.proofs.Encodings.{name_of-encoding}
-use Rattle.ndn_sign.specs.Hmac.{hmac}
 use Rattle.ndn_sign.specs.Ring.{Pair, number_of as key_number, pair}
 use Rattle.ndn_interest.specs.Interest.{Interest}
 use Rattle.ndn_interest.specs.WrittenInterest as written
 use Rattle.ndn_interest.proofs.ReadBackLemmas.{signed_again}
+use Rattle.ndn_interest.proofs.SignerLemmas.{signer_again}
 use Rattle.ndn_packet.proofs.ReadBack.{alone}
 use Rattle.repo_object.specs.Objects.{is_object_name}
 use Rattle.repo_command.specs.declared.command.Command.{Command}
@@ -29,12 +28,11 @@ use Rattle.repo_command.specs.declared.command_refusal.CommandRefusal.TheVariant
 use Rattle.repo_command.specs.declared.parameters.ParameterField.{ParameterField}
 use Rattle.repo_command.specs.declared.parameters.ParameterField.TheVariants.{Name, StartBlockId, EndBlockId, ProcessId}
 use Rattle.repo_command.specs.OrderTables.{repo_command_parameter}
-use Rattle.repo_command.specs.Signer.{or_refused}
 use Rattle.repo_command.specs.Verbs.{verb_of, command_name}
 use Rattle.repo_command.specs.Commands.{named_length, is_command, IsSpelled, parameters_value, written_parameters, command_interest}
 use Rattle.repo_command.specs.Parameters.{Parameters, no_parameters, good_name, with_parameter, bad_field, parameters_in, parameter_among, parameters_of, command_from}
 use Rattle.repo_command.specs.Verdict.{packet_or, interest_verdict, command_verdict}
-use Rattle.repo_command.proofs.NameLemmas.{last-push, IsName-command, verb_in-made}
+use Rattle.repo_command.proofs.NameLemmas.{IsName-command, verb_in-made}
 use Rattle.repo_command.proofs.LengthLemmas.{field_short, value-size, command-size}
 use Rattle.repo_command.proofs.FieldLemmas.{field_again, last_field}
 use Rattle.repo_command.proofs.VerdictLemmas.{from_client}
@@ -65,9 +63,9 @@ name_taken o typ name valid =
     ap (λ (r : Result (List Component) NameFault). good_name r >>= λ n. Ok (record no_parameters { name = Some n })) (name_of-encoding (placed o typ (encoding name)).value_start name valid)
 
 number_taken : (n : ℕ) (with : ℕ → Parameters) → n < 2 ^ 64
-    → (or_refused {E = CommandRefusal} BadParameter (number_of (number_field n)) >>= λ m. Ok (with m)) ≡ Ok (with n)
+    → (ok_or {E = CommandRefusal} (number_of (number_field n)) BadParameter >>= λ m. Ok (with m)) ≡ Ok (with n)
 number_taken n with small =
-    ap (λ (r : Option ℕ). or_refused {E = CommandRefusal} BadParameter r >>= λ m. Ok (with m)) (number_of-number_field n small)
+    ap (λ (r : Option ℕ). ok_or {E = CommandRefusal} r BadParameter >>= λ m. Ok (with m)) (number_of-number_field n small)
 
 value_again : (c : Command) (o : ℕ) → IsSpelled c → named_length c ≤ 400
     → gather_parameters no_parameters repo_command_parameter o (parameters_value c) ≡ Ok (given c)
@@ -118,19 +116,13 @@ last_step (Insert name first last) client = insertion (is_object_name name) (leb
 last_step (Check process) client = refl
 last_step (Delete name) client = deletion (is_object_name name) client name
 
-same_octets : (octets : List ℕ) → bytes_eq octets octets ≡ true
-same_octets octets = (bytes_eq-Decides octets octets).1 refl
-
 module _ (node : List Component) (ring : List Pair) (c : Command) (key_name : List Component) (key : List ℕ) (client : ℕ) (found : key_number (encoding key_name) ring ≡ Some client) (at : slice_get ring client ≡ Some (pair (encoding key_name) key)) (read : parameters_of (written_parameters c) ≡ Ok (given c)) where
   made_verdict : interest_verdict node ring (written.read_signed (command_name node (verb_of c)) (written_parameters c) key_name key) ≡ or_bad client c (is_command c)
   made_verdict =
       let name = command_name node (verb_of c) in
       let parameters = written_parameters c in
-      let digested = written.written_digested name parameters key_name key in
-      let digest = sha256 digested in
-      let portion = written.written_parameters parameters key_name in
-      let mac = hmac key (encoding name ++ portion) in
-      rw (verb_in-made node (verb_of c) digest, last-push name (2, digest), same_octets digest, found, at, same_octets mac, read) (last_step c client)
+      let digest = sha256 (written.written_digested name parameters key_name key) in
+      rw (verb_in-made node (verb_of c) digest, signer_again name key_name parameters key ring client found at, read) (last_step c client)
 
   pub made_is_checked : IsName node → length (encoding node) ≤ 200 → named_length c ≤ 400 → IsName key_name → length (encoding key_name) ≤ 205
       → command_verdict node ring (command_interest node c key_name key) ≡ or_bad client c (is_command c)

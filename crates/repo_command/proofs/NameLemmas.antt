@@ -1,7 +1,6 @@
 -- The names of commands, as octets.
-use Rattle.std.proofs.Common.{◌≡◌, ◌↔◌, ℕ, zero, suc, ◌-◌, ◌<◌, Bool, true, false, eqb, ltb, List, [], ◌∷◌, ◌++◌, length, length-append, append_assoc, take, drop, take_at, drop_at, slice_get, slice_index, Option, Some, None, if◌then◌else◌, refl, sym, ap, ◌∙◌, arith}
+use Rattle.std.proofs.Common.{◌≡◌, ◌↔◌, ℕ, zero, suc, ◌<◌, Bool, true, false, ltb, List, [], ◌∷◌, ◌++◌, length, length-append, append_assoc, drop, drop_at, slice_index, Option, Some, None, if◌then◌else◌, refl, sym, ap, ◌∙◌, arith}
 use Rattle.std.specs.List.{list_all}
-use Rattle.std.specs.Option.{option_map_or}
 use Rattle.std.specs.Str.{bytes_eq}
 use Rattle.std.proofs.lemmas.Bool.{and_parts, and_from, false≢true, ltb-true}
 use Rattle.std.proofs.lemmas.Slice.Eq.{bytes_eq-Decides}
@@ -10,8 +9,8 @@ use Rattle.ndn_tlv.specs.Elements.{IsElement, IsOctets}
 use Rattle.ndn_tlv.proofs.ElementLemmas.{element_alone}
 use Rattle.ndn_name.specs.Names.{Component, IsComponent, IsName, encoding}
 use Rattle.ndn_name.proofs.Encodings.{encoding-push, IsName-append, number-some}
-use Rattle.ndn_interest.specs.Interest.{last_component, without_last, ends_in_digest}
-use Rattle.ndn_interest.proofs.LastLemmas.{digest_ends}
+use Rattle.ndn_interest.specs.Interest.{without_last, ends_in_digest}
+use Rattle.ndn_interest.proofs.LastLemmas.{digest_ends, without-push, ends-push}
 use Rattle.repo_command.specs.declared.verb.Verb.{Verb}
 use Rattle.repo_command.specs.declared.verb.Verb.TheVariants.{Insert, Check, Delete}
 use Rattle.repo_command.specs.Verbs.{verb_text, verb_component, command_name, is_command_name, verb_in, between}
@@ -58,24 +57,6 @@ is_component Delete = record { above = omega arith; below = omega arith; digest 
 
 pub IsName-command : (node : List Component) (verb : Verb) → IsName node → IsName (command_name node verb)
 IsName-command node verb valid = IsName-append node (verb_component verb ∷ []) valid (is_component verb, tt)
-
--- ---- a name and a component behind it
-
-slice_get-push : (name : List Component) (c : Component) → slice_get (name ++ c ∷ []) (length name) ≡ Some c
-slice_get-push [] c = refl
-slice_get-push (d ∷ name) c = slice_get-push name c
-
-last_place : (name : List Component) (c : Component) → length (name ++ c ∷ []) - 1 ≡ length name
-last_place name c = omega (arith, length-append name (c ∷ []))
-
-pub last-push : (name : List Component) (c : Component) → last_component (name ++ c ∷ []) ≡ Some c
-last-push name c = ap (slice_get (name ++ c ∷ [])) (last_place name c) ∙ slice_get-push name c
-
-without-push : (name : List Component) (c : Component) → without_last (name ++ c ∷ []) ≡ name
-without-push name c = ap (λ (n : ℕ). take n (name ++ c ∷ [])) (last_place name c) ∙ take_at name (c ∷ []) (length name) refl
-
-ends-push : (name : List Component) (digest : List ℕ) → ends_in_digest (name ++ (2, digest) ∷ []) ≡ true
-ends-push name digest = ap (λ (o : Option Component). option_map_or (λ c. eqb c.0 2) o false) (last-push name (2, digest))
 
 pub is_command_name-made : (node : List Component) (verb : Verb) (digest : List ℕ) → is_command_name node verb (command_name node verb ++ (2, digest) ∷ []) ≡ true
 is_command_name-made node verb digest =

@@ -1,22 +1,21 @@
 -- What every command is within that is taken.
-use Rattle.std.proofs.Common.{◌≡◌, ℕ, suc, zero, ◌-◌, ◌<◌, Bool, true, false, ◌&&◌, leb, ltb, List, [], ◌∷◌, length, slice_get, Option, Some, None, Result, Ok, Err, if◌then◌else◌, refl, sym, ap, ◌∙◌, arith}
-use Rattle.std.specs.Prelude.{unwrap_or}
-use Rattle.std.specs.Option.{option_map_or}
+use Rattle.std.proofs.Common.{◌≡◌, ℕ, ◌-◌, ◌<◌, Bool, true, false, ◌&&◌, leb, ltb, List, [], length, Option, Some, None, Result, Ok, Err, if◌then◌else◌, refl, sym, ap, ◌∙◌, arith}
+use Rattle.std.specs.Prelude.{unwrap_or, ok_or}
 use Rattle.ndn_tlv.specs.Listing.{◌>>=◌}
 use Rattle.ndn_name.specs.Names.{Component}
 use Rattle.ndn_name.proofs.Encodings.{bind_ok}
 use Rattle.ndn_sign.specs.Ring.{Pair}
-use Rattle.ndn_interest.specs.Interest.{Interest, interest_of}
+use Rattle.ndn_interest.specs.declared.signature_refusal.SignatureRefusal.{SignatureRefusal}
+use Rattle.ndn_interest.specs.Interest.{interest_of}
+use Rattle.ndn_interest.specs.Signer.{signer_of}
+use Rattle.ndn_interest.proofs.SignerLemmas.{signer_there}
 use Rattle.repo_object.specs.Objects.{is_object_name}
 use Rattle.repo_command.specs.declared.command.Command.{Command}
 use Rattle.repo_command.specs.declared.command.Command.TheVariants as command
 use Rattle.repo_command.specs.declared.command_refusal.CommandRefusal.{CommandRefusal}
 use Rattle.repo_command.specs.declared.command_refusal.CommandRefusal.TheVariants.{BadParameter, OtherName}
-use Rattle.repo_command.specs.declared.signature_refusal.SignatureRefusal.{SignatureRefusal}
-use Rattle.repo_command.specs.declared.signature_refusal.SignatureRefusal.TheVariants.{Unsigned, ParamsDigest, UnknownKey, BadSignature}
 use Rattle.repo_command.specs.declared.verb.Verb.{Verb}
 use Rattle.repo_command.specs.declared.verb.Verb.TheVariants.{Insert, Check, Delete}
-use Rattle.repo_command.specs.Signer.{ensured, or_refused, has_its_digest, key_of, is_mac, is_signed, signer_of}
 use Rattle.repo_command.specs.Verbs.{verb_in}
 use Rattle.repo_command.specs.Commands.{is_command}
 use Rattle.repo_command.specs.Parameters.{Parameters, parameters_of, object_name_of, range_of, command_from}
@@ -60,7 +59,7 @@ command_taken Insert p c e =
     let same : command.Insert named.0 ranged.0.0 ranged.0.1 ≡ c = done_is (command.Insert named.0 ranged.0.0 ranged.0.1) c ranged.2 in
     ap is_command (sym same) ∙ both_true (is_object_name named.0) (in_range ranged.0) (object_name_taken p.name named.0 named.1) (range_taken p.first p.last ranged.0 ranged.1)
 command_taken Check p c e =
-    let asked = bind_ok (or_refused BadParameter p.process) (λ process. done (command.Check process)) c e in
+    let asked = bind_ok (ok_or p.process BadParameter) (λ process. done (command.Check process)) c e in
     let same : command.Check asked.0 ≡ c = done_is (command.Check asked.0) c asked.2 in
     ap is_command (sym same)
 command_taken Delete p c e =
@@ -70,39 +69,8 @@ command_taken Delete p c e =
 
 -- ---- the client
 
-there : (ring : List Pair) (n : ℕ) (pair : Pair) → slice_get ring n ≡ Some pair → n < length ring
-there [] n pair e = absurd cc
-there (p ∷ ps) zero pair e = omega arith
-there (p ∷ ps) (suc n) pair e = omega (arith, there ps n pair e)
-
-mac_there : (ring : List Pair) (n : ℕ) (signed : List ℕ × List ℕ) (o : Option Pair) (signature : Option (List ℕ)) → slice_get ring n ≡ o
-    → option_map_or (is_mac signed o) signature false ≡ true → n < length ring
-mac_there ring n signed None None e h = absurd cc
-mac_there ring n signed None (Some mac) e h = absurd cc
-mac_there ring n signed (Some pair) signature e h = there ring n pair e
-
-abbrev signs : {A : Type 0} → A → Result A SignatureRefusal
-signs x = Ok x
-
-signs_is : {A : Type 0} (x y : A) → signs x ≡ signs y → x ≡ y
-signs_is x y e = cc
-
-ensured_true : (b : Bool) (refusal : SignatureRefusal) → (u : Unit {0}) → ensured b refusal ≡ Ok u → b ≡ true
-ensured_true true refusal u e = refl
-ensured_true false refusal u e = absurd cc
-
-signer_there : (ring : List Pair) (i : Interest) (client : ℕ) → signer_of ring i ≡ Ok client → client < length ring
-signer_there ring i client e =
-    let a = bind_ok (or_refused Unsigned i.signed) (λ signed. ensured (has_its_digest i) ParamsDigest >>= λ u. or_refused UnknownKey (key_of ring i.signature_type i.locator) >>= λ signer. ensured (is_signed ring signer signed i) BadSignature >>= λ v. signs signer) client e in
-    let b = bind_ok (ensured (has_its_digest i) ParamsDigest) (λ u. or_refused UnknownKey (key_of ring i.signature_type i.locator) >>= λ signer. ensured (is_signed ring signer a.0 i) BadSignature >>= λ v. signs signer) client a.2 in
-    let d = bind_ok (or_refused UnknownKey (key_of ring i.signature_type i.locator)) (λ signer. ensured (is_signed ring signer a.0 i) BadSignature >>= λ v. signs signer) client b.2 in
-    let f = bind_ok (ensured (is_signed ring d.0 a.0 i) BadSignature) (λ v. signs d.0) client d.2 in
-    let same : d.0 ≡ client = signs_is d.0 client f.2 in
-    let small = mac_there ring d.0 a.0 (slice_get ring d.0) i.signature refl (ensured_true (is_signed ring d.0 a.0 i) BadSignature f.0 f.1) in
-    omega (arith, same, small)
-
 signed_is : (r : Result ℕ SignatureRefusal) (client : ℕ) → signed_or r ≡ Ok client → r ≡ Ok client
-signed_is (Ok n) client e = ap (λ (m : ℕ). signs m) (done_is n client e)
+signed_is (Ok n) client e = ap (λ (m : ℕ). Ok m) (done_is n client e)
 signed_is (Err refusal) client e = absurd cc
 
 -- ---- the whole
@@ -112,7 +80,7 @@ pub taken_commands : (node : List Component) (ring : List Pair) (octets : List �
 taken_commands node ring octets client c e =
     let read = bind_ok (packet_or (interest_of octets)) (interest_verdict node ring) (client, c) e in
     let i = read.0 in
-    let named = bind_ok (or_refused OtherName (verb_in node i.name)) (λ verb. signed_or (signer_of ring i) >>= λ n. parameters_of (unwrap_or i.parameters []) >>= λ p. command_from verb p >>= λ x. done (n, x)) (client, c) read.2 in
+    let named = bind_ok (ok_or (verb_in node i.name) OtherName) (λ verb. signed_or (signer_of ring i) >>= λ n. parameters_of (unwrap_or i.parameters []) >>= λ p. command_from verb p >>= λ x. done (n, x)) (client, c) read.2 in
     let signed = bind_ok (signed_or (signer_of ring i)) (λ n. parameters_of (unwrap_or i.parameters []) >>= λ p. command_from named.0 p >>= λ x. done (n, x)) (client, c) named.2 in
     let given = bind_ok (parameters_of (unwrap_or i.parameters [])) (λ p. command_from named.0 p >>= λ x. done (signed.0, x)) (client, c) signed.2 in
     let asked = bind_ok (command_from named.0 given.0) (λ x. done (signed.0, x)) (client, c) given.2 in

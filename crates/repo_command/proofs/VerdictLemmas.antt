@@ -6,11 +6,11 @@ use Rattle.ndn_tlv.specs.Listing.{◌>>=◌}
 use Rattle.ndn_name.specs.Names.{Component}
 use Rattle.ndn_sign.specs.Ring.{Pair}
 use Rattle.ndn_interest.specs.Interest.{Interest, interest_of}
+use Rattle.ndn_interest.specs.Signer.{signer_of}
 use Rattle.repo_command.specs.declared.command.Command.{Command}
 use Rattle.repo_command.specs.declared.command_refusal.CommandRefusal.{CommandRefusal}
 use Rattle.repo_command.specs.declared.command_refusal.CommandRefusal.TheVariants.{NoMemory}
 use Rattle.repo_command.specs.declared.verb.Verb.{Verb}
-use Rattle.repo_command.specs.Signer.{signer_of}
 use Rattle.repo_command.specs.Verbs.{verb_in}
 use Rattle.repo_command.specs.Parameters.{Parameters, parameters_of, command_from}
 use Rattle.repo_command.specs.Verdict.{command_verdict}

@@ -1,5 +1,5 @@
 -- Answers to commands: the octets that they are written in, and what octets are as an answer.
-use Rattle.std.specs.Prelude.{ℕ, ◌<◌, ◌^◌, List, [], ◌∷◌, ◌++◌, Option, Some, None, Result, Ok, nat_lt, ◌==◌, if◌then◌else◌}
+use Rattle.std.specs.Prelude.{ℕ, ◌<◌, ◌^◌, List, [], ◌∷◌, ◌++◌, Option, Some, None, ok_or, Result, Ok, nat_lt, ◌==◌, if◌then◌else◌}
 use Rattle.std.specs.Option.{option_and_then}
 use Rattle.std.specs.Result.{result_ok}
 use Rattle.ndn_tlv.specs.declared.tlv_fault.TlvFault.{TlvFault}
@@ -16,7 +16,6 @@ use Rattle.repo_command.specs.declared.answer_fields.AnswerField.{AnswerField}
 use Rattle.repo_command.specs.declared.answer_fields.AnswerField.TheVariants.{ProcessId, StatusCode, InsertNum, DeleteNum}
 use Rattle.repo_command.specs.ElementTypes as types
 use Rattle.repo_command.specs.OrderTables.{repo_command_response}
-use Rattle.repo_command.specs.Signer.{or_refused}
 
 -- An answer that has a code alone.
 abbrev pub only : ℕ → Answer
@@ -72,7 +71,7 @@ with_number s InsertNum n = record s { inserted = Some n }
 with_number s DeleteNum n = record s { deleted = Some n }
 
 abbrev pub with_answer_field : AnswerSoFar → AnswerField × Item → Result AnswerSoFar NoAnswer
-with_answer_field s field = or_refused none (number_of field.1.value) >>= λ n. Ok (with_number s field.0 n)
+with_answer_field s field = ok_or (number_of field.1.value) none >>= λ n. Ok (with_number s field.0 n)
 
 abbrev pub bad_field : FieldFault → NoAnswer
 bad_field fault = none

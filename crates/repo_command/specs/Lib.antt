@@ -3,13 +3,13 @@ pub use Rattle.ndn_tlv.specs.NumberField
 pub use Rattle.ndn_name.specs.Names
 pub use Rattle.ndn_sign.specs.Ring
 pub use Rattle.ndn_interest.specs.Interest
+pub use Rattle.ndn_interest.specs.Signer
 pub use Rattle.ndn_interest.specs.WrittenInterest
 pub use Rattle.repo_object.specs.Objects
 pub mod ElementTypes
 pub mod OrderTables
 pub mod Refusals
 pub mod StatusCodes
-pub mod Signer
 pub mod Verbs
 pub mod Commands
 pub mod Parameters

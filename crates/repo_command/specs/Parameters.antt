@@ -1,5 +1,5 @@
 -- What octets are as the parameters of a command, or that they are none.
-use Rattle.std.specs.Prelude.{ℕ, ◌-◌, ◌&&◌, List, [], ◌∷◌, Option, Some, None, Result, Ok, Err, nat_le, nat_lt, ◌==◌, if◌then◌else◌}
+use Rattle.std.specs.Prelude.{ℕ, ◌-◌, ◌&&◌, List, [], ◌∷◌, Option, Some, None, ok_or, Result, Ok, Err, nat_le, nat_lt, ◌==◌, if◌then◌else◌}
 use Rattle.ndn_tlv.specs.declared.order_table.FieldFault.{FieldFault}
 use Rattle.ndn_tlv.specs.Listing.{gathered, ◌>>=◌}
 use Rattle.ndn_tlv.specs.Elements.{Item, elements}
@@ -19,7 +19,6 @@ use Rattle.repo_command.specs.declared.verb.Verb.{Verb}
 use Rattle.repo_command.specs.declared.verb.Verb.TheVariants.{Insert, Check, Delete}
 use Rattle.repo_command.specs.ElementTypes as types
 use Rattle.repo_command.specs.OrderTables.{repo_command_parameter}
-use Rattle.repo_command.specs.Signer.{or_refused}
 
 -- The fields of a RepoCommandParameter, as far as they have come.
 pub record Parameters : Type 0 where
@@ -41,7 +40,7 @@ good_name (Ok name) = Ok name
 good_name (Err fault) = Err BadParameter
 
 abbrev pub number_in : Item → Result ℕ CommandRefusal
-number_in e = or_refused BadParameter (number_of e.value)
+number_in e = ok_or (number_of e.value) BadParameter
 
 abbrev pub with_parameter : Parameters → ParameterField × Item → Result Parameters CommandRefusal
 with_parameter p (Name, e) = good_name (name_of e.value_start e.value) >>= λ name. Ok (record p { name = Some name })
@@ -79,7 +78,7 @@ range_of None last = Err BadParameter
 abbrev pub command_from : Verb → Parameters → Result Command CommandRefusal
 command_from Insert p =
     object_name_of p.name >>= λ name. range_of p.first p.last >>= λ range. Ok (command.Insert name range.0 range.1)
-command_from Check p = or_refused BadParameter p.process >>= λ process. Ok (command.Check process)
+command_from Check p = ok_or p.process BadParameter >>= λ process. Ok (command.Check process)
 command_from Delete p = object_name_of p.name >>= λ name. Ok (command.Delete name)
 
 -- ---- the parameters without where their octets lie in memory

@@ -1,6 +1,6 @@
 -- A command that is not signed under a key of the ring is refused as such.
-use Rattle.repo_command.specs.declared.signature_refusal.SignatureRefusal.{SignatureRefusal}
-use Rattle.repo_command.specs.declared.signature_refusal.SignatureRefusal.TheVariants as signature
+use Rattle.ndn_interest.specs.declared.signature_refusal.SignatureRefusal.{SignatureRefusal}
+use Rattle.ndn_interest.specs.declared.signature_refusal.SignatureRefusal.TheVariants as signature
 use Rattle.repo_command.specs.declared.command_refusal.CommandRefusal.{CommandRefusal}
 use Rattle.repo_command.specs.declared.command_refusal.CommandRefusal.TheVariants.{Unsigned, ParamsDigest, UnknownKey, BadSignature}
 

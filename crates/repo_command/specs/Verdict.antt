@@ -1,16 +1,16 @@
 -- Whose command octets are, and which, or the first reason why they are none that a node's repository takes.
-use Rattle.std.specs.Prelude.{ℕ, List, [], unwrap_or, Result, Ok, Err}
+use Rattle.std.specs.Prelude.{ℕ, List, [], unwrap_or, ok_or, Result, Ok, Err}
 use Rattle.ndn_tlv.specs.Listing.{◌>>=◌}
 use Rattle.ndn_name.specs.declared.fault.PacketFault.{PacketFault}
 use Rattle.ndn_name.specs.Names.{Component}
 use Rattle.ndn_sign.specs.Ring.{Pair}
+use Rattle.ndn_interest.specs.declared.signature_refusal.SignatureRefusal.{SignatureRefusal}
 use Rattle.ndn_interest.specs.Interest.{Interest, interest_of}
+use Rattle.ndn_interest.specs.Signer.{signer_of}
 use Rattle.repo_command.specs.declared.command.Command.{Command}
-use Rattle.repo_command.specs.declared.signature_refusal.SignatureRefusal.{SignatureRefusal}
 use Rattle.repo_command.specs.declared.command_refusal.CommandRefusal.{CommandRefusal}
 use Rattle.repo_command.specs.declared.command_refusal.CommandRefusal.TheVariants.{Packet, OtherName}
 use Rattle.repo_command.specs.Refusals.{unsigned_as}
-use Rattle.repo_command.specs.Signer.{or_refused, signer_of}
 use Rattle.repo_command.specs.Verbs.{verb_in}
 use Rattle.repo_command.specs.Parameters.{parameters_of, command_from}
 
@@ -25,7 +25,7 @@ signed_or (Err refusal) = Err (unsigned_as refusal)
 -- The number of the key that signed a command for the node, and the command; or the first refusal.
 abbrev pub interest_verdict : List Component → List Pair → Interest → Result (ℕ × Command) CommandRefusal
 interest_verdict node ring i = do
-  verb ← or_refused OtherName (verb_in node i.name)
+  verb ← ok_or (verb_in node i.name) OtherName
   client ← signed_or (signer_of ring i)
   parameters ← parameters_of (unwrap_or i.parameters [])
   command ← command_from verb parameters

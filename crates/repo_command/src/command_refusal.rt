@@ -1,8 +1,8 @@
 ghost use Rattle.std.specs.Prelude.{◌≡◌};
 ghost use Rattle.repo_command.specs.StatusCodes.{refusal_code};
 
-use crate::signature_refusal::SignatureRefusal;
 use crate::status_codes::{MALFORMED, NOT_VALIDATED};
+use ndn_interest::SignatureRefusal;
 use ndn_name::PacketFault;
 use thiserror::Error;
 

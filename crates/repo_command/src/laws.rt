@@ -1,9 +1,7 @@
 ghost use Rattle.std.specs.Prelude.{◌≡◌, ◌^◌, ◌<◌, ◌≤◌, ◌↔◌, ◌++◌, ◌∷◌, [], ℕ, List, Ok, Err, Some, IsTrue, length, slice_get, if◌then◌else◌};
 ghost use Rattle.ndn_tlv.specs.Types as standard;
 ghost use Rattle.ndn_name.specs.Names.{Component, IsName, encoding};
-ghost use Rattle.ndn_sign.specs.Hmac.{hmac};
 ghost use Rattle.ndn_sign.specs.Ring.{Pair, number_of, pair};
-ghost use Rattle.ndn_interest.specs.Interest.{Interest, IsDigested};
 ghost use Rattle.repo_command.specs.declared.answer.Answer.{Answer};
 ghost use Rattle.repo_command.specs.declared.command.Command.{Command};
 ghost use Rattle.repo_command.specs.declared.command_refusal.CommandRefusal.TheVariants.{BadParameter};
@@ -11,7 +9,6 @@ ghost use Rattle.repo_command.specs.declared.verb.Verb.{Verb};
 ghost use Rattle.repo_command.specs.ElementTypes as types;
 ghost use Rattle.repo_command.specs.OrderTables.{repo_command_parameter, repo_command_response};
 ghost use Rattle.repo_command.specs.StatusCodes as status;
-ghost use Rattle.repo_command.specs.Signer.{has_its_digest, is_signed};
 ghost use Rattle.repo_command.specs.Verbs.{verb_component, verb_in};
 ghost use Rattle.repo_command.specs.Commands.{named_length, is_command, command_interest, IsSpelled};
 ghost use Rattle.repo_command.specs.Verdict.{command_verdict};
@@ -68,17 +65,11 @@ pub fn taken_commands_are_within_limits()
         → IsTrue (is_command command) × (client < length ring) }
 {}
 
-/// What the tests of a command's name, digest and signature say. The name is the node's, the verb and one parameters
-/// digest; and the signature is the mac, under the key of that number, of what is signed.
+/// What the test of a command's name says: it is the node's, the verb and one parameters digest.
 pub fn commands_are_tested()
-    ensures name { (node name : List Component) (verb : Verb) → IsName node → IsName name
+    ensures { (node name : List Component) (verb : Verb) → IsName node → IsName name
         → (verb_in node name ≡ Some verb)
         ↔ ((digest : List ℕ) × (name ≡ node ++ verb_component verb ∷ (standard.ParametersSha256DigestComponent, digest) ∷ [])) }
-    ensures digest { (i : Interest) → IsTrue (has_its_digest i) ↔ IsDigested i }
-    ensures signature { (ring : List Pair) (signer : ℕ) (signed : List ℕ × List ℕ) (i : Interest)
-        → IsTrue (is_signed ring signer signed i)
-        ↔ ((pair : Pair) × (slice_get ring signer ≡ Some pair)
-        × (i.signature ≡ Some (hmac pair.key (signed.0 ++ signed.1)))) }
 {}
 
 /// An answer that was written is read back.

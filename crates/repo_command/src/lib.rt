@@ -10,8 +10,6 @@ mod command_refusal;
 mod element_types;
 mod laws;
 mod parameters;
-mod signature_refusal;
-mod signer;
 pub mod status_codes;
 mod verb;
 
@@ -23,8 +21,6 @@ pub use laws::{
     commands_are_tested, made_commands_are_checked, order_tables_are_the_profiles,
     status_codes_are_the_profiles, taken_commands_are_within_limits, written_answers_are_read,
 };
-pub use signature_refusal::SignatureRefusal;
-pub use signer::signer_of;
 
 #[cfg(test)]
 mod tests;

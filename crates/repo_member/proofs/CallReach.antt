@@ -19,7 +19,7 @@ use Rattle.repo_member.specs.Verdicts.{hear_verdict, passed, claim_verdict, acce
 use Rattle.repo_member.specs.Calls.{MemberCall, Publish, Hear, JoinFrom, Fire, Claim, Lose, Accept, TakeOutcome, Command, Block, EndClaims, Reset, Restart, if_heard, if_joined, if_claimed, if_lost, if_accepted, after_call, after_calls, IsAllowedCall, AreAllowedCalls, InEveryMember}
 use Rattle.repo_member.proofs.MemberLemmas.{still_wide}
 use Rattle.repo_member.proofs.CallVectors.{told_is}
-use Rattle.repo_member.proofs.ToldWidth.{told_wide}
+use Rattle.svs_sync.proofs.ToldWidth.{told_wide}
 use Rattle.repo_member.proofs.HeldParts.{IsReached, PassesNow, reached_opening, reached_with, reached_learns, reached_gains}
 use Rattle.repo_member.proofs.PublishedParts.{reached_publishes}
 use Rattle.repo_member.proofs.FetchedParts.{reached_takes}

@@ -23,7 +23,6 @@ mod EventLemmas
 mod OutcomeLemmas
 mod CallLogs
 mod CallVectors
-mod ToldWidth
 mod PlanChanges
 mod HeldParts
 mod PublishedParts

@@ -3,4 +3,4 @@ pub mod OctetLemmas
 pub mod NameLemmas
 pub mod LengthLemmas
 pub mod VerdictLemmas
-pub mod TestLemmas
+pub mod ToldWidth

@@ -7,8 +7,8 @@ use Rattle.ndn_tlv.specs.Spelling.{number, head, element}
 use Rattle.ndn_tlv.specs.Elements.{IsOctets}
 use Rattle.ndn_name.specs.Names.{Component, IsComponent, IsName, encoding}
 use Rattle.ndn_name.proofs.Encodings.{encoding-push, encoding-same, IsName-append, IsOctets-behind}
-use Rattle.ndn_interest.specs.Interest.{last_component, without_last, ends_in_digest}
-use Rattle.ndn_interest.proofs.LastLemmas.{digest_ends}
+use Rattle.ndn_interest.specs.Interest.{without_last, ends_in_digest}
+use Rattle.ndn_interest.proofs.LastLemmas.{digest_ends, without-push, ends-push}
 use Rattle.svs_vector.specs.Rosters.{is_same_name}
 use Rattle.svs_sync.proofs.OctetLemmas.{IsOctets-encoding}
 use Rattle.svs_sync.specs.SyncInterest.{sync_name, is_sync_name}
@@ -42,24 +42,6 @@ two (suc i) = omega arith
 
 pub version : IsComponent (0x36, 2 ∷ [])
 version = record { above = omega arith; below = omega arith; digest = λ h. absurd (omega (arith, h)); long = omega arith; octets = two }
-
--- ---- a name and a component behind it
-
-slice_get-push : (name : List Component) (c : Component) → slice_get (name ++ c ∷ []) (length name) ≡ Some c
-slice_get-push [] c = refl
-slice_get-push (d ∷ name) c = slice_get-push name c
-
-last_place : (name : List Component) (c : Component) → length (name ++ c ∷ []) - 1 ≡ length name
-last_place name c = omega (arith, length-append name (c ∷ []))
-
-pub last-push : (name : List Component) (c : Component) → last_component (name ++ c ∷ []) ≡ Some c
-last-push name c = ap (slice_get (name ++ c ∷ [])) (last_place name c) ∙ slice_get-push name c
-
-without-push : (name : List Component) (c : Component) → without_last (name ++ c ∷ []) ≡ name
-without-push name c = ap (λ (n : ℕ). take n (name ++ c ∷ [])) (last_place name c) ∙ take_at name (c ∷ []) (length name) refl
-
-ends-push : (name : List Component) (digest : List ℕ) → ends_in_digest (name ++ (2, digest) ∷ []) ≡ true
-ends-push name digest = ap (λ (o : Option Component). option_map_or (λ c. eqb c.0 2) o false) (last-push name (2, digest))
 
 pub is_sync_name-made : (group : List Component) (digest : List ℕ) → is_sync_name group (sync_name group ++ (2, digest) ∷ []) ≡ true
 is_sync_name-made group digest =

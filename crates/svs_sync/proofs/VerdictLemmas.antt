@@ -1,37 +1,29 @@
 -- The verdict on a sync Interest that was made.
 use Rattle.std.proofs.Common.{◌≡◌, ℕ, ◌≤◌, true, List, [], ◌∷◌, ◌++◌, length, slice_get, Some, Result, Ok, refl, ap, ◌∙◌}
 use Rattle.std.specs.List.{All}
-use Rattle.std.specs.Str.{bytes_eq}
-use Rattle.std.proofs.lemmas.Slice.Eq.{bytes_eq-Decides}
 use Rattle.sha2.specs.Sha256.{sha256}
 use Rattle.ndn_tlv.specs.Listing.{◌>>=◌}
 use Rattle.ndn_name.specs.declared.fault.PacketFault.{PacketFault}
 use Rattle.ndn_name.specs.Names.{Component, IsName, encoding}
 use Rattle.ndn_name.proofs.Encodings.{IsName-append}
-use Rattle.ndn_sign.specs.Hmac.{hmac}
 use Rattle.ndn_sign.specs.Ring.{Pair, number_of, pair}
 use Rattle.ndn_interest.specs.Interest.{Interest}
-use Rattle.ndn_interest.specs.WrittenInterest.{written_parameters, written_digested, read_signed}
+use Rattle.ndn_interest.specs.WrittenInterest.{written_digested, read_signed}
 use Rattle.ndn_interest.proofs.ReadBackLemmas.{signed_again}
+use Rattle.ndn_interest.proofs.SignerLemmas.{signer_again}
 use Rattle.svs_vector.specs.StateVector.{vector_of}
 use Rattle.svs_vector.specs.WrittenVector.{written_vector}
 use Rattle.svs_sync.specs.SyncInterest.{sync_name, sync_interest, sync_verdict, interest_verdict, packet_or, IsNodeName, IsKeyName}
-use Rattle.svs_sync.proofs.NameLemmas.{version, last-push, is_sync_name-made}
+use Rattle.svs_sync.proofs.NameLemmas.{version, is_sync_name-made}
 use Rattle.svs_sync.proofs.LengthLemmas.{sync_interest_short}
-
-same_octets : (octets : List ℕ) → bytes_eq octets octets ≡ true
-same_octets octets = (bytes_eq-Decides octets octets).1 refl
 
 module _ (group : List Component) (roster : List (List Component)) (ring : List Pair) (vector : List ℕ) (key_name : List Component) (key : List ℕ) (signer : ℕ) (found : number_of (encoding key_name) ring ≡ Some signer) (at : slice_get ring signer ≡ Some (pair (encoding key_name) key)) (read : vector_of roster (written_vector roster vector) ≡ Ok vector) where
   made_verdict : interest_verdict group roster ring (read_signed (sync_name group) (written_vector roster vector) key_name key) ≡ Ok (signer, vector)
   made_verdict =
       let name = sync_name group in
       let parameters = written_vector roster vector in
-      let digested = written_digested name parameters key_name key in
-      let digest = sha256 digested in
-      let portion = written_parameters parameters key_name in
-      let mac = hmac key (encoding name ++ portion) in
-      rw (is_sync_name-made group digest, last-push name (2, digest), same_octets digest, found, at, same_octets mac, read) refl
+      let digest = sha256 (written_digested name parameters key_name key) in
+      rw (is_sync_name-made group digest, signer_again name key_name parameters key ring signer found at, read) refl
 
   pub made_is_checked : IsName group → IsNodeName group → length roster ≤ 16 → All IsNodeName roster → IsName key_name → IsKeyName key_name
       → sync_verdict group roster ring (sync_interest group vector roster key_name key) ≡ Ok (signer, vector)

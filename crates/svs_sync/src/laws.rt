@@ -1,13 +1,11 @@
 ghost use Rattle.std.specs.Prelude.{◌≡◌, ◌^◌, ◌<◌, ◌↔◌, ◌++◌, ◌∷◌, [], ℕ, List, Ok, Some, length, slice_get, IsTrue};
 ghost use Rattle.std.specs.List.{All};
 ghost use Rattle.ndn_name.specs.Names.{Component, IsName, encoding};
-ghost use Rattle.ndn_sign.specs.Hmac.{hmac};
 ghost use Rattle.ndn_sign.specs.Ring.{Pair, number_of, pair};
-ghost use Rattle.ndn_interest.specs.Interest.{Interest, IsDigested};
 ghost use Rattle.svs_vector.specs.Rosters.{IsRoster};
 ghost use Rattle.svs_sync.specs.Suppression.{Event, Member, after_all, fires, mode_of};
 ghost use Rattle.ndn_tlv.specs.Types as types;
-ghost use Rattle.svs_sync.specs.SyncInterest.{sync_interest, sync_verdict, is_sync_name, has_its_digest, is_signed, IsNodeName, IsKeyName};
+ghost use Rattle.svs_sync.specs.SyncInterest.{sync_interest, sync_verdict, is_sync_name, IsNodeName, IsKeyName};
 ghost use Rattle.svs_sync.specs.KeptVector.{kept, after_all_kept, fires_kept};
 
 /// After any list of events, what is kept is what the table says over the list of vectors heard since the member was last
@@ -34,16 +32,17 @@ pub fn made_sync_interests_are_checked()
         ≡ Ok (signer, vector) }
 {}
 
-/// What the tests of a sync Interest's name, digest and signature say. The name is the group's,
-/// version 2 and one parameters digest; and the signature is the mac, under the key of that number,
-/// of what is signed.
+/// What the test of a sync Interest's name says: it is the group's, version 2 and one parameters
+/// digest.
 pub fn sync_interests_are_tested()
-    ensures name { (group name : List Component) → IsName group → IsName name
+    ensures { (group name : List Component) → IsName group → IsName name
         → IsTrue (is_sync_name group name)
         ↔ ((digest : List ℕ) × (name ≡ group ++ (types.VersionNameComponent, 2 ∷ []) ∷ (types.ParametersSha256DigestComponent, digest) ∷ [])) }
-    ensures digest { (i : Interest) → IsTrue (has_its_digest i) ↔ IsDigested i }
-    ensures signature { (ring : List Pair) (signer : ℕ) (signed : List ℕ × List ℕ) (i : Interest)
-        → IsTrue (is_signed ring signer signed i)
-        ↔ ((pair : Pair) × (slice_get ring signer ≡ Some pair)
-        × (i.signature ≡ Some (hmac pair.key (signed.0 ++ signed.1)))) }
+{}
+
+/// The vector that a sync Interest tells has a number for each member.
+pub fn told_vectors_have_all_members()
+    ensures { (group : List Component) (roster : List (List Component)) (ring : List Pair)
+        (octets : List ℕ) (told : ℕ × List ℕ)
+        → sync_verdict group roster ring octets ≡ Ok told → length told.1 ≡ length roster }
 {}

@@ -1,12 +1,10 @@
 ghost use Rattle.std.specs.Prelude.{◌≡◌, ◌≤◌, ◌⊎◌, IfOk, IsTrue, MatchResult, Ok, Err, Some, length, slice_get, is_some};
 ghost use Rattle.std.specs.List.{All};
-ghost use Rattle.ndn_interest.specs.Interest.{packet};
-ghost use Rattle.svs_sync.specs.SyncInterest.{sync_name, sync_interest, sync_verdict, is_sync_name, key_of, IsNodeName, IsKeyName};
+ghost use Rattle.svs_sync.specs.SyncInterest.{sync_name, sync_interest, sync_verdict, is_sync_name, IsNodeName, IsKeyName};
 
 use crate::sync_refusal::SyncRefusal;
-use ndn_interest::{InterestView, write_signed};
+use ndn_interest::{InterestView, signer_of, write_signed};
 use ndn_name::{Name, NameFault, NameView, PacketWriteFault};
-use ndn_packet::SIGNATURE_HMAC_WITH_SHA256;
 use ndn_sign::KeyRing;
 use ndn_tlv::types;
 use std::alloc::{AllocError, Global};
@@ -86,15 +84,7 @@ pub fn check_sync(
     if !is_sync_name(&interest.name, group) {
         return Err(SyncRefusal::WrongGroup);
     }
-    let (first, second) = interest.signed_portion().ok_or(SyncRefusal::Unsigned)?;
-    if !interest.params_digest_matches() {
-        return Err(SyncRefusal::ParamsDigest);
-    }
-    let signer = key_of(&interest, ring).ok_or(SyncRefusal::UnknownKey)?;
-    let signature = interest.signature;
-    if !signature.is_some_and(|mac| ring.check_mac(signer, first, second, mac)) {
-        return Err(SyncRefusal::BadSignature);
-    }
+    let signer = signer_of(&interest, ring)?;
     match Vector::read(alloc, interest.parameters.unwrap_or(&[]), roster) {
         Ok(vector) => Ok((signer, vector)),
         Err(VectorFault::NoMemory) => Err(SyncRefusal::NoMemory),
@@ -112,16 +102,5 @@ fn is_sync_name(name: &NameView<'_>, group: &Name) -> bool
     match behind.strip_prefix(&BEHIND_GROUP) {
         Some(digest) => digest.len() == 32,
         None => false,
-    }
-}
-
-// The number of the key that an Interest names, where it is signed by HMAC with SHA-256.
-fn key_of(interest: &InterestView<'_>, ring: &KeyRing) -> Option<u32>
-    ensures { result
-        ≡ key_of ring.now (packet interest.now).signature_type (packet interest.now).locator }
-{
-    match (interest.signature_type, &interest.locator) {
-        (Some(SIGNATURE_HMAC_WITH_SHA256), Some(name)) => ring.find(name.octets()),
-        _ => None,
     }
 }

@@ -1,3 +1,4 @@
+use ndn_interest::SignatureRefusal;
 use ndn_name::PacketFault;
 use svs_vector::VectorFault;
 use thiserror::Error;
@@ -35,5 +36,21 @@ impl From<PacketFault> for SyncRefusal {
 
     fn from(fault: PacketFault) -> SyncRefusal {
         SyncRefusal::Packet(fault)
+    }
+}
+
+impl From<SignatureRefusal> for SyncRefusal {
+    ghost use Rattle.std.specs.Prelude.{◌≡◌};
+    ghost use Rattle.svs_sync.specs.SyncInterest.{unsigned_as};
+
+    ghost from_gives = { λ refusal as_sync. as_sync ≡ unsigned_as refusal };
+
+    fn from(refusal: SignatureRefusal) -> SyncRefusal {
+        match refusal {
+            SignatureRefusal::Unsigned => SyncRefusal::Unsigned,
+            SignatureRefusal::ParamsDigest => SyncRefusal::ParamsDigest,
+            SignatureRefusal::UnknownKey => SyncRefusal::UnknownKey,
+            SignatureRefusal::BadSignature => SyncRefusal::BadSignature,
+        }
     }
 }

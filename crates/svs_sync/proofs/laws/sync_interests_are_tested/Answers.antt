@@ -1,12 +1,5 @@
 use Rattle.svs_sync.proofs.NameLemmas.{name_is_tested}
-use Rattle.svs_sync.proofs.TestLemmas.{digest_is_tested, signature_is_tested}
 use Rattle.svs_sync.proofs.laws.sync_interests_are_tested.Goals as goal
 
-pub returns-clause-name : goal.returns-clause-name
-returns-clause-name c = name_is_tested
-
-pub returns-clause-digest : goal.returns-clause-digest
-returns-clause-digest c = digest_is_tested
-
-pub returns-clause-signature : goal.returns-clause-signature
-returns-clause-signature c = signature_is_tested
+pub returns : goal.returns
+returns c = name_is_tested

@@ -1,6 +1,6 @@
 -- Who signed an Interest, among those whose keys a ring has, or the first reason why nobody did (NDN Packet Format 0.3,
 -- "Signed Interest"; RFC 2104).
-use Rattle.std.specs.Prelude.{ℕ, Bool, false, ◌&&◌, List, ◌++◌, Option, Some, None, Result, Ok, Err, slice_get, ◌==◌, if◌then◌else◌}
+use Rattle.std.specs.Prelude.{ℕ, Bool, false, ◌&&◌, List, ◌++◌, Option, Some, None, ok_or, Result, Ok, Err, slice_get, ◌==◌, if◌then◌else◌}
 use Rattle.std.specs.Option.{option_map_or}
 use Rattle.std.specs.Str.{bytes_eq}
 use Rattle.sha2.specs.Sha256.{sha256}
@@ -11,16 +11,12 @@ use Rattle.ndn_sign.specs.Hmac.{hmac}
 use Rattle.ndn_sign.specs.Ring.{Pair, number_of}
 use Rattle.ndn_packet.specs.SignatureInfo.{SignatureHmacWithSha256}
 use Rattle.ndn_interest.specs.Interest.{Interest, last_component}
-use Rattle.repo_command.specs.declared.signature_refusal.SignatureRefusal.{SignatureRefusal}
-use Rattle.repo_command.specs.declared.signature_refusal.SignatureRefusal.TheVariants.{Unsigned, ParamsDigest, UnknownKey, BadSignature}
+use Rattle.ndn_interest.specs.declared.signature_refusal.SignatureRefusal.{SignatureRefusal}
+use Rattle.ndn_interest.specs.declared.signature_refusal.SignatureRefusal.TheVariants.{Unsigned, ParamsDigest, UnknownKey, BadSignature}
 
--- A refusal, where a test fails, or where something is not there.
+-- A refusal, where a test fails.
 abbrev pub ensured : {E : Type 0} → Bool → E → Result (Unit {0}) E
 ensured passes refusal = if passes then Ok tt else Err refusal
-
-abbrev pub or_refused : {A E : Type 0} → E → Option A → Result A E
-or_refused refusal (Some x) = Ok x
-or_refused refusal None = Err refusal
 
 -- The last component of the name is the digest of the octets.
 abbrev pub is_digest_of : List ℕ → Option Component → Bool
@@ -47,8 +43,8 @@ is_signed ring signer signed i = option_map_or (is_mac signed (slice_get ring si
 -- The number of the key that signed an Interest, or the first refusal.
 abbrev pub signer_of : List Pair → Interest → Result ℕ SignatureRefusal
 signer_of ring i = do
-  signed ← or_refused Unsigned i.signed
+  signed ← ok_or i.signed Unsigned
   _ ← ensured (has_its_digest i) ParamsDigest
-  signer ← or_refused UnknownKey (key_of ring i.signature_type i.locator)
+  signer ← ok_or (key_of ring i.signature_type i.locator) UnknownKey
   _ ← ensured (is_signed ring signer signed i) BadSignature
   Ok signer

@@ -1,9 +1,9 @@
 ghost use Rattle.std.specs.Prelude.{◌≡◌, Ok, Err, MatchResult};
 ghost use Rattle.ndn_interest.specs.Interest.{packet};
-ghost use Rattle.repo_command.specs.Signer.{key_of, signer_of};
+ghost use Rattle.ndn_interest.specs.Signer.{key_of, signer_of};
 
+use crate::interest_view::InterestView;
 use crate::signature_refusal::SignatureRefusal;
-use ndn_interest::InterestView;
 use ndn_packet::SIGNATURE_HMAC_WITH_SHA256;
 use ndn_sign::KeyRing;
 

@@ -8,13 +8,14 @@ use Rattle.ndn_name.specs.Names.{Component}
 use Rattle.ndn_name.proofs.Encodings.{bind_ok}
 use Rattle.ndn_sign.specs.Ring.{Pair}
 use Rattle.ndn_interest.specs.Interest.{Interest, interest_of}
+use Rattle.ndn_interest.specs.Signer.{ensured, signer_of}
 use Rattle.svs_vector.specs.declared.vector_fault.VectorFault.{VectorFault}
 use Rattle.svs_vector.specs.declared.vector_fault.VectorFault.TheVariants.{NumberTooLarge}
 use Rattle.svs_vector.specs.Rosters.{member_of}
 use Rattle.svs_vector.specs.StateVector.{entry_in, counted, with_entry, vector_in, vector_among, vector_of, fault_in}
 use Rattle.svs_sync.specs.declared.sync_refusal.SyncRefusal.{SyncRefusal}
-use Rattle.svs_sync.specs.declared.sync_refusal.SyncRefusal.TheVariants.{WrongGroup, Unsigned, ParamsDigest, UnknownKey, BadSignature}
-use Rattle.svs_sync.specs.SyncInterest.{ensured, or_refused, packet_or, vector_or, is_sync_name, has_its_digest, key_of, is_signed, interest_verdict, sync_verdict}
+use Rattle.svs_sync.specs.declared.sync_refusal.SyncRefusal.TheVariants.{WrongGroup}
+use Rattle.svs_sync.specs.SyncInterest.{packet_or, signed_or, vector_or, is_sync_name, interest_verdict, sync_verdict}
 
 counted_wide : (v : List ℕ) (n : ℕ) (member : Option ℕ) (w : List ℕ) → counted v n member ≡ Ok w → length w ≡ length v
 counted_wide v n None w h = let same : v ≡ w = cc in ap (λ (u : List ℕ). length u) (sym same)
@@ -55,33 +56,20 @@ module _ (roster : List (List Component)) where
     abbrev read : Result (List ℕ) SyncRefusal
     read = vector_or (vector_of roster (unwrap_or i.parameters []))
 
-    abbrev with_mac : ℕ → List ℕ × List ℕ → Result (ℕ × List ℕ) SyncRefusal
-    with_mac signer signed = ensured (is_signed ring signer signed i) BadSignature >>= λ u. read >>= λ v. Ok (signer, v)
+    abbrev with_signer : ℕ → Result (ℕ × List ℕ) SyncRefusal
+    with_signer signer = read >>= λ v. Ok (signer, v)
 
-    mac_wide : (signer : ℕ) (signed : List ℕ × List ℕ) (told : ℕ × List ℕ) → with_mac signer signed ≡ Ok told → length told.1 ≡ length roster
-    mac_wide signer signed told h =
-        let mac = bind_ok (ensured (is_signed ring signer signed i) BadSignature) (λ u. read >>= λ v. Ok (signer, v)) told h in
-        let vector = bind_ok read (λ v. Ok (signer, v)) told mac.2 in
+    vector_told : (signer : ℕ) (told : ℕ × List ℕ) → with_signer signer ≡ Ok told → length told.1 ≡ length roster
+    vector_told signer told h =
+        let vector = bind_ok read (λ v. Ok (signer, v)) told h in
         let same : vector.0 ≡ told.1 = ap (λ r. vector_in_it r vector.0) vector.2 in
         ap (λ (u : List ℕ). length u) (sym same) ∙ vector_wide (unwrap_or i.parameters []) vector.0 (vector_or_ok (vector_of roster (unwrap_or i.parameters [])) vector.0 vector.1)
 
-    abbrev with_signer : List ℕ × List ℕ → Result (ℕ × List ℕ) SyncRefusal
-    with_signer signed = or_refused UnknownKey (key_of ring i.signature_type i.locator) >>= λ signer. with_mac signer signed
-
-    abbrev with_digest : List ℕ × List ℕ → Result (ℕ × List ℕ) SyncRefusal
-    with_digest signed = ensured (has_its_digest i) ParamsDigest >>= λ u. with_signer signed
-
-    digest_wide : (signed : List ℕ × List ℕ) (told : ℕ × List ℕ) → with_digest signed ≡ Ok told → length told.1 ≡ length roster
-    digest_wide signed told h =
-        let digest = bind_ok (ensured (has_its_digest i) ParamsDigest) (λ u. with_signer signed) told h in
-        let signer = bind_ok (or_refused UnknownKey (key_of ring i.signature_type i.locator)) (λ signer. with_mac signer signed) told digest.2 in
-        mac_wide signer.0 signed told signer.2
-
     interest_wide : (told : ℕ × List ℕ) → interest_verdict group roster ring i ≡ Ok told → length told.1 ≡ length roster
     interest_wide told h =
-        let named = bind_ok (ensured (is_sync_name group i.name) WrongGroup) (λ u. or_refused Unsigned i.signed >>= with_digest) told h in
-        let signed = bind_ok (or_refused Unsigned i.signed) with_digest told named.2 in
-        digest_wide signed.0 told signed.2
+        let named = bind_ok (ensured (is_sync_name group i.name) WrongGroup) (λ u. signed_or (signer_of ring i) >>= with_signer) told h in
+        let signed = bind_ok (signed_or (signer_of ring i)) with_signer told named.2 in
+        vector_told signed.0 told signed.2
 
   pub told_wide : (group : List Component) (ring : List Pair) (octets : List ℕ) (told : ℕ × List ℕ) → sync_verdict group roster ring octets ≡ Ok told → length told.1 ≡ length roster
   told_wide group ring octets told h =
