@@ -20,8 +20,8 @@ pub record SentList : Type 0 where
   pub spare : ℕ
 
 -- The octets of the packet of a number.
-abbrev pub octets_of : List SentPacket → ℕ → Option (List ℕ)
-octets_of packets k =
+abbrev pub sent_octets : List SentPacket → ℕ → Option (List ℕ)
+sent_octets packets k =
     if k == 0 then None else option_map (λ (p : SentPacket). p.octets) (slice_get packets (k - 1))
 
 -- The sender sent a packet that tells of this vector.

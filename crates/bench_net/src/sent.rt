@@ -1,5 +1,5 @@
 ghost use Rattle.std.specs.Prelude.{◌≡◌, ◌+◌, ◌-◌, ◌<◌, [], ◌∷◌, ◌++◌, length, max, IfOk, OnOk, OnErr, option_map};
-ghost use Rattle.bench_net.specs.SentList.{octets_of, sent_packet, was_sent};
+ghost use Rattle.bench_net.specs.SentList.{sent_octets, sent_packet, was_sent};
 
 use indexmap::IndexSet;
 use std::alloc::{AllocError, Global};
@@ -118,7 +118,7 @@ impl Sent {
 
     /// The octets of the packet of that number.
     pub fn octets(&self, k: u32) -> Option<&[u8]>
-        ensures { option_map (λ octets. octets.now) result ≡ octets_of self.now.packets k }
+        ensures { option_map (λ octets. octets.now) result ≡ sent_octets self.now.packets k }
     {
         let place = k.checked_sub(1)?;
         let packet = self.packets.get(place as usize)?;

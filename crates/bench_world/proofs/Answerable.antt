@@ -11,13 +11,12 @@ use Rattle.sha2.proofs.Facts256.{length-sha256}
 use Rattle.ndn_tlv.specs.Listing.{◌>>=◌}
 use Rattle.ndn_tlv.specs.NumberField.{number_field}
 use Rattle.ndn_name.specs.declared.fault.PacketFault.{PacketFault}
-use Rattle.ndn_name.specs.Names.{Component, encoding}
+use Rattle.ndn_name.specs.Names.{Component, encoding, full_name}
 use Rattle.ndn_interest.specs.Interest.{Interest, interest_of}
 use Rattle.ndn_interest.specs.WrittenInterest.{read_plain}
 use Rattle.ndn_interest.proofs.DigestLemmas.{IsOctets-sha256}
 use Rattle.ndn_data.specs.Data.{Data, data_of, Satisfies}
-use Rattle.ndn_data.specs.FullName.{full_name}
-use Rattle.svs_vector.specs.Rosters.{is_same_name}
+use Rattle.svs_vector.specs.Rosters.{has_same_octets}
 use Rattle.repo_plan.specs.declared.part.Part.{Part}
 use Rattle.repo_plan.specs.SortedList.{keys, value_of, contains}
 use Rattle.repo_plan.specs.Parts.{Pair, part_cmp, pair_of}
@@ -46,7 +45,7 @@ use Rattle.repo_member.specs.InGroup.{in_group, AreLogs, true_packet}
 use Rattle.repo_member.specs.TrueMembers.{IsTrueMember, true_want}
 use Rattle.repo_member.proofs.PublicLaws.{stores_those}
 use Rattle.bench_world.specs.Worlds.{GroupState, IsTrueState, alone_at, in_groups, logs_around, world_of}
-use Rattle.bench_world.specs.Serving.{judged, found, came_of, keyed}
+use Rattle.bench_world.specs.Serving.{judged_packet, found, came_of, keyed}
 use Rattle.bench_world.specs.EventValues.{answer_told}
 use Rattle.bench_world.specs.Answerable.{AreAllClear, IsKept}
 use Rattle.bench_world.proofs.States.{member_at, many_logs, sound_state}
@@ -117,9 +116,9 @@ module _ (g : GroupKeys) (logs : Logs) (are : AreLogs g logs) where
 
     differ : (k j : ℕ) → k < j → j < length g.members.names → get_or g.members.names k [] ≡ get_or g.members.names j [] → ⊥
     differ k j l inside h =
-        let same : is_same_name (get_or g.members.names k []) (get_or g.members.names j []) ≡ true =
+        let same : has_same_octets (get_or g.members.names k []) (get_or g.members.names j []) ≡ true =
         (bytes_eq-Decides (encoding (get_or g.members.names k [])) (encoding (get_or g.members.names j []))).1 (ap encoding h) in
-        true≢false (sym same ∙ apart_from_distinct is_same_name g.members.names k j [] are.group.members.roster.different l inside)
+        true≢false (sym same ∙ apart_from_distinct has_same_octets g.members.names k j [] are.group.members.roster.different l inside)
 
   segment_of : (t : Part) → IsPublishedPart logs t → (octets : List ℕ) → true_packet g logs t ≡ Some octets → (t.part == 0) ≡ false → SegmentPacket (publisher_at g t.publisher) (object_at logs (pair_of t)) (t.part - 1) octets
   segment_of t is octets its p =
@@ -242,7 +241,7 @@ module _ (g : GroupKeys) (logs : Logs) (are : AreLogs g logs) where
 
     pub gives_its : AreAllClear g logs → (t : Part) → IsPublishedPart logs t → contains part_cmp (keys a.store) t ≡ true → came_of g logs (keys a.store) t ≡ Its
     gives_its clear t is holds =
-        ap (λ (es : List Packet). judged g logs t (found (served (true_want g logs t).interest es))) (sym (stores_those g logs a truly))
+        ap (λ (es : List Packet). judged_packet g logs t (found (served (true_want g logs t).interest es))) (sym (stores_those g logs a truly))
         ∙ go (option_map (λ s. s.0) (first_served asking a.store)) (first_is (true_want g logs t).interest asking interest) where
           y : List ℕ
           y = unwrap_or (true_packet g logs t) []
@@ -260,7 +259,7 @@ module _ (g : GroupKeys) (logs : Logs) (are : AreLogs g logs) where
           stored None e = absurd (true≢false (sym holds ∙ sym (has_value a.store t) ∙ ap is_some e))
           stored (Some x) e = e ∙ sym (truly.packets t x e) ∙ packet_is g logs t are is
 
-          go : (o : Option Part) → served_part (true_want g logs t).interest a.store ≡ Ok o → judged g logs t (found (served (true_want g logs t).interest a.store)) ≡ Its
+          go : (o : Option Part) → served_part (true_want g logs t).interest a.store ≡ Ok o → judged_packet g logs t (found (served (true_want g logs t).interest a.store)) ≡ Its
           go None e =
               let none = served_least (true_want g logs t).interest a.store (read_plain (asked_name (true_want g logs t).name (true_want g logs t).digest) false) None truly.sound.in_order.held interest e in
               absurd (true≢false (sym (own_asked t is (unwrap_or (true_packet g logs t) []) its) ∙ none refl t (unwrap_or (true_packet g logs t) []) (stored (value_of part_cmp a.store t) refl)))
@@ -268,7 +267,7 @@ module _ (g : GroupKeys) (logs : Logs) (are : AreLogs g logs) where
               let found_u = (served_least (true_want g logs t).interest a.store (read_plain (asked_name (true_want g logs t).name (true_want g logs t).digest) false) (Some u) truly.sound.in_order.held interest e).1 in
               let same : found_u.octets ≡ unwrap_or (true_packet g logs t) [] =
               asked_is clear t u is (stored_there u found_u.octets found_u.stored) (unwrap_or (true_packet g logs t) []) found_u.octets its (truly.packets u found_u.octets found_u.stored) found_u.satisfied in
-              ap (λ (r : Result (Option (List ℕ)) PacketFault). judged g logs t (found r))
+              ap (λ (r : Result (Option (List ℕ)) PacketFault). judged_packet g logs t (found r))
               (served_of_part (true_want g logs t).interest a.store u truly.sound.in_order.held e ∙ ap (λ (o : Option (List ℕ)). let r : Result (Option (List ℕ)) PacketFault = Ok o in r) found_u.stored)
               ∙ its_octets g logs t are is found_u.octets ((bytes_eq-Decides found_u.octets (unwrap_or (true_packet g logs t) [])).1 same)
 

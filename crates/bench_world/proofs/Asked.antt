@@ -20,9 +20,9 @@ use Rattle.repo_member.specs.TrueMembers.{IsTrueMember, true_want, true_packets}
 use Rattle.repo_member.proofs.PublicLaws.{stores_those}
 use Rattle.bench_world.specs.declared.event.StepFault.{StepFault}
 use Rattle.bench_world.specs.declared.answering.Fed.{Fed}
-use Rattle.bench_world.specs.Worlds.{alone_at, AreTrueMembers, AreNumbered}
-use Rattle.bench_world.specs.Serving.{octets_as, judged, found}
-use Rattle.bench_world.specs.Answering.{answered, claim_in, came_in, came_for, fed_as, kept_of, after_claim, after_claimed}
+use Rattle.bench_world.specs.Worlds.{alone_at, AreTrueMembers, MembersAreNumbered}
+use Rattle.bench_world.specs.Serving.{octets_as, judged_packet, found}
+use Rattle.bench_world.specs.Answering.{answered, claim_in, came_in, came_for, fed_as, kept_of, accepts_claimed, after_claimed}
 use Rattle.bench_world.proofs.Coming.{claim_published, claim_of_another, publisher_there}
 use Rattle.bench_world.proofs.TakenOut.{put_in, put_back}
 
@@ -42,7 +42,7 @@ if_err (Err e) p f = f e p
 
 -- ---- a member and its claim
 
-module _ (g : GroupKeys) (logs : Logs) (ms : List Alone) (are : AreLogs g logs) (numbers : AreNumbered ms) (truly : AreTrueMembers g logs ms) (wide : length ms ≡ length logs)
+module _ (g : GroupKeys) (logs : Logs) (ms : List Alone) (are : AreLogs g logs) (numbers : MembersAreNumbered ms) (truly : AreTrueMembers g logs ms) (wide : length ms ≡ length logs)
     (m : ℕ) (there : m < length ms) (f : ℕ) (want : WantedPart) (claim : claim_of (alone_plan (alone_at ms m)) f ≡ Some want.part) where
   -- The publisher of what is claimed is another member.
   pub publisher_in : want.part.publisher < length ms
@@ -67,11 +67,11 @@ module _ (g : GroupKeys) (logs : Logs) (ms : List Alone) (are : AreLogs g logs) 
     )
 
     -- What a member serves is what the group says that it gives.
-    pub served_is : (q : ℕ) → q < length ms → (b : Alone) → b ≡ alone_at ms q → judged g logs want.part (found (served want.interest b.store)) ≡ came_in g logs ms q (claim_in ms m f)
+    pub served_is : (q : ℕ) → q < length ms → (b : Alone) → b ≡ alone_at ms q → judged_packet g logs want.part (found (served want.interest b.store)) ≡ came_in g logs ms q (claim_in ms m f)
     served_is q other b b_is =
-        ap (λ (a : Alone). judged g logs want.part (found (served want.interest a.store))) b_is
-        ∙ ap (λ (es : List Packet). judged g logs want.part (found (served want.interest es))) (stores_those g logs (alone_at ms q) (truly q other))
-        ∙ ap (λ (w : WantedPart). judged g logs want.part (found (served w.interest (true_packets g logs (keys (alone_at ms q).store))))) want_is
+        ap (λ (a : Alone). judged_packet g logs want.part (found (served want.interest a.store))) b_is
+        ∙ ap (λ (es : List Packet). judged_packet g logs want.part (found (served want.interest es))) (stores_those g logs (alone_at ms q) (truly q other))
+        ∙ ap (λ (w : WantedPart). judged_packet g logs want.part (found (served w.interest (true_packets g logs (keys (alone_at ms q).store))))) want_is
         ∙ ap (came_in g logs ms q) (sym claim)
 
   -- ---- by what came
@@ -92,11 +92,11 @@ module _ (g : GroupKeys) (logs : Logs) (ms : List Alone) (are : AreLogs g logs) 
         (subst (λ (c : Came). IfErr r (λ fault. (fault ≡ StepFault.NoMemory) ⊎ (answered g logs (Some want.part) c ≡ Err fault))) same h)
 
     module _ (mid new : List Alone) (x y : Alone) (x_is : x ≡ alone_at ms m) (mid_is : mid ≡ remove ms m) (new_is : new ≡ insert mid m y) where
-      pub members_so : {T E : Type 0} (r : Result T E) → OnOk r (y ≡ after_claim g logs f want.part k x) → OnOk r (new ≡ set ms m (after_claimed g logs f (claim_in ms m f) came (alone_at ms m)))
+      pub members_so : {T E : Type 0} (r : Result T E) → OnOk r (y ≡ accepts_claimed g logs f want.part k x) → OnOk r (new ≡ set ms m (after_claimed g logs f (claim_in ms m f) came (alone_at ms m)))
       members_so r h = on_ok r h (λ e.
           put_in ms mid new m y there mid_is new_is
-          ∙ ap (set ms m) (e ∙ ap (after_claim g logs f want.part k) x_is
-          ∙ ap (λ (c : Came). after_claim g logs f want.part c (alone_at ms m)) same
+          ∙ ap (set ms m) (e ∙ ap (accepts_claimed g logs f want.part k) x_is
+          ∙ ap (λ (c : Came). accepts_claimed g logs f want.part c (alone_at ms m)) same
           ∙ ap (λ (o : Option Part). after_claimed g logs f o came (alone_at ms m)) (sym claim)))
 
       pub still_so : {T E : Type 0} (r : Result T E) → OnErr r (y ≡ x) → OnErr r (new ≡ ms)

@@ -18,7 +18,7 @@ use Rattle.repo_process.specs.Insertions.{with_process}
 use Rattle.group_model.specs.Publications.{Logs, published, no_object}
 use Rattle.group_model.specs.Changes as group
 use Rattle.group_model.specs.Events.{Event}
-use Rattle.group_model.specs.Limits.{IsWithin, IsMemberWithin}
+use Rattle.group_model.specs.Limits.{IsWithinSteps, IsMemberWithin}
 use Rattle.group_model.specs.Member.{Member}
 use Rattle.group_model.specs.Refusals.{Refusal, unless, if_whole, refusal}
 use Rattle.group_model.specs.Steps.{after_publish, after_block, after_event, block_at, with_process_at, next_seq_at, next_sync}
@@ -35,7 +35,7 @@ use Rattle.repo_member.specs.TrueMembers.{IsTrueMember}
 use Rattle.repo_member.proofs.PublicLaws.{block_states_alike, inserts_true}
 use Rattle.bench_world.specs.Blocks.{after_blocked, blocked_told}
 use Rattle.bench_world.specs.EventValues.{Told, block_told}
-use Rattle.bench_world.specs.Worlds.{GroupState, IsTrueState, IsTrueSync, nobody, alone_at, in_groups, logs_around, AreNumbered, AreTrueMembers, sync_in, world_of, drawing}
+use Rattle.bench_world.specs.Worlds.{GroupState, IsTrueState, IsTrueSync, nobody, alone_at, in_groups, logs_around, MembersAreNumbered, AreTrueMembers, sync_in, world_of, drawing}
 use Rattle.bench_world.proofs.Objects.{log_is, sent_is, world_sent, state_sent}
 use Rattle.bench_world.proofs.States.{truly, number_is, member_is, old_at, in_world, member_at, member_within, many, logs_are, set_truly, set_numbers, changed_state, stepped_at}
 
@@ -57,9 +57,9 @@ module _ (s : GroupState) (is : IsTrueState s) (m : ℕ) (there : m < length s.m
   keeping_world : world_of keeping ≡ with_process_at (world_of s) m number p
   keeping_world =
       ap (λ (ms : List Member). let w : World = record (world_of s) { members = ms } in w)
-      (map-set in_group s.members m kept ∙ ap (λ (x : Member). set (in_groups s.members) m (group.with_process number p x)) (sym (member_is s is m there old old_is)))
+      (map-set in_group s.members m kept ∙ ap (λ (x : Member). set (in_groups s.members) m (group.member_with_process number p x)) (sym (member_is s is m there old old_is)))
 
-  kept_numbers : AreNumbered keeping.members
+  kept_numbers : MembersAreNumbered keeping.members
   kept_numbers = set_numbers s.members m there kept (number_is s is m there old old_is) is.numbers
 
   kept_truly : AreTrueMembers s.keys (logs_around s.members) keeping.members
@@ -84,7 +84,7 @@ module _ (s : GroupState) (is : IsTrueState s) (m : ℕ) (there : m < length s.m
       | inr other ↦ subst (λ (a : Alone). IsMemberWithin s.steps (in_group a)) (sym (get_or-set_other s.members m j kept nobody other)) (member_within s is j)
     ])
 
-    keeping_within : IsWithin s.steps (world_of keeping)
+    keeping_within : IsWithinSteps s.steps (world_of keeping)
     keeping_within = record {
       moment = is.within.moment;
       sent = is.within.sent;

@@ -27,8 +27,8 @@ use Rattle.repo_member.specs.Outcomes.{job_for, outcome_of, octets_in, IsChecked
 use Rattle.repo_member.specs.TrueMembers.{IsTrueMember}
 use Rattle.repo_member.proofs.PublicLaws.{packets_pass_for_members}
 use Rattle.bench_world.specs.Worlds.{AreTrueMembers}
-use Rattle.bench_world.specs.Others.{place_of}
-use Rattle.bench_world.specs.Lending.{or_else, lent, lends, lent_at, lent_first, comes, if_comes, answer_of}
+use Rattle.bench_world.specs.Others.{place_among_others}
+use Rattle.bench_world.specs.Lending.{or_else, lent, lends, lent_at, lent_first, attempt_comes, if_comes, lent_answer}
 use Rattle.bench_world.specs.Gathering.{lent_one, lent_all}
 use Rattle.bench_world.specs.Fetching.{fetched_one, fetched_all}
 use Rattle.bench_world.proofs.Attempts.{none_comes, some_comes}
@@ -60,11 +60,11 @@ module _ (g : GroupKeys) (logs : Logs) where
 
   -- Whoever is asked first, what is lent is the same.
   pub first_is_lent : (others : List Alone) (asker : ℕ) (t : Part) → AreTrueMembers g logs others → lent_first others asker t ≡ lent others t
-  first_is_lent others asker t truly = go (lent_at (slice_get others (place_of asker t.publisher)) t) (lent others t) refl refl where
-    go : (x y : Option (List ℕ)) → lent_at (slice_get others (place_of asker t.publisher)) t ≡ x → lent others t ≡ y → or_else x y ≡ y
+  first_is_lent others asker t truly = go (lent_at (slice_get others (place_among_others asker t.publisher)) t) (lent others t) refl refl where
+    go : (x y : Option (List ℕ)) → lent_at (slice_get others (place_among_others asker t.publisher)) t ≡ x → lent others t ≡ y → or_else x y ≡ y
     go None y e f = refl
-    go (Some octets) None e f = absurd (true≢false (sym (stored_lent others (place_of asker t.publisher) t octets e) ∙ ap is_some f))
-    go (Some octets) (Some other) e f = sym (stored_true others (place_of asker t.publisher) t octets truly e) ∙ lends_true others truly t other f
+    go (Some octets) None e f = absurd (true≢false (sym (stored_lent others (place_among_others asker t.publisher) t octets e) ∙ ap is_some f))
+    go (Some octets) (Some other) e f = sym (stored_true others (place_among_others asker t.publisher) t octets truly e) ∙ lends_true others truly t other f
 
 -- ---- what is checked
 
@@ -156,13 +156,13 @@ want_part g a t = go (t.part == 0) where
 
 module _ (passes : ℕ → ℕ → ℕ → ℕ → ℕ → ℕ → Bool) (g : GroupKeys) (logs : Logs) (a : Alone) (others : List Alone) (asker : ℕ) (loss : Option ℕ) (are : AreLogs g logs) (truly : IsTrueMember g logs a) (all : AreTrueMembers g logs others) where
   abbrev answer : WantedPart → ℕ → Option (List ℕ)
-  answer = answer_of passes others asker loss
+  answer = lent_answer passes others asker loss
 
   brought : (t : Part) (before : ℕ) → brings answer g.members.ring (job_for g a t) before
-      ≡ checked_reply (want_of g a.store t) g.members.ring (if_comes (comes passes asker loss t (attempts_of (alone_plan a) t + before + 1)) (lent others t))
+      ≡ checked_reply (want_of g a.store t) g.members.ring (if_comes (attempt_comes passes asker loss t (attempts_of (alone_plan a) t + before + 1)) (lent others t))
   brought t before =
-      ap (λ (q : Part). checked_reply (want_of g a.store t) g.members.ring (if_comes (comes passes asker loss q (attempts_of (alone_plan a) t + before + 1)) (lent_first others asker q))) (want_part g a t)
-      ∙ ap (λ (o : Option (List ℕ)). checked_reply (want_of g a.store t) g.members.ring (if_comes (comes passes asker loss t (attempts_of (alone_plan a) t + before + 1)) o)) (first_is_lent g logs others asker t all)
+      ap (λ (q : Part). checked_reply (want_of g a.store t) g.members.ring (if_comes (attempt_comes passes asker loss q (attempts_of (alone_plan a) t + before + 1)) (lent_first others asker q))) (want_part g a t)
+      ∙ ap (λ (o : Option (List ℕ)). checked_reply (want_of g a.store t) g.members.ring (if_comes (attempt_comes passes asker loss t (attempts_of (alone_plan a) t + before + 1)) o)) (first_is_lent g logs others asker t all)
 
   nothing_comes : (want : WantedPart) (b : Bool) → checked_reply want g.members.ring (if_comes b None) ≡ None
   nothing_comes want true = refl
@@ -175,10 +175,10 @@ module _ (passes : ℕ → ℕ → ℕ → ℕ → ℕ → ℕ → Bool) (g : Gr
   module _ (tries : ℕ) where
     -- What comes of one part.
     one_comes : (t : Part) → is_wanted (alone_plan a) t ≡ true → (part : Option CheckedPart) (n : ℕ) → IsFirst (brings answer g.members.ring (job_for g a t)) tries part n
-        → (option_map (λ c. c.octets) part ≡ (fetched_one (comes passes asker loss) others tries a t).packet) × (n ≡ (fetched_one (comes passes asker loss) others tries a t).attempts)
+        → (option_map (λ c. c.octets) part ≡ (fetched_one (attempt_comes passes asker loss) others tries a t).packet) × (n ≡ (fetched_one (attempt_comes passes asker loss) others tries a t).attempts)
     one_comes t w part n f = go (lent others t) refl where
       p : ℕ → Bool
-      p k = comes passes asker loss t (attempts_of (alone_plan a) t + k)
+      p k = attempt_comes passes asker loss t (attempts_of (alone_plan a) t + k)
 
       whole : (octets : List ℕ) → lent others t ≡ Some octets → (b : Bool) → checked_reply (want_of g a.store t) g.members.ring (if_comes b (Some octets)) ≡ cond b (Some (checked_part (want_of g a.store t) g.members.ring octets)) None
       whole octets e true =
@@ -187,28 +187,28 @@ module _ (passes : ℕ → ℕ → ℕ → ℕ → ℕ → ℕ → Bool) (g : Gr
       whole octets e false = refl
 
       go : (o : Option (List ℕ)) → lent others t ≡ o
-          → (option_map (λ c. c.octets) part ≡ cond (is_some (cond (is_some o) (find (λ k. comes passes asker loss t (attempts_of (alone_plan a) t + k)) (numbers_from 1 tries)) None)) o None)
-          × (n ≡ unwrap_or (cond (is_some o) (find (λ k. comes passes asker loss t (attempts_of (alone_plan a) t + k)) (numbers_from 1 tries)) None) tries)
+          → (option_map (λ c. c.octets) part ≡ cond (is_some (cond (is_some o) (find (λ k. attempt_comes passes asker loss t (attempts_of (alone_plan a) t + k)) (numbers_from 1 tries)) None)) o None)
+          × (n ≡ unwrap_or (cond (is_some o) (find (λ k. attempt_comes passes asker loss t (attempts_of (alone_plan a) t + k)) (numbers_from 1 tries)) None) tries)
       go None e =
           let r = none_comes (brings answer g.members.ring (job_for g a t)) tries part n (λ b.
-          brought t b ∙ ap (λ (o : Option (List ℕ)). checked_reply (want_of g a.store t) g.members.ring (if_comes (comes passes asker loss t (attempts_of (alone_plan a) t + b + 1)) o)) e
-          ∙ nothing_comes (want_of g a.store t) (comes passes asker loss t (attempts_of (alone_plan a) t + b + 1))) f in
+          brought t b ∙ ap (λ (o : Option (List ℕ)). checked_reply (want_of g a.store t) g.members.ring (if_comes (attempt_comes passes asker loss t (attempts_of (alone_plan a) t + b + 1)) o)) e
+          ∙ nothing_comes (want_of g a.store t) (attempt_comes passes asker loss t (attempts_of (alone_plan a) t + b + 1))) f in
           (ap (option_map (λ (c : CheckedPart). c.octets)) r.0, r.1)
       go (Some octets) e =
           let c : CheckedPart = checked_part (want_of g a.store t) g.members.ring octets in
-          let r = some_comes (brings answer g.members.ring (job_for g a t)) tries (λ k. comes passes asker loss t (attempts_of (alone_plan a) t + k)) (checked_part (want_of g a.store t) g.members.ring octets) (λ b.
+          let r = some_comes (brings answer g.members.ring (job_for g a t)) tries (λ k. attempt_comes passes asker loss t (attempts_of (alone_plan a) t + k)) (checked_part (want_of g a.store t) g.members.ring octets) (λ b.
           let k : attempts_of (alone_plan a) t + b + 1 ≡ attempts_of (alone_plan a) t + (b + 1) = omega arith in
-          brought t b ∙ ap (λ (o : Option (List ℕ)). checked_reply (want_of g a.store t) g.members.ring (if_comes (comes passes asker loss t (attempts_of (alone_plan a) t + b + 1)) o)) e
-          ∙ whole octets e (comes passes asker loss t (attempts_of (alone_plan a) t + b + 1))
-          ∙ ap (λ (m : ℕ). cond (comes passes asker loss t m) (let o : Option CheckedPart = Some (checked_part (want_of g a.store t) g.members.ring octets) in o) None) k) part n f in (
+          brought t b ∙ ap (λ (o : Option (List ℕ)). checked_reply (want_of g a.store t) g.members.ring (if_comes (attempt_comes passes asker loss t (attempts_of (alone_plan a) t + b + 1)) o)) e
+          ∙ whole octets e (attempt_comes passes asker loss t (attempts_of (alone_plan a) t + b + 1))
+          ∙ ap (λ (m : ℕ). cond (attempt_comes passes asker loss t m) (let o : Option CheckedPart = Some (checked_part (want_of g a.store t) g.members.ring octets) in o) None) k) part n f in (
             ap (option_map (λ (c : CheckedPart). c.octets)) r.0
-                ∙ octets_if (is_some (find (λ k. comes passes asker loss t (attempts_of (alone_plan a) t + k)) (numbers_from 1 tries))) (checked_part (want_of g a.store t) g.members.ring octets) octets refl,
+                ∙ octets_if (is_some (find (λ k. attempt_comes passes asker loss t (attempts_of (alone_plan a) t + k)) (numbers_from 1 tries))) (checked_part (want_of g a.store t) g.members.ring octets) octets refl,
             r.1,
           )
 
     -- What comes of all.
     pub fetched_is : (ts : List Part) → ((t : Part) → In t ts → is_wanted (alone_plan a) t ≡ true) → (parts : List (Option CheckedPart)) (ns : List ℕ)
-        → AreFirst answer g.members.ring tries (map (job_for g a) ts) parts ns → outcome_of (map (job_for g a) ts) parts ns ≡ fetched_all (comes passes asker loss) others tries a ts
+        → AreFirst answer g.members.ring tries (map (job_for g a) ts) parts ns → outcome_of (map (job_for g a) ts) parts ns ≡ fetched_all (attempt_comes passes asker loss) others tries a ts
     fetched_is [] w [] [] f = refl
     fetched_is [] w [] (n ∷ ns) f = absurd f
     fetched_is [] w (p ∷ ps) ns f = absurd f
@@ -223,8 +223,8 @@ module _ (passes : ℕ → ℕ → ℕ → ℕ → ℕ → ℕ → Bool) (g : Gr
         λ i. record { part = part i; packet = packet i; attempts = attempts i } ∷ rest i
 
   -- Where every attempt comes through, one is enough.
-  through : loss ≡ None → (t : Part) → (fetched_one (comes passes asker loss) others 1 a t).packet ≡ lent others t
-  through e t = ap (λ (l : Option ℕ). (fetched_one (comes passes asker l) others 1 a t).packet) e ∙ same (lent others t) where
+  through : loss ≡ None → (t : Part) → (fetched_one (attempt_comes passes asker loss) others 1 a t).packet ≡ lent others t
+  through e t = ap (λ (l : Option ℕ). (fetched_one (attempt_comes passes asker l) others 1 a t).packet) e ∙ same (lent others t) where
     same : (o : Option (List ℕ)) → cond (is_some (cond (is_some o) (let x : Option ℕ = Some 1 in x) None)) o None ≡ o
     same None = refl
     same (Some octets) = refl

@@ -6,7 +6,7 @@ use Rattle.std.proofs.lemmas.Option.{slice_get-get_or, slice_get-map, unwrap_or-
 use Rattle.ndn_tlv.specs.Spelling.{element, number}
 use Rattle.ndn_name.specs.Names.{Component, encoding, name_of}
 use Rattle.ndn_name.proofs.Encodings.{encoding-push, name_of-encoding}
-use Rattle.ndn_sign.specs.Ring.{Pair}
+use Rattle.ndn_sign.specs.Ring.{NamedKey}
 use Rattle.repo_object.specs.Objects.{key_name}
 use Rattle.repo_object.proofs.NameLemmas.{IsName-key}
 use Rattle.repo_member.specs.Groups.{GroupKeys, IsPlainNodeName, HaveKeys, client_at}
@@ -28,12 +28,12 @@ module _ (g : GroupKeys) (keys : HaveKeys g.clients) (client : ℕ) (there : cli
   abbrev name_in : List Component → List ℕ
   name_in node = encoding (key_name node)
 
-  pub key_octets : (octets : List ℕ) → option_map (λ (p : Pair). p.name) (slice_get g.clients.ring client) ≡ Some octets → octets ≡ encoding (key_name (client_at g client))
+  pub key_octets : (octets : List ℕ) → option_map (λ (p : NamedKey). p.name) (slice_get g.clients.ring client) ≡ Some octets → octets ≡ encoding (key_name (client_at g client))
   key_octets octets e =
       let found : Some octets ≡ Some (name_in (client_at g client)) =
-      sym e ∙ sym (slice_get-map (λ (p : Pair). p.name) g.clients.ring client) ∙ ap (λ (ns : List (List ℕ)). slice_get ns client) keys.keys
+      sym e ∙ sym (slice_get-map (λ (p : NamedKey). p.name) g.clients.ring client) ∙ ap (λ (ns : List (List ℕ)). slice_get ns client) keys.keys
       ∙ slice_get-map name_in g.clients.names client ∙ ap (option_map name_in) (slice_get-get_or g.clients.names client [] there) ∙ ap (λ (n : List Component). Some (name_in n)) (sym at) in
       cc
 
-  pub key_read : (octets : List ℕ) → option_map (λ (p : Pair). p.name) (slice_get g.clients.ring client) ≡ Some octets → name_of 0 octets ≡ Ok (key_name (client_at g client))
+  pub key_read : (octets : List ℕ) → option_map (λ (p : NamedKey). p.name) (slice_get g.clients.ring client) ≡ Some octets → name_of 0 octets ≡ Ok (key_name (client_at g client))
   key_read octets e = ap (name_of 0) (key_octets octets e) ∙ name_of-encoding 0 (key_name (client_at g client)) (IsName-key (client_at g client) plain.valid)

@@ -8,7 +8,7 @@ use Rattle.std.proofs.lemmas.List.{length-map, get_or_past}
 use Rattle.std.proofs.lemmas.Slice.Eq.{bytes_eq-Decides}
 use Rattle.ndn_name.specs.Names.{Component, encoding}
 use Rattle.ndn_data.specs.Data.{Data}
-use Rattle.ndn_sign.specs.Ring.{Pair}
+use Rattle.ndn_sign.specs.Ring.{NamedKey}
 use Rattle.repo_plan.specs.declared.part.Part.{Part}
 use Rattle.repo_plan.specs.SortedList.{value_of}
 use Rattle.repo_plan.specs.Parts as parts
@@ -39,12 +39,12 @@ use Rattle.bench_world.specs.declared.answering.Fed.{Fed}
 use Rattle.bench_world.specs.declared.answering.Fed.TheVariants.{Kept}
 use Rattle.bench_world.specs.Sizes.{size_of}
 use Rattle.bench_world.specs.Serving.{octets_as}
-use Rattle.bench_world.specs.Answering.{answered, fed_by, fed_as, after_claim}
+use Rattle.bench_world.specs.Answering.{answered, fed_by, fed_as, accepts_claimed}
 
 -- There are as many keys as members.
 ring_length : (g : GroupKeys) → HaveKeys g.members → length g.members.ring ≡ length g.members.names
 ring_length g have =
-    sym (length-map g.members.ring (λ (p : Pair). p.name)) ∙ ap (λ (names : List (List ℕ)). length names) have.keys
+    sym (length-map g.members.ring (λ (p : NamedKey). p.name)) ∙ ap (λ (names : List (List ℕ)). length names) have.keys
     ∙ length-map g.members.names (λ (n : List Component). encoding (key_name n))
 
 -- The publisher of a publication is a member.
@@ -141,10 +141,10 @@ module _ (g : GroupKeys) (logs : Logs) (a : Alone) (are : AreLogs g logs) (truly
       ]
 
   -- The packet of the part is accepted, where octets that are it came.
-  pub accepts_its : (octets : List ℕ) → bytes_eq octets (unwrap_or (true_packet g logs t) []) ≡ true → alone_accepts f t octets a ≡ after_claim g logs f t (octets_as g logs t octets) a
+  pub accepts_its : (octets : List ℕ) → bytes_eq octets (unwrap_or (true_packet g logs t) []) ≡ true → alone_accepts f t octets a ≡ accepts_claimed g logs f t (octets_as g logs t octets) a
   accepts_its octets same =
       ap (λ (o : List ℕ). alone_accepts f t o a) (octets_are g logs t are claim_published octets same)
-      ∙ ap (λ (c : Came). after_claim g logs f t c a) (sym (its_octets g logs t are claim_published octets same))
+      ∙ ap (λ (c : Came). accepts_claimed g logs f t c a) (sym (its_octets g logs t are claim_published octets same))
 
   -- The ring has its publisher's key.
   pub key_there : t.publisher < length g.members.ring

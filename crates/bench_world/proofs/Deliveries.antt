@@ -4,7 +4,7 @@ use Rattle.std.specs.Prelude.{slice_get, nat_le, ◌&&◌, Ok, IsOkAnd}
 use Rattle.std.proofs.lemmas.Bool.{eqb-true, eqb-false, le-leb, leb-false, leb-true}
 use Rattle.std.proofs.lemmas.List.{length-map, map-set, get_or-map}
 use Rattle.std.proofs.lemmas.Option.{slice_get-get_or, slice_get_past}
-use Rattle.bench_net.specs.SentList.{SentPacket, octets_of}
+use Rattle.bench_net.specs.SentList.{SentPacket, sent_octets}
 use Rattle.group_model.specs.Member.{Member}
 use Rattle.group_model.specs.Events.{SyncInterest, Event}
 use Rattle.group_model.specs.World.{World, no_sync, member, sent_at}
@@ -23,8 +23,8 @@ use Rattle.bench_world.proofs.States.{truly, number_is, member_is, stepped_at}
 
 -- There is a packet of a number, or none.
 data AtNumber (packets : List SentPacket) (k : ℕ) : Type 0 where
-  There : 1 ≤ k → k ≤ length packets → octets_of packets k ≡ Some (get_or packets (k - 1) no_packet).octets → AtNumber packets k
-  Nowhere : (nat_le 1 k && nat_le k (length packets)) ≡ false → octets_of packets k ≡ None → AtNumber packets k
+  There : 1 ≤ k → k ≤ length packets → sent_octets packets k ≡ Some (get_or packets (k - 1) no_packet).octets → AtNumber packets k
+  Nowhere : (nat_le 1 k && nat_le k (length packets)) ≡ false → sent_octets packets k ≡ None → AtNumber packets k
 
 and_false : (b : Bool) → (b && false) ≡ false
 and_false true = refl
@@ -51,13 +51,13 @@ pub record IsThere (packets : List SentPacket) (k : ℕ) (x : List ℕ) : Type 0
   pub last : k ≤ length packets
   pub octets : x ≡ (get_or packets (k - 1) no_packet).octets
 
-pub there : (packets : List SentPacket) (k : ℕ) (x : List ℕ) → Some x ≡ octets_of packets k → IsThere packets k x
+pub there : (packets : List SentPacket) (k : ℕ) (x : List ℕ) → Some x ≡ sent_octets packets k → IsThere packets k x
 there packets k x e = go (at_number packets k) where
   go : AtNumber packets k → IsThere packets k x
   go (There one last at) = record { first = one; last = last; octets = let h : Some x ≡ Some (get_or packets (k - 1) no_packet).octets = e ∙ at in cc }
   go (Nowhere none at) = absurd (let h : Some x ≡ None = e ∙ at in cc)
 
-pub nowhere : (packets : List SentPacket) (k : ℕ) → None ≡ octets_of packets k → (nat_le 1 k && nat_le k (length packets)) ≡ false
+pub nowhere : (packets : List SentPacket) (k : ℕ) → None ≡ sent_octets packets k → (nat_le 1 k && nat_le k (length packets)) ≡ false
 nowhere packets k e = go (at_number packets k) where
   go : AtNumber packets k → (nat_le 1 k && nat_le k (length packets)) ≡ false
   go (There one last at) = absurd (let h : None ≡ Some (get_or packets (k - 1) no_packet).octets = e ∙ at in cc)
@@ -73,7 +73,7 @@ module _ (s : GroupState) (k : ℕ) where
       let inside : k ≤ length (map sync_in s.sent) = omega (arith, last, many_sent) in
       (λ i. unless (le-leb 1 k one i && le-leb k (length (map sync_in s.sent)) inside i) Refusal.NoSuchPacket)
 
-  pub refused_so : None ≡ octets_of s.sent k → unless_sent (world_of s) k ≡ Some Refusal.NoSuchPacket
+  pub refused_so : None ≡ sent_octets s.sent k → unless_sent (world_of s) k ≡ Some Refusal.NoSuchPacket
   refused_so e =
       ap (λ (n : ℕ). unless (nat_le 1 k && nat_le k n) Refusal.NoSuchPacket) many_sent
       ∙ ap (λ (b : Bool). unless b Refusal.NoSuchPacket) (nowhere s.sent k e)

@@ -5,7 +5,7 @@ use Rattle.std.proofs.lemmas.List.{length-map, map-append, take_more, take_all, 
 use Rattle.group_model.specs.Events as group
 use Rattle.group_model.specs.World.{Outside, World}
 use Rattle.group_model.specs.Steps.{after_event, after_events}
-use Rattle.group_model.specs.Refusals.{Refusal, refusal, NamesThose, IsTaken, AreTaken}
+use Rattle.group_model.specs.Refusals.{Refusal, refusal, NamesThose, EventIsTaken, EventsAreTaken}
 use Rattle.group_model.specs.Sound.{IsSoundGroup}
 use Rattle.group_model.specs.Laws.{NothingHidden, NothingWanted, AllJoined}
 use Rattle.group_model.proofs.PublicLaws.{told_of_all}
@@ -25,11 +25,11 @@ after_append : (out : Outside) (w : World) (xs ys : List group.Event) → after_
 after_append out w [] ys = refl
 after_append out w (x ∷ xs) ys = after_append out (after_event out w x) xs ys
 
-taken_append : (out : Outside) (w : World) (xs ys : List group.Event) → AreTaken out w xs → AreTaken out (after_events out w xs) ys → AreTaken out w (xs ++ ys)
+taken_append : (out : Outside) (w : World) (xs ys : List group.Event) → EventsAreTaken out w xs → EventsAreTaken out (after_events out w xs) ys → EventsAreTaken out w (xs ++ ys)
 taken_append out w [] ys a b = b
 taken_append out w (x ∷ xs) ys a b = (a.0, taken_append out (after_event out w x) xs ys a.1 b)
 
-taken_split : (out : Outside) (w : World) (xs ys : List group.Event) → AreTaken out w (xs ++ ys) → AreTaken out w xs × AreTaken out (after_events out w xs) ys
+taken_split : (out : Outside) (w : World) (xs ys : List group.Event) → EventsAreTaken out w (xs ++ ys) → EventsAreTaken out w xs × EventsAreTaken out (after_events out w xs) ys
 taken_split out w [] ys a = (tt, a)
 taken_split out w (x ∷ xs) ys a = let r = taken_split out (after_event out w x) xs ys a.1 in ((a.0, r.0), r.1)
 
@@ -63,7 +63,7 @@ named_ready n w g EventValue.Traffic many r = tt
 
 module _ (out : Outside) (g : GroupKeys) (begun : World) (events : List Event) where
   module _ (i : ℕ) (inside : i < length events) (item : Event) (item_is : item ≡ get_or events i item) (mid new : World) (n : ℕ) (many : length mid.members ≡ n) (ready : IsReady n (event_value item))
-      (taken : AreTaken out begun (group_events g (event_values (take i events)))) (world : mid ≡ after_events out begun (group_events g (event_values (take i events)))) where
+      (taken : EventsAreTaken out begun (group_events g (event_values (take i events)))) (world : mid ≡ after_events out begun (group_events g (event_values (take i events)))) where
     one_more : group_events g (event_values (take (i + 1) events)) ≡ group_events g (event_values (take i events)) ++ group_event g (event_value item) ∷ []
     one_more =
         ap (λ (es : List Event). group_events g (event_values es)) (take_more events i item inside)
@@ -83,8 +83,8 @@ module _ (out : Outside) (g : GroupKeys) (begun : World) (events : List Event) w
     stopped_here out_ begun_ mid_ new_ fault out_is begun_is keys_are mid_is because stands = record {
       inside = let k = length-map events event_value in omega (arith, inside, k);
       taken = let e : group_events begun_.keys (take i (event_values events)) ≡ group_events g (event_values (take i events)) = ap (λ (h : GroupKeys). group_events h (take i (event_values events))) keys_are ∙ take_values in
-          subst (λ (o : Outside). AreTaken o (world_of begun_) (group_events begun_.keys (take i (event_values events)))) out_is
-          (subst (λ (w : World). AreTaken out w (group_events begun_.keys (take i (event_values events)))) (sym begun_is) (subst (AreTaken out begun) (sym e) taken));
+          subst (λ (o : Outside). EventsAreTaken o (world_of begun_) (group_events begun_.keys (take i (event_values events)))) out_is
+          (subst (λ (w : World). EventsAreTaken out w (group_events begun_.keys (take i (event_values events)))) (sym begun_is) (subst (EventsAreTaken out begun) (sym e) taken));
       before = mid_;
       world =
           let e : group_events begun_.keys (take i (event_values events)) ≡ group_events g (event_values (take i events)) = ap (λ (h : GroupKeys). group_events h (take i (event_values events))) keys_are ∙ take_values in
@@ -96,11 +96,11 @@ module _ (out : Outside) (g : GroupKeys) (begun : World) (events : List Event) w
     }
 
     module _ (not_refused : refusal out mid (group_event g (event_value item)) ≡ None) (step_world : new ≡ after_event out mid (group_event g (event_value item))) where
-      is_taken : IsTaken out mid (group_event g (event_value item))
+      is_taken : EventIsTaken out mid (group_event g (event_value item))
       is_taken = record { named = named_ready n mid g (event_value item) many ready; taken = not_refused }
 
-      pub taken_more : AreTaken out begun (group_events g (event_values (take (i + 1) events)))
-      taken_more = subst (AreTaken out begun) (sym one_more) (taken_append out begun (group_events g (event_values (take i events))) (group_event g (event_value item) ∷ []) taken (subst (λ (w : World). IsTaken out w (group_event g (event_value item))) world is_taken, tt))
+      pub taken_more : EventsAreTaken out begun (group_events g (event_values (take (i + 1) events)))
+      taken_more = subst (EventsAreTaken out begun) (sym one_more) (taken_append out begun (group_events g (event_values (take i events))) (group_event g (event_value item) ∷ []) taken (subst (λ (w : World). EventIsTaken out w (group_event g (event_value item))) world is_taken, tt))
 
       pub many_more : IsSoundGroup begun → length new.members ≡ n
       many_more sound =
@@ -115,19 +115,19 @@ module _ (out : Outside) (g : GroupKeys) (begun : World) (events : List Event) w
 
   -- ---- all of them
 
-  module _ (sound : IsSoundGroup begun) (n : ℕ) (all : n ≡ length events) (last : World) (taken : AreTaken out begun (group_events g (event_values (take n events)))) (world : last ≡ after_events out begun (group_events g (event_values (take n events)))) where
+  module _ (sound : IsSoundGroup begun) (n : ℕ) (all : n ≡ length events) (last : World) (taken : EventsAreTaken out begun (group_events g (event_values (take n events)))) (world : last ≡ after_events out begun (group_events g (event_values (take n events)))) where
     whole : group_events g (event_values (take n events)) ≡ group_events g (event_values events)
     whole = ap (λ (es : List Event). group_events g (event_values es)) (take_all n events (omega (arith, all)))
 
-    pub all_taken : AreTaken out begun (group_events g (event_values events))
-    all_taken = subst (AreTaken out begun) whole taken
+    pub all_taken : EventsAreTaken out begun (group_events g (event_values events))
+    all_taken = subst (EventsAreTaken out begun) whole taken
 
     pub all_world : last ≡ after_events out begun (group_events g (event_values events))
     all_world = world ∙ ap (after_events out begun) whole
 
     pub all_joined : ListLawFrom out begun (group_events g (event_values events)) last
     all_joined first later e tells hidden wanted =
-        let split = taken_split out begun first later (subst (AreTaken out begun) e all_taken) in
+        let split = taken_split out begun first later (subst (EventsAreTaken out begun) e all_taken) in
         let last_is : last ≡ after_events out (after_events out begun first) later = all_world ∙ ap (after_events out begun) e ∙ after_append out begun first later in
         subst AllJoined (sym last_is)
         (told_of_all out (after_events out begun first) (sound_after_all out first begun split.0 sound) later split.1 tells

@@ -29,7 +29,7 @@ use Rattle.repo_member.specs.InGroup.{in_group, AreLogs}
 use Rattle.repo_member.proofs.PublicLaws.{plans_alike, true_stores}
 use Rattle.bench_world.specs.Lending.{or_else, lent, lends}
 use Rattle.bench_world.specs.Truth.{stores}
-use Rattle.bench_world.specs.Gathering.{Gains, NothingLeft}
+use Rattle.bench_world.specs.Gathering.{GainsParts, NothingLeft}
 use Rattle.bench_world.specs.Settling.{IsPartlySettled}
 use Rattle.bench_world.specs.Worlds.{in_groups, drawing}
 
@@ -128,7 +128,7 @@ module _ (w : World) (group : IsSoundGroup w) (j : ℕ) (there : j < length w.me
 -- ---- a member that gathers
 
 module _ (g : GroupKeys) (w : World) (group : IsSoundGroup w) (are : AreLogs g (logs w)) (j : ℕ) (there : j < length w.members) (others : List Alone) (old new : Alone)
-    (learnt : in_group old ≡ learnt_member w (member w j)) (someones : (t : Part) → (stores old t || lends others t) ≡ someone_holds w.members t) (number : new.number ≡ j) (gains : Gains g (logs w) others old new) where
+    (learnt : in_group old ≡ learnt_member w (member w j)) (someones : (t : Part) → (stores old t || lends others t) ≡ someone_holds w.members t) (number : new.number ≡ j) (gains : GainsParts g (logs w) others old new) where
   same : in_group new ≡ record (learnt_member w (member w j)) { held = keys new.store }
   same = ap in_group gains.same ∙ ap (λ (x : Member). let y : Member = record x { held = keys new.store } in y) learnt
 

@@ -24,9 +24,9 @@ use Rattle.repo_member.specs.InGroup.{in_group, AreLogs}
 use Rattle.repo_member.specs.TrueMembers.{IsTrueMember}
 use Rattle.bench_world.specs.Lending.{lends}
 use Rattle.bench_world.specs.Truth.{stores, TriedFew, AllTriedFew}
-use Rattle.bench_world.specs.Gathering.{one_each, Counts, Gains, NothingLeft}
+use Rattle.bench_world.specs.Gathering.{one_each, Counts, GainsParts, NothingLeft}
 use Rattle.bench_world.specs.Settling.{gain_sum, AreGathering, GatheredSoFar, IsPartlySettled, ArePartlySettled}
-use Rattle.bench_world.specs.Worlds.{nobody, alone_at, others_than, in_groups, AreTrueMembers, AreNumbered}
+use Rattle.bench_world.specs.Worlds.{nobody, alone_at, others_than, in_groups, AreTrueMembers, MembersAreNumbered}
 use Rattle.bench_world.proofs.SetSums.{sum_insert_keys, ones}
 use Rattle.bench_world.proofs.Gathers.{tried_still}
 use Rattle.bench_world.proofs.Gathered.{lends_held, partly_settled, gathering, settled, someones_after}
@@ -85,7 +85,7 @@ module _ (g : GroupKeys) (w : World) (group : IsSoundGroup w) (are : AreLogs g (
     again [] = refl
     again (m ∷ ms) = ap (λ (b : Bool). member_holds m t || b) (again ms)
 
-  pub gathered_none : AreTrueMembers g (logs w) begun → AreNumbered begun → AllTriedFew begun → GatheredSoFar g w begun 0 begun
+  pub gathered_none : AreTrueMembers g (logs w) begun → MembersAreNumbered begun → AllTriedFew begun → GatheredSoFar g w begun 0 begun
   gathered_none truly numbers tried = record {
     all = record {
       len = refl;
@@ -110,7 +110,7 @@ module _ (g : GroupKeys) (w : World) (group : IsSoundGroup w) (are : AreLogs g (
         (partly_settled w group i l (in_group (alone_at mid i)) (subst (λ (k : ℕ). IsSoundMember (logs w) k (in_group (alone_at mid i))) (all.numbers i inside) (all.truly i inside).sound) (all.each i inside));
   }
 
-  module _ (j : ℕ) (mid : List Alone) (so_far : GatheredSoFar g w begun j mid) (inside : j < length mid) (new : List Alone) (set_is : new ≡ set mid j (alone_at new j)) (gains : Gains g (logs w) (others_than j mid) (alone_at mid j) (alone_at new j)) where
+  module _ (j : ℕ) (mid : List Alone) (so_far : GatheredSoFar g w begun j mid) (inside : j < length mid) (new : List Alone) (set_is : new ≡ set mid j (alone_at new j)) (gains : GainsParts g (logs w) (others_than j mid) (alone_at mid j) (alone_at new j)) where
     there : j < length w.members
     there = omega (arith, inside, so_far.all.len, long)
 

@@ -27,7 +27,7 @@ use Rattle.bench_world.specs.Worlds.{AreTrueMembers}
 use Rattle.bench_world.specs.Sizes.{size_of}
 use Rattle.bench_world.specs.Truth.{stores, TriedFew}
 use Rattle.bench_world.specs.Lending.{lent, lends}
-use Rattle.bench_world.specs.Gathering.{next_parts, lent_one, lent_all, one_each, held_sum, Counts, IsPlaceIn, Gains, NothingLeft, RoundSoFar}
+use Rattle.bench_world.specs.Gathering.{next_parts, lent_one, lent_all, one_each, held_sum, Counts, IsPlaceIn, GainsParts, NothingLeft, RoundSoFar}
 use Rattle.bench_world.proofs.SetSums.{sum_insert_keys, ones}
 use Rattle.bench_world.proofs.NextParts.{all_from_in, none_pass, next_rise, next_unclaimed, next_after, next_covers, next_none, place_later}
 use Rattle.bench_world.proofs.Brought.{lends_true, came_lent}
@@ -85,7 +85,7 @@ nothing_taken others (t ∷ ts) a none = go (lent others t) (none t (inl refl)) 
 
 module _ (g : GroupKeys) (logs : Logs) (others : List Alone) where
   -- What was tried few times is still.
-  pub tried_still : (a b : Alone) → Gains g logs others a b → TriedFew a → TriedFew b
+  pub tried_still : (a b : Alone) → GainsParts g logs others a b → TriedFew a → TriedFew b
   tried_still a b gains few t =
       let h : attempts_of (alone_plan a) t + 16 < 2097152 = few t in
       let e : attempts_of (alone_plan b) t ≡ attempts_of (alone_plan a) t = ap (λ (x : Alone). attempts_of (alone_plan x) t) gains.same in
@@ -117,7 +117,7 @@ module _ (g : GroupKeys) (logs : Logs) (others : List Alone) (are : AreLogs g lo
     taken_stores : (t : Part) → stores (alone_takes (lent_all others ts) a) t ≡ (contains part_cmp (filter (lends others) ts) t || stores a t)
     taken_stores t = ap (λ (ks : List Part). contains part_cmp ks t) keys_taken ∙ contains-insert_keys (filter (lends others) ts) (keys a.store) t
 
-    pub phase_gains : Gains g logs others a (alone_takes (lent_all others ts) a)
+    pub phase_gains : GainsParts g logs others a (alone_takes (lent_all others ts) a)
     phase_gains = record {
       same = same_takes others ts a;
       truly = taken_truly;
@@ -144,10 +144,10 @@ module _ (g : GroupKeys) (logs : Logs) (others : List Alone) (are : AreLogs g lo
 
   -- ---- rounds
 
-  pub gains_none : (a : Alone) → IsTrueMember g logs a → Gains g logs others a a
+  pub gains_none : (a : Alone) → IsTrueMember g logs a → GainsParts g logs others a a
   gains_none a truly = record { same = refl; truly = truly; kept = λ t h. h; came = λ t h. inl h }
 
-  pub gains_both : (a b c : Alone) → Gains g logs others a b → Gains g logs others b c → Gains g logs others a c
+  pub gains_both : (a b c : Alone) → GainsParts g logs others a b → GainsParts g logs others b c → GainsParts g logs others a c
   gains_both a b c h k = record {
     same = k.same ∙ ap (λ (x : Alone). let y : Alone = record x { store = c.store } in y) h.same;
     truly = k.truly;
@@ -163,15 +163,15 @@ module _ (g : GroupKeys) (logs : Logs) (others : List Alone) (are : AreLogs g lo
 
   module _ (after : Option Part) (kept : ℕ) (old mid : Alone) (so_far : RoundSoFar g logs others after kept old mid)
       (new : Alone) (came : ℕ) (new_is : new ≡ alone_takes (lent_all others (next_parts after mid)) mid) (came_is : came ≡ length (filter (lends others) (next_parts after mid))) where
-    phase : Gains g logs others mid new
-    phase = subst (Gains g logs others mid) (sym new_is) (phase_gains mid so_far.gains.truly (next_parts after mid) (next_unclaimed mid after))
+    phase : GainsParts g logs others mid new
+    phase = subst (GainsParts g logs others mid) (sym new_is) (phase_gains mid so_far.gains.truly (next_parts after mid) (next_unclaimed mid after))
 
     pub went_counts : (weight : Part → ℕ) (n : ℕ) → n ≡ sum_by weight (filter (lends others) (next_parts after mid)) → Counts weight n mid new
     went_counts weight n e =
         ap (λ (k : ℕ). k + held_sum weight mid) e
         ∙ subst (Counts weight (sum_by weight (filter (lends others) (next_parts after mid))) mid) (sym new_is) (phase_counts mid so_far.gains.truly (next_parts after mid) (next_unclaimed mid after) weight (next_rise mid after))
 
-    pub went_gains : Gains g logs others old new
+    pub went_gains : GainsParts g logs others old new
     went_gains = gains_both old mid new so_far.gains phase
 
     pub went_count : Counts one_each (kept + came) old new

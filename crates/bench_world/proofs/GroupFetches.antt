@@ -22,12 +22,12 @@ use Rattle.repo_member.specs.InEvents.{IsMemberOf, IsTrueIn, IsOutcomeIn}
 use Rattle.repo_member.specs.TrueMembers.{IsTrueMember}
 use Rattle.repo_member.specs.TrueChanges.{IsTrueArrival}
 use Rattle.repo_member.proofs.PublicLaws.{open_parts_alike, fetch_is_event, true_stores, true_is_alone, takes_true}
-use Rattle.bench_world.specs.Lending.{lent, lends, comes}
+use Rattle.bench_world.specs.Lending.{lent, lends, attempt_comes}
 use Rattle.bench_world.specs.Gathering.{next_parts}
 use Rattle.bench_world.specs.Fetching.{attempt_at, fetched_one, fetched_all}
 use Rattle.bench_world.specs.Serving.{outside}
 use Rattle.bench_world.specs.Truth.{stores}
-use Rattle.bench_world.specs.Worlds.{nobody, alone_at, others_than, in_groups, AreTrueMembers, AreNumbered}
+use Rattle.bench_world.specs.Worlds.{nobody, alone_at, others_than, in_groups, AreTrueMembers, MembersAreNumbered}
 use Rattle.bench_world.proofs.Brought.{lends_true}
 use Rattle.bench_world.proofs.Gathered.{lends_held}
 use Rattle.bench_world.proofs.GatheredAll.{member_of}
@@ -84,13 +84,13 @@ tried_sum f (x ∷ xs) all =
     let two = sum_by-cons f x.part (asked_for xs) in
     one ∙ (λ i. head i + rest i) ∙ sym two
 
-module _ (passes : ℕ → ℕ → ℕ → ℕ → ℕ → ℕ → Bool) (draw : ℕ → ℕ → ℕ) (g : GroupKeys) (w : World) (are : AreLogs g (logs w)) (members : List Alone) (begun : in_groups members ≡ w.members) (numbers : AreNumbered members) (truly : AreTrueMembers g (logs w) members)
+module _ (passes : ℕ → ℕ → ℕ → ℕ → ℕ → ℕ → Bool) (draw : ℕ → ℕ → ℕ) (g : GroupKeys) (w : World) (are : AreLogs g (logs w)) (members : List Alone) (begun : in_groups members ≡ w.members) (numbers : MembersAreNumbered members) (truly : AreTrueMembers g (logs w) members)
     (j : ℕ) (there : j < length members) (tries loss : ℕ) where
   abbrev pub out : Outside
   out = outside g draw passes
 
   abbrev pub way : Part → ℕ → Bool
-  way = comes passes j (Some loss)
+  way = attempt_comes passes j (Some loss)
 
   abbrev pub others : List Alone
   others = others_than j members
@@ -99,7 +99,7 @@ module _ (passes : ℕ → ℕ → ℕ → ℕ → ℕ → ℕ → Bool) (draw :
   here = alone_at members j
 
   abbrev pub fetched : List Fetched
-  fetched = fetched_all (comes passes j (Some loss)) (others_than j members) tries (alone_at members j) (next_parts None (alone_at members j))
+  fetched = fetched_all (attempt_comes passes j (Some loss)) (others_than j members) tries (alone_at members j) (next_parts None (alone_at members j))
 
   member_is : member w j ≡ in_group here
   member_is = ap (λ (ms : List Member). get_or ms j no_member) (sym begun) ∙ member_of members j there
@@ -200,7 +200,7 @@ module _ (passes : ℕ → ℕ → ℕ → ℕ → ℕ → ℕ → Bool) (draw :
       | inr other ↦ subst (IsTrueMember g (logs w)) (sym (elsewhere i other)) (truly i (omega (arith, l, new_len)))
     ]
 
-    pub fetched_numbers : AreNumbered new
+    pub fetched_numbers : MembersAreNumbered new
     fetched_numbers i l = elim (cases_eq i j) [
       | inl same ↦ ap (λ (k : ℕ). (alone_at new k).number) same ∙ ap (λ (a : Alone). a.number) at_here ∙ taker_number fetched here ∙ numbers j there ∙ sym same
       | inr other ↦ ap (λ (a : Alone). a.number) (elsewhere i other) ∙ numbers i (omega (arith, l, new_len))

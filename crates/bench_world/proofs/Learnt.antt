@@ -19,7 +19,7 @@ use Rattle.repo_member.specs.TrueMembers.{IsTrueMember}
 use Rattle.repo_member.proofs.PublicLaws.{learns_true, ends_claims_true}
 use Rattle.bench_world.specs.Settling.{IsPartlySettled, ArePartlySettled}
 use Rattle.bench_world.specs.Truth.{TriedFew, AllTriedFew}
-use Rattle.bench_world.specs.Worlds.{nobody, alone_at, in_groups, AllCountsStay, AreTrueMembers, AreNumbered}
+use Rattle.bench_world.specs.Worlds.{nobody, alone_at, in_groups, AllCountsStay, AreTrueMembers, MembersAreNumbered}
 use Rattle.bench_world.proofs.KnownByAll.{knowns, joined_width}
 use Rattle.bench_world.proofs.Gathered.{partly_begun}
 use Rattle.bench_world.proofs.GatheredAll.{member_of}
@@ -97,7 +97,7 @@ module _ (g : GroupKeys) (w : World) (are : AreLogs g (logs w)) (group : IsSound
           subst (IsTrueMember g (logs w)) (sym (each j inside))
           (learns_true g (logs w) all (alone_ends_claims (alone_at members j)) (true_vector j inside) (ends_claims_true g (logs w) (alone_at members j) (truly j inside)))
 
-      pub learnt_numbers : AreNumbered members → AreNumbered new
+      pub learnt_numbers : MembersAreNumbered members → MembersAreNumbered new
       learnt_numbers numbers j l = let inside : j < length members = omega (arith, l, len) in ap (λ (a : Alone). a.number) (each j inside) ∙ numbers j inside
 
       pub learnt_tried : AllTriedFew members → AllTriedFew new

@@ -17,10 +17,10 @@ use Rattle.repo_process.specs.Processes.{BlockState}
 use Rattle.repo_process.specs.Processes.BlockState.{Unknown, Already, Waiting, Whole}
 use Rattle.repo_store.specs.Served.{served}
 use Rattle.group_model.specs.Member.{Member, member_holds}
-use Rattle.group_model.specs.Replies.{Totals}
+use Rattle.group_model.specs.Replies.{CatalogueTotals}
 use Rattle.group_model.specs.Sound.{IsSoundGroup}
 use Rattle.group_model.specs.World.{Outside, World, member, logs, sent_at, catalogue_at}
-use Rattle.group_model.specs.Steps.{totals_of, claim_at, to_claim, timer_at, mode_at, after_deliver, tells_too_much, came_from, passes_checks, next_seq_at, next_sync, block_at}
+use Rattle.group_model.specs.Steps.{catalogue_totals, claim_at, to_claim, timer_at, mode_at, after_deliver, tells_too_much, came_from, passes_checks, next_seq_at, next_sync, block_at}
 use Rattle.group_model.proofs.Runs.{length_numbers}
 use Rattle.repo_member.specs.declared.refusals.HearRefusal.TheVariants as hear
 use Rattle.repo_member.specs.Groups.{GroupKeys}
@@ -87,8 +87,8 @@ module _ (n : ℕ) where
     go false = of_mode m (mode_at (after_deliver out w m told.1) m)
 
   module _ (g : GroupKeys) (out : Outside) (w : World) (many : length w.members ≡ n) (sound : IsSoundGroup w) where
-    of_sums : (f : Totals → ℕ) → length (map f (all_totals w)) ≡ n
-    of_sums f = length-map (all_totals w) f ∙ length-map (numbers_from 0 (length w.members)) (λ j. totals_of (catalogue_at w j)) ∙ length_numbers 0 (length w.members) ∙ many
+    of_sums : (f : CatalogueTotals → ℕ) → length (map f (all_totals w)) ≡ n
+    of_sums f = length-map (all_totals w) f ∙ length-map (numbers_from 0 (length w.members)) (λ j. catalogue_totals (catalogue_at w j)) ∙ length_numbers 0 (length w.members) ∙ many
 
     pub names_all : (e : EventValue) → IsReady n e → NamesAll n (telling g out w e)
     names_all (EventValue.Publish m name size content) r = tt

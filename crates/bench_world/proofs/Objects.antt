@@ -13,7 +13,7 @@ use Rattle.group_model.specs.Events.{SyncInterest, Event}
 use Rattle.group_model.specs.World.{no_member, member, logs_of}
 use Rattle.group_model.specs.Steps.{drawn, after_publish}
 use Rattle.group_model.specs.Changes as group
-use Rattle.group_model.specs.Limits.{IsWithin}
+use Rattle.group_model.specs.Limits.{IsWithinSteps}
 use Rattle.group_model.specs.Refusals.{Refusal, unless, refusal}
 use Rattle.group_model.specs.Sound.{IsTrueVector}
 use Rattle.repo_member.specs.declared.refusals.PublishRefusal.{PublishRefusal}
@@ -160,6 +160,6 @@ module _ (s : GroupState) (is : IsTrueState s) (m : ℕ) (there : m < length s.m
               vector = record { width = now_true.sound.width; no_more = now_true.sound.known };
               octets = refl;
             }))));
-        within = subst (IsWithin (s.steps + 1)) (sym (world_sent sent e)) (within_more s is few (drawing draw) (λ t. omega arith) (Event.Publish m object) is_object.few);
+        within = subst (IsWithinSteps (s.steps + 1)) (sym (world_sent sent e)) (within_more s is few (drawing draw) (λ t. omega arith) (Event.Publish m object) is_object.few);
         steps = omega (arith, few);
       }

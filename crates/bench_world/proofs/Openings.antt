@@ -8,7 +8,7 @@ use Rattle.bench_net.specs.SentList.{SentPacket}
 use Rattle.group_model.specs.Publications.{Logs}
 use Rattle.group_model.specs.Member.{Member}
 use Rattle.group_model.specs.World.{Tally, logs_of, opening_world}
-use Rattle.group_model.specs.Limits.{IsWithin}
+use Rattle.group_model.specs.Limits.{IsWithinSteps}
 use Rattle.group_model.proofs.Runs.{length_numbers}
 use Rattle.group_model.proofs.PublicLaws.{within_opening}
 use Rattle.repo_member.specs.Groups.{GroupKeys, IsGroup}
@@ -90,7 +90,7 @@ module _ (g : GroupKeys) (is : IsGroup g) (draw : ℕ → ℕ → ℕ) where
         subst (λ (ls : Logs). IsTrueMember g ls (alone_at (begun_all (length g.members.names) draw) j)) (sym logs_begun)
         (subst (IsTrueMember g (replicate (length g.members.names) [])) (sym (begun_at j m)) (begins_true g (length g.members.names) j 0 (draw j 0) m));
     sent = λ k d l. absurd (omega (arith, l));
-    within = subst (IsWithin 0) (sym (opening_is (begun_all (length g.members.names) draw) [] refl refl)) (within_opening (drawing draw) (length g.members.names));
+    within = subst (IsWithinSteps 0) (sym (opening_is (begun_all (length g.members.names) draw) [] refl refl)) (within_opening (drawing draw) (length g.members.names));
     steps = omega arith;
   }
 

@@ -11,15 +11,15 @@ use Rattle.std.proofs.lemmas.List.{map-set, set-get_or, get_or-set_same}
 use Rattle.repo_command.specs.declared.command.Command.{Command}
 use Rattle.repo_command.specs.declared.command.Command.TheVariants.{Insert, Check, Delete}
 use Rattle.repo_command.specs.declared.answer.Answer.{Answer}
-use Rattle.repo_command.specs.Commands.{is_command, IsSpelled}
+use Rattle.repo_command.specs.Commands.{is_command, CommandIsSpelled}
 use Rattle.repo_process.specs.Insertions.{next_number}
 use Rattle.group_model.specs.Changes as group
 use Rattle.group_model.specs.Events.{Event}
 use Rattle.group_model.specs.Limits.{IsInRange, IsShortInsertion}
-use Rattle.group_model.specs.Member.{Member, named, member_hides_all}
+use Rattle.group_model.specs.Member.{Member, catalogued_under, member_hides_all}
 use Rattle.group_model.specs.Replies.{Reply}
 use Rattle.group_model.specs.World.{Issued, World, no_member, member, with_member, logs}
-use Rattle.group_model.specs.Steps.{can_start, after_command, after_order, after_issue, answer_of, order_answer}
+use Rattle.group_model.specs.Steps.{can_start, after_command, after_order, after_issue, command_answer, order_answer}
 use Rattle.repo_member.specs.Alone.{Alone}
 use Rattle.repo_member.specs.Commanded as commanded
 use Rattle.repo_member.specs.InGroup.{in_group}
@@ -42,11 +42,11 @@ module _ (w : World) (j : ℕ) (there : j < length w.members) where
   only_one (Ok order) = by order.1 where
     by : (c : Command) → after_command w j c ≡ record w { members = set w.members j (member (after_command w j c) j) }
     by (Insert name first last) = go (can_start (member w j)) where
-      go : (b : Bool) → cond b (with_member w j (group.starts name first last (member w j))) w ≡ record w { members = set w.members j (member (cond b (with_member w j (group.starts name first last (member w j))) w) j) }
-      go true = one (group.starts name first last (member w j))
+      go : (b : Bool) → cond b (with_member w j (group.member_starts name first last (member w j))) w ≡ record w { members = set w.members j (member (cond b (with_member w j (group.member_starts name first last (member w j))) w) j) }
+      go true = one (group.member_starts name first last (member w j))
       go false = still
     by (Check process) = still
-    by (Delete name) = one (member_hides_all (named (logs w) (member w j) name) (member w j))
+    by (Delete name) = one (member_hides_all (catalogued_under (logs w) (member w j) name) (member w j))
 
 -- ---- a command is carried out
 
@@ -54,17 +54,17 @@ same_answer : (a b : Answer) → Reply.Commanded a ≡ Reply.Commanded b → a �
 same_answer a b h = cc
 
 module _ (s : GroupState) (is : IsTrueState s) (m : ℕ) (there : m < length s.members) (old : Alone) (old_is : old ≡ get_or s.members m old) (r : Result (ℕ × Command) ℕ) where
-  pub order_answered : commanded.order_answer r old ≡ order_answer (world_of s) m r
-  order_answered = sym (same_answer (order_answer (world_of s) m r) (commanded.order_answer r old) (order_is_answered (drawing (λ _ _. 0)) (world_of s) m r s.keys old (in_world s is m there old old_is) (true_in s is m there old old_is)))
+  pub order_answered : commanded.alone_order_answer r old ≡ order_answer (world_of s) m r
+  order_answered = sym (same_answer (order_answer (world_of s) m r) (commanded.alone_order_answer r old) (order_is_answered (drawing (λ _ _. 0)) (world_of s) m r s.keys old (in_world s is m there old old_is) (true_in s is m there old old_is)))
 
-  module _ (b : Alone) (b_is : b ≡ commanded.after_order r old) where
+  module _ (b : Alone) (b_is : b ≡ commanded.alone_after_order r old) where
     pub obeyed_world : world_of (record s { members = set s.members m b; steps = s.steps + 1 }) ≡ after_order (world_of s) m r
     obeyed_world =
         let now : in_group b ≡ member (after_order (world_of s) m r) m = ap in_group b_is ∙ sym (order_is_event (drawing (λ _ _. 0)) (world_of s) m r s.keys old (in_world s is m there old old_is) (true_in s is m there old old_is)) in
         ap (λ (ms : List Member). let w : World = record (world_of s) { members = ms } in w) (map-set in_group s.members m b ∙ ap (set (in_groups s.members) m) now)
         ∙ sym (only_one (world_of s) m (among s is m there old old_is) r)
 
-    same_number : (r : Result (ℕ × Command) ℕ) → (commanded.after_order r old).number ≡ old.number
+    same_number : (r : Result (ℕ × Command) ℕ) → (commanded.alone_after_order r old).number ≡ old.number
     same_number (Err code) = refl
     same_number (Ok order) = by order.1 where
       by : (c : Command) → (commanded.alone_obeys c old).number ≡ old.number
@@ -75,7 +75,7 @@ module _ (s : GroupState) (is : IsTrueState s) (m : ℕ) (there : m < length s.m
       by (Check process) = refl
       by (Delete name) = refl
 
-    still_true : (r : Result (ℕ × Command) ℕ) → IsTrueMember s.keys (logs_around s.members) (commanded.after_order r old)
+    still_true : (r : Result (ℕ × Command) ℕ) → IsTrueMember s.keys (logs_around s.members) (commanded.alone_after_order r old)
     still_true (Err code) = truly s is m there old old_is
     still_true (Ok order) = obeys_true s.keys (logs_around s.members) order.1 old is.are (truly s is m there old old_is)
 
@@ -102,11 +102,11 @@ module _ (s : GroupState) (is : IsTrueState s) (m : ℕ) (there : m < length s.m
   abbrev one_made : Issued
   one_made = record { member = m; client = client; command = command }
 
-  pub issue_answered : commanded.answer_to command old ≡ answer_of (world_of s) m command
-  issue_answered = sym (same_answer (answer_of (world_of s) m command) (commanded.answer_to command old) (issue_is_answered (drawing (λ _ _. 0)) (world_of s) m client command s.keys old (in_world s is m there old old_is) (true_in s is m there old old_is)))
+  pub issue_answered : commanded.answer_to command old ≡ command_answer (world_of s) m command
+  issue_answered = sym (same_answer (command_answer (world_of s) m command) (commanded.answer_to command old) (issue_is_answered (drawing (λ _ _. 0)) (world_of s) m client command s.keys old (in_world s is m there old old_is) (true_in s is m there old old_is)))
 
   -- What a client of the group makes is that client's command.
-  pub taken_is : client < length s.keys.clients.names → IsSpelled command → is_command command ≡ true → (octets : List ℕ) → octets ≡ commanded.order_made s.keys m client command → commanded.order_of s.keys old.number octets ≡ Ok (client, command)
+  pub taken_is : client < length s.keys.clients.names → CommandIsSpelled command → is_command command ≡ true → (octets : List ℕ) → octets ≡ commanded.order_made s.keys m client command → commanded.order_of s.keys old.number octets ≡ Ok (client, command)
   taken_is known spelled within octets e =
       let inside : m < length s.keys.members.names = let w = is.are.width in let l = many s is in omega (arith, there, w, l) in
       ap (λ (k : ℕ). commanded.order_of s.keys k octets) (number_is s is m there old old_is) ∙ ap (commanded.order_of s.keys m) e ∙ made_orders_are_taken s.keys m client command is.are.group inside known spelled within

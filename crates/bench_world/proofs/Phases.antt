@@ -6,7 +6,7 @@ use Rattle.std.proofs.lemmas.List.{length-map, length-replicate}
 use Rattle.std.proofs.lemmas.Option.{none-some}
 use Rattle.std.proofs.lemmas.List.Sums.{length-filter}
 use Rattle.std.proofs.lemmas.Bool.{and_parts}
-use Rattle.ndn_sign.specs.Ring.{Pair}
+use Rattle.ndn_sign.specs.Ring.{NamedKey}
 use Rattle.repo_plan.specs.declared.part.Part.{Part}
 use Rattle.repo_plan.specs.SortedList.{contains}
 use Rattle.repo_plan.specs.Parts.{part_cmp}
@@ -29,14 +29,14 @@ use Rattle.repo_member.proofs.PublicLaws.{true_is_of, wants_published, jobs_are_
 use Rattle.bench_world.specs.Worlds.{AreTrueMembers}
 use Rattle.bench_world.specs.Truth.{TriedFew}
 use Rattle.bench_world.specs.Sizes.{size_of}
-use Rattle.bench_world.specs.Lending.{lent, lends, comes, answer_of}
+use Rattle.bench_world.specs.Lending.{lent, lends, attempt_comes, lent_answer}
 use Rattle.bench_world.specs.Gathering.{next_parts, lent_one, lent_all}
 use Rattle.bench_world.specs.Fetching.{attempt_at, fetched_one, fetched_all}
 use Rattle.bench_world.proofs.NextParts.{next_unclaimed, from_slice_get}
 use Rattle.bench_world.proofs.Brought.{lends_true, were_tried, none_counted, first_lengths, counted, octets_sum, fetched_is, lent_is, came_lent, want_part}
 
 module _ (passes : ℕ → ℕ → ℕ → ℕ → ℕ → ℕ → Bool) (g : GroupKeys) (logs : Logs) (a : Alone) (others : List Alone) (asker : ℕ) (loss : Option ℕ) (are : AreLogs g logs) (truly : IsTrueMember g logs a) (all : AreTrueMembers g logs others)
-    (tried : TriedFew a) (after : Option Part) (jobs : List Job) (jobs_are : jobs ≡ jobs_behind g a after 4096) (ring : List Pair) (ring_is : ring ≡ g.members.ring) where
+    (tried : TriedFew a) (after : Option Part) (jobs : List Job) (jobs_are : jobs ≡ jobs_behind g a after 4096) (ring : List NamedKey) (ring_is : ring ≡ g.members.ring) where
   planned : ArePlannedJobs g a jobs
   planned = subst (ArePlannedJobs g a) (sym jobs_are) (jobs_are_planned g a after 4096 are.group.members (true_is_of g logs a are truly))
 
@@ -59,7 +59,7 @@ module _ (passes : ℕ → ℕ → ℕ → ℕ → ℕ → ℕ → Bool) (g : Gr
       record { known = job.publisher; few = omega (arith, job.base, few, most) }
 
   pub can_be_tried : (tries : ℕ) → tries ≤ 16 → All (CanBeTried (length ring) tries) jobs
-  can_be_tried tries few = subst (λ (r : List Pair). All (CanBeTried (length r) tries) jobs) (sym ring_is) (can_be_tried_here tries few)
+  can_be_tried tries few = subst (λ (r : List NamedKey). All (CanBeTried (length r) tries) jobs) (sym ring_is) (can_be_tried_here tries few)
 
   pub planned_place : (job : Job) (k : ℕ) → slice_get jobs k ≡ Some job → contains part_cmp (next_parts after a) job.want.part ≡ true
   planned_place job k at =
@@ -74,46 +74,46 @@ module _ (passes : ℕ → ℕ → ℕ → ℕ → ℕ → ℕ → Bool) (g : Gr
       ap (λ (b : Bool). cond b (length (unwrap_or (true_packet g logs t) [])) 0) there ∙ ap (λ (o : Option (List ℕ)). length (unwrap_or o [])) (lends_true g logs others all t octets e)
 
   module _ (tries : ℕ) (few : tries ≤ 16) (asked : List Job) (asked_are : asked ≡ jobs_behind g a after 4096) (parts values : List (Option CheckedPart)) (values_are : values ≡ parts) (ns counts : List ℕ) (counts_are : counts ≡ ns)
-      (first : AreFirst (answer_of passes others asker loss) ring tries asked parts ns) where
-    first_here : AreFirst (answer_of passes others asker loss) g.members.ring tries jobs values counts
+      (first : AreFirst (lent_answer passes others asker loss) ring tries asked parts ns) where
+    first_here : AreFirst (lent_answer passes others asker loss) g.members.ring tries jobs values counts
     first_here =
-        subst (λ (cs : List ℕ). AreFirst (answer_of passes others asker loss) g.members.ring tries jobs values cs) (sym counts_are)
-        (subst (λ (vs : List (Option CheckedPart)). AreFirst (answer_of passes others asker loss) g.members.ring tries jobs vs ns) (sym values_are)
-        (subst (λ (js : List Job). AreFirst (answer_of passes others asker loss) g.members.ring tries js parts ns) (asked_are ∙ sym jobs_are)
-        (subst (λ (r : List Pair). AreFirst (answer_of passes others asker loss) r tries asked parts ns) ring_is first)))
+        subst (λ (cs : List ℕ). AreFirst (lent_answer passes others asker loss) g.members.ring tries jobs values cs) (sym counts_are)
+        (subst (λ (vs : List (Option CheckedPart)). AreFirst (lent_answer passes others asker loss) g.members.ring tries jobs vs ns) (sym values_are)
+        (subst (λ (js : List Job). AreFirst (lent_answer passes others asker loss) g.members.ring tries js parts ns) (asked_are ∙ sym jobs_are)
+        (subst (λ (r : List NamedKey). AreFirst (lent_answer passes others asker loss) r tries asked parts ns) ring_is first)))
 
-    first_planned : AreFirst (answer_of passes others asker loss) g.members.ring tries (map (job_for g a) (next_parts after a)) values counts
-    first_planned = subst (λ (js : List Job). AreFirst (answer_of passes others asker loss) g.members.ring tries js values counts) jobs_are first_here
+    first_planned : AreFirst (lent_answer passes others asker loss) g.members.ring tries (map (job_for g a) (next_parts after a)) values counts
+    first_planned = subst (λ (js : List Job). AreFirst (lent_answer passes others asker loss) g.members.ring tries js values counts) jobs_are first_here
 
     pub count_attempts : length counts ≡ length jobs
-    count_attempts = (first_lengths (answer_of passes others asker loss) g tries jobs values counts first_here).1
+    count_attempts = (first_lengths (lent_answer passes others asker loss) g tries jobs values counts first_here).1
 
     count_parts : length values ≡ length jobs
-    count_parts = (first_lengths (answer_of passes others asker loss) g tries jobs values counts first_here).0
+    count_parts = (first_lengths (lent_answer passes others asker loss) g tries jobs values counts first_here).0
 
     -- ---- a fetch
 
     pub fetch_outcome : IsOutcome g a jobs values counts
-    fetch_outcome = planned_jobs_are_outcomes g a jobs values counts planned (were_tried (answer_of passes others asker loss) g tries jobs values counts (can_be_tried_here tries few) first_here)
+    fetch_outcome = planned_jobs_are_outcomes g a jobs values counts planned (were_tried (lent_answer passes others asker loss) g tries jobs values counts (can_be_tried_here tries few) first_here)
 
-    pub fetch_is : outcome_of jobs values counts ≡ fetched_all (comes passes asker loss) others tries a (next_parts after a)
+    pub fetch_is : outcome_of jobs values counts ≡ fetched_all (attempt_comes passes asker loss) others tries a (next_parts after a)
     fetch_is = ap (λ (js : List Job). outcome_of js values counts) jobs_are ∙ fetched_is passes g logs a others asker loss are truly all tries (next_parts after a) wanted values counts first_planned
 
-    pub fetch_parts : count_by is_some values ≡ length (that_came (fetched_all (comes passes asker loss) others tries a (next_parts after a)))
+    pub fetch_parts : count_by is_some values ≡ length (that_came (fetched_all (attempt_comes passes asker loss) others tries a (next_parts after a)))
     fetch_parts = sym (length-filter is_some values) ∙ counted jobs values counts count_parts count_attempts ∙ ap (λ (xs : List Fetched). length (that_came xs)) fetch_is
 
-    pub fetch_octets : sum_by octets_in values ≡ sum_by (size_of g logs) (that_came (fetched_all (comes passes asker loss) others tries a (next_parts after a)))
+    pub fetch_octets : sum_by octets_in values ≡ sum_by (size_of g logs) (that_came (fetched_all (attempt_comes passes asker loss) others tries a (next_parts after a)))
     fetch_octets =
         octets_sum (size_of g logs) jobs values counts count_parts count_attempts (λ x octets i e.
-        let r = from_map (fetched_one (comes passes asker loss) others tries a) (next_parts after a) x (subst (In x) fetch_is i) in
+        let r = from_map (fetched_one (attempt_comes passes asker loss) others tries a) (next_parts after a) x (subst (In x) fetch_is i) in
         ap (size_of g logs) (ap (λ (y : Fetched). y.part) r.2)
-        ∙ size_lent r.0 octets r.1 (from_packet (is_some (attempt_at (comes passes asker loss) others tries a r.0)) (lent others r.0) octets (sym (ap (λ (y : Fetched). y.packet) r.2) ∙ e)))
+        ∙ size_lent r.0 octets r.1 (from_packet (is_some (attempt_at (attempt_comes passes asker loss) others tries a r.0)) (lent others r.0) octets (sym (ap (λ (y : Fetched). y.packet) r.2) ∙ e)))
         ∙ ap (λ (xs : List Fetched). sum_by (size_of g logs) (that_came xs)) fetch_is where
           from_packet : (b : Bool) (o : Option (List ℕ)) (octets : List ℕ) → cond b o None ≡ Some octets → o ≡ Some octets
           from_packet true o octets e = e
           from_packet false o octets e = absurd (none-some octets e)
 
-    pub fetch_attempts : counts ≡ map (λ (x : Fetched). x.attempts) (fetched_all (comes passes asker loss) others tries a (next_parts after a))
+    pub fetch_attempts : counts ≡ map (λ (x : Fetched). x.attempts) (fetched_all (attempt_comes passes asker loss) others tries a (next_parts after a))
     fetch_attempts = attempts_in jobs values counts count_parts count_attempts ∙ ap (map (λ (x : Fetched). x.attempts)) fetch_is where
       attempts_in : (js : List Job) (ps : List (Option CheckedPart)) (cs : List ℕ) → length ps ≡ length js → length cs ≡ length js → cs ≡ map (λ (x : Fetched). x.attempts) (outcome_of js ps cs)
       attempts_in [] [] [] e f = refl
@@ -126,7 +126,7 @@ module _ (passes : ℕ → ℕ → ℕ → ℕ → ℕ → ℕ → Bool) (g : Gr
   -- ---- a phase of a settle
 
   module _ (none : loss ≡ None) (asked : List Job) (asked_are : asked ≡ jobs_behind g a after 4096) (parts values : List (Option CheckedPart)) (values_are : values ≡ parts) (ns : List ℕ)
-      (first : AreFirst (answer_of passes others asker loss) ring 1 asked parts ns) (zeros : List ℕ) (zeros_are : zeros ≡ replicate (length jobs) 0) where
+      (first : AreFirst (lent_answer passes others asker loss) ring 1 asked parts ns) (zeros : List ℕ) (zeros_are : zeros ≡ replicate (length jobs) 0) where
     count_zeros : length zeros ≡ length jobs
     count_zeros = ap length zeros_are ∙ length-replicate (length jobs) 0
 
@@ -134,7 +134,7 @@ module _ (passes : ℕ → ℕ → ℕ → ℕ → ℕ → ℕ → Bool) (g : Gr
     gain_outcome =
         subst (IsOutcome g a jobs values) (sym zeros_are)
         (planned_jobs_are_outcomes g a jobs values (replicate (length jobs) 0) planned
-        (none_counted (answer_of passes others asker loss) g 1 jobs values ns (can_be_tried_here 1 (omega arith)) (first_here 1 (omega arith) asked asked_are parts values values_are ns ns refl first)))
+        (none_counted (lent_answer passes others asker loss) g 1 jobs values ns (can_be_tried_here 1 (omega arith)) (first_here 1 (omega arith) asked asked_are parts values values_are ns ns refl first)))
 
     pub gain_is : outcome_of jobs values zeros ≡ lent_all others (next_parts after a)
     gain_is =

@@ -4,7 +4,7 @@ use Rattle.group_model.specs.Member.{Member}
 use Rattle.group_model.specs.Events.{Event}
 use Rattle.group_model.specs.World.{World, Outside}
 use Rattle.group_model.specs.Laws.{NothingHidden, AllJoined}
-use Rattle.group_model.specs.Limits.{IsWithin}
+use Rattle.group_model.specs.Limits.{IsWithinSteps}
 use Rattle.group_model.specs.Steps.{after_gathering, after_settle, reset_each}
 use Rattle.group_model.proofs.PublicLaws.{settle_joins}
 use Rattle.repo_member.specs.Alone.{Alone, alone_resets}
@@ -47,9 +47,9 @@ module _ (s : GroupState) (is : IsTrueState s) (few : s.steps < 100000) (draw : 
 
   pub reset_state : IsTrueState (record mid { members = new })
   reset_state =
-      let within : IsWithin (s.steps + 1) (after_settle out (world_of s)) = within_more s is few out (λ t. sizes_short s.keys (logs_around s.members) is.are t) Event.Settle tt in
+      let within : IsWithinSteps (s.steps + 1) (after_settle out (world_of s)) = within_more s is few out (λ t. sizes_short s.keys (logs_around s.members) is.are t) Event.Settle tt in
       changed_state mid truly new mid.sent mid.moment mid.tally mid.steps len
       (λ j l. ap (λ (a : Alone). a.number) (each j (omega (arith, l, len))) ∙ truly.numbers j (omega (arith, l, len)))
       (λ j l. subst (IsTrueMember mid.keys (logs_around mid.members)) (sym (each j (omega (arith, l, len)))) (resets_true mid.keys (logs_around mid.members) mid.moment (draw j (alone_at mid.members j).machine.draws) (alone_at mid.members j) (truly.members j (omega (arith, l, len)))))
       truly.sent truly.steps
-      (subst (λ (k : ℕ). IsWithin k (world_of (record mid { members = new }))) (sym steps_are) (subst (IsWithin (s.steps + 1)) (sym reset_world) within))
+      (subst (λ (k : ℕ). IsWithinSteps k (world_of (record mid { members = new }))) (sym steps_are) (subst (IsWithinSteps (s.steps + 1)) (sym reset_world) within))

@@ -10,7 +10,7 @@ use Rattle.group_model.specs.Events.{SyncInterest, Event}
 use Rattle.group_model.specs.World.{Tally, Outside, no_member, no_sync, member}
 use Rattle.group_model.specs.Steps.{after_event}
 use Rattle.group_model.specs.Sound.{IsSoundGroup, IsSoundMember, IsTrueVector}
-use Rattle.group_model.specs.Limits.{IsInRange, IsMemberWithin, IsWithin, HasSmallPackets}
+use Rattle.group_model.specs.Limits.{IsInRange, IsMemberWithin, IsWithinSteps, HasSmallPackets}
 use Rattle.group_model.proofs.PublicLaws.{within_after, few_parts}
 use Rattle.repo_member.specs.Groups.{GroupKeys}
 use Rattle.repo_member.specs.Alone.{Alone}
@@ -19,7 +19,7 @@ use Rattle.repo_member.specs.InEvents.{IsMemberOf, IsTrueIn}
 use Rattle.repo_member.specs.TrueMembers.{IsTrueMember}
 use Rattle.repo_member.proofs.PublicLaws.{true_stores}
 use Rattle.bench_world.specs.Truth.{AllTriedFew, AreFewLogs}
-use Rattle.bench_world.specs.Worlds.{GroupState, IsTrueState, IsTrueSync, nobody, alone_at, in_groups, logs_around, AreNumbered, AreTrueMembers, sync_in, world_of, no_packet}
+use Rattle.bench_world.specs.Worlds.{GroupState, IsTrueState, IsTrueSync, nobody, alone_at, in_groups, logs_around, MembersAreNumbered, AreTrueMembers, sync_in, world_of, no_packet}
 
 -- ---- members
 
@@ -37,7 +37,7 @@ pub many_logs : (ms : List Alone) → length (logs_around ms) ≡ length ms
 many_logs ms = length-map (in_groups ms) (λ (m : Member). m.log) ∙ length-map ms in_group
 
 -- The logs of all are what each has.
-pub logs_are : (g : GroupKeys) (ls : Logs) (members : List Alone) → length members ≡ length ls → AreNumbered members → AreTrueMembers g ls members → logs_around members ≡ ls
+pub logs_are : (g : GroupKeys) (ls : Logs) (members : List Alone) → length members ≡ length ls → MembersAreNumbered members → AreTrueMembers g ls members → logs_around members ≡ ls
 logs_are g ls members long numbers truly =
     let many : length (logs_around members) ≡ length members = many_logs members in
     ext_get_or [] (logs_around members) ls (many ∙ long) (λ i l.
@@ -54,7 +54,7 @@ module _ (ms : List Alone) (m : ℕ) (there : m < length ms) (b : Alone) where
     | inr other ↦ subst (IsTrueMember g ls) (sym (get_or-set_other ms m i b nobody other)) (all i (let n : length (set ms m b) ≡ length ms = length-set ms m b in omega (arith, l, n)))
   ]
 
-  pub set_numbers : b.number ≡ m → AreNumbered ms → AreNumbered (set ms m b)
+  pub set_numbers : b.number ≡ m → MembersAreNumbered ms → MembersAreNumbered (set ms m b)
   set_numbers e all i l = elim (cases_eq i m) [
     | inl same ↦ ap (λ (k : ℕ). (alone_at (set ms m b) k).number) same ∙ ap (λ (a : Alone). a.number) (get_or-set_same ms m b nobody there) ∙ e ∙ sym same
     | inr other ↦ ap (λ (a : Alone). a.number) (get_or-set_other ms m i b nobody other) ∙ all i (let n : length (set ms m b) ≡ length ms = length-set ms m b in omega (arith, l, n))
@@ -136,9 +136,9 @@ module _ (s : GroupState) (is : IsTrueState s) where
   -- ---- other worlds
 
   -- Other members of the same logs, and other packets that were sent.
-  pub changed_state : (members : List Alone) (sent : List SentPacket) (moment : ℕ) (tally : Tally) (steps : ℕ) → length members ≡ length s.members → AreNumbered members → AreTrueMembers s.keys (logs_around s.members) members
+  pub changed_state : (members : List Alone) (sent : List SentPacket) (moment : ℕ) (tally : Tally) (steps : ℕ) → length members ≡ length s.members → MembersAreNumbered members → AreTrueMembers s.keys (logs_around s.members) members
       → All (IsTrueSync s.keys (logs_around s.members)) sent → steps ≤ 100000
-      → IsWithin steps (world_of (record s { members = members; sent = sent; moment = moment; tally = tally; steps = steps }))
+      → IsWithinSteps steps (world_of (record s { members = members; sent = sent; moment = moment; tally = tally; steps = steps }))
       → IsTrueState (record s { members = members; sent = sent; moment = moment; tally = tally; steps = steps })
   changed_state members sent moment tally steps len numbers all syncs few within =
       let same : logs_around members ≡ logs_around s.members = logs_are s.keys (logs_around s.members) members (len ∙ many) numbers all in
@@ -152,16 +152,16 @@ module _ (s : GroupState) (is : IsTrueState s) where
       }
 
   module _ (few : s.steps < 100000) (out : Outside) (small : HasSmallPackets out (world_of s)) (e : Event) (range : IsInRange e) where
-    pub within_more : IsWithin (s.steps + 1) (after_event out (world_of s) e)
+    pub within_more : IsWithinSteps (s.steps + 1) (after_event out (world_of s) e)
     within_more = within_after out s.steps (world_of s) e is.steps few_here small range is.within
 
     -- After an event that publishes nothing.
-    pub stepped : (members : List Alone) (sent : List SentPacket) (moment : ℕ) (tally : Tally) → length members ≡ length s.members → AreNumbered members → AreTrueMembers s.keys (logs_around s.members) members
+    pub stepped : (members : List Alone) (sent : List SentPacket) (moment : ℕ) (tally : Tally) → length members ≡ length s.members → MembersAreNumbered members → AreTrueMembers s.keys (logs_around s.members) members
         → All (IsTrueSync s.keys (logs_around s.members)) sent
         → world_of (record s { members = members; sent = sent; moment = moment; tally = tally; steps = s.steps + 1 }) ≡ after_event out (world_of s) e
         → IsTrueState (record s { members = members; sent = sent; moment = moment; tally = tally; steps = s.steps + 1 })
     stepped members sent moment tally len numbers all syncs world_is =
-        changed_state members sent moment tally (s.steps + 1) len numbers all syncs (omega (arith, few)) (subst (IsWithin (s.steps + 1)) (sym world_is) within_more)
+        changed_state members sent moment tally (s.steps + 1) len numbers all syncs (omega (arith, few)) (subst (IsWithinSteps (s.steps + 1)) (sym world_is) within_more)
 
     -- The same where one member has changed.
     pub stepped_at : (m : ℕ) → m < length s.members → (b : Alone) → b.number ≡ m → IsTrueMember s.keys (logs_around s.members) b → (sent : List SentPacket) (moment : ℕ) (tally : Tally) → All (IsTrueSync s.keys (logs_around s.members)) sent

@@ -12,9 +12,9 @@ use Rattle.repo_object.specs.Objects.{IsObject, IsContent}
 use Rattle.repo_catalog.specs.declared.entry.Entry.{Entry}
 use Rattle.group_model.specs.Publications.{Logs, Publication, no_object, published, published_entry}
 use Rattle.group_model.specs.Member.{Member, holds_all, catalogued, catalogue}
-use Rattle.group_model.specs.Replies.{Totals}
+use Rattle.group_model.specs.Replies.{CatalogueTotals}
 use Rattle.group_model.specs.World.{catalogue_at, member}
-use Rattle.group_model.specs.Steps.{totals_of}
+use Rattle.group_model.specs.Steps.{catalogue_totals}
 use Rattle.group_model.proofs.Runs.{length_numbers}
 use Rattle.group_model.proofs.Parts.{IsIn, in_published}
 use Rattle.group_model.proofs.Lists.{from_filter, in_at}
@@ -65,7 +65,7 @@ module _ (s : GroupState) (is : IsTrueState s) where
           | inr past ↦ subst (All IsObject) (sym (get_or_past ls p [] past)) (λ k d l. absurd (omega (arith, l)))
         ]
 
-  few_totals : (m : Member) → HasFewTotals (totals_of (catalogue (logs_around s.members) m))
+  few_totals : (m : Member) → HasFewTotals (catalogue_totals (catalogue (logs_around s.members) m))
   few_totals m =
       let all : List Publication = published (logs_around s.members) in
       let steps : length (published (logs_around s.members)) ≤ s.steps = is.within.published in
@@ -92,27 +92,27 @@ module _ (s : GroupState) (is : IsTrueState s) where
       catalogues_alike (world_of s) j s.keys (alone_at s.members j) (in_world s is j l (alone_at s.members j) same) (true_in s is j l (alone_at s.members j) same)
 
   pub few_totals_at : (j : ℕ) → j < length s.members → HasFewTotals (totals_in (alone_at s.members j))
-  few_totals_at j l = subst (λ (es : List Entry). HasFewTotals (totals_of es)) (listed j l) (few_totals (member (world_of s) j))
+  few_totals_at j l = subst (λ (es : List Entry). HasFewTotals (catalogue_totals es)) (listed j l) (few_totals (member (world_of s) j))
 
   -- Member by member they are those of the members by themselves.
   pub totals_are : map totals_in s.members ≡ all_totals (world_of s)
   totals_are =
       let many : length (in_groups s.members) ≡ length s.members = length-map s.members in_group in
       let long : length (numbers_from 0 (length (in_groups s.members))) ≡ length (in_groups s.members) = length_numbers 0 (length (in_groups s.members)) in
-      let f : ℕ → Totals = λ j. totals_of (catalogue_at (world_of s) j) in
+      let f : ℕ → CatalogueTotals = λ j. catalogue_totals (catalogue_at (world_of s) j) in
       let left : length (map totals_in s.members) ≡ length s.members = length-map s.members totals_in in
       let right : length (all_totals (world_of s)) ≡ length (numbers_from 0 (length (in_groups s.members))) = length-map (numbers_from 0 (length (in_groups s.members))) f in
       ext_get_or none (map totals_in s.members) (all_totals (world_of s)) (omega (arith, left, right, long, many)) (λ i l.
       let inside : i < length s.members = omega (arith, l, left) in
       let z : 0 + i ≡ i = omega arith in
       get_or-map totals_in s.members i nobody none inside
-      ∙ ap totals_of (sym (listed i inside))
+      ∙ ap catalogue_totals (sym (listed i inside))
       ∙ ap f (sym (number_at 0 (length (in_groups s.members)) i (omega (arith, inside, many)) ∙ z))
       ∙ sym (get_or-map f (numbers_from 0 (length (in_groups s.members))) i 0 none (omega (arith, inside, many, long)))) where
-        none : Totals
+        none : CatalogueTotals
         none = record { entries = 0; segments = 0; octets = 0 }
 
-  pub sums_are : (g : Totals → ℕ) → map (λ a. g (totals_in a)) s.members ≡ map g (all_totals (world_of s))
+  pub sums_are : (g : CatalogueTotals → ℕ) → map (λ a. g (totals_in a)) s.members ≡ map g (all_totals (world_of s))
   sums_are g = over s.members ∙ ap (map g) totals_are where
     over : (as_ : List Alone) → map (λ a. g (totals_in a)) as_ ≡ map g (map totals_in as_)
     over [] = refl

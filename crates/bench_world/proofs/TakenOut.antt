@@ -7,7 +7,7 @@ use Rattle.std.proofs.lemmas.List.{set-get_or}
 use Rattle.std.proofs.lemmas.List.Edits.{get_or-remove_below, get_or-remove_above}
 use Rattle.repo_member.specs.Alone.{Alone}
 use Rattle.bench_world.specs.Worlds.{nobody, alone_at}
-use Rattle.bench_world.specs.Others.{place_of, other_at}
+use Rattle.bench_world.specs.Others.{place_among_others, other_at}
 use Rattle.bench_world.specs.Answering.{lender_of}
 
 same_place : (ms : List Alone) (j : ℕ) (x : Alone) → j < length ms → insert (remove ms j) j x ≡ set ms j x
@@ -25,8 +25,8 @@ put_back ms mid new j x l a b same = put_in ms mid new j x l a b ∙ ap (set ms 
 
 module _ (ms others : List Alone) (j : ℕ) (there : j < length ms) (are : others ≡ remove ms j) where
   -- The others stand where they stood, or one place before.
-  pub others_at : (i : ℕ) → i ≢ j → alone_at others (place_of j i) ≡ alone_at ms i
-  others_at i apart = ap (λ (xs : List Alone). alone_at xs (place_of j i)) are ∙ elim (cases_lt i j) [
+  pub others_at : (i : ℕ) → i ≢ j → alone_at others (place_among_others j i) ≡ alone_at ms i
+  others_at i apart = ap (λ (xs : List Alone). alone_at xs (place_among_others j i)) are ∙ elim (cases_lt i j) [
     | inl below ↦
         ap (λ (b : Bool). alone_at (remove ms j) (cond b i (i - 1))) (lt-ltb i j below) ∙ get_or-remove_below ms j nobody i below there
     | inr above ↦
@@ -39,6 +39,6 @@ module _ (ms others : List Alone) (j : ℕ) (there : j < length ms) (are : other
   -- Who is asked is the member of the number, the one that was taken out too.
   pub lender_is : (i : ℕ) (x : Alone) → x ≡ alone_at ms j → lender_of x (other_at j others i) ≡ alone_at ms i
   lender_is i x x_is = elim (cases_eq i j) [
-    | inl same ↦ ap (λ (b : Bool). lender_of x (cond b None (Some (alone_at others (place_of j i))))) (eq-eqb i j same) ∙ x_is ∙ ap (alone_at ms) (sym same)
-    | inr apart ↦ ap (λ (b : Bool). lender_of x (cond b None (Some (alone_at others (place_of j i))))) (false_from_ne_true (i == j) (λ h. apart (eqb-true i j h))) ∙ others_at i apart
+    | inl same ↦ ap (λ (b : Bool). lender_of x (cond b None (Some (alone_at others (place_among_others j i))))) (eq-eqb i j same) ∙ x_is ∙ ap (alone_at ms) (sym same)
+    | inr apart ↦ ap (λ (b : Bool). lender_of x (cond b None (Some (alone_at others (place_among_others j i))))) (false_from_ne_true (i == j) (λ h. apart (eqb-true i j h))) ∙ others_at i apart
   ]

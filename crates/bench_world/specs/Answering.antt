@@ -67,11 +67,11 @@ kept_of octets (Fed.Refused refusal) = None
 -- ---- what becomes of the member
 
 -- Where the publisher's packet of the claimed part came, it is accepted.
-abbrev pub after_claim : GroupKeys → Logs → ℕ → Part → Came → Alone → Alone
-after_claim g logs f t Nothing a = a
-after_claim g logs f t Its a = alone_accepts f t (unwrap_or (true_packet g logs t) []) a
-after_claim g logs f t Another a = a
+abbrev pub accepts_claimed : GroupKeys → Logs → ℕ → Part → Came → Alone → Alone
+accepts_claimed g logs f t Nothing a = a
+accepts_claimed g logs f t Its a = alone_accepts f t (unwrap_or (true_packet g logs t) []) a
+accepts_claimed g logs f t Another a = a
 
 abbrev pub after_claimed : GroupKeys → Logs → ℕ → Option Part → Came → Alone → Alone
 after_claimed g logs f None came a = a
-after_claimed g logs f (Some t) came a = after_claim g logs f t came a
+after_claimed g logs f (Some t) came a = accepts_claimed g logs f t came a

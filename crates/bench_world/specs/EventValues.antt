@@ -22,9 +22,9 @@ use Rattle.repo_command.specs.declared.command.Command.TheVariants as command
 use Rattle.repo_command.specs.declared.answer.Answer.{Answer as CommandAnswer}
 use Rattle.repo_process.specs.Processes.{BlockState}
 use Rattle.repo_process.specs.Processes.BlockState.{Unknown, Already, Waiting, Whole}
-use Rattle.group_model.specs.Replies.{Totals}
+use Rattle.group_model.specs.Replies.{CatalogueTotals}
 use Rattle.group_model.specs.World.{Outside, World, member, logs, sent_at, catalogue_at}
-use Rattle.group_model.specs.Steps.{claim_at, to_claim, timer_at, mode_at, after_deliver, tells_too_much, came_from, passes_checks, planned_parts, fetched_parts, attempts_made, settle_gains, next_seq_at, next_sync, totals_of, order_answer, answer_of, block_at}
+use Rattle.group_model.specs.Steps.{claim_at, to_claim, timer_at, mode_at, after_deliver, tells_too_much, came_from, passes_checks, planned_parts, fetched_parts, attempts_made, settle_gains, next_seq_at, next_sync, catalogue_totals, order_answer, command_answer, block_at}
 use Rattle.repo_member.specs.declared.refusals.HearRefusal.{HearRefusal}
 use Rattle.repo_member.specs.declared.refusals.HearRefusal.TheVariants as hear
 use Rattle.repo_member.specs.Groups.{GroupKeys}
@@ -282,8 +282,8 @@ block_told m seq sync Already = Told.Block200 m
 block_told m seq sync (Waiting p) = Told.Block300 m
 block_told m seq sync (Whole p) = Told.BlockPublished m seq sync
 
-abbrev pub all_totals : World → List Totals
-all_totals w = map (λ j. totals_of (catalogue_at w j)) (numbers_from 0 (length w.members))
+abbrev pub all_totals : World → List CatalogueTotals
+all_totals w = map (λ j. catalogue_totals (catalogue_at w j)) (numbers_from 0 (length w.members))
 
 abbrev pub telling : GroupKeys → Outside → World → EventValue → Told
 telling g out w (EventValue.Publish m name size content) =
@@ -308,11 +308,12 @@ telling g out w (EventValue.Hear m octets) = hear_told out w m (group_verdict g 
 telling g out w (EventValue.Ask m octets) = ask_told m (served octets (true_packets g (logs w) (member w m).held))
 telling g out w (EventValue.Feed m f octets) = feed_told g w m f octets (claim_at w m f)
 telling g out w (EventValue.Order m octets) = order_told m (order_answer w m (order_of g m octets))
-telling g out w (EventValue.Insert m client name first last) = insert_told m (answer_of w m (command.Insert name first last))
+telling g out w (EventValue.Insert m client name first last) =
+    insert_told m (command_answer w m (command.Insert name first last))
 telling g out w (EventValue.Block m process index content) =
     block_told m (next_seq_at w m) (next_sync w) (block_at w m process index content)
-telling g out w (EventValue.Status m client process) = status_told m (answer_of w m (command.Check process))
-telling g out w (EventValue.Delete m client name) = delete_told m (answer_of w m (command.Delete name))
+telling g out w (EventValue.Status m client process) = status_told m (command_answer w m (command.Check process))
+telling g out w (EventValue.Delete m client name) = delete_told m (command_answer w m (command.Delete name))
 telling g out w EventValue.Summary = Told.Summary (numbers_from 0 (length w.members))
     (map (λ t. t.entries) (all_totals w)) (map (λ t. t.segments) (all_totals w)) (map (λ t. t.octets) (all_totals w))
 telling g out w EventValue.Traffic =

@@ -28,7 +28,7 @@ IsPlaceIn ts None = ts ≡ []
 IsPlaceIn ts (Some t) = contains part_cmp ts t ≡ true
 
 -- A member has gained parts of those that others store, and nothing else of it changed.
-pub record Gains (g : GroupKeys) (logs : Logs) (others : List Alone) (old new : Alone) : Type 0 where
+pub record GainsParts (g : GroupKeys) (logs : Logs) (others : List Alone) (old new : Alone) : Type 0 where
   pub same : new ≡ record old { store = new.store }
   pub truly : IsTrueMember g logs new
   pub kept : (t : Part) → stores old t ≡ true → stores new t ≡ true
@@ -52,7 +52,7 @@ NothingLeft others a = (t : Part) → is_unclaimed (alone_plan a) t ≡ true →
 -- there.
 pub record RoundSoFar (g : GroupKeys) (logs : Logs) (others : List Alone) (after : Option Part) (kept : ℕ)
     (old new : Alone) : Type 0 where
-  pub gains : Gains g logs others old new
+  pub gains : GainsParts g logs others old new
   pub count : Counts one_each kept old new
   pub still : kept ≡ 0 → (t : Part) → is_unclaimed (alone_plan new) t ≡ true → is_after after t ≡ false
       → lends others t ≡ false

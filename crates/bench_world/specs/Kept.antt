@@ -9,8 +9,8 @@ use Rattle.bench_world.specs.Worlds.{GroupState, IsTrueState}
 abbrev pub issued_of : IssuedCommand → Issued
 issued_of c = record { member = c.member; client = c.client; command = c.command }
 
-abbrev pub state : Inside → GroupState
-state w = record {
+abbrev pub world_state : Inside → GroupState
+world_state w = record {
   keys = w.group;
   members = w.members.items;
   sent = w.sent.packets;
@@ -21,4 +21,4 @@ state w = record {
 }
 
 abbrev pub IsWorld : Inside → Type 0
-IsWorld w = IsTrueState (state w)
+IsWorld w = IsTrueState (world_state w)

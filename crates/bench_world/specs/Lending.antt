@@ -5,7 +5,7 @@ use Rattle.repo_plan.specs.SortedList.{value_of}
 use Rattle.repo_plan.specs.Parts.{part_cmp}
 use Rattle.repo_object.specs.Wants.{WantedPart}
 use Rattle.repo_member.specs.Alone.{Alone}
-use Rattle.bench_world.specs.Others.{place_of}
+use Rattle.bench_world.specs.Others.{place_among_others}
 
 abbrev pub or_else : Option (List ℕ) → Option (List ℕ) → Option (List ℕ)
 or_else None other = other
@@ -28,20 +28,21 @@ lent_at (Some a) t = value_of part_cmp a.store t
 
 -- The packet that the part's publisher stores of it, or else the first of the others that stores it.
 abbrev pub lent_first : List Alone → ℕ → Part → Option (List ℕ)
-lent_first others asker t = or_else (lent_at (slice_get others (place_of asker t.publisher)) t) (lent others t)
+lent_first others asker t =
+    or_else (lent_at (slice_get others (place_among_others asker t.publisher)) t) (lent others t)
 
 -- ---- the way of attempts
 
 -- Which attempts at parts come through: where there is no loss, every one.
-abbrev pub comes : (ℕ → ℕ → ℕ → ℕ → ℕ → ℕ → Bool) → ℕ → Option ℕ → Part → ℕ → Bool
-comes passes asker None t attempt = true
-comes passes asker (Some loss) t attempt = passes asker t.publisher t.seq t.part attempt loss
+abbrev pub attempt_comes : (ℕ → ℕ → ℕ → ℕ → ℕ → ℕ → Bool) → ℕ → Option ℕ → Part → ℕ → Bool
+attempt_comes passes asker None t attempt = true
+attempt_comes passes asker (Some loss) t attempt = passes asker t.publisher t.seq t.part attempt loss
 
 abbrev pub if_comes : Bool → Option (List ℕ) → Option (List ℕ)
 if_comes true octets = octets
 if_comes false octets = None
 
 -- What a link over members answers, where the network passes these attempts.
-abbrev pub answer_of : (ℕ → ℕ → ℕ → ℕ → ℕ → ℕ → Bool) → List Alone → ℕ → Option ℕ → WantedPart → ℕ → Option (List ℕ)
-answer_of passes others asker loss want attempt =
-    if_comes (comes passes asker loss want.part attempt) (lent_first others asker want.part)
+abbrev pub lent_answer : (ℕ → ℕ → ℕ → ℕ → ℕ → ℕ → Bool) → List Alone → ℕ → Option ℕ → WantedPart → ℕ → Option (List ℕ)
+lent_answer passes others asker loss want attempt =
+    if_comes (attempt_comes passes asker loss want.part attempt) (lent_first others asker want.part)

@@ -4,10 +4,10 @@ use Rattle.repo_member.specs.Alone.{Alone}
 use Rattle.bench_world.specs.Worlds.{alone_at}
 
 -- Where another member stands among them.
-abbrev pub place_of : (without number : ℕ) → ℕ
-place_of without number = if nat_lt number without then number else number - 1
+abbrev pub place_among_others : (without number : ℕ) → ℕ
+place_among_others without number = if nat_lt number without then number else number - 1
 
 -- The member of a number, or none where it was taken out.
 abbrev pub other_at : ℕ → List Alone → ℕ → Option Alone
 other_at without others number =
-    if number == without then None else Some (alone_at others (place_of without number))
+    if number == without then None else Some (alone_at others (place_among_others without number))

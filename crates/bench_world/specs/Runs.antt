@@ -1,7 +1,7 @@
 -- What a step leaves that wanted memory, and lists of events.
 use Rattle.std.specs.Prelude.{ℕ, ◌≡◌, ◌+◌, ◌<◌, List, ◌++◌, map, take, length, slice_index_or}
 use Rattle.group_model.specs.Events as group
-use Rattle.group_model.specs.Refusals.{refusal, AreTaken}
+use Rattle.group_model.specs.Refusals.{refusal, EventsAreTaken}
 use Rattle.group_model.specs.World.{Outside, World}
 use Rattle.group_model.specs.Steps.{after_events}
 use Rattle.group_model.specs.Laws.{NothingHidden, NothingWanted, AllJoined, TellsAll}
@@ -40,7 +40,7 @@ group_events g events = map (group_event g) events
 -- The events before that of this number were carried out, and left this group; then came the fault.
 pub record IsStopped (out : Outside) (begun : GroupState) (events : List EventValue) (k : ℕ) (told : StepFault) (new : GroupState) : Type 0 where
   pub inside : k < length events
-  pub taken : AreTaken out (world_of begun) (group_events begun.keys (take k events))
+  pub taken : EventsAreTaken out (world_of begun) (group_events begun.keys (take k events))
   pub before : GroupState
   pub world : world_of before ≡ after_events out (world_of begun) (group_events begun.keys (take k events))
   pub stands : StandsAsBefore (slice_index_or events k EventValue.Traffic) before new

@@ -22,9 +22,9 @@ octets_as g logs t octets =
     then if bytes_eq octets (unwrap_or (true_packet g logs t) []) then Its else Another
     else Nothing
 
-abbrev pub judged : GroupKeys → Logs → Part → Option (List ℕ) → Came
-judged g logs t None = Nothing
-judged g logs t (Some octets) = octets_as g logs t octets
+abbrev pub judged_packet : GroupKeys → Logs → Part → Option (List ℕ) → Came
+judged_packet g logs t None = Nothing
+judged_packet g logs t (Some octets) = octets_as g logs t octets
 
 -- The packet that is served, if there is one.
 abbrev pub found : Result (Option (List ℕ)) PacketFault → Option (List ℕ)
@@ -33,7 +33,7 @@ found (Err fault) = None
 
 -- What a member that holds these parts gives to one that asks for a part.
 abbrev pub came_of : GroupKeys → Logs → List Part → Part → Came
-came_of g logs held t = judged g logs t (found (served (true_want g logs t).interest (true_packets g logs held)))
+came_of g logs held t = judged_packet g logs t (found (served (true_want g logs t).interest (true_packets g logs held)))
 
 -- What isn't the group's to say, with what its keys and publications make of it.
 abbrev pub outside : GroupKeys → (ℕ → ℕ → ℕ) → (ℕ → ℕ → ℕ → ℕ → ℕ → ℕ → Bool) → Outside

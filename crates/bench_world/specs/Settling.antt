@@ -13,7 +13,7 @@ use Rattle.repo_member.specs.Alone.{Alone}
 use Rattle.repo_member.specs.InGroup.{in_group}
 use Rattle.bench_net.specs.SentList.{SentPacket, sent_packet}
 use Rattle.bench_world.specs.Truth.{AllTriedFew}
-use Rattle.bench_world.specs.Worlds.{alone_at, in_groups, AllCountsStay, AreTrueMembers, AreNumbered}
+use Rattle.bench_world.specs.Worlds.{alone_at, in_groups, AllCountsStay, AreTrueMembers, MembersAreNumbered}
 use Rattle.bench_world.specs.declared.telling.Told.{Told}
 
 -- What a member tells, as it is kept.
@@ -52,7 +52,7 @@ pub record ArePartlySettled (w : World) (new : List Member) : Type 0 where
 pub record AreGathering (g : GroupKeys) (w : World) (begun members : List Alone) : Type 0 where
   pub len : length members ≡ length begun
   pub truly : AreTrueMembers g (logs w) members
-  pub numbers : AreNumbered members
+  pub numbers : MembersAreNumbered members
   pub tried : AllTriedFew members
   pub each : (i : ℕ) → i < length members → IsGathering w (member w i) (in_group (alone_at members i))
   pub someones : (t : Part) → someone_holds (in_groups members) t ≡ someone_holds w.members t

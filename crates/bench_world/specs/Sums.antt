@@ -1,15 +1,15 @@
 -- What a member's catalogue comes to.
 use Rattle.std.specs.Prelude.{◌<◌, ◌^◌}
-use Rattle.group_model.specs.Replies.{Totals}
-use Rattle.group_model.specs.Steps.{totals_of}
+use Rattle.group_model.specs.Replies.{CatalogueTotals}
+use Rattle.group_model.specs.Steps.{catalogue_totals}
 use Rattle.repo_member.specs.Listed.{alone_catalogue}
 use Rattle.repo_member.specs.Alone.{Alone}
 
-abbrev pub totals_in : Alone → Totals
-totals_in a = totals_of (alone_catalogue a.store)
+abbrev pub totals_in : Alone → CatalogueTotals
+totals_in a = catalogue_totals (alone_catalogue a.store)
 
 -- So few that types hold them.
-pub record HasFewTotals (t : Totals) : Type 0 where
+pub record HasFewTotals (t : CatalogueTotals) : Type 0 where
   pub entries : t.entries < 2 ^ 32
   pub segments : t.segments < 2 ^ 64
   pub octets : t.octets < 2 ^ 64

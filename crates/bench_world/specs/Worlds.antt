@@ -9,7 +9,7 @@ use Rattle.group_model.specs.Member.{Member}
 use Rattle.group_model.specs.Events.{SyncInterest}
 use Rattle.group_model.specs.Events.Came.{Nothing}
 use Rattle.group_model.specs.Sound.{IsTrueVector}
-use Rattle.group_model.specs.Limits.{IsWithin}
+use Rattle.group_model.specs.Limits.{IsWithinSteps}
 use Rattle.group_model.specs.World.{Tally, Issued, World, Outside, logs_of}
 use Rattle.repo_member.specs.Groups.{GroupKeys}
 use Rattle.repo_member.specs.Alone.{Alone, no_insertions, alone_opening}
@@ -49,8 +49,8 @@ abbrev pub AreTrueMembers : GroupKeys → Logs → List Alone → Type 0
 AreTrueMembers g logs members = (j : ℕ) → j < length members → IsTrueMember g logs (alone_at members j)
 
 -- Members stand under their numbers.
-abbrev pub AreNumbered : List Alone → Type 0
-AreNumbered members = (j : ℕ) → j < length members → (alone_at members j).number ≡ j
+abbrev pub MembersAreNumbered : List Alone → Type 0
+MembersAreNumbered members = (j : ℕ) → j < length members → (alone_at members j).number ≡ j
 
 -- What counts of a member stays: its machine's draws, and the attempts of its parts.
 pub record CountsStay (old new : Alone) : Type 0 where
@@ -100,10 +100,10 @@ tells g a = sent_packet a.number a.known (sync_of g a.number a.known)
 -- what was sent is what members told, and counts are within those of so many steps.
 pub record IsTrueState (s : GroupState) : Type 0 where
   pub are : AreLogs s.keys (logs_around s.members)
-  pub numbers : AreNumbered s.members
+  pub numbers : MembersAreNumbered s.members
   pub members : AreTrueMembers s.keys (logs_around s.members) s.members
   pub sent : All (IsTrueSync s.keys (logs_around s.members)) s.sent
-  pub within : IsWithin s.steps (world_of s)
+  pub within : IsWithinSteps s.steps (world_of s)
   pub steps : s.steps ≤ 100000
 
 -- ---- draws
@@ -123,8 +123,8 @@ abbrev pub begun_all : ℕ → (ℕ → ℕ → ℕ) → List Alone
 begun_all n draw = map (begun_one n draw) (numbers_from 0 n)
 
 -- A group of these members alone, as a fetch or a settle sees it.
-abbrev pub only : List Alone → World
-only members = record {
+abbrev pub only_members : List Alone → World
+only_members members = record {
   members = in_groups members;
   sent = [];
   moment = 0;

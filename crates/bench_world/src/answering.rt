@@ -10,9 +10,9 @@ ghost use Rattle.group_model.specs.Events.Came.{Another};
 ghost use Rattle.repo_member.specs.Alone.{Alone, alone_plan};
 ghost use Rattle.repo_member.specs.InGroup.{AreLogs, true_packet};
 ghost use Rattle.repo_member.specs.TrueMembers.{IsTrueMember, true_want};
-ghost use Rattle.bench_world.specs.Worlds.{alone_at, others_than, AreTrueMembers, AreNumbered};
-ghost use Rattle.bench_world.specs.Serving.{octets_as, judged, found};
-ghost use Rattle.bench_world.specs.Answering.{answered, claim_in, came_in, came_for, lender_of, fed_as, kept_of, after_claim, after_claimed};
+ghost use Rattle.bench_world.specs.Worlds.{alone_at, others_than, AreTrueMembers, MembersAreNumbered};
+ghost use Rattle.bench_world.specs.Serving.{octets_as, judged_packet, found};
+ghost use Rattle.bench_world.specs.Answering.{answered, claim_in, came_in, came_for, lender_of, fed_as, kept_of, accepts_claimed, after_claimed};
 
 use crate::event::StepFault;
 use crate::others::Others;
@@ -88,7 +88,7 @@ fn take(
     requires claim { claim_of (alone_plan asker.old) f ≡ Some want.now.part }
     requires want { want.now ≡ true_want g.now logs want.now.part }
     ensures fed { IfOk result (λ fed. fed ≡ fed_as g.now logs octets.now want.now.part) }
-    ensures asker { OnOk result (asker.new ≡ after_claim g.now logs f want.now.part
+    ensures asker { OnOk result (asker.new ≡ accepts_claimed g.now logs f want.now.part
         (octets_as g.now logs want.now.part octets.now) asker.old) }
     ensures kept { IfOk result (λ fed. answered g.now logs (Some want.now.part)
         (octets_as g.now logs want.now.part octets.now) ≡ Ok (kept_of octets.now fed)) }
@@ -138,13 +138,13 @@ fn take_served(
     requires claim { claim_of (alone_plan asker.old) f ≡ Some want.now.part }
     requires want { want.now ≡ true_want g.now logs want.now.part }
     ensures kept { IfOk result (λ kept. answered g.now logs (Some want.now.part)
-        (judged g.now logs want.now.part (option_map (λ octets. octets.now) packet.entry)) ≡ Ok kept) }
+        (judged_packet g.now logs want.now.part (option_map (λ octets. octets.now) packet.entry)) ≡ Ok kept) }
     ensures small { IfOk result (λ kept. IfSome kept (λ n. n < 2 ^ 63)) }
-    ensures asker { OnOk result (asker.new ≡ after_claim g.now logs f want.now.part
-        (judged g.now logs want.now.part (option_map (λ octets. octets.now) packet.entry)) asker.old) }
+    ensures asker { OnOk result (asker.new ≡ accepts_claimed g.now logs f want.now.part
+        (judged_packet g.now logs want.now.part (option_map (λ octets. octets.now) packet.entry)) asker.old) }
     ensures refused { IfErr result (λ fault. (fault ≡ StepFault.NoMemory)
         ⊎ (answered g.now logs (Some want.now.part)
-        (judged g.now logs want.now.part (option_map (λ octets. octets.now) packet.entry)) ≡ Err fault)) }
+        (judged_packet g.now logs want.now.part (option_map (λ octets. octets.now) packet.entry)) ≡ Err fault)) }
     ensures err { OnErr result (asker.new ≡ asker.old) }
 {
     let Some(octets) = packet else {
@@ -175,13 +175,14 @@ fn ask_one(
     requires fetcher { IsFetcher f }
     requires claim { claim_of (alone_plan asker.old) f ≡ Some want.now.part }
     requires want { want.now ≡ true_want g.now logs want.now.part }
-    ensures kept { IfOk result (λ kept. answered g.now logs (Some want.now.part) (judged g.now logs want.now.part
+    ensures kept { IfOk result (λ kept. answered g.now logs (Some want.now.part) (judged_packet g.now logs want.now.part
         (found (served want.now.interest (lender_of asker.old (option_map (λ a. a.now) lender.entry)).store))) ≡ Ok kept) }
     ensures small { IfOk result (λ kept. IfSome kept (λ n. n < 2 ^ 63)) }
-    ensures asker { OnOk result (asker.new ≡ after_claim g.now logs f want.now.part (judged g.now logs want.now.part
+    ensures asker { OnOk result
+        (asker.new ≡ accepts_claimed g.now logs f want.now.part (judged_packet g.now logs want.now.part
         (found (served want.now.interest (lender_of asker.old (option_map (λ a. a.now) lender.entry)).store))) asker.old) }
     ensures refused { IfErr result (λ fault. (fault ≡ StepFault.NoMemory)
-        ⊎ (answered g.now logs (Some want.now.part) (judged g.now logs want.now.part
+        ⊎ (answered g.now logs (Some want.now.part) (judged_packet g.now logs want.now.part
         (found (served want.now.interest (lender_of asker.old (option_map (λ a. a.now) lender.entry)).store))) ≡ Err fault)) }
     ensures err { OnErr result (asker.new ≡ asker.old) }
 {
@@ -207,7 +208,7 @@ pub(crate) fn ask(
 ) -> Result<Option<u64>, StepFault>
     ghost logs: { Logs }
     requires logs { AreLogs g.now logs }
-    requires numbers { AreNumbered members.old.items }
+    requires numbers { MembersAreNumbered members.old.items }
     requires members { AreTrueMembers g.now logs members.old.items }
     requires width { length members.old.items ≡ length logs }
     requires there { m < length members.old.items }
@@ -251,7 +252,7 @@ pub(crate) fn feed(
 ) -> Result<Fed, StepFault>
     ghost logs: { Logs }
     requires logs { AreLogs g.now logs }
-    requires numbers { AreNumbered members.old.items }
+    requires numbers { MembersAreNumbered members.old.items }
     requires members { AreTrueMembers g.now logs members.old.items }
     requires width { length members.old.items ≡ length logs }
     requires there { m < length members.old.items }

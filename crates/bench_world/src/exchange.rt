@@ -7,13 +7,13 @@ ghost use Rattle.group_model.specs.Sound.{IsSoundGroup};
 ghost use Rattle.group_model.specs.Settles.{learnt_member};
 ghost use Rattle.group_model.specs.Steps.{settled_member, settle_gains};
 ghost use Rattle.group_model.specs.Steps.{planned_parts, fetched_parts, attempts_made, after_fetch};
-ghost use Rattle.bench_world.specs.Gathering.{one_each, Counts, Gains, NothingLeft};
+ghost use Rattle.bench_world.specs.Gathering.{one_each, Counts, GainsParts, NothingLeft};
 ghost use Rattle.bench_world.specs.Serving.{outside};
 ghost use Rattle.bench_world.specs.Settling.{gain_sum, ArePartlySettled};
 ghost use Rattle.bench_world.specs.Sizes.{size_of};
 ghost use Rattle.bench_world.specs.Truth.{AreFewLogs, AllTriedFew};
 ghost use Rattle.bench_world.specs.Worlds.{alone_at, others_than, in_groups};
-ghost use Rattle.bench_world.specs.Worlds.{AllCountsStay, AreTrueMembers, AreNumbered};
+ghost use Rattle.bench_world.specs.Worlds.{AllCountsStay, AreTrueMembers, MembersAreNumbered};
 
 use crate::fetch::{FetchCounts, fetch};
 use crate::gather::gather;
@@ -40,7 +40,7 @@ fn gather_at<N: Net + Sync, R: Threads + Sync>(
     requires members { AreTrueMembers g.now logs members.old.items }
     requires tried { AllTriedFew members.old.items }
     ensures others { members.new.items ≡ slice_set members.old.items j (alone_at members.new.items j) }
-    ensures gains { Gains g.now logs (others_than j members.old.items)
+    ensures gains { GainsParts g.now logs (others_than j members.old.items)
         (alone_at members.old.items j) (alone_at members.new.items j) }
     ensures parts { IfOk result (λ kept.
         Counts one_each kept.parts (alone_at members.old.items j) (alone_at members.new.items j)) }
@@ -78,14 +78,14 @@ pub(crate) fn gather_all<N: Net + Sync, R: Threads + Sync>(
     requires group { IsSoundGroup begun }
     requires learnt { in_groups members.old.items ≡ map (learnt_member begun) begun.members }
     requires truly { AreTrueMembers g.now (logs begun) members.old.items }
-    requires numbers { AreNumbered members.old.items }
+    requires numbers { MembersAreNumbered members.old.items }
     requires tried { AllTriedFew members.old.items }
     ensures parts { IfOk result (λ r. r.0 ≡ settle_gains begun) }
     ensures octets { IfOk result (λ r. r.1 ≡ gain_sum (size_of g.now (logs begun)) begun begun.members) }
     ensures members { OnOk result (in_groups members.new.items ≡ map (settled_member begun) begun.members) }
     ensures len { length members.new.items ≡ length members.old.items }
     ensures truly { AreTrueMembers g.now (logs begun) members.new.items }
-    ensures numbers { AreNumbered members.new.items }
+    ensures numbers { MembersAreNumbered members.new.items }
     ensures counts { AllCountsStay members.old.items members.new.items }
     ensures err { OnErr result (ArePartlySettled begun (in_groups members.new.items)) }
 {
@@ -118,7 +118,7 @@ pub(crate) fn fetch_at<N: Net + Sync, R: Threads + Sync>(
     requires there { j < length members.old.items }
     requires logs { AreFewLogs g.now (logs begun) }
     requires begun { in_groups members.old.items ≡ begun.members }
-    requires numbers { AreNumbered members.old.items }
+    requires numbers { MembersAreNumbered members.old.items }
     requires truly { AreTrueMembers g.now (logs begun) members.old.items }
     requires tried { AllTriedFew members.old.items }
     ensures members { OnOk result (in_groups members.new.items
@@ -132,7 +132,7 @@ pub(crate) fn fetch_at<N: Net + Sync, R: Threads + Sync>(
         ≡ attempts_made (outside g.now (λ _ _. 0) (N.passes net.now)) begun j tries loss) }
     ensures len { length members.new.items ≡ length members.old.items }
     ensures truly { AreTrueMembers g.now (logs begun) members.new.items }
-    ensures numbers { AreNumbered members.new.items }
+    ensures numbers { MembersAreNumbered members.new.items }
     ensures err { OnErr result (members.new.items ≡ members.old.items) }
 {
     let mut member = members.remove(j as usize);

@@ -5,7 +5,7 @@ ghost use Rattle.group_model.specs.Publications.{Logs};
 ghost use Rattle.repo_member.specs.Alone.{alone_takes};
 ghost use Rattle.repo_member.specs.InGroup.{that_came};
 ghost use Rattle.repo_member.specs.TrueMembers.{IsTrueMember};
-ghost use Rattle.bench_world.specs.Lending.{comes};
+ghost use Rattle.bench_world.specs.Lending.{attempt_comes};
 ghost use Rattle.bench_world.specs.Sizes.{size_of};
 ghost use Rattle.bench_world.specs.Truth.{AreFewLogs, TriedFew};
 ghost use Rattle.bench_world.specs.Worlds.{AreTrueMembers};
@@ -46,17 +46,17 @@ pub(crate) fn fetch<N: Net + Sync, R: Threads + Sync>(
     requires truly { IsTrueMember g.now logs member.old }
     requires tried { TriedFew member.old }
     ensures new { OnOk result (member.new ≡ alone_takes (fetched_all
-        (comes (N.passes link.now.net.now) link.now.asker link.now.loss) link.now.others.now tries member.old
+        (attempt_comes (N.passes link.now.net.now) link.now.asker link.now.loss) link.now.others.now tries member.old
         (next_parts None member.old)) member.old) }
     ensures planned { IfOk result (λ r. r.planned ≡ length (next_parts None member.old)) }
     ensures parts { IfOk result (λ r. r.kept.parts ≡ length (that_came (fetched_all
-        (comes (N.passes link.now.net.now) link.now.asker link.now.loss) link.now.others.now tries member.old
+        (attempt_comes (N.passes link.now.net.now) link.now.asker link.now.loss) link.now.others.now tries member.old
         (next_parts None member.old)))) }
     ensures octets { IfOk result (λ r. r.kept.octets ≡ sum_by (size_of g.now logs) (that_came (fetched_all
-        (comes (N.passes link.now.net.now) link.now.asker link.now.loss) link.now.others.now tries member.old
+        (attempt_comes (N.passes link.now.net.now) link.now.asker link.now.loss) link.now.others.now tries member.old
         (next_parts None member.old)))) }
     ensures attempts { IfOk result (λ r. r.attempts ≡ sum (map (λ x. x.attempts) (fetched_all
-        (comes (N.passes link.now.net.now) link.now.asker link.now.loss) link.now.others.now tries member.old
+        (attempt_comes (N.passes link.now.net.now) link.now.asker link.now.loss) link.now.others.now tries member.old
         (next_parts None member.old)))) }
     ensures err { OnErr result (member.new ≡ member.old) }
 {

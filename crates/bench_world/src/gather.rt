@@ -8,7 +8,7 @@ ghost use Rattle.bench_world.specs.Lending.{lends};
 ghost use Rattle.bench_world.specs.Sizes.{size_of};
 ghost use Rattle.bench_world.specs.Truth.{AreFewLogs, TriedFew};
 ghost use Rattle.bench_world.specs.Worlds.{AreTrueMembers};
-ghost use Rattle.bench_world.specs.Gathering.{next_parts, lent_all, one_each, Counts, IsPlaceIn, Gains, NothingLeft};
+ghost use Rattle.bench_world.specs.Gathering.{next_parts, lent_all, one_each, Counts, IsPlaceIn, GainsParts, NothingLeft};
 
 use crate::lending::MemberLink;
 use bench_net::Net;
@@ -81,7 +81,7 @@ fn gain_round<N: Net + Sync, R: Threads + Sync>(
     requires loss { link.now.loss ≡ None }
     requires truly { IsTrueMember g.now logs member.old }
     requires tried { TriedFew member.old }
-    ensures gains { Gains g.now logs link.now.others.now member.old member.new }
+    ensures gains { GainsParts g.now logs link.now.others.now member.old member.new }
     ensures parts { IfOk result (λ kept. Counts one_each kept.parts member.old member.new) }
     ensures octets { IfOk result (λ kept. Counts (size_of g.now logs) kept.octets member.old member.new) }
     ensures left { IfOk result (λ kept. kept.parts ≡ 0 → NothingLeft link.now.others.now member.new) }
@@ -115,7 +115,7 @@ pub(crate) fn gather<N: Net + Sync, R: Threads + Sync>(
     requires loss { link.now.loss ≡ None }
     requires truly { IsTrueMember g.now logs member.old }
     requires tried { TriedFew member.old }
-    ensures gains { Gains g.now logs link.now.others.now member.old member.new }
+    ensures gains { GainsParts g.now logs link.now.others.now member.old member.new }
     ensures parts { IfOk result (λ kept. Counts one_each kept.parts member.old member.new) }
     ensures octets { IfOk result (λ kept. Counts (size_of g.now logs) kept.octets member.old member.new) }
     ensures left { OnOk result (NothingLeft link.now.others.now member.new) }

@@ -3,7 +3,7 @@ ghost use Rattle.std.specs.Prelude.{◌≡◌, ◌⊎◌, ◌<◌, ◌≤◌, �
 ghost use Rattle.bench_net.specs.SentList.{was_sent};
 ghost use Rattle.svs_sync.specs.Suppression.{mode_of};
 ghost use Rattle.repo_member.specs.Groups.{node_limit};
-ghost use Rattle.repo_member.specs.Alone.{IsOf, alone_hears};
+ghost use Rattle.repo_member.specs.Alone.{IsOfGroup, alone_hears};
 ghost use Rattle.repo_member.specs.Verdicts.{group_verdict, vector_verdict};
 ghost use Rattle.bench_world.specs.Hearing.{told_sync};
 
@@ -23,7 +23,7 @@ pub(crate) fn told_by(
     number: u32,
     octets: &[u8],
 ) -> Result<(u32, Vector), HearRefusal>
-    requires group { IsOf g.now member.now }
+    requires group { IsOfGroup g.now member.now }
     requires number { number ≡ member.now.number }
     ensures told { IfOk result (λ told. told_sync (length member.now.log) number (group_verdict g.now octets.now)
         ≡ Ok (record { sender = told.0; vector = told.1 })) }

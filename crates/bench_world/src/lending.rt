@@ -1,6 +1,6 @@
 // Members that lend their packets to one that asks for parts.
 ghost use Rattle.std.specs.Prelude.{◌≡◌, option_map};
-ghost use Rattle.bench_world.specs.Lending.{comes, lent, lent_first};
+ghost use Rattle.bench_world.specs.Lending.{attempt_comes, lent, lent_first};
 
 use bench_net::Net;
 use fetch_work::{Link, Reply};
@@ -20,9 +20,9 @@ pub(crate) struct MemberLink<'w, N> {
 }
 
 impl<'w, N: Net> Link for MemberLink<'w, N> {
-    ghost use Rattle.bench_world.specs.Lending.{answer_of};
+    ghost use Rattle.bench_world.specs.Lending.{lent_answer};
 
-    ghost answer = { λ l want attempt. answer_of (N.passes l.net.now) l.others.now l.asker l.loss want attempt };
+    ghost answer = { λ l want attempt. lent_answer (N.passes l.net.now) l.others.now l.asker l.loss want attempt };
 
     fn ask<'a>(&'a self, want: &Want, attempt: u32) -> Reply<'a> {
         let part = want.part();
@@ -38,7 +38,7 @@ impl<'w, N: Net> Link for MemberLink<'w, N> {
 
 // Whether the attempt at a part comes through.
 fn comes_through<'w, N: Net>(link: &MemberLink<'w, N>, part: Part, attempt: u32) -> bool
-    ensures { result ≡ comes (N.passes link.now.net.now) link.now.asker link.now.loss part attempt }
+    ensures { result ≡ attempt_comes (N.passes link.now.net.now) link.now.asker link.now.loss part attempt }
 {
     let passes = link.net.passes(
         link.asker,

@@ -1,7 +1,7 @@
 // A member of a group that is taken out for a while, and the others.
 ghost use Rattle.std.specs.Prelude.{◌≡◌, ◌≢◌, ◌<◌, ◌≤◌, ◌+◌, length, option_map};
 ghost use Rattle.bench_world.specs.Worlds.{alone_at};
-ghost use Rattle.bench_world.specs.Others.{place_of, other_at};
+ghost use Rattle.bench_world.specs.Others.{place_among_others, other_at};
 
 use repo_member::Member;
 use repo_plan::Part;
@@ -32,7 +32,7 @@ impl<'a> Others<'a> {
         requires there { part.publisher < length self.now.members.now + 1 }
         requires without { self.now.without < length self.now.members.now + 1 }
         requires other { part.publisher ≢ self.now.without }
-        ensures { result.now ≡ alone_at self.now.members.now (place_of self.now.without part.publisher) }
+        ensures { result.now ≡ alone_at self.now.members.now (place_among_others self.now.without part.publisher) }
     {
         &self.members[self.place(part.publisher)]
     }
@@ -40,7 +40,7 @@ impl<'a> Others<'a> {
     // Where another member stands.
     fn place(&self, number: u32) -> usize
         requires { number ≢ self.now.without }
-        ensures { result ≡ place_of self.now.without number }
+        ensures { result ≡ place_among_others self.now.without number }
     {
         if number < self.without {
             number as usize

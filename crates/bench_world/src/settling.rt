@@ -6,7 +6,7 @@ ghost use Rattle.group_model.specs.Steps.{settled_member, settle_gains};
 ghost use Rattle.repo_member.specs.Alone.{alone_resets};
 ghost use Rattle.bench_world.specs.Sizes.{size_of};
 ghost use Rattle.bench_world.specs.Truth.{AreFewLogs, AllTriedFew};
-ghost use Rattle.bench_world.specs.Worlds.{alone_at, in_groups, tells, AllCountsStay, AreTrueMembers, AreNumbered};
+ghost use Rattle.bench_world.specs.Worlds.{alone_at, in_groups, tells, AllCountsStay, AreTrueMembers, MembersAreNumbered};
 ghost use Rattle.bench_world.specs.Settling.{told_of, gain_sum, ArePartlySettled, SettlesAgain};
 
 use crate::exchange::gather_all;
@@ -31,7 +31,7 @@ pub(crate) fn settle_members<N: Net + Sync, R: Threads + Sync>(
     requires workers { (1 ≤ workers) × (workers ≤ 16) }
     requires logs { AreFewLogs g.now (logs begun) }
     requires begun { in_groups members.old.items ≡ begun.members }
-    requires numbers { AreNumbered members.old.items }
+    requires numbers { MembersAreNumbered members.old.items }
     requires truly { AreTrueMembers g.now (logs begun) members.old.items }
     requires sound { IsSoundGroup begun }
     requires tried { AllTriedFew members.old.items }
@@ -41,7 +41,7 @@ pub(crate) fn settle_members<N: Net + Sync, R: Threads + Sync>(
     ensures members { OnOk result (in_groups members.new.items ≡ map (settled_member begun) begun.members) }
     ensures len { length members.new.items ≡ length members.old.items }
     ensures truly { AreTrueMembers g.now (logs begun) members.new.items }
-    ensures numbers { AreNumbered members.new.items }
+    ensures numbers { MembersAreNumbered members.new.items }
     ensures counts { AllCountsStay members.old.items members.new.items }
     // After want of memory each member has come a part of the way.
     ensures err { OnErr result (ArePartlySettled begun (in_groups members.new.items)) }

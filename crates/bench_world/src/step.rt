@@ -2,7 +2,7 @@
 ghost use Rattle.std.specs.Prelude.{◌≡◌, ◌+◌, ◌<◌, ◌≤◌, None, length, IfOk, IfErr, OnOk, OnErr};
 ghost use Rattle.std.specs.List.{All};
 ghost use Rattle.group_model.specs.Steps.{after_event, after_events};
-ghost use Rattle.group_model.specs.Refusals.{refusal, AreTaken};
+ghost use Rattle.group_model.specs.Refusals.{refusal, EventsAreTaken};
 ghost use Rattle.bench_world.specs.Serving.{outside};
 ghost use Rattle.bench_world.specs.Worlds.{world_of};
 ghost use Rattle.bench_world.specs.EventValues.{event_value, group_event, told_value, telling};
@@ -134,7 +134,7 @@ impl World {
         requires clients { All (λ event. NamesClient (length self.old.keys.clients.names) (event_value event)) events.now }
         requires few { self.old.steps + length events.now ≤ 100000 }
         ensures count { IfOk result (λ n. n ≡ length events.now) }
-        ensures taken { OnOk result (AreTaken (outside self.old.keys (D.draw draws.now) (N.passes net.now))
+        ensures taken { OnOk result (EventsAreTaken (outside self.old.keys (D.draw draws.now) (N.passes net.now))
             (world_of self.old) (group_events self.old.keys (event_values events.now))) }
         ensures world { OnOk result (world_of self.new
             ≡ after_events (outside self.old.keys (D.draw draws.now) (N.passes net.now))

@@ -4,7 +4,7 @@ ghost use Rattle.svs_vector.specs.Vectors.{join_all};
 ghost use Rattle.group_model.specs.Publications.{Logs};
 ghost use Rattle.repo_member.specs.Alone.{alone_learns, alone_ends_claims};
 ghost use Rattle.repo_member.specs.InGroup.{AreLogs};
-ghost use Rattle.bench_world.specs.Worlds.{alone_at, tells, AreTrueMembers, AreNumbered};
+ghost use Rattle.bench_world.specs.Worlds.{alone_at, tells, AreTrueMembers, MembersAreNumbered};
 ghost use Rattle.bench_world.specs.Settling.{told_of};
 
 use crate::numbers::numbers;
@@ -28,7 +28,7 @@ pub(crate) fn tell_all(
 ) -> Result<Vec<Told>, AllocError>
     ghost logs: { Logs }
     requires logs { AreLogs g.now logs }
-    requires numbers { AreNumbered members.now }
+    requires numbers { MembersAreNumbered members.now }
     requires members { AreTrueMembers g.now logs members.now }
     ensures { IfOk result (λ told. map told_of told.items ≡ map (tells g.now) members.now) }
 {

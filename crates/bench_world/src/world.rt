@@ -51,9 +51,9 @@ impl Model for World {
 
     ghost Value = { GroupState };
 
-    ghost use Rattle.bench_world.specs.Kept.{state, IsWorld};
+    ghost use Rattle.bench_world.specs.Kept.{world_state, IsWorld};
 
-    ghost view = { state };
+    ghost view = { world_state };
 
     ghost invariant = { IsWorld };
 }

@@ -7,8 +7,8 @@ use Rattle.fetch_board.specs.declared.hand.Hand.{Hand}
 use Rattle.fetch_board.specs.declared.word.Word.{Word}
 use Rattle.fetch_board.specs.declared.word.Word.TheVariants.{Wanted, Held, Done, Spent}
 use Rattle.fetch_board.specs.Counts.{items, pairs}
-use Rattle.fetch_board.specs.Rule.{Phase, wanted, held, placing, done, spent, code, Mark, holds, places, finished, spends, tried, due, IsWanted, AtMost, phase, marks, Kept}
-use Rattle.fetch_board.specs.Words.{IsWithin}
+use Rattle.fetch_board.specs.Rule.{Phase, wanted, held, placing, done, spent, code, Mark, holds, places, finished, spends, tried, entries_due, IsWanted, AtMost, phase, marks, Kept}
+use Rattle.fetch_board.specs.Words.{IsWithinTries}
 use Rattle.fetch_board.specs.Seats.{seen_after, passed_after, owed_after}
 use Rattle.fetch_board.specs.Steps.{looked, Knows, Finds, looks}
 use Rattle.fetch_board.proofs.Marks.{item_other, paid_other, paid_less, newest}
@@ -73,7 +73,7 @@ module _ {T : Type 0} (tries seats : ℕ) where
     stays = λ x e. e;
     within = r.within i;
     others = λ j m ne. look_marks i w v j m;
-    balance = λ m. ap (λ n. n + due tries p m) (look_marks i w v i m);
+    balance = λ m. ap (λ n. n + entries_due tries p m) (look_marks i w v i m);
     values = λ j a x has. inl has;
     apart = λ j ne. apart i j w v.passed v.owed ne;
     owes = λ is. let e = still_owed i p v.passed v.owed is in inr (is, e.0, e.1);
@@ -107,7 +107,7 @@ module _ {T : Type 0} (tries seats : ℕ) where
             (look_move s r i id v at (subst (λ n. i < n) r.long near) some_share)),
         (
           is ∙ coded_word p,
-          subst (λ n. IsWithin n w) (sym (r.told id v at some_share)) (within_word tries p (r.within i)),
+          subst (λ n. IsWithinTries n w) (sym (r.told id v at some_share)) (within_word tries p (r.within i)),
           (λ a h. at_most_word a p (r.seen id v at i a h)),
           refl,
         ),

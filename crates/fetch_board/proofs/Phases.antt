@@ -8,11 +8,11 @@ use Rattle.fetch_board.specs.declared.hand.Hand.{Hand}
 use Rattle.fetch_board.specs.declared.word.Word.{Word}
 use Rattle.fetch_board.specs.declared.word.Word.TheVariants.{Wanted, Held, Done, Spent}
 use Rattle.fetch_board.specs.Counts.{one, items, pairs, triples}
-use Rattle.fetch_board.specs.Rule.{Phase, wanted, held, placing, done, spent, code, Within, Mark, holds, places, due, AtMost, phase, marks, Kept, tried, finished, spends}
+use Rattle.fetch_board.specs.Rule.{Phase, wanted, held, placing, done, spent, code, Within, Mark, holds, places, entries_due, AtMost, phase, marks, Kept, tried, finished, spends}
 use Rattle.fetch_board.specs.Seats.{BoardId, items_of, items_of_done}
 use Rattle.fetch_board.specs.Answers.{Once}
 use Rattle.fetch_board.specs.Steps.{data_of}
-use Rattle.fetch_board.specs.Words.{word_code, IsWithin, IsAtMost}
+use Rattle.fetch_board.specs.Words.{word_code, IsWithinTries, IsAtMost}
 use Rattle.fetch_board.proofs.Totals.{total_at}
 use Rattle.fetch_board.proofs.Marks.{mine, own, pair_own}
 use Rattle.fetch_board.proofs.Moves.{St}
@@ -31,7 +31,7 @@ coded_word (placing a) = refl
 coded_word (done a) = refl
 coded_word spent = refl
 
-pub within_word : (n : ℕ) (p : Phase) → Within n p → IsWithin n (word_of p)
+pub within_word : (n : ℕ) (p : Phase) → Within n p → IsWithinTries n (word_of p)
 within_word n (wanted a) h = h
 within_word n (held a) h = h
 within_word n (placing a) h = h
@@ -56,14 +56,14 @@ same_only : (a b : ℕ) → 0 < one (eqb b a) → b ≡ a
 same_only a b h = ⊎_elim (λ e. e) (λ ne. let z : one (eqb b a) ≡ 0 = ap one (ne_eqb b a ne) in absurd (omega arith))
     (cases_eq b a)
 
-pub due_holds : (n a : ℕ) (p : Phase) → 0 < due n p (holds a) → p ≡ held a
+pub due_holds : (n a : ℕ) (p : Phase) → 0 < entries_due n p (holds a) → p ≡ held a
 due_holds n a (wanted b) h = absurd (omega arith)
 due_holds n a (held b) h = ap held (same_only a b h)
 due_holds n a (placing b) h = absurd (omega arith)
 due_holds n a (done b) h = absurd (omega arith)
 due_holds n a spent h = absurd (omega arith)
 
-pub due_places : (n a : ℕ) (p : Phase) → 0 < due n p (places a) → p ≡ placing a
+pub due_places : (n a : ℕ) (p : Phase) → 0 < entries_due n p (places a) → p ≡ placing a
 due_places n a (wanted b) h = absurd (omega arith)
 due_places n a (held b) h = absurd (omega arith)
 due_places n a (placing b) h = ap placing (same_only a b h)
@@ -74,7 +74,7 @@ one_most : (b : Bool) → one b ≤ 1
 one_most true = omega arith
 one_most false = omega arith
 
-due_most : (n : ℕ) (p : Phase) (m : Mark) → due n p m ≤ 1
+due_most : (n : ℕ) (p : Phase) (m : Mark) → entries_due n p m ≤ 1
 due_most n (wanted a) (tried b) = one_most (ltb b a)
 due_most n (held a) (tried b) = one_most (ltb b (a + 1))
 due_most n (placing a) (tried b) = one_most (ltb b (a + 1))
@@ -150,13 +150,13 @@ module _ {T : Type 0} (tries seats : ℕ) (s : St T) (r : Kept tries seats s) wh
   found i = ap (λ ws. get_or ws i 0) r.shown ∙ get_or-map code r.phases i (wanted 0)
 
   module _ (id : ℕ) (v : Hand T) (at : get_elem? s.views id ≡ some v) where
-    count_at : (i : ℕ) (m : Mark) → marks v i m ≤ due tries (phase r.phases i) m
+    count_at : (i : ℕ) (m : Mark) → marks v i m ≤ entries_due tries (phase r.phases i) m
     count_at i m = let a = total_at (λ u. marks u i m) s.views id v at in let c = r.counted i m in omega arith
 
     -- an attempt that is still to be made was tried by no seat
     pub untried : (i a : ℕ) → phase r.phases i ≡ wanted a → pairs i a v.tried ≡ 0
     untried i a is =
-        let c : pairs i a v.tried ≤ one (ltb a a) = subst (λ q. pairs i a v.tried ≤ due tries q (tried a)) is
+        let c : pairs i a v.tried ≤ one (ltb a a) = subst (λ q. pairs i a v.tried ≤ entries_due tries q (tried a)) is
         (count_at i (tried a)) in let z : one (ltb a a) ≡ 0 = ap one (le-ltb a a (omega arith)) in omega arith
 
     pub once : (i : ℕ) (m : Mark) → marks v i m ≤ 1
@@ -164,11 +164,11 @@ module _ {T : Type 0} (tries seats : ℕ) (s : St T) (r : Kept tries seats s) wh
 
     ended_at : (i : ℕ) (p : Phase) → phase r.phases i ≡ p
         → items i (items_of v.held) + items i (items_of_done v.done) + items i v.spent ≤ 1
-    ended_at i p is = ends p (λ a. subst (λ q. pairs i a v.held ≤ due tries q (holds a)) is (count_at i (holds a)))
-        (λ a. subst (λ q. triples i a v.done ≤ due tries q (finished a)) is (count_at i (finished a)))
-        (subst (λ q. items i v.spent ≤ due tries q spends) is (count_at i spends)) where
-          ends : (p : Phase) → ((a : ℕ) → pairs i a v.held ≤ due tries p (holds a))
-              → ((a : ℕ) → triples i a v.done ≤ due tries p (finished a)) → items i v.spent ≤ due tries p spends
+    ended_at i p is = ends p (λ a. subst (λ q. pairs i a v.held ≤ entries_due tries q (holds a)) is (count_at i (holds a)))
+        (λ a. subst (λ q. triples i a v.done ≤ entries_due tries q (finished a)) is (count_at i (finished a)))
+        (subst (λ q. items i v.spent ≤ entries_due tries q spends) is (count_at i spends)) where
+          ends : (p : Phase) → ((a : ℕ) → pairs i a v.held ≤ entries_due tries p (holds a))
+              → ((a : ℕ) → triples i a v.done ≤ entries_due tries p (finished a)) → items i v.spent ≤ entries_due tries p spends
               → items i (items_of v.held) + items i (items_of_done v.done) + items i v.spent ≤ 1
           ends (wanted b) h d s = let x = none_paired i v.held (λ a. zero_of (h a)) in
               let y = none_tripled i v.done (λ a. zero_of (d a)) in omega arith
@@ -181,7 +181,7 @@ module _ {T : Type 0} (tries seats : ℕ) (s : St T) (r : Kept tries seats s) wh
           ends spent h d s = let x = none_paired i v.held (λ a. zero_of (h a)) in
               let y = none_tripled i v.done (λ a. zero_of (d a)) in omega arith
 
-    tried_within : (i a : ℕ) (p : Phase) → Within tries p → 0 < due tries p (tried a) → a < tries
+    tried_within : (i a : ℕ) (p : Phase) → Within tries p → 0 < entries_due tries p (tried a) → a < tries
     tried_within i a (wanted b) w h = let c = below a b h in omega arith
     tried_within i a (held b) w h = let c = below a (b + 1) h in omega arith
     tried_within i a (placing b) w h = let c = below a (b + 1) h in omega arith
@@ -211,17 +211,17 @@ module _ {T : Type 0} (tries seats : ℕ) (s : St T) (r : Kept tries seats s) wh
 
     pub held_once : (i a : ℕ) → 0 < pairs i a v.held → (b : ℕ) → pairs i b v.held ≡ one (eqb a b)
     held_once i a h b = let p = holder i a h in
-        let c : pairs i b v.held ≤ one (eqb a b) = subst (λ q. pairs i b v.held ≤ due tries q (holds b)) p
+        let c : pairs i b v.held ≤ one (eqb a b) = subst (λ q. pairs i b v.held ≤ entries_due tries q (holds b)) p
         (count_at i (holds b)) in
         only (pairs i b v.held) a b c (λ e. subst (λ k. 0 < pairs i k v.held) (sym e) h)
 
     pub placed_once : (i a : ℕ) → 0 < pairs i a v.placing → (b : ℕ) → pairs i b v.placing ≡ one (eqb a b)
     placed_once i a h b = let p = placer i a h in
-        let c : pairs i b v.placing ≤ one (eqb a b) = subst (λ q. pairs i b v.placing ≤ due tries q (places b)) p
+        let c : pairs i b v.placing ≤ one (eqb a b) = subst (λ q. pairs i b v.placing ≤ entries_due tries q (places b)) p
         (count_at i (places b)) in
         only (pairs i b v.placing) a b c (λ e. subst (λ k. 0 < pairs i k v.placing) (sym e) h)
 
-pub within_16 : (n : ℕ) (w : Word) → n ≤ 16 → IsWithin n w → IsWithin 16 w
+pub within_16 : (n : ℕ) (w : Word) → n ≤ 16 → IsWithinTries n w → IsWithinTries 16 w
 within_16 n (Wanted a) le h = omega arith
 within_16 n (Held a) le h = omega arith
 within_16 n (Done a) le h = omega arith

@@ -7,7 +7,7 @@ use Rattle.fetch_board.specs.declared.taken.Taken.TheVariants as taken
 use Rattle.fetch_board.specs.declared.taken.Seen.{Seen}
 use Rattle.fetch_board.specs.declared.taken.Seen.TheVariants as seen
 use Rattle.fetch_board.specs.Counts.{one, items, pairs, triples, paid, Has}
-use Rattle.fetch_board.specs.Words.{IsWithin, IsAtMost}
+use Rattle.fetch_board.specs.Words.{IsWithinTries, IsAtMost}
 use Rattle.fetch_board.specs.Seats.{SeatData, items_of, items_of_done, seen_of, looked, claimed}
 
 -- The word as a look tells it.
@@ -21,7 +21,7 @@ module _ {T : Type 0} where
   -- At its one step on the item's word the seat v found the word w, and so became v'. The word can be
   -- found at an item of so many tries, and it tells of no fewer attempts than the seat had seen.
   pub record Finds (i : ℕ) (w : Word) (v v' : SeatData T) : Type 0 where
-    pub within : IsWithin v.tries w
+    pub within : IsWithinTries v.tries w
     pub later : IsAtMost (seen_of i v) w
     pub learns : v' ≡ looked i w v
 

@@ -5,7 +5,7 @@ use Rattle.fetch_board.specs.declared.hand.Hand.{Hand}
 use Rattle.fetch_board.specs.declared.word.Word.{Word}
 use Rattle.fetch_board.specs.Counts.{pairs, paid, released}
 use Rattle.fetch_board.specs.Rule.{founder}
-use Rattle.fetch_board.specs.Words.{word_code, IsWithin, IsAtMost}
+use Rattle.fetch_board.specs.Words.{word_code, IsWithinTries, IsAtMost}
 use Rattle.fetch_board.specs.Seats.{BoardId, SeatData, seen_after, passed_after, owed_after}
 use Rattle.fetch_board.specs.Answers.{Once}
 
@@ -95,7 +95,7 @@ module _ {T : Type 0} where
 
   -- The word was w, of the code r, and the seat has looked at it.
   abbrev pub Finds : Hand T → ℕ → ℕ → Word → Hand T → Type 0
-  Finds v i r w v' = (r ≡ word_code w) × IsWithin v.tries w × ((a : ℕ) → 0 < pairs i a v.seen → IsAtMost a w)
+  Finds v i r w v' = (r ≡ word_code w) × IsWithinTries v.tries w × ((a : ℕ) → 0 < pairs i a v.seen → IsAtMost a w)
       × (v' ≡ looked i w v)
 
   abbrev pub looks : Step (Option T) → Knows T → ℕ → Knows T → Type 0

@@ -1,5 +1,5 @@
 ghost use Rattle.std.specs.Prelude.{◌≡◌};
-ghost use Rattle.fetch_board.specs.Words.{word_code, IsWithin};
+ghost use Rattle.fetch_board.specs.Words.{word_code, IsWithinTries};
 ghost use Rattle.fetch_board.specs.Answers.{told_word};
 
 use crate::taken::Seen;
@@ -30,7 +30,7 @@ impl Word {
 pub(crate) const SPENT: u64 = 3;
 
 pub(crate) fn word_of(code: u64) -> Word
-    requires { (w : Word) × (code ≡ word_code w) × IsWithin 16 w }
+    requires { (w : Word) × (code ≡ word_code w) × IsWithinTries 16 w }
     ensures { (w : Word) → code ≡ word_code w → result ≡ w }
 {
     let attempt = (code / 4) as u32;

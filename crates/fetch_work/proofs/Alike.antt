@@ -3,7 +3,7 @@ use Rattle.std.proofs.Common.{◌≡◌, ⊎_elim, ℕ, ◌+◌, List, [], ◌�
 use Rattle.std.specs.Prelude.{Option, Some, None}
 use Rattle.std.proofs.lemmas.Bool.{cases_order}
 use Rattle.std.proofs.lemmas.Option.{none-some}
-use Rattle.ndn_sign.specs.Ring.{Pair}
+use Rattle.ndn_sign.specs.Ring.{NamedKey}
 use Rattle.repo_object.specs.declared.job.Job.{Job}
 use Rattle.repo_object.specs.Wants.{WantedPart}
 use Rattle.repo_object.specs.Verdict.{CheckedPart}
@@ -25,7 +25,7 @@ module _ {T : Type 0} (f : ℕ → Option T) (tries : ℕ) where
 same_cons : {A : Type 0} (x y : A) (xs ys : List A) → x ≡ y → xs ≡ ys → x ∷ xs ≡ y ∷ ys
 same_cons x y xs ys e h = λ k. e k ∷ h k
 
-module _ (answer : WantedPart → ℕ → Option (List ℕ)) (ring : List Pair) (tries : ℕ) where
+module _ (answer : WantedPart → ℕ → Option (List ℕ)) (ring : List NamedKey) (tries : ℕ) where
   pub alike : (jobs : List Job) (parts others : List (Option CheckedPart)) (ns ms : List ℕ)
       → AreFirst answer ring tries jobs parts ns → AreFirst answer ring tries jobs others ms
       → (parts ≡ others) × (ns ≡ ms)

@@ -1,7 +1,7 @@
 -- What is so of each place of three lists is so of the lists.
 use Rattle.std.proofs.Common.{◌≡◌, ℕ, suc, ◌<◌, List, [], ◌∷◌, length, get_or, arith}
 use Rattle.std.specs.Prelude.{Option, None}
-use Rattle.ndn_sign.specs.Ring.{Pair}
+use Rattle.ndn_sign.specs.Ring.{NamedKey}
 use Rattle.repo_object.specs.declared.job.Job.{Job}
 use Rattle.repo_object.specs.Wants.{WantedPart}
 use Rattle.repo_object.specs.Verdict.{CheckedPart}
@@ -9,7 +9,7 @@ use Rattle.fetch_work.specs.Attempts.{brings, job_at}
 use Rattle.fetch_work.specs.Teams.{IsFirst}
 use Rattle.fetch_work.specs.Phases.{AreFirst}
 
-module _ (answer : WantedPart → ℕ → Option (List ℕ)) (ring : List Pair) (tries : ℕ) where
+module _ (answer : WantedPart → ℕ → Option (List ℕ)) (ring : List NamedKey) (tries : ℕ) where
   pub each_first : (jobs : List Job) (parts : List (Option CheckedPart)) (ns : List ℕ) → length parts ≡ length jobs
       → length ns ≡ length jobs
       → ((i : ℕ) → i < length jobs

@@ -1,7 +1,7 @@
 -- What an attempt at a job brings.
 use Rattle.std.specs.Prelude.{ℕ, ◌+◌, ◌<◌, List, [], slice_index_or, Option, Some, None, Result, Ok, Err}
 use Rattle.ndn_data.specs.Data.{Data}
-use Rattle.ndn_sign.specs.Ring.{Pair}
+use Rattle.ndn_sign.specs.Ring.{NamedKey}
 use Rattle.repo_object.specs.declared.job.Job.{Job}
 use Rattle.repo_object.specs.declared.part_refusal.PartRefusal.{PartRefusal}
 use Rattle.repo_object.specs.Wants.{WantedPart}
@@ -10,9 +10,9 @@ use Rattle.fetch_work.specs.declared.link.Reply.{Reply}
 use Rattle.fetch_work.specs.declared.link.Reply.TheVariants.{Lost, Came}
 
 -- The octets that came.
-abbrev pub octets_of : Reply → Option (List ℕ)
-octets_of Lost = None
-octets_of (Came octets) = Some octets.now
+abbrev pub octets_that_came : Reply → Option (List ℕ)
+octets_that_came Lost = None
+octets_that_came (Came octets) = Some octets.now
 
 -- The part, where the verdict on its octets is that they pass.
 abbrev pub if_passed : Result Data PartRefusal → CheckedPart → Option CheckedPart
@@ -20,13 +20,13 @@ if_passed (Ok d) part = Some part
 if_passed (Err refusal) part = None
 
 -- The part, where octets came that pass for the want under the key that the ring has for its publisher.
-abbrev pub checked_reply : WantedPart → List Pair → Option (List ℕ) → Option CheckedPart
+abbrev pub checked_reply : WantedPart → List NamedKey → Option (List ℕ) → Option CheckedPart
 checked_reply want ring None = None
 checked_reply want ring (Some octets) = if_passed (ring_verdict want ring octets) (checked_part want ring octets)
 
 -- What an attempt at the job brings after so many others in the same phase, where a link gives these
 -- answers. Behind `base` attempts of earlier phases the link is told of it as the next.
-abbrev pub brings : (WantedPart → ℕ → Option (List ℕ)) → List Pair → Job → ℕ → Option CheckedPart
+abbrev pub brings : (WantedPart → ℕ → Option (List ℕ)) → List NamedKey → Job → ℕ → Option CheckedPart
 brings answer ring job before = checked_reply job.want ring (answer job.want (job.base + before + 1))
 
 abbrev pub no_job : Job

@@ -1,6 +1,6 @@
 -- What a phase gives.
 use Rattle.std.specs.Prelude.{ℕ, List, [], ◌∷◌, Option}
-use Rattle.ndn_sign.specs.Ring.{Pair}
+use Rattle.ndn_sign.specs.Ring.{NamedKey}
 use Rattle.repo_object.specs.declared.job.Job.{Job}
 use Rattle.repo_object.specs.Wants.{WantedPart}
 use Rattle.repo_object.specs.Verdict.{CheckedPart}
@@ -9,7 +9,7 @@ use Rattle.fetch_work.specs.Teams.{IsFirst}
 
 -- For each job, in order, its part is what the first attempt brings that brings one, and its number is
 -- that of the attempts up to it. Or the part is none, and the number is that of all tries.
-abbrev pub AreFirst : (WantedPart → ℕ → Option (List ℕ)) → List Pair → ℕ → List Job → List (Option CheckedPart)
+abbrev pub AreFirst : (WantedPart → ℕ → Option (List ℕ)) → List NamedKey → ℕ → List Job → List (Option CheckedPart)
     → List ℕ → Type 0
 AreFirst answer ring tries [] [] [] = Unit {0}
 AreFirst answer ring tries (job ∷ jobs) (part ∷ parts) (n ∷ ns) =

@@ -1,6 +1,6 @@
 ghost use Rattle.std.specs.Prelude.{◌≡◌, ℕ, List, Option};
 ghost use Rattle.repo_object.specs.Wants.{WantedPart};
-ghost use Rattle.fetch_work.specs.Attempts.{octets_of};
+ghost use Rattle.fetch_work.specs.Attempts.{octets_that_came};
 
 use repo_object::Want;
 
@@ -22,5 +22,5 @@ pub trait Link {
 
     /// Asks for the part. Attempts at a part are counted from 1, over all its fetches.
     fn ask<'a>(&'a self, want: &Want, attempt: u32) -> Reply<'a>
-        ensures { octets_of result ≡ answer self.now want.now attempt };
+        ensures { octets_that_came result ≡ answer self.now want.now attempt };
 }

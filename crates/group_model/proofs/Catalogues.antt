@@ -13,7 +13,7 @@ use Rattle.repo_plan.proofs.Sets.{In, in_flat_map, contains_in, in_contains, in_
 use Rattle.repo_catalog.specs.declared.entry.Entry.{Entry}
 use Rattle.repo_catalog.specs.Entries.{publication_of, is_of, lists}
 use Rattle.repo_object.specs.Objects.{NamedContents}
-use Rattle.group_model.specs.Publications.{Logs, Publication, pair_in, numbered, published_from, published, parts_in, all_parts, published_entry, count, object_at, no_object}
+use Rattle.group_model.specs.Publications.{Logs, Publication, pair_in, numbered_publications, published_from, published, parts_in, all_parts, published_entry, count, object_at, no_object}
 use Rattle.group_model.specs.Member.{Member, member_holds, holds_all, catalogued, catalogue}
 use Rattle.group_model.specs.World.{member, logs, catalogue_at}
 use Rattle.group_model.specs.Sound.{IsSoundMember, IsPublished, IsPublishedPart, IsHiddenSoundly}
@@ -30,15 +30,15 @@ publication_cmp a b = pair_cmp (pair_in a) (pair_in b)
 
 of_published : (p : ℕ) (ls : Logs) (q : Publication) → In q (published_from p ls) → p ≤ q.publisher
 of_published p [] q i = absurd i
-of_published p (l ∷ ls) q i = elim (in_append (numbered p 1 l) (published_from (p + 1) ls) q i) [
+of_published p (l ∷ ls) q i = elim (in_append (numbered_publications p 1 l) (published_from (p + 1) ls) q i) [
   | inl a ↦ let r = from_numbered p 1 l q a in omega (arith, r.0)
   | inr b ↦ let r : p + 1 ≤ q.publisher = of_published (p + 1) ls q b in omega (arith, r)
 ]
 
-rises_numbered : (p s : ℕ) (os : List NamedContents) → Rises publication_cmp (numbered p s os)
+rises_numbered : (p s : ℕ) (os : List NamedContents) → Rises publication_cmp (numbered_publications p s os)
 rises_numbered p s [] = tt
 rises_numbered p s (o ∷ os) = (
-  before_each (on_total pair_in exact_pairs.total) (record { publisher = p; seq = s; object = o }) (numbered p (s + 1) os) (λ q i.
+  before_each (on_total pair_in exact_pairs.total) (record { publisher = p; seq = s; object = o }) (numbered_publications p (s + 1) os) (λ q i.
       let r = from_numbered p (s + 1) os q i in
       let later : s + 1 ≤ q.seq = r.1 in
       then_second (nat_cmp p q.publisher) _ (ap (nat_cmp p) r.0 ∙ nat_itself p) ∙ nat_less s q.seq (omega (arith, later))),
@@ -47,7 +47,7 @@ rises_numbered p s (o ∷ os) = (
 
 rises_published : (p : ℕ) (ls : Logs) → Rises publication_cmp (published_from p ls)
 rises_published p [] = tt
-rises_published p (l ∷ ls) = rises_append (on_total pair_in exact_pairs.total) (numbered p 1 l) (published_from (p + 1) ls) (rises_numbered p 1 l) (rises_published (p + 1) ls) (λ a b i k.
+rises_published p (l ∷ ls) = rises_append (on_total pair_in exact_pairs.total) (numbered_publications p 1 l) (published_from (p + 1) ls) (rises_numbered p 1 l) (rises_published (p + 1) ls) (λ a b i k.
     let x = from_numbered p 1 l a i in
     let same : a.publisher ≡ p = x.0 in
     let more : p + 1 ≤ b.publisher = of_published (p + 1) ls b k in
@@ -66,21 +66,21 @@ lists_in_order ls m = rises_entries (filter (holds_all m) (published ls)) (rises
 
 -- ---- what is listed
 
-is_numbered : (p s : ℕ) (os : List NamedContents) (k : ℕ) → k < length os → In (record { publisher = p; seq = s + k; object = get_or os k no_object }) (numbered p s os)
+is_numbered : (p s : ℕ) (os : List NamedContents) (k : ℕ) → k < length os → In (record { publisher = p; seq = s + k; object = get_or os k no_object }) (numbered_publications p s os)
 is_numbered p s [] k l = absurd (omega arith)
 is_numbered p s (o ∷ os) zero l = let e : s + 0 ≡ s = omega arith in inl (ap (λ (n : ℕ). let q : Publication = record { publisher = p; seq = n; object = o } in q) e)
 is_numbered p s (o ∷ os) (suc k) l =
     let e : s + 1 + k ≡ s + suc k = omega arith in
-    inr (subst (λ (n : ℕ). In (record { publisher = p; seq = n; object = get_or os k no_object }) (numbered p (s + 1) os)) e (is_numbered p (s + 1) os k (omega arith)))
+    inr (subst (λ (n : ℕ). In (record { publisher = p; seq = n; object = get_or os k no_object }) (numbered_publications p (s + 1) os)) e (is_numbered p (s + 1) os k (omega arith)))
 
 is_published_from : (p : ℕ) (ls : Logs) (i k : ℕ) → k < length (get_or ls i []) → In (record { publisher = p + i; seq = 1 + k; object = get_or (get_or ls i []) k no_object }) (published_from p ls)
 is_published_from p [] i k l = absurd (omega arith)
 is_published_from p (x ∷ xs) zero k l =
     let e : p ≡ p + 0 = omega arith in
-    subst (λ (n : ℕ). In (record { publisher = n; seq = 1 + k; object = get_or x k no_object }) (published_from p (x ∷ xs))) e (append_left (numbered p 1 x) (published_from (p + 1) xs) _ (is_numbered p 1 x k l))
+    subst (λ (n : ℕ). In (record { publisher = n; seq = 1 + k; object = get_or x k no_object }) (published_from p (x ∷ xs))) e (append_left (numbered_publications p 1 x) (published_from (p + 1) xs) _ (is_numbered p 1 x k l))
 is_published_from p (x ∷ xs) (suc i) k l =
     let e : p + 1 + i ≡ p + suc i = omega arith in
-    subst (λ (n : ℕ). In (record { publisher = n; seq = 1 + k; object = get_or (get_or xs i []) k no_object }) (published_from p (x ∷ xs))) e (append_right (numbered p 1 x) (published_from (p + 1) xs) _ (is_published_from (p + 1) xs i k l))
+    subst (λ (n : ℕ). In (record { publisher = n; seq = 1 + k; object = get_or (get_or xs i []) k no_object }) (published_from p (x ∷ xs))) e (append_right (numbered_publications p 1 x) (published_from (p + 1) xs) _ (is_published_from (p + 1) xs i k l))
 
 abbrev pub at_pair : Logs → Pair → Publication
 at_pair ls pair = record { publisher = pair.0; seq = pair.1; object = object_at ls pair }

@@ -18,13 +18,13 @@ use Rattle.repo_process.specs.Processes.{Process, BlockState, closed, object_of}
 use Rattle.repo_process.specs.Processes.BlockState.{Unknown, Already, Waiting, Whole}
 use Rattle.repo_command.specs.declared.command.Command.{Command}
 use Rattle.repo_command.specs.declared.command.Command.TheVariants.{Insert, Check, Delete}
-use Rattle.group_model.specs.Member.{Member, member_holds, member_hides, named, member_hides_too, member_hides_all}
-use Rattle.group_model.specs.Changes.{publishes, learns, starts}
+use Rattle.group_model.specs.Member.{Member, member_holds, member_hides, catalogued_under, member_hides_too, member_hides_all}
+use Rattle.group_model.specs.Changes.{publishes, learns, member_starts}
 use Rattle.group_model.specs.Events.{SyncInterest, Came, Event}
 use Rattle.group_model.specs.Events.Came.{Nothing, Its, Another}
 use Rattle.group_model.specs.World.{Outside, World, no_member, member, with_member, logs, sent_at}
 use Rattle.group_model.specs.Steps.{drawn, claim_at, to_claim, passes_checks, timer_at, tells_too_much, came_from, came_as, fetched_parts, can_start, block_at, with_process_at, after_event, after_events, after_publish, after_deliver, after_hear, after_fire, after_claiming, after_came, after_command, after_order, after_block}
-use Rattle.group_model.specs.Refusals.{IsTaken, AreTaken}
+use Rattle.group_model.specs.Refusals.{EventIsTaken, EventsAreTaken}
 use Rattle.group_model.specs.Sound.{IsSoundGroup, IsPublished}
 use Rattle.group_model.specs.Lasting.{Lasts, AllLast, NothingTakenBack, PublisherHolds, AnswersAreKept, PublisherCanAnswer}
 use Rattle.group_model.proofs.Parts.{publisher_within}
@@ -154,11 +154,11 @@ lasts_hear out w j (Some sync) = go (tells_too_much w j sync) where
 
 lasts_command : (w v : World) (j : ℕ) (command : Command) → v.members ≡ w.members → AllLast w (after_command v j command)
 lasts_command w v j (Insert name first last) e = then_lasts w v _ (lasts_same w v e) (go (can_start (member v j))) where
-  go : (b : Bool) → AllLast v (cond b (with_member v j (starts name first last (member v j))) v)
-  go true = lasts_set v (with_member v j (starts name first last (member v j))) j _ refl (lasts_beside (member v j) _ refl refl refl refl)
+  go : (b : Bool) → AllLast v (cond b (with_member v j (member_starts name first last (member v j))) v)
+  go true = lasts_set v (with_member v j (member_starts name first last (member v j))) j _ refl (lasts_beside (member v j) _ refl refl refl refl)
   go false = lasts_same v v refl
 lasts_command w v j (Check process) e = lasts_same w v e
-lasts_command w v j (Delete name) e = then_lasts w v _ (lasts_same w v e) (lasts_set v (after_command v j (Delete name)) j _ refl (lasts_hides_all (named (logs v) (member v j) name) (member v j)))
+lasts_command w v j (Delete name) e = then_lasts w v _ (lasts_same w v e) (lasts_set v (after_command v j (Delete name)) j _ refl (lasts_hides_all (catalogued_under (logs v) (member v j) name) (member v j)))
 
 lasts_order : (w : World) (j : ℕ) (read : Result (ℕ × Command) ℕ) → AllLast w (after_order w j read)
 lasts_order w j (Ok order) = lasts_command w w j order.1 refl
@@ -175,7 +175,7 @@ lasts_block out w j process (Whole p) l s =
     let v : World = with_process_at w j process (closed p) in
     then_lasts w v _ (lasts_process w j process (closed p)) (lasts_publish out v j (object_of p) (subst (λ (n : ℕ). j < n) (sym (length-set w.members j _)) l) (sound_process w j process (closed p) l s))
 
-pub lasts : (out : Outside) (w : World) (e : Event) → IsTaken out w e → IsSoundGroup w → AllLast w (after_event out w e)
+pub lasts : (out : Outside) (w : World) (e : Event) → EventIsTaken out w e → IsSoundGroup w → AllLast w (after_event out w e)
 lasts out w (Event.Publish j o) h s = lasts_publish out w j o h.named s
 lasts out w (Event.Deliver k j) h s = lasts_deliver out w j (sent_at w k).vector
 lasts out w (Event.Sync k) h s = lasts_same w w refl
@@ -202,7 +202,7 @@ lasts out w (Event.Block j process index content) h s = lasts_block out w j proc
 lasts out w Event.Summary h s = lasts_same w w refl
 lasts out w Event.Traffic h s = lasts_same w w refl
 
-lasts_all : (out : Outside) (es : List Event) (w : World) → AreTaken out w es → IsSoundGroup w → AllLast w (after_events out w es)
+lasts_all : (out : Outside) (es : List Event) (w : World) → EventsAreTaken out w es → IsSoundGroup w → AllLast w (after_events out w es)
 lasts_all out [] w h s = lasts_same w w refl
 lasts_all out (e ∷ es) w h s = then_lasts w (after_event out w e) _ (lasts out w e h.0 s) (lasts_all out es (after_event out w e) h.1 (sound_after out w e h.0 s))
 

@@ -19,18 +19,18 @@ use Rattle.svs_sync.specs.KeptVector.{Keeper, steady_kept, hears_kept}
 use Rattle.svs_sync.specs.Suppression.{periodic}
 use Rattle.svs_vector.specs.Vectors.{covers}
 use Rattle.repo_object.specs.Objects.{NamedContents}
-use Rattle.group_model.specs.Publications.{Logs, Publication, no_object, numbered, published_from, published, pair_in, parts_in, all_parts}
+use Rattle.group_model.specs.Publications.{Logs, Publication, no_object, numbered_publications, published_from, published, pair_in, parts_in, all_parts}
 use Rattle.repo_process.specs.Processes.{Process, BlockState, indexes, has_index, has_block, with_block, with_it, is_whole, block_in, starting, closed, object_of}
 use Rattle.repo_process.specs.Processes.BlockState.{Unknown, Already, Waiting, Whole}
 use Rattle.repo_command.specs.declared.command.Command.{Command}
 use Rattle.repo_command.specs.declared.command.Command.TheVariants.{Insert, Check, Delete}
-use Rattle.group_model.specs.Member.{Member, plan_of, tries_of, named, member_hides_too, member_hides_all}
-use Rattle.group_model.specs.Changes.{publishes, learns, resets, restarts, takes, member_with_claim, with_process, starts}
+use Rattle.group_model.specs.Member.{Member, plan_of, tries_of, catalogued_under, member_hides_too, member_hides_all}
+use Rattle.group_model.specs.Changes.{publishes, learns, resets, restarts, takes, member_with_claim, member_with_process, member_starts}
 use Rattle.group_model.specs.Events.{SyncInterest, Came, Event}
 use Rattle.group_model.specs.Events.Came.{Nothing, Its, Another}
 use Rattle.group_model.specs.World.{Tally, Issued, World, Outside, no_member, member, with_member, logs, logs_of, sent_at, opening_world}
 use Rattle.group_model.specs.Steps.{drawn, claim_at, to_claim, open_at, timer_at, tells_too_much, came_from, came_as, comes_to, new_parts, settled_member, after_gathering, syncs_of, planned_parts, fetched_parts, attempts_for, attempts_made, fetches, can_start, block_at, with_process_at, after_event, after_events, after_publish, after_deliver, after_hear, after_fire, after_reset, after_claiming, after_part, after_came, after_settle, after_fetch, after_command, after_order, after_block}
-use Rattle.group_model.specs.Limits.{IsShortInsertion, IsInRange, IsMemberWithin, IsTallyWithin, IsWithin, HasSmallPackets, BeginsWithin, StaysWithin, GatheringStaysWithin, MoreIsWithin, RunsStayWithin, ReachedRunsStayWithin, PartsStayFew}
+use Rattle.group_model.specs.Limits.{IsShortInsertion, IsInRange, IsMemberWithin, IsTallyWithin, IsWithinSteps, HasSmallPackets, BeginsWithin, StaysWithin, GatheringStaysWithin, MoreIsWithin, RunsStayWithin, ReachedRunsStayWithin, PartsStayFew}
 use Rattle.group_model.proofs.Lists.{in_at}
 use Rattle.group_model.proofs.Parts.{in_published}
 use Rattle.group_model.proofs.Settles.{settles, settle_each, logs_settled, logs_gathered}
@@ -44,12 +44,12 @@ exact_numbers = record { total = nat_cmp_total; same = nat_same; itself = nat_it
 
 -- ---- publications and parts
 
-length_numbered : (p s : ℕ) (os : List NamedContents) → length (numbered p s os) ≡ length os
+length_numbered : (p s : ℕ) (os : List NamedContents) → length (numbered_publications p s os) ≡ length os
 length_numbered p s [] = refl
 length_numbered p s (o ∷ os) = ap suc (length_numbered p (s + 1) os)
 
 length_published : (p : ℕ) (l : List NamedContents) (ls : Logs) → length (published_from p (l ∷ ls)) ≡ length l + length (published_from (p + 1) ls)
-length_published p l ls = length-append (numbered p 1 l) (published_from (p + 1) ls) ∙ ap (λ (n : ℕ). n + length (published_from (p + 1) ls)) (length_numbered p 1 l)
+length_published p l ls = length-append (numbered_publications p 1 l) (published_from (p + 1) ls) ∙ ap (λ (n : ℕ). n + length (published_from (p + 1) ls)) (length_numbered p 1 l)
 
 -- a member has one object more
 one_published : (p : ℕ) (ms : List Member) (j : ℕ) (m : Member) (o : NamedContents) → m.log ≡ (get_or ms j no_member).log ++ o ∷ [] → length (published_from p (logs_of (set ms j m))) ≤ length (published_from p (logs_of ms)) + 1
@@ -142,7 +142,7 @@ mem_more : (old new : ℕ) (m : Member) → old ≤ new → IsMemberWithin old m
 mem_more old new m l h = mem_beside old new m m refl refl refl l h
 
 -- a member changes, and its objects stay
-within_set : (old new : ℕ) (w : World) (j : ℕ) (m : Member) (sent : List SyncInterest) (issued : List Issued) (tally : Tally) → old ≤ new → m.log ≡ (member w j).log → IsMemberWithin new m → length sent ≤ new * 16 → IsTallyWithin new tally → IsWithin old w → IsWithin new (record { members = set w.members j m; sent = sent; moment = w.moment; issued = issued; tally = tally })
+within_set : (old new : ℕ) (w : World) (j : ℕ) (m : Member) (sent : List SyncInterest) (issued : List Issued) (tally : Tally) → old ≤ new → m.log ≡ (member w j).log → IsMemberWithin new m → length sent ≤ new * 16 → IsTallyWithin new tally → IsWithinSteps old w → IsWithinSteps new (record { members = set w.members j m; sent = sent; moment = w.moment; issued = issued; tally = tally })
 within_set old new w j m sent issued tally l e h few t s =
     let same : logs_of (set w.members j m) ≡ logs w = same_logs w.members j m e in
     record {
@@ -155,7 +155,7 @@ within_set old new w j m sent issued tally l e h few t s =
     }
 
 -- the members stay as they are
-within_same : (old new : ℕ) (w : World) (moment : ℕ) (issued : List Issued) (tally : Tally) → old ≤ new → moment ≤ new * 1000000000 → IsTallyWithin new tally → IsWithin old w → IsWithin new (record { members = w.members; sent = w.sent; moment = moment; issued = issued; tally = tally })
+within_same : (old new : ℕ) (w : World) (moment : ℕ) (issued : List Issued) (tally : Tally) → old ≤ new → moment ≤ new * 1000000000 → IsTallyWithin new tally → IsWithinSteps old w → IsWithinSteps new (record { members = w.members; sent = w.sent; moment = moment; issued = issued; tally = tally })
 within_same old new w moment issued tally l m t s = record {
   moment = m;
   sent = let x : length w.sent ≤ old * 16 = s.sent in omega (arith, x, l);
@@ -165,21 +165,21 @@ within_same old new w moment issued tally l m t s = record {
   tally = t;
 }
 
-within_stays : (s : ℕ) (w : World) → IsWithin s w → IsWithin (s + 1) w
+within_stays : (s : ℕ) (w : World) → IsWithinSteps s w → IsWithinSteps (s + 1) w
 within_stays s w h = within_same s (s + 1) w w.moment w.issued w.tally (omega arith) (let x : w.moment ≤ s * 1000000000 = h.moment in omega (arith, x)) (tally_more s (s + 1) w.tally (omega arith) h.tally) h
 
-more_sent : (s : ℕ) (w : World) (x : SyncInterest) → IsWithin s w → length (w.sent ++ x ∷ []) ≤ (s + 1) * 16
+more_sent : (s : ℕ) (w : World) (x : SyncInterest) → IsWithinSteps s w → length (w.sent ++ x ∷ []) ≤ (s + 1) * 16
 more_sent s w x h = let a : length w.sent ≤ s * 16 = h.sent in let b : length (w.sent ++ x ∷ []) ≡ length w.sent + 1 = length_push w.sent x in omega (arith, a, b)
 
-same_sent : (s : ℕ) (w : World) → IsWithin s w → length w.sent ≤ (s + 1) * 16
+same_sent : (s : ℕ) (w : World) → IsWithinSteps s w → length w.sent ≤ (s + 1) * 16
 same_sent s w h = let a : length w.sent ≤ s * 16 = h.sent in omega (arith, a)
 
-more_tally : (s : ℕ) (w : World) → IsWithin s w → IsTallyWithin (s + 1) w.tally
+more_tally : (s : ℕ) (w : World) → IsWithinSteps s w → IsTallyWithin (s + 1) w.tally
 more_tally s w h = tally_more s (s + 1) w.tally (omega arith) h.tally
 
 -- ---- each event
 
-within_publish : (out : Outside) (s : ℕ) (w : World) (j : ℕ) (o : NamedContents) → HasFew o → IsWithin s w → IsWithin (s + 1) (after_publish out w j o)
+within_publish : (out : Outside) (s : ℕ) (w : World) (j : ℕ) (o : NamedContents) → HasFew o → IsWithinSteps s w → IsWithinSteps (s + 1) (after_publish out w j o)
 within_publish out s w j o few h =
     let m : Member = publishes (drawn out w j) w.moment j o (member w j) in
     record {
@@ -191,12 +191,12 @@ within_publish out s w j o few h =
       tally = more_tally s w h;
     }
 
-within_claim : (s : ℕ) (w : World) (j f : ℕ) (c : Option Part) → IsWithin s w → IsWithin (s + 1) (after_claiming w j f c)
+within_claim : (s : ℕ) (w : World) (j f : ℕ) (c : Option Part) → IsWithinSteps s w → IsWithinSteps (s + 1) (after_claiming w j f c)
 within_claim s w j f None h = within_stays s w h
 within_claim s w j f (Some t) h = within_set s (s + 1) w j (member_with_claim f (Some t) (member w j)) w.sent w.issued w.tally (omega arith) refl (mem_beside s (s + 1) (member w j) _ refl refl refl (omega arith) (h.members j)) (same_sent s w h) (more_tally s w h) h
 
 -- one part came, and perhaps one attempt was made
-within_part : (out : Outside) (s : ℕ) (w : World) (j f : ℕ) (t : Part) (made : ℕ) → made ≤ 1 → HasSmallPackets out w → IsWithin s w → IsWithin (s + 1) (after_part out (record w { tally = record w.tally { attempts = w.tally.attempts + made } }) j f t)
+within_part : (out : Outside) (s : ℕ) (w : World) (j f : ℕ) (t : Part) (made : ℕ) → made ≤ 1 → HasSmallPackets out w → IsWithinSteps s w → IsWithinSteps (s + 1) (after_part out (record w { tally = record w.tally { attempts = w.tally.attempts + made } }) j f t)
 within_part out s w j f t made one size h = within_set s (s + 1) w j (takes f t (member w j)) w.sent w.issued _ (omega arith) refl (mem_beside s (s + 1) (member w j) _ refl refl refl (omega arith) (h.members j)) (same_sent s w h) (record {
   delivered = let x : w.tally.delivered ≤ s * 240 = h.tally.delivered in omega (arith, x);
   attempts = let x : w.tally.attempts ≤ s * 65536 = h.tally.attempts in omega (arith, x, one);
@@ -204,7 +204,7 @@ within_part out s w j f t made one size h = within_set s (s + 1) w j (takes f t 
   octets = let x : w.tally.octets ≤ s * 2830080000000 = h.tally.octets in let y : out.size (logs w) t ≤ 8800 = size t in omega (arith, x, y);
 }) h
 
-within_tried : (s : ℕ) (w : World) (made : ℕ) → made ≤ 1 → IsWithin s w → IsWithin (s + 1) (record w { tally = record w.tally { attempts = w.tally.attempts + made } })
+within_tried : (s : ℕ) (w : World) (made : ℕ) → made ≤ 1 → IsWithinSteps s w → IsWithinSteps (s + 1) (record w { tally = record w.tally { attempts = w.tally.attempts + made } })
 within_tried s w made one h = within_same s (s + 1) w w.moment w.issued _ (omega arith) (let x : w.moment ≤ s * 1000000000 = h.moment in omega (arith, x)) (record {
   delivered = let x : w.tally.delivered ≤ s * 240 = h.tally.delivered in omega (arith, x);
   attempts = let x : w.tally.attempts ≤ s * 65536 = h.tally.attempts in omega (arith, x, one);
@@ -212,16 +212,16 @@ within_tried s w made one h = within_same s (s + 1) w w.moment w.issued _ (omega
   octets = let x : w.tally.octets ≤ s * 2830080000000 = h.tally.octets in omega (arith, x);
 }) h
 
-within_came : (out : Outside) (s : ℕ) (w : World) (j f : ℕ) (c : Option Part) (came : Came) (made : ℕ) → made ≤ 1 → HasSmallPackets out w → IsWithin s w → IsWithin (s + 1) (after_came out (record w { tally = record w.tally { attempts = w.tally.attempts + made } }) j f c came)
+within_came : (out : Outside) (s : ℕ) (w : World) (j f : ℕ) (c : Option Part) (came : Came) (made : ℕ) → made ≤ 1 → HasSmallPackets out w → IsWithinSteps s w → IsWithinSteps (s + 1) (after_came out (record w { tally = record w.tally { attempts = w.tally.attempts + made } }) j f c came)
 within_came out s w j f None came made one size h = within_tried s w made one h
 within_came out s w j f (Some t) Nothing made one size h = within_tried s w made one h
 within_came out s w j f (Some t) Its made one size h = within_part out s w j f t made one size h
 within_came out s w j f (Some t) Another made one size h = within_part out s w j f t made one size h
 
-within_reset : (out : Outside) (s : ℕ) (w : World) (j : ℕ) (sent : List SyncInterest) → length sent ≤ (s + 1) * 16 → IsWithin s w → IsWithin (s + 1) (record (after_reset out w j) { sent = sent })
+within_reset : (out : Outside) (s : ℕ) (w : World) (j : ℕ) (sent : List SyncInterest) → length sent ≤ (s + 1) * 16 → IsWithinSteps s w → IsWithinSteps (s + 1) (record (after_reset out w j) { sent = sent })
 within_reset out s w j sent few h = within_set s (s + 1) w j (resets (drawn out w j) w.moment (member w j)) sent w.issued w.tally (omega arith) refl (mem_machine s (member w j) _ (omega arith) refl (h.members j).blocks (h.members j)) few (more_tally s w h) h
 
-within_fire : (out : Outside) (s : ℕ) (w : World) (j : ℕ) (f : Fired) → IsWithin s w → IsWithin (s + 1) (after_fire out w j f)
+within_fire : (out : Outside) (s : ℕ) (w : World) (j : ℕ) (f : Fired) → IsWithinSteps s w → IsWithinSteps (s + 1) (after_fire out w j f)
 within_fire out s w j Early h = within_stays s w h
 within_fire out s w j Quiet h = within_reset out s w j w.sent (same_sent s w h) h
 within_fire out s w j Send h = within_reset out s w j _ (more_sent s w _ h) h
@@ -233,7 +233,7 @@ one_draw moment told known draw k None = go (covers told known) _ where
   go false deadline = omega arith
 one_draw moment told known draw k (Some v) = omega arith
 
-within_deliver : (out : Outside) (s : ℕ) (w : World) (j : ℕ) (told : List ℕ) → IsWithin s w → IsWithin (s + 1) (after_deliver out w j told)
+within_deliver : (out : Outside) (s : ℕ) (w : World) (j : ℕ) (told : List ℕ) → IsWithinSteps s w → IsWithinSteps (s + 1) (after_deliver out w j told)
 within_deliver out s w j told h =
     let m : Member = member w j in
     within_set s (s + 1) w j (learns (drawn out w j) w.moment told m) w.sent w.issued _ (omega arith) refl (mem_machine s m _ (one_draw w.moment told m.known (drawn out w j) m.machine m.machine.heard) refl (h.members j).blocks (h.members j)) (same_sent s w h) (record {
@@ -243,10 +243,10 @@ within_deliver out s w j told h =
       octets = let x : w.tally.octets ≤ s * 2830080000000 = h.tally.octets in omega (arith, x);
     }) h
 
-within_hear : (out : Outside) (s : ℕ) (w : World) (j : ℕ) (read : Option SyncInterest) → IsWithin s w → IsWithin (s + 1) (after_hear out w j read)
+within_hear : (out : Outside) (s : ℕ) (w : World) (j : ℕ) (read : Option SyncInterest) → IsWithinSteps s w → IsWithinSteps (s + 1) (after_hear out w j read)
 within_hear out s w j None h = within_stays s w h
 within_hear out s w j (Some sync) h = go (tells_too_much w j sync) where
-  go : (b : Bool) → IsWithin (s + 1) (cond b w (after_deliver out w j sync.vector))
+  go : (b : Bool) → IsWithinSteps (s + 1) (cond b w (after_deliver out w j sync.vector))
   go true = within_stays s w h
   go false = within_deliver out s w j sync.vector h
 
@@ -256,25 +256,25 @@ hides_beside : (ps : List Publication) (m : Member) → ((member_hides_all ps m)
 hides_beside [] m = (refl, refl, refl, refl)
 hides_beside (p ∷ ps) m = hides_beside ps (member_hides_too (pair_in p) m)
 
-within_command : (s : ℕ) (w : World) (issued : List Issued) (j : ℕ) (command : Command) → IsShortInsertion command → IsWithin s w → IsWithin (s + 1) (after_command (record w { issued = issued }) j command)
+within_command : (s : ℕ) (w : World) (issued : List Issued) (j : ℕ) (command : Command) → IsShortInsertion command → IsWithinSteps s w → IsWithinSteps (s + 1) (after_command (record w { issued = issued }) j command)
 within_command s w issued j (Insert name first last) short h = go (can_start (member w j)) where
-  stays : IsWithin (s + 1) (record w { issued = issued })
+  stays : IsWithinSteps (s + 1) (record w { issued = issued })
   stays = within_same s (s + 1) w w.moment issued w.tally (omega arith) (let x : w.moment ≤ s * 1000000000 = h.moment in omega (arith, x)) (more_tally s w h) h
 
   few : length (indexes (starting name first last)) ≤ 200
   few = let e : length (numbers_from first (last + 1 - first)) ≡ last + 1 - first = length_numbers first (last + 1 - first) in omega (arith, e, short)
 
-  go : (b : Bool) → IsWithin (s + 1) (cond b (with_member (record w { issued = issued }) j (starts name first last (member w j))) (record w { issued = issued }))
-  go true = within_set s (s + 1) w j (starts name first last (member w j)) w.sent issued w.tally (omega arith) refl
+  go : (b : Bool) → IsWithinSteps (s + 1) (cond b (with_member (record w { issued = issued }) j (member_starts name first last (member w j))) (record w { issued = issued }))
+  go true = within_set s (s + 1) w j (member_starts name first last (member w j)) w.sent issued w.tally (omega arith) refl
       (mem_process s (s + 1) (member w j) _ refl refl (short_process (member w j).processes (member w j).next_process (starting name first last) few (h.members j).blocks) (omega arith) (h.members j)) (same_sent s w h) (more_tally s w h) h
   go false = stays
 within_command s w issued j (Check process) short h = within_same s (s + 1) w w.moment issued w.tally (omega arith) (let x : w.moment ≤ s * 1000000000 = h.moment in omega (arith, x)) (more_tally s w h) h
 within_command s w issued j (Delete name) short h =
     let m : Member = member w j in
-    let b = hides_beside (named (logs w) m name) m in
-    within_set s (s + 1) w j (member_hides_all (named (logs w) m name) m) w.sent issued w.tally (omega arith) b.3 (mem_beside s (s + 1) m _ b.0 b.1 b.2 (omega arith) (h.members j)) (same_sent s w h) (more_tally s w h) h
+    let b = hides_beside (catalogued_under (logs w) m name) m in
+    within_set s (s + 1) w j (member_hides_all (catalogued_under (logs w) m name) m) w.sent issued w.tally (omega arith) b.3 (mem_beside s (s + 1) m _ b.0 b.1 b.2 (omega arith) (h.members j)) (same_sent s w h) (more_tally s w h) h
 
-within_order : (s : ℕ) (w : World) (j : ℕ) (read : Result (ℕ × Command) ℕ) → IsInRange (Event.Order j read) → IsWithin s w → IsWithin (s + 1) (after_order w j read)
+within_order : (s : ℕ) (w : World) (j : ℕ) (read : Result (ℕ × Command) ℕ) → IsInRange (Event.Order j read) → IsWithinSteps s w → IsWithinSteps (s + 1) (after_order w j read)
 within_order s w j (Ok order) r h = within_command s w w.issued j order.1 r h
 within_order s w j (Err code) r h = within_stays s w h
 
@@ -305,12 +305,12 @@ few_in index content (Some p) each = go (not (has_index p index)) p.published wh
   go false true = tt
   go false false = few_with_it (with_block index content p) (few_with_block index content p (each p refl))
 
-within_process : (old new : ℕ) (w : World) (j number : ℕ) (p : Process) → old ≤ new → length (indexes p) ≤ 200 → IsWithin old w → IsWithin new (with_process_at w j number p)
-within_process old new w j number p l few h = within_set old new w j (with_process number p (member w j)) w.sent w.issued w.tally l refl
+within_process : (old new : ℕ) (w : World) (j number : ℕ) (p : Process) → old ≤ new → length (indexes p) ≤ 200 → IsWithinSteps old w → IsWithinSteps new (with_process_at w j number p)
+within_process old new w j number p l few h = within_set old new w j (member_with_process number p (member w j)) w.sent w.issued w.tally l refl
     (mem_process old new (member w j) _ refl refl (short_process (member w j).processes number p few (h.members j).blocks) l (h.members j))
     (let a : length w.sent ≤ old * 16 = h.sent in omega (arith, a, l)) (tally_more old new w.tally l h.tally) h
 
-within_block : (out : Outside) (s : ℕ) (w : World) (j process : ℕ) (state : BlockState) → HasFewBlocks state → IsWithin s w → IsWithin (s + 1) (after_block out w j process state)
+within_block : (out : Outside) (s : ℕ) (w : World) (j process : ℕ) (state : BlockState) → HasFewBlocks state → IsWithinSteps s w → IsWithinSteps (s + 1) (after_block out w j process state)
 within_block out s w j process Unknown few h = within_stays s w h
 within_block out s w j process Already few h = within_stays s w h
 within_block out s w j process (Waiting p) few h = within_process s (s + 1) w j process p (omega arith) few h
@@ -323,7 +323,7 @@ within_block out s w j process (Whole p) few h =
 sized : {A : Type 0} (f : A → ℕ) (b : ℕ) (xs : List A) → ((x : A) → f x ≤ b) → sum_by f xs ≤ length xs * b
 sized f b xs h = sum_by-le f b xs (λ k d l. h (get_or xs k d))
 
-few_parts_in : (w : World) (s : ℕ) → IsWithin s w → (q : Publication) → In q (published (logs w)) → length (parts_in q) ≤ 201
+few_parts_in : (w : World) (s : ℕ) → IsWithinSteps s w → (q : Publication) → In q (published (logs w)) → length (parts_in q) ≤ 201
 few_parts_in w s h q i =
     let there = in_published (logs w) q i in
     let few : length q.object.contents ≤ 200 = subst HasFew (sym there.object) (h.segments q.publisher (q.seq - 1)) in
@@ -336,7 +336,7 @@ few_parts s w l h =
     let few : length (published (logs w)) ≤ s = h.published in
     omega (arith, sum, few, l)
 
-few_new : (w : World) (s : ℕ) → s ≤ 100000 → IsWithin s w → (m : Member) → length (new_parts w m) ≤ 20100000
+few_new : (w : World) (s : ℕ) → s ≤ 100000 → IsWithinSteps s w → (m : Member) → length (new_parts w m) ≤ 20100000
 few_new w s l h m = let a : length (new_parts w m) ≤ length (all_parts (logs w)) = filter_short (comes_to w m) (all_parts (logs w)) in let b : length (all_parts (logs w)) ≤ 20100000 = few_parts s w l h in omega (arith, a, b)
 
 length_syncs : (k : ℕ) (ms : List Member) → length (syncs_of k ms) ≡ length ms
@@ -352,8 +352,8 @@ pairs_of : (n : ℕ) → n ≤ 16 → n * (n - 1) ≤ 240
 pairs_of n l = let a : n * (n - 1) ≤ 16 * 15 = mul-le n (n - 1) 16 15 l (omega (arith, l)) in omega (arith, a)
 
 -- after a settle, with machines that were reset or not
-within_settled : (out : Outside) (s : ℕ) (w : World) (ms : List Member) → s ≤ 100000 → length w.members ≤ 16 → HasSmallPackets out w → IsWithin s w → logs_of ms ≡ logs w → ((j : ℕ) → IsMemberWithin (s + 1) (get_or ms j no_member))
-    → IsWithin (s + 1) (record (after_gathering out w) { members = ms })
+within_settled : (out : Outside) (s : ℕ) (w : World) (ms : List Member) → s ≤ 100000 → length w.members ≤ 16 → HasSmallPackets out w → IsWithinSteps s w → logs_of ms ≡ logs w → ((j : ℕ) → IsMemberWithin (s + 1) (get_or ms j no_member))
+    → IsWithinSteps (s + 1) (record (after_gathering out w) { members = ms })
 within_settled out s w ms l few size h same each =
     let gained : sum_by (λ m. length (new_parts w m)) w.members ≤ length w.members * 20100000 = sized (λ (m : Member). length (new_parts w m)) 20100000 w.members (few_new w s l h) in
     let octets_of : (m : Member) → sum_by (out.size (logs w)) (new_parts w m) ≤ 176880000000 = λ m.
@@ -373,7 +373,7 @@ within_settled out s w ms l few size h same each =
       };
     }
 
-within_settle : (out : Outside) (s : ℕ) (w : World) → s ≤ 100000 → length w.members ≤ 16 → HasSmallPackets out w → IsWithin s w → IsWithin (s + 1) (after_settle out w)
+within_settle : (out : Outside) (s : ℕ) (w : World) → s ≤ 100000 → length w.members ≤ 16 → HasSmallPackets out w → IsWithinSteps s w → IsWithinSteps (s + 1) (after_settle out w)
 within_settle out s w l few size h = within_settled out s w (settle_each out w 0 w.members) l few size h (logs_settled out w 0 w.members) (each_settled out w s 0 w.members h.members)
 
 each_gathered : (w : World) (s : ℕ) (ms : List Member) → ((j : ℕ) → IsMemberWithin s (get_or ms j no_member)) → (j : ℕ) → IsMemberWithin (s + 1) (get_or (map (settled_member w) ms) j no_member)
@@ -384,7 +384,7 @@ each_gathered w s (m ∷ ms) each (suc j) = each_gathered w s ms (λ i. each (su
 pub gathering_within : GatheringStaysWithin
 gathering_within out s w l few size h = within_settled out s w (map (settled_member w) w.members) l few size h (logs_gathered w w.members) (each_gathered w s w.members h.members)
 
-within_fetch : (out : Outside) (s : ℕ) (w : World) (j tries loss : ℕ) → tries ≤ 16 → HasSmallPackets out w → IsWithin s w → IsWithin (s + 1) (after_fetch out w j tries loss)
+within_fetch : (out : Outside) (s : ℕ) (w : World) (j tries loss : ℕ) → tries ≤ 16 → HasSmallPackets out w → IsWithinSteps s w → IsWithinSteps (s + 1) (after_fetch out w j tries loss)
 within_fetch out s w j tries loss l size h =
     let m : Member = member w j in
     let ts : List Part = planned_parts w j in
@@ -425,7 +425,7 @@ within_after out s w (Event.Hear j read) l few size r h = within_hear out s w j 
 within_after out s w (Event.Ask j find) l few size r h = within_stays s w h
 within_after out s w (Event.Feed j f read) l few size r h =
     let none : w.tally.attempts + 0 ≡ w.tally.attempts = omega arith in
-    subst (λ (n : ℕ). IsWithin (s + 1) (after_came out (record w { tally = record w.tally { attempts = n } }) j f (claim_at w j f) (came_as w read (claim_at w j f)))) none (within_came out s w j f (claim_at w j f) (came_as w read (claim_at w j f)) 0 (omega arith) size h)
+    subst (λ (n : ℕ). IsWithinSteps (s + 1) (after_came out (record w { tally = record w.tally { attempts = n } }) j f (claim_at w j f) (came_as w read (claim_at w j f)))) none (within_came out s w j f (claim_at w j f) (came_as w read (claim_at w j f)) 0 (omega arith) size h)
 within_after out s w (Event.Order j read) l few size r h = within_order s w j read r h
 within_after out s w (Event.Issue j client command) l few size r h = within_command s w _ j command r h
 within_after out s w (Event.Block j process index content) l few size r h = within_block out s w j process (block_at w j process index content) (few_in index content (value_of nat_cmp (member w j).processes process) (λ q e. (h.members j).blocks process q e)) h
@@ -443,11 +443,11 @@ more_within s more w l h = record {
 }
 
 pub within_all : RunsStayWithin
-within_all out s w [] sound l few taken r size h = let e : s ≡ s + 0 = omega arith in subst (λ (n : ℕ). IsWithin n w) e h
+within_all out s w [] sound l few taken r size h = let e : s ≡ s + 0 = omega arith in subst (λ (n : ℕ). IsWithinSteps n w) e h
 within_all out s w (e ∷ es) sound l few taken r size h =
     let width : length (after_event out w e).members ≡ length w.members = (lasts out w e taken.0 sound).width in
     let later : s + 1 + length es ≡ s + suc (length es) = omega arith in
-    subst (λ (n : ℕ). IsWithin n (after_events out (after_event out w e) es)) later
+    subst (λ (n : ℕ). IsWithinSteps n (after_events out (after_event out w e) es)) later
     (within_all out (s + 1) (after_event out w e) es (sound_after out w e taken.0 sound) (omega (arith, l)) (subst (λ (n : ℕ). n ≤ 16) (sym width) few) taken.1 r.1 size.1
     (within_after out s w e (omega (arith, l)) few size.0 r.0 h))
 
@@ -455,7 +455,7 @@ within_all out s w (e ∷ es) sound l few taken r size h =
 
 nothing_published : (p : ℕ) (f : ℕ → Member) (xs : List ℕ) → ((x : ℕ) → (f x).log ≡ []) → published_from p (logs_of (map f xs)) ≡ []
 nothing_published p f [] e = refl
-nothing_published p f (x ∷ xs) e = subst (λ (l : List NamedContents). numbered p 1 l ++ published_from (p + 1) (logs_of (map f xs)) ≡ []) (sym (e x)) (nothing_published (p + 1) f xs e)
+nothing_published p f (x ∷ xs) e = subst (λ (l : List NamedContents). numbered_publications p 1 l ++ published_from (p + 1) (logs_of (map f xs)) ≡ []) (sym (e x)) (nothing_published (p + 1) f xs e)
 
 no_objects : (f : ℕ → Member) (xs : List ℕ) (p k : ℕ) → ((x : ℕ) → (f x).log ≡ []) → HasFew (get_or (get_or (logs_of (map f xs)) p []) k no_object)
 no_objects f [] p k e = omega arith
@@ -484,5 +484,5 @@ reached_within out n es few l taken r size =
     let f : ℕ → Member = λ j. record no_member { known = replicate n 0; machine = record { members = n; heard = None; deadline = periodic (out.draw j 0); draws = 1 } } in
     let wide : length (opening_world out n).members ≡ n = length-map (numbers_from 0 n) f ∙ length_numbers 0 n in
     let none : 0 + length es ≡ length es = omega arith in
-    subst (λ (k : ℕ). IsWithin k (after_events out (opening_world out n) es)) none
+    subst (λ (k : ℕ). IsWithinSteps k (after_events out (opening_world out n) es)) none
     (within_all out 0 (opening_world out n) es (sound_opening out n) (omega (arith, l)) (omega (arith, wide, few)) taken r size (within_opening out n))

@@ -10,7 +10,7 @@ use Rattle.svs_sync.specs.declared.fired.Fired.{Fired}
 use Rattle.svs_sync.specs.declared.fired.Fired.TheVariants.{Early, Quiet, Send}
 use Rattle.svs_sync.specs.Suppression
 use Rattle.svs_sync.specs.Suppression.{periodic, fires}
-use Rattle.svs_sync.specs.Suppression.Event.{published, heard, fired, reset}
+use Rattle.svs_sync.specs.Suppression.SyncEvent.{published, heard, fired, reset}
 use Rattle.svs_sync.specs.KeptVector.{Keeper, kept, steady_kept, due_kept, fires_kept, after_kept, after_all_kept}
 use Rattle.svs_sync.proofs.KeptLemmas.{after_all_same, fires_same}
 use Rattle.repo_object.specs.Objects.{NamedContents}
@@ -19,14 +19,14 @@ use Rattle.repo_process.specs.Processes.{BlockState, closed, object_of}
 use Rattle.repo_process.specs.Processes.BlockState.{Unknown, Already, Waiting, Whole}
 use Rattle.repo_command.specs.declared.command.Command.{Command}
 use Rattle.repo_command.specs.declared.command.Command.TheVariants.{Insert, Check, Delete}
-use Rattle.group_model.specs.Member.{Member, named, member_hides_too, member_hides_all}
-use Rattle.group_model.specs.Changes.{publishes, learns, starts}
+use Rattle.group_model.specs.Member.{Member, catalogued_under, member_hides_too, member_hides_all}
+use Rattle.group_model.specs.Changes.{publishes, learns, member_starts}
 use Rattle.group_model.specs.Publications.{pair_in}
 use Rattle.group_model.specs.Events.{SyncInterest, Came, Event}
 use Rattle.group_model.specs.Events.Came.{Nothing, Its, Another}
 use Rattle.group_model.specs.World.{Outside, World, no_member, member, with_member, logs, sent_at, opening_world}
 use Rattle.group_model.specs.Steps.{drawn, claim_at, to_claim, timer_at, tells_too_much, came_from, came_as, can_start, block_at, with_process_at, after_event, after_events, after_hear, after_fire, after_claiming, after_came, after_settle, after_command, after_order, after_block, after_deliver, after_publish}
-use Rattle.group_model.specs.Refusals.{IsTaken, AreTaken}
+use Rattle.group_model.specs.Refusals.{EventIsTaken, EventsAreTaken}
 use Rattle.group_model.specs.Sound.{IsSoundGroup}
 use Rattle.group_model.specs.Reached.{InSoundGroups}
 use Rattle.group_model.specs.Machines.{only_at, hears_of, befalls_read, befalls_block, befalls, befall, first_machine, MachinesFollowTable, MachinesBegin, ReachedMachinesFollowTable}
@@ -36,10 +36,10 @@ use Rattle.group_model.proofs.Lasting.{lasts}
 use Rattle.group_model.proofs.Runs.{sound_opening, length_numbers}
 
 -- what befell a machine makes the second of the first
-abbrev Makes : List Suppression.Event → Member → Member → Type 0
+abbrev Makes : List Suppression.SyncEvent → Member → Member → Type 0
 Makes es old new = new.machine ≡ after_all_kept es old.machine
 
-one : (e : Suppression.Event) (k : Keeper) → after_all_kept (e ∷ []) k ≡ after_kept e k
+one : (e : Suppression.SyncEvent) (k : Keeper) → after_all_kept (e ∷ []) k ≡ after_kept e k
 unfolding after_all_kept
 one e k = refl
 
@@ -47,13 +47,13 @@ none : (k : Keeper) → after_all_kept [] k ≡ k
 unfolding after_all_kept
 none k = refl
 
-in_turn : (xs ys : List Suppression.Event) (k : Keeper) → after_all_kept (xs ++ ys) k ≡ after_all_kept ys (after_all_kept xs k)
+in_turn : (xs ys : List Suppression.SyncEvent) (k : Keeper) → after_all_kept (xs ++ ys) k ≡ after_all_kept ys (after_all_kept xs k)
 unfolding after_all_kept
 in_turn [] ys k = refl
 in_turn (x ∷ xs) ys k = in_turn xs ys (after_kept x k)
 
 -- one member changes, by what befell its machine
-makes_set : (w : World) (i : ℕ) (m : Member) (e : Suppression.Event) (j : ℕ) → j < length w.members → m.machine ≡ after_kept e (member w i).machine → Makes (only_at i j e) (member w j) (get_or (set w.members i m) j no_member)
+makes_set : (w : World) (i : ℕ) (m : Member) (e : Suppression.SyncEvent) (j : ℕ) → j < length w.members → m.machine ≡ after_kept e (member w i).machine → Makes (only_at i j e) (member w j) (get_or (set w.members i m) j no_member)
 makes_set w i m e j l h = elim (cases_Bool (i == j)) [
   | inl y ↦
       let same : i ≡ j = eqb-true i j y in
@@ -93,11 +93,11 @@ makes_came out w v i f (Some t) Another j e = makes_beside v.members i _ j refl 
 
 makes_command : (w v : World) (i : ℕ) (command : Command) (j : ℕ) → v.members ≡ w.members → Makes [] (member w j) (member (after_command v i command) j)
 makes_command w v i (Insert name first last) j e = go (can_start (member v i)) ∙ ap (λ (ms : List Member). after_all_kept [] (get_or ms j no_member).machine) e where
-  go : (b : Bool) → Makes [] (member v j) (member (cond b (with_member v i (starts name first last (member v i))) v) j)
+  go : (b : Bool) → Makes [] (member v j) (member (cond b (with_member v i (member_starts name first last (member v i))) v) j)
   go true = makes_beside v.members i _ j refl
   go false = makes_none (member v j)
 makes_command w v i (Check process) j e = ap (λ (ms : List Member). (get_or ms j no_member).machine) e ∙ makes_none (member w j)
-makes_command w v i (Delete name) j e = makes_beside v.members i _ j (machine_hides (named (logs v) (member v i) name) (member v i)) ∙ ap (λ (ms : List Member). after_all_kept [] (get_or ms j no_member).machine) e
+makes_command w v i (Delete name) j e = makes_beside v.members i _ j (machine_hides (catalogued_under (logs v) (member v i) name) (member v i)) ∙ ap (λ (ms : List Member). after_all_kept [] (get_or ms j no_member).machine) e
 
 makes_order : (w : World) (i : ℕ) (read : Result (ℕ × Command) ℕ) (j : ℕ) → Makes [] (member w j) (member (after_order w i read) j)
 makes_order w i (Ok order) j = makes_command w w i order.1 j refl
@@ -123,7 +123,7 @@ unfolding after_kept
 makes_reset out w i j m l e = makes_set w i m (reset w.moment (drawn out w i)) j l e
 
 -- a member stays as it is, which is what befell its machine makes of it
-makes_same : (w : World) (i : ℕ) (e : Suppression.Event) (j : ℕ) → (member w i).machine ≡ after_kept e (member w i).machine → Makes (only_at i j e) (member w j) (member w j)
+makes_same : (w : World) (i : ℕ) (e : Suppression.SyncEvent) (j : ℕ) → (member w i).machine ≡ after_kept e (member w i).machine → Makes (only_at i j e) (member w j) (member w j)
 makes_same w i e j h = elim (cases_Bool (i == j)) [
   | inl y ↦
       let same : i ≡ j = eqb-true i j y in
@@ -179,7 +179,7 @@ makes_settle : (out : Outside) (w : World) (j : ℕ) → j < length w.members �
 unfolding after_all_kept after_kept
 makes_settle out w j l = ap (λ (m : Member). m.machine) (member_settled out w j l)
 
-makes : (out : Outside) (w : World) (e : Event) (j : ℕ) → IsTaken out w e → j < length w.members → Makes (befalls out w j e) (member w j) (member (after_event out w e) j)
+makes : (out : Outside) (w : World) (e : Event) (j : ℕ) → EventIsTaken out w e → j < length w.members → Makes (befalls out w j e) (member w j) (member (after_event out w e) j)
 makes out w (Event.Publish i o) j h l = makes_publish out w i o j l
 makes out w (Event.Deliver k i) j h l = makes_deliver out w i (sent_at w k).vector j l
 makes out w (Event.Sync k) j h l = makes_none (member w j)
@@ -210,7 +210,7 @@ number_at a zero j l = absurd (omega arith)
 number_at a (suc n) zero l = omega arith
 number_at a (suc n) (suc j) l = number_at (a + 1) n j (omega arith) ∙ omega arith
 
-makes_all : (out : Outside) (es : List Event) (w : World) (j : ℕ) → AreTaken out w es → IsSoundGroup w → j < length w.members → Makes (befall out w j es) (member w j) (member (after_events out w es) j)
+makes_all : (out : Outside) (es : List Event) (w : World) (j : ℕ) → EventsAreTaken out w es → IsSoundGroup w → j < length w.members → Makes (befall out w j es) (member w j) (member (after_events out w es) j)
 makes_all out [] w j h s l = makes_none (member w j)
 makes_all out (e ∷ es) w j h s l =
     let width : length (after_event out w e).members ≡ length w.members = (lasts out w e h.0 s).width in
@@ -220,13 +220,13 @@ makes_all out (e ∷ es) w j h s l =
 
 pub machines_follow_table : InSoundGroups MachinesFollowTable
 machines_follow_table out w s es n j first h l e =
-    let same : (member (after_events out w es) j).machine ≡ kept n (Suppression.after_all (befall out w j es) first) =
+    let same : (member (after_events out w es) j).machine ≡ kept n (Suppression.after_sync_events (befall out w j es) first) =
     makes_all out es w j h s l ∙ ap (after_all_kept (befall out w j es)) e ∙ after_all_same n (befall out w j es) first in
     record {
       machine = same;
       timer =
           let last : World = after_events out w es in
-          ap (fires_kept last.moment (member last j).known) same ∙ fires_same n last.moment (member last j).known (Suppression.after_all (befall out w j es) first);
+          ap (fires_kept last.moment (member last j).known) same ∙ fires_same n last.moment (member last j).known (Suppression.after_sync_events (befall out w j es) first);
     }
 
 pub machines_begin : MachinesBegin

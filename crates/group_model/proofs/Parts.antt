@@ -11,14 +11,14 @@ use Rattle.repo_plan.proofs.Orders.{exact_parts, nat_less, nat_itself, first_les
 use Rattle.repo_plan.proofs.Sets.{In, in_append, in_flat_map, from_flat_map, from_map, before_each, rises_append}
 use Rattle.repo_plan.proofs.Known.{from_numbers, from_parts_of, in_parts_of}
 use Rattle.repo_object.specs.Objects.{NamedContents}
-use Rattle.group_model.specs.Publications.{Logs, Publication, pair_in, numbered, published, published_from, parts_in, all_parts, object_at, count, no_object}
+use Rattle.group_model.specs.Publications.{Logs, Publication, pair_in, numbered_publications, published, published_from, parts_in, all_parts, object_at, count, no_object}
 use Rattle.group_model.specs.Member.{Member}
 use Rattle.group_model.specs.World.{World, logs}
 use Rattle.group_model.specs.Sound.{IsPublished, IsPublishedPart}
 
 -- ---- publications
 
-pub from_numbered : (p s : ℕ) (os : List NamedContents) (q : Publication) → In q (numbered p s os) → (q.publisher ≡ p) × (s ≤ q.seq) × (q.seq < s + length os) × (q.object ≡ get_or os (q.seq - s) no_object)
+pub from_numbered : (p s : ℕ) (os : List NamedContents) (q : Publication) → In q (numbered_publications p s os) → (q.publisher ≡ p) × (s ≤ q.seq) × (q.seq < s + length os) × (q.object ≡ get_or os (q.seq - s) no_object)
 from_numbered p s [] q i = absurd i
 from_numbered p s (o ∷ os) q (inl e) =
     let seq : q.seq ≡ s = ap (λ (x : Publication). x.seq) e in
@@ -33,7 +33,7 @@ from_numbered p s (o ∷ os) q (inr i) =
 from_published : (p : ℕ) (ls : Logs) (q : Publication) → In q (published_from p ls) →
     (p ≤ q.publisher) × (1 ≤ q.seq) × (q.seq ≤ length (get_or ls (q.publisher - p) [])) × (q.object ≡ get_or (get_or ls (q.publisher - p) []) (q.seq - 1) no_object)
 from_published p [] q i = absurd i
-from_published p (l ∷ ls) q i = elim (in_append (numbered p 1 l) (published_from (p + 1) ls) q i) [
+from_published p (l ∷ ls) q i = elim (in_append (numbered_publications p 1 l) (published_from (p + 1) ls) q i) [
   | inl a ↦
       let r : (q.publisher ≡ p) × (1 ≤ q.seq) × (q.seq < 1 + length l) × (q.object ≡ get_or l (q.seq - 1) no_object) = from_numbered p 1 l q a in
       let here : q.publisher - p ≡ 0 = omega (arith, r.0) in
@@ -105,15 +105,15 @@ rises_numbers pair first (suc n) = (
   rises_numbers pair (first + 1) n,
 )
 
-of_numbered : (p s : ℕ) (os : List NamedContents) (t : Part) → In t (flat_map parts_in (numbered p s os)) → (t.publisher ≡ p) × (s ≤ t.seq)
+of_numbered : (p s : ℕ) (os : List NamedContents) (t : Part) → In t (flat_map parts_in (numbered_publications p s os)) → (t.publisher ≡ p) × (s ≤ t.seq)
 of_numbered p s os t i =
-    let r : (q : Publication) × (In q (numbered p s os)) × In t (parts_in q) = from_flat_map parts_in (numbered p s os) t i in
+    let r : (q : Publication) × (In q (numbered_publications p s os)) × In t (parts_in q) = from_flat_map parts_in (numbered_publications p s os) t i in
     let q : IsPartOf t r.0 = from_parts_in r.0 t r.2 in
     let n = from_numbered p s os r.0 r.1 in
     let seq : t.seq ≡ r.0.seq = ap (λ (x : Pair). x.1) q.pair in
     (ap (λ (x : Pair). x.0) q.pair ∙ n.0, subst (λ (k : ℕ). s ≤ k) (sym seq) n.1)
 
-rises_numbered : (p s : ℕ) (os : List NamedContents) → Rises part_cmp (flat_map parts_in (numbered p s os))
+rises_numbered : (p s : ℕ) (os : List NamedContents) → Rises part_cmp (flat_map parts_in (numbered_publications p s os))
 rises_numbered p s [] = tt
 rises_numbered p s (o ∷ os) =
     let one : Publication = record { publisher = p; seq = s; object = o } in
@@ -131,15 +131,15 @@ flat_append (x ∷ xs) ys = ap (λ (ts : List Part). parts_in x ++ ts) (flat_app
 of_published : (p : ℕ) (ls : Logs) (t : Part) → In t (flat_map parts_in (published_from p ls)) → p ≤ t.publisher
 of_published p [] t i = absurd i
 of_published p (l ∷ ls) t i =
-    elim (in_append (flat_map parts_in (numbered p 1 l)) (flat_map parts_in (published_from (p + 1) ls)) t (subst (In t) (flat_append (numbered p 1 l) (published_from (p + 1) ls)) i)) [
+    elim (in_append (flat_map parts_in (numbered_publications p 1 l)) (flat_map parts_in (published_from (p + 1) ls)) t (subst (In t) (flat_append (numbered_publications p 1 l) (published_from (p + 1) ls)) i)) [
       | inl a ↦ let r : (t.publisher ≡ p) × (1 ≤ t.seq) = of_numbered p 1 l t a in omega (arith, r.0)
       | inr b ↦ let r : p + 1 ≤ t.publisher = of_published (p + 1) ls t b in omega (arith, r)
     ]
 
 rises_published : (p : ℕ) (ls : Logs) → Rises part_cmp (flat_map parts_in (published_from p ls))
 rises_published p [] = tt
-rises_published p (l ∷ ls) = subst (Rises part_cmp) (sym (flat_append (numbered p 1 l) (published_from (p + 1) ls)))
-    (rises_append exact_parts.total (flat_map parts_in (numbered p 1 l)) _ (rises_numbered p 1 l) (rises_published (p + 1) ls) (λ x y i k.
+rises_published p (l ∷ ls) = subst (Rises part_cmp) (sym (flat_append (numbered_publications p 1 l) (published_from (p + 1) ls)))
+    (rises_append exact_parts.total (flat_map parts_in (numbered_publications p 1 l)) _ (rises_numbered p 1 l) (rises_published (p + 1) ls) (λ x y i k.
     let a : (x.publisher ≡ p) × (1 ≤ x.seq) = of_numbered p 1 l x i in
     let b : p + 1 ≤ y.publisher = of_published (p + 1) ls y k in
     first_less (nat_cmp x.publisher y.publisher) _ (nat_less x.publisher y.publisher (omega (arith, a.0, b)))))

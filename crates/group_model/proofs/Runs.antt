@@ -18,8 +18,8 @@ use Rattle.repo_process.specs.Processes.{BlockState}
 use Rattle.repo_process.specs.Processes.BlockState.{Unknown, Already, Waiting, Whole}
 use Rattle.repo_command.specs.declared.command.Command.{Command}
 use Rattle.repo_command.specs.declared.command.Command.TheVariants.{Insert, Check, Delete}
-use Rattle.group_model.specs.Member.{Member, plan_of, member_holds, member_hides, holds_all, named}
-use Rattle.group_model.specs.Changes.{learns, starts}
+use Rattle.group_model.specs.Member.{Member, plan_of, member_holds, member_hides, holds_all, catalogued_under}
+use Rattle.group_model.specs.Changes.{learns, member_starts}
 use Rattle.group_model.specs.Events.{SyncInterest, Came, Event}
 use Rattle.group_model.specs.Events.Came.{Nothing, Its, Another}
 use Rattle.group_model.specs.World.{Tally, Issued, World, Outside, no_member, member, with_member, logs, logs_of, sent_at, opening_world}
@@ -141,12 +141,12 @@ goes_hear out w j (Some sync) = go (tells_too_much w j sync) where
 
 goes_command : (w : World) (issued : List Issued) (j : ℕ) (command : Command) → Goes w (after_command (record w { issued = issued }) j command)
 goes_command w issued j (Insert name first last) = go (can_start (member w j)) where
-  go : (b : Bool) → Goes w (cond b (with_member (record w { issued = issued }) j (starts name first last (member w j))) (record w { issued = issued }))
+  go : (b : Bool) → Goes w (cond b (with_member (record w { issued = issued }) j (member_starts name first last (member w j))) (record w { issued = issued }))
   go true = goes_set w j _ w.sent w.moment issued w.tally refl (λ p. omega arith)
   go false = goes_same w w.sent w.moment issued w.tally
 goes_command w issued j (Check process) = goes_same w w.sent w.moment issued w.tally
 goes_command w issued j (Delete name) =
-    let ps : List Publication = named (logs w) (member w j) name in
+    let ps : List Publication = catalogued_under (logs w) (member w j) name in
     goes_set w j _ w.sent w.moment issued w.tally (same_log_hides ps (member w j)) (λ p. let e : get_or (member w j).known p 0 ≤ get_or (member w j).known p 0 = omega arith in subst (λ (v : List ℕ). get_or (member w j).known p 0 ≤ get_or v p 0) (sym (known_hides ps (member w j))) e)
 
 goes_order : (w : World) (j : ℕ) (read : Result (ℕ × Command) ℕ) → Goes w (after_order w j read)

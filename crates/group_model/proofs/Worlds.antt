@@ -20,13 +20,13 @@ use Rattle.repo_process.specs.Processes.{Process, BlockState, closed, object_of}
 use Rattle.repo_process.specs.Processes.BlockState.{Unknown, Already, Waiting, Whole}
 use Rattle.repo_command.specs.declared.command.Command.{Command}
 use Rattle.repo_command.specs.declared.command.Command.TheVariants.{Insert, Check, Delete}
-use Rattle.group_model.specs.Member.{Member, plan_of, named, member_hides_all, with_each_tried}
-use Rattle.group_model.specs.Changes.{publishes, learns, resets, restarts, takes, member_with_claim, with_process, starts}
+use Rattle.group_model.specs.Member.{Member, plan_of, catalogued_under, member_hides_all, with_each_tried}
+use Rattle.group_model.specs.Changes.{publishes, learns, resets, restarts, takes, member_with_claim, member_with_process, member_starts}
 use Rattle.group_model.specs.Events.{SyncInterest, Came, Event}
 use Rattle.group_model.specs.Events.Came.{Nothing, Its, Another}
 use Rattle.group_model.specs.World.{Tally, Issued, World, Outside, no_member, no_sync, member, with_member, logs, logs_of, sent_at}
 use Rattle.group_model.specs.Steps.{drawn, claim_at, open_at, to_claim, with_sync, timer_at, tells_too_much, came_from, came_as, planned_parts, fetched_parts, fetches, attempts_for, attempt, can_start, block_at, with_process_at, settled_member, syncs_of, after_event, after_events, after_publish, after_deliver, after_hear, after_fire, after_reset, after_restart, after_claiming, after_part, after_came, after_settle, after_fetch, after_command, after_order, after_block, tried_once}
-use Rattle.group_model.specs.Refusals.{Refusal, IsTaken, AreTaken, has_sent, unless, if_unsent}
+use Rattle.group_model.specs.Refusals.{Refusal, EventIsTaken, EventsAreTaken, has_sent, unless, if_unsent}
 use Rattle.group_model.specs.Sound.{IsSoundGroup, IsSoundMember, IsTrueVector}
 use Rattle.group_model.specs.Reached.{InSoundGroups}
 use Rattle.group_model.specs.Settles.{GatheringStaysSound}
@@ -281,18 +281,18 @@ sound_fetch out w j tries loss l s =
 
 sound_command : (w : World) (j : ℕ) (command : Command) → j < length w.members → IsSoundGroup w → IsSoundGroup (after_command w j command)
 sound_command w j (Insert name first last) l s = go (can_start (member w j)) where
-  go : (b : Bool) → IsSoundGroup (cond b (with_member w j (starts name first last (member w j))) w)
-  go true = sound_set w j (starts name first last (member w j)) w.moment w.issued w.tally refl (with_machine (logs w) j (member w j) (member w j).machine _ _ (s.members j l) (s.members j l).heard) s
+  go : (b : Bool) → IsSoundGroup (cond b (with_member w j (member_starts name first last (member w j))) w)
+  go true = sound_set w j (member_starts name first last (member w j)) w.moment w.issued w.tally refl (with_machine (logs w) j (member w j) (member w j).machine _ _ (s.members j l) (s.members j l).heard) s
   go false = s
 sound_command w j (Check process) l s = s
-sound_command w j (Delete name) l s = sound_set w j (member_hides_all (named (logs w) (member w j) name) (member w j)) w.moment w.issued w.tally (same_log_hides (named (logs w) (member w j) name) (member w j)) (sound_deletes (logs w) j name (member w j) (s.members j l)) s
+sound_command w j (Delete name) l s = sound_set w j (member_hides_all (catalogued_under (logs w) (member w j) name) (member w j)) w.moment w.issued w.tally (same_log_hides (catalogued_under (logs w) (member w j) name) (member w j)) (sound_deletes (logs w) j name (member w j) (s.members j l)) s
 
 sound_order : (w : World) (j : ℕ) (read : Result (ℕ × Command) ℕ) → j < length w.members → IsSoundGroup w → IsSoundGroup (after_order w j read)
 sound_order w j (Ok order) l s = sound_command w j order.1 l s
 sound_order w j (Err code) l s = s
 
 pub sound_process : (w : World) (j number : ℕ) (p : Process) → j < length w.members → IsSoundGroup w → IsSoundGroup (with_process_at w j number p)
-sound_process w j number p l s = sound_set w j (with_process number p (member w j)) w.moment w.issued w.tally refl (with_machine (logs w) j (member w j) (member w j).machine _ _ (s.members j l) (s.members j l).heard) s
+sound_process w j number p l s = sound_set w j (member_with_process number p (member w j)) w.moment w.issued w.tally refl (with_machine (logs w) j (member w j) (member w j).machine _ _ (s.members j l) (s.members j l).heard) s
 
 sound_block : (out : Outside) (w : World) (j process : ℕ) (state : BlockState) → j < length w.members → IsSoundGroup w → IsSoundGroup (after_block out w j process state)
 sound_block out w j process Unknown l s = s
@@ -307,7 +307,7 @@ sent_within w k e =
     let r : (nat_le 1 k ≡ true) × (nat_le k (length w.sent) ≡ true) = and_parts (nat_le 1 k) (nat_le k (length w.sent)) (held_unless _ _ e) in
     (leb-true 1 k r.0, leb-true k (length w.sent) r.1)
 
-pub sound_after : (out : Outside) (w : World) (e : Event) → IsTaken out w e → IsSoundGroup w → IsSoundGroup (after_event out w e)
+pub sound_after : (out : Outside) (w : World) (e : Event) → EventIsTaken out w e → IsSoundGroup w → IsSoundGroup (after_event out w e)
 sound_after out w (Event.Publish j o) h s = sound_publish out w j o h.named s
 sound_after out w (Event.Deliver k j) h s =
     let b : (1 ≤ k) × (k ≤ length w.sent) = sent_within w k h.taken in
@@ -333,6 +333,6 @@ sound_after out w (Event.Block j process index content) h s = sound_block out w 
 sound_after out w Event.Summary h s = s
 sound_after out w Event.Traffic h s = s
 
-pub sound_after_all : (out : Outside) (es : List Event) (w : World) → AreTaken out w es → IsSoundGroup w → IsSoundGroup (after_events out w es)
+pub sound_after_all : (out : Outside) (es : List Event) (w : World) → EventsAreTaken out w es → IsSoundGroup w → IsSoundGroup (after_events out w es)
 sound_after_all out [] w h s = s
 sound_after_all out (e ∷ es) w h s = sound_after_all out es (after_event out w e) h.1 (sound_after out w e h.0 s)

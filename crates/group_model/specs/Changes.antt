@@ -46,10 +46,10 @@ member_with_claim f claim m = record m { claims = slice_set m.claims (f - 1) cla
 abbrev pub takes : ℕ → Part → Member → Member
 takes f t m = member_with_claim f None (gains (t ∷ []) m)
 
-abbrev pub with_process : ℕ → Process → Member → Member
-with_process number p m = record m { processes = with_value nat_cmp number p m.processes }
+abbrev pub member_with_process : ℕ → Process → Member → Member
+member_with_process number p m = record m { processes = with_value nat_cmp number p m.processes }
 
 -- An insertion process begins under the next number.
-abbrev pub starts : List Component → (first last : ℕ) → Member → Member
-starts name first last m =
-    record (with_process m.next_process (starting name first last) m) { next_process = m.next_process + 1 }
+abbrev pub member_starts : List Component → (first last : ℕ) → Member → Member
+member_starts name first last m =
+    record (member_with_process m.next_process (starting name first last) m) { next_process = m.next_process + 1 }

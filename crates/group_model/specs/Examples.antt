@@ -9,7 +9,7 @@ use Rattle.repo_catalog.specs.declared.entry.Entry.{Entry}
 use Rattle.svs_sync.specs.declared.mode.Mode.TheVariants.{Steady, Suppressed}
 use Rattle.repo_object.specs.Objects.{NamedContents}
 use Rattle.group_model.specs.Publications.{Logs, no_object, join_of}
-use Rattle.repo_command.specs.Answers.{only}
+use Rattle.repo_command.specs.Answers.{code_alone}
 use Rattle.repo_command.specs.declared.command.Command.TheVariants.{Insert, Check, Delete}
 use Rattle.group_model.specs.Events.{Came, Found, Event}
 use Rattle.group_model.specs.Events.Came.{Nothing, Its, Another}
@@ -103,8 +103,8 @@ finds_record logs held =
     if contains part_cmp held (part_of (0, 1) 0) then Packet (part_of (0, 1) 0) else NoPacket
 
 -- A fetcher of the second member claims a part of the first one's publication, and gets it from the first.
-abbrev pub comes : ℕ → List (Event × Reply) → List (Event × Reply)
-comes x later = (Claim 1 1, Claimed (part 0 1 x)) ∷ (Answer 1 1 0, Answered true) ∷ later
+abbrev pub part_comes : ℕ → List (Event × Reply) → List (Event × Reply)
+part_comes x later = (Claim 1 1, Claimed (part 0 1 x)) ∷ (Answer 1 1 0, Answered true) ∷ later
 
 -- ---- publications, vectors and settles
 
@@ -146,9 +146,9 @@ abbrev pub PartByPart : Type 0
 PartByPart = Plays plain_outside 2 (
     (Publish 0 three_pieces, Published 1 3 1)
     ∷ (Deliver 1 1, Delivered Steady)
-    ∷ comes 0 (comes 1 (comes 2 (
+    ∷ part_comes 0 (part_comes 1 (part_comes 2 (
     (Catalogue 1, Entries [])
-    ∷ comes 3 ((Catalogue 1, Entries (entry 0 1 doc 3 3 abc ∷ [])) ∷ [])
+    ∷ part_comes 3 ((Catalogue 1, Entries (entry 0 1 doc 3 3 abc ∷ [])) ∷ [])
     )))
     )
 
@@ -190,7 +190,7 @@ abbrev pub SettleEndsClaims : Type 0
 SettleEndsClaims = Plays plain_outside 2 (
     (Publish 0 three_pieces, Published 1 3 1)
     ∷ (Deliver 1 1, Delivered Steady)
-    ∷ comes 0 (comes 1 (
+    ∷ part_comes 0 (part_comes 1 (
     (Claim 1 1, Claimed (part 0 1 2))
     ∷ (Settle, Settled 2 2)
     ∷ (Catalogue 1, Entries (entry 0 1 doc 3 3 abc ∷ []))
@@ -312,7 +312,7 @@ abbrev pub AnswerIsForeign : Type 0
 AnswerIsForeign = Refuses gives_others 2 claimed ((Answer 1 1 0, Foreign) ∷ [])
 
 abbrev pub OrderIsForeign : Type 0
-OrderIsForeign = Refuses plain_outside 2 ((Issue 0 0 (Check 1), Commanded (only 404)) ∷ []) (
+OrderIsForeign = Refuses plain_outside 2 ((Issue 0 0 (Check 1), Commanded (code_alone 404)) ∷ []) (
     (Order 0 (Ok (0, Check 2)), Foreign)
     ∷ (Order 0 (Ok (1, Check 1)), Foreign)
     ∷ (Order 1 (Ok (0, Check 1)), Foreign)
@@ -334,24 +334,24 @@ SpentIsRefused =
 
 -- ---- restarts, deletions and insertions
 
-abbrev pub dropped : ℕ → Reply
-dropped packets = Commanded (record (only 200) { deleted = Some packets })
+abbrev pub deletion_reply : ℕ → Reply
+deletion_reply packets = Commanded (record (code_alone 200) { deleted = Some packets })
 
 abbrev pub inserted : ℕ → ℕ → Reply
-inserted code blocks = Commanded (record (only code) { inserted = Some blocks })
+inserted code blocks = Commanded (record (code_alone code) { inserted = Some blocks })
 
 abbrev pub started : ℕ → Reply
-started process = Commanded (record (only 100) { process = Some process })
+started process = Commanded (record (code_alone 100) { process = Some process })
 
 abbrev pub RestartKeepsNumbers : Type 0
 RestartKeepsNumbers = Plays plain_outside 2 (
     (Publish 0 three_pieces, Published 1 3 1)
     ∷ (Deliver 1 1, Delivered Steady)
-    ∷ comes 0 (
+    ∷ part_comes 0 (
     (Restart 1, Restarted)
     ∷ (Claim 1 1, Claimed (part 0 1 1))
     ∷ (Publish 1 (whole doc abc), Published 1 1 2)
-    ∷ (Issue 0 0 (Delete doc), dropped 4)
+    ∷ (Issue 0 0 (Delete doc), deletion_reply 4)
     ∷ (Restart 0, Restarted)
     ∷ (Publish 0 (whole doc abc), Published 2 1 3)
     ∷ []
@@ -366,10 +366,10 @@ Insertion = Plays plain_outside 2 (
     ∷ (Issue 0 0 (Check 1), inserted 300 1)
     ∷ (Block 0 1 6 (codes "c"), BlockPublished 1 1)
     ∷ (Issue 0 0 (Check 1), inserted 200 2)
-    ∷ (Issue 0 0 (Check 9), Commanded (only 404))
+    ∷ (Issue 0 0 (Check 9), Commanded (code_alone 404))
     ∷ (Settle, Settled 2 3)
-    ∷ (Issue 0 0 (Delete doc), dropped 3)
-    ∷ (Issue 0 0 (Delete doc), Commanded (only 404))
+    ∷ (Issue 0 0 (Delete doc), deletion_reply 3)
+    ∷ (Issue 0 0 (Delete doc), Commanded (code_alone 404))
     ∷ (Settle, Settled 2 0)
     ∷ (Catalogue 0, Entries [])
     ∷ (Catalogue 1, Entries (entry 0 1 doc 2 3 abc ∷ []))
@@ -378,7 +378,7 @@ Insertion = Plays plain_outside 2 (
 
 abbrev pub Blocks : Type 0
 Blocks = Plays plain_outside 1 (
-    (Order 0 (Err 401), Commanded (only 401))
+    (Order 0 (Err 401), Commanded (code_alone 401))
     ∷ (Issue 0 0 (Insert doc 5 6), started 1)
     ∷ (Order 0 (Ok (0, Insert doc 5 6)), started 2)
     ∷ (Block 0 1 6 (codes "c"), BlockKept)
@@ -397,7 +397,7 @@ Blocks = Plays plain_outside 1 (
 abbrev pub DeletedBefore : Type 0
 DeletedBefore = Plays plain_outside 2 (
     (Publish 0 (whole doc abc), Published 1 1 1)
-    ∷ (Issue 0 0 (Delete doc), dropped 2)
+    ∷ (Issue 0 0 (Delete doc), deletion_reply 2)
     ∷ (Settle, Settled 2 0)
     ∷ (Catalogue 1, Entries [])
     ∷ (Claim 1 1, Claimed (part 0 1 0))
@@ -414,7 +414,7 @@ told_of_all later =
     ∷ (Claim 1 1, Claimed (part 0 1 0))
     ∷ (Lose 1 1, Lost (part 0 1 0))
     ∷ (Deliver 1 1, Delivered Steady)
-    ∷ comes 0 (comes 1 (comes 2 (comes 3 later)))
+    ∷ part_comes 0 (part_comes 1 (part_comes 2 (part_comes 3 later)))
 
 abbrev pub ToldOfAll : Type 0
 ToldOfAll = Plays plain_outside 2 (told_of_all (

@@ -11,7 +11,7 @@ use Rattle.group_model.specs.Member.{plan_of}
 use Rattle.group_model.specs.Events.{Event}
 use Rattle.group_model.specs.World.{Outside, World, member, logs, sent_at, catalogue_at}
 use Rattle.group_model.specs.Steps.{tells_too_much, block_at, after_event, after_events}
-use Rattle.group_model.specs.Refusals.{AreTaken}
+use Rattle.group_model.specs.Refusals.{EventsAreTaken}
 use Rattle.group_model.specs.Sound.{IsPublishedPart}
 
 abbrev pub NothingHidden : World → Type 0
@@ -60,7 +60,7 @@ pub record TellsAll (out : Outside) (w : World) (es : List Event) : Type 0 where
 -- Where all are told of all from here on, and nothing is wanted or hidden in the end, each catalogue is the join of all
 -- publications, whatever else happens.
 abbrev pub JoinsWhereAllAreTold : Outside → World → Type 0
-JoinsWhereAllAreTold out w = (es : List Event) → AreTaken out w es → TellsAll out w es →
+JoinsWhereAllAreTold out w = (es : List Event) → EventsAreTaken out w es → TellsAll out w es →
     let last = after_events out w es in
     NothingHidden last → NothingWanted last → AllJoined last
 

@@ -11,7 +11,7 @@ use Rattle.group_model.specs.Member.{Member, tries_of}
 use Rattle.group_model.specs.Events.{Event}
 use Rattle.group_model.specs.World.{Tally, World, Outside, member, logs, opening_world}
 use Rattle.group_model.specs.Steps.{after_gathering, after_event, after_events}
-use Rattle.group_model.specs.Refusals.{AreTaken}
+use Rattle.group_model.specs.Refusals.{EventsAreTaken}
 use Rattle.group_model.specs.Sound.{IsSoundGroup}
 
 -- ---- events within their ranges
@@ -51,7 +51,7 @@ pub record IsTallyWithin (steps : ℕ) (t : Tally) : Type 0 where
 
 -- After so many events the moment, what was sent and what was published are within these numbers, and each object has at
 -- most 200 segments.
-pub record IsWithin (steps : ℕ) (w : World) : Type 0 where
+pub record IsWithinSteps (steps : ℕ) (w : World) : Type 0 where
   pub moment : w.moment ≤ steps * 1000000000
   pub sent : length w.sent ≤ steps * 16
   pub published : length (published (logs w)) ≤ steps
@@ -71,33 +71,33 @@ AreSmall out w [] = Unit {0}
 AreSmall out w (e ∷ es) = HasSmallPackets out w × AreSmall out (after_event out w e) es
 
 abbrev pub BeginsWithin : Type 0
-BeginsWithin = (out : Outside) (n : ℕ) → IsWithin 0 (opening_world out n)
+BeginsWithin = (out : Outside) (n : ℕ) → IsWithinSteps 0 (opening_world out n)
 
 -- A group of at most 16 members that is within the counts of at most 100,000 events is within those of one more after
 -- an event.
 abbrev pub StaysWithin : Type 0
 StaysWithin = (out : Outside) (steps : ℕ) (w : World) (e : Event) → steps ≤ 100000 → length w.members ≤ 16
-    → HasSmallPackets out w → IsInRange e → IsWithin steps w → IsWithin (steps + 1) (after_event out w e)
+    → HasSmallPackets out w → IsInRange e → IsWithinSteps steps w → IsWithinSteps (steps + 1) (after_event out w e)
 
 -- So it is after a settle but for the machines.
 abbrev pub GatheringStaysWithin : Type 0
 GatheringStaysWithin = (out : Outside) (steps : ℕ) (w : World) → steps ≤ 100000 → length w.members ≤ 16
-    → HasSmallPackets out w → IsWithin steps w → IsWithin (steps + 1) (after_gathering out w)
+    → HasSmallPackets out w → IsWithinSteps steps w → IsWithinSteps (steps + 1) (after_gathering out w)
 
 -- The counts of more events are wider.
 abbrev pub MoreIsWithin : Type 0
-MoreIsWithin = (steps more : ℕ) (w : World) → steps ≤ more → IsWithin steps w → IsWithin more w
+MoreIsWithin = (steps more : ℕ) (w : World) → steps ≤ more → IsWithinSteps steps w → IsWithinSteps more w
 
 abbrev pub RunsStayWithin : Type 0
 RunsStayWithin = (out : Outside) (steps : ℕ) (w : World) (es : List Event) → IsSoundGroup w
-    → steps + length es ≤ 100000 → length w.members ≤ 16 → AreTaken out w es → AreInRange es → AreSmall out w es
-    → IsWithin steps w → IsWithin (steps + length es) (after_events out w es)
+    → steps + length es ≤ 100000 → length w.members ≤ 16 → EventsAreTaken out w es → AreInRange es → AreSmall out w es
+    → IsWithinSteps steps w → IsWithinSteps (steps + length es) (after_events out w es)
 
 abbrev pub ReachedRunsStayWithin : Type 0
 ReachedRunsStayWithin = (out : Outside) (n : ℕ) (es : List Event) → n ≤ 16 → length es ≤ 100000
-    → AreTaken out (opening_world out n) es → AreInRange es → AreSmall out (opening_world out n) es
-    → IsWithin (length es) (after_events out (opening_world out n) es)
+    → EventsAreTaken out (opening_world out n) es → AreInRange es → AreSmall out (opening_world out n) es
+    → IsWithinSteps (length es) (after_events out (opening_world out n) es)
 
 -- Within these counts there are at most 20,100,000 parts.
 abbrev pub PartsStayFew : Type 0
-PartsStayFew = (steps : ℕ) (w : World) → steps ≤ 100000 → IsWithin steps w → length (all_parts (logs w)) ≤ 20100000
+PartsStayFew = (steps : ℕ) (w : World) → steps ≤ 100000 → IsWithinSteps steps w → length (all_parts (logs w)) ≤ 20100000

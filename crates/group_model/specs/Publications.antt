@@ -39,15 +39,15 @@ abbrev pub pair_in : Publication → Pair
 pair_in p = (p.publisher, p.seq)
 
 -- A member's objects, numbered from a number on.
-abbrev pub numbered : ℕ → ℕ → List NamedContents → List Publication
-numbered publisher seq [] = []
-numbered publisher seq (o ∷ os) =
-    record { publisher = publisher; seq = seq; object = o } ∷ numbered publisher (seq + 1) os
+abbrev pub numbered_publications : ℕ → ℕ → List NamedContents → List Publication
+numbered_publications publisher seq [] = []
+numbered_publications publisher seq (o ∷ os) =
+    record { publisher = publisher; seq = seq; object = o } ∷ numbered_publications publisher (seq + 1) os
 
 -- The publications of the members from a member on.
 abbrev pub published_from : ℕ → Logs → List Publication
 published_from publisher [] = []
-published_from publisher (log ∷ logs) = numbered publisher 1 log ++ published_from (publisher + 1) logs
+published_from publisher (log ∷ logs) = numbered_publications publisher 1 log ++ published_from (publisher + 1) logs
 
 -- All publications, in order of publisher and number.
 abbrev pub published : Logs → List Publication

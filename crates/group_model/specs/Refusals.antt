@@ -20,12 +20,12 @@ pub data Refusal : Type 0 where
   NumbersSpent : Refusal
 
 -- The number that a report has for a refusal; what is foreign ends a report without one.
-abbrev pub refusal_number : Refusal → Option ℕ
-refusal_number NoSuchPacket = Some 5
-refusal_number FetcherBusy = Some 6
-refusal_number FetcherIdle = Some 7
-refusal_number NumbersSpent = Some 8
-refusal_number Foreign = None
+abbrev pub reported_number : Refusal → Option ℕ
+reported_number NoSuchPacket = Some 5
+reported_number FetcherBusy = Some 6
+reported_number FetcherIdle = Some 7
+reported_number NumbersSpent = Some 8
+reported_number Foreign = None
 
 -- ---- foreign octets
 
@@ -119,11 +119,11 @@ NamesThose w (Event.Block j process index content) = j < length w.members
 NamesThose w Event.Summary = Unit {0}
 NamesThose w Event.Traffic = Unit {0}
 
-pub record IsTaken (out : Outside) (w : World) (e : Event) : Type 0 where
+pub record EventIsTaken (out : Outside) (w : World) (e : Event) : Type 0 where
   pub named : NamesThose w e
   pub taken : refusal out w e ≡ None
 
 -- Each event of a list is taken when its turn comes.
-abbrev pub AreTaken : Outside → World → List Event → Type 0
-AreTaken out w [] = Unit {0}
-AreTaken out w (e ∷ es) = IsTaken out w e × AreTaken out (after_event out w e) es
+abbrev pub EventsAreTaken : Outside → World → List Event → Type 0
+EventsAreTaken out w [] = Unit {0}
+EventsAreTaken out w (e ∷ es) = EventIsTaken out w e × EventsAreTaken out (after_event out w e) es

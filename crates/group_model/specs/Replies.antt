@@ -7,7 +7,7 @@ use Rattle.repo_command.specs.declared.answer.Answer.{Answer}
 use Rattle.group_model.specs.Events.{SyncInterest, Found}
 
 -- What a catalogue comes to: entries, segments and octets.
-pub record Totals : Type 0 where
+pub record CatalogueTotals : Type 0 where
   pub entries : ℕ
   pub segments : ℕ
   pub octets : ℕ
@@ -39,5 +39,5 @@ pub data Reply : Type 0 where
   BlockKept : Reply
   BlockLate : Reply  -- the process was published before
   BlockPublished : (seq sync : ℕ) → Reply
-  Summed : (totals : List Totals) → Reply
+  Summed : (totals : List CatalogueTotals) → Reply
   Counted : (syncs delivered attempts parts octets : ℕ) → Reply

@@ -18,13 +18,13 @@ use Rattle.repo_process.specs.Processes.{Process, BlockState, present, object_of
 use Rattle.repo_process.specs.Processes.BlockState.{Unknown, Already, Waiting, Whole}
 use Rattle.repo_command.specs.declared.command.Command.{Command}
 use Rattle.repo_command.specs.declared.answer.Answer.{Answer}
-use Rattle.repo_command.specs.Answers.{only}
+use Rattle.repo_command.specs.Answers.{code_alone}
 use Rattle.repo_command.specs.declared.command.Command.TheVariants.{Insert, Check, Delete}
-use Rattle.group_model.specs.Member.{Member, member_holds, member_hides, plan_of, named, gains, member_hides_all, tries_of, with_each_tried, member_without_claims}
-use Rattle.group_model.specs.Changes.{resets, publishes, learns, restarts, member_with_claim, takes, with_process, starts}
+use Rattle.group_model.specs.Member.{Member, member_holds, member_hides, plan_of, catalogued_under, gains, member_hides_all, tries_of, with_each_tried, member_without_claims}
+use Rattle.group_model.specs.Changes.{resets, publishes, learns, restarts, member_with_claim, takes, member_with_process, member_starts}
 use Rattle.group_model.specs.Events.{SyncInterest, Came, Event}
 use Rattle.group_model.specs.Events.Came.{Nothing, Its, Another}
-use Rattle.group_model.specs.Replies.{Totals, Reply}
+use Rattle.group_model.specs.Replies.{CatalogueTotals, Reply}
 use Rattle.group_model.specs.World.{Issued, World, Outside, no_member, member, with_member, logs, sent_at, catalogue_at, someone_holds}
 
 -- ---- claims
@@ -156,34 +156,35 @@ can_start m = nat_le m.next_process 4294967295
 
 abbrev pub after_command : World → ℕ → Command → World
 after_command w j (Insert name first last) =
-    if can_start (member w j) then with_member w j (starts name first last (member w j)) else w
+    if can_start (member w j) then with_member w j (member_starts name first last (member w j)) else w
 after_command w j (Check process) = w
 after_command w j (Delete name) =
-    with_member w j (member_hides_all (named (logs w) (member w j) name) (member w j))
+    with_member w j (member_hides_all (catalogued_under (logs w) (member w j) name) (member w j))
 
 -- How many packets a deletion drops.
-abbrev pub dropped : World → ℕ → Command → ℕ
-dropped w j command = length (member w j).held - length (member (after_command w j command) j).held
+abbrev pub packets_dropped : World → ℕ → Command → ℕ
+packets_dropped w j command = length (member w j).held - length (member (after_command w j command) j).held
 
 abbrev pub check_answer : Option Process → Answer
-check_answer None = only 404
-check_answer (Some p) = record (only (if p.published then 200 else 300)) { inserted = Some (present p) }
+check_answer None = code_alone 404
+check_answer (Some p) = record (code_alone (if p.published then 200 else 300)) { inserted = Some (present p) }
 
-abbrev pub answer_of : World → ℕ → Command → Answer
-answer_of w j (Insert name first last) =
-    if can_start (member w j) then record (only 100) { process = Some (member w j).next_process } else only 403
-answer_of w j (Check process) = check_answer (value_of nat_cmp (member w j).processes process)
-answer_of w j (Delete name) =
-    if length (named (logs w) (member w j) name) == 0 then only 404
-    else record (only 200) { deleted = Some (dropped w j (Delete name)) }
+abbrev pub command_answer : World → ℕ → Command → Answer
+command_answer w j (Insert name first last) =
+    if can_start (member w j) then record (code_alone 100) { process = Some (member w j).next_process }
+    else code_alone 403
+command_answer w j (Check process) = check_answer (value_of nat_cmp (member w j).processes process)
+command_answer w j (Delete name) =
+    if length (catalogued_under (logs w) (member w j) name) == 0 then code_alone 404
+    else record (code_alone 200) { deleted = Some (packets_dropped w j (Delete name)) }
 
 abbrev pub after_order : World → ℕ → Result (ℕ × Command) ℕ → World
 after_order w j (Ok order) = after_command w j order.1
 after_order w j (Err code) = w
 
 abbrev pub order_answer : World → ℕ → Result (ℕ × Command) ℕ → Answer
-order_answer w j (Ok order) = answer_of w j order.1
-order_answer w j (Err code) = only code
+order_answer w j (Ok order) = command_answer w j order.1
+order_answer w j (Err code) = code_alone code
 
 abbrev pub after_issue : World → ℕ → ℕ → Command → World
 after_issue w j client command =
@@ -196,7 +197,7 @@ abbrev pub block_at : World → ℕ → (process index : ℕ) → List ℕ → B
 block_at w j process index content = block_state (member w j).processes process index content
 
 abbrev pub with_process_at : World → ℕ → ℕ → Process → World
-with_process_at w j number p = with_member w j (with_process number p (member w j))
+with_process_at w j number p = with_member w j (member_with_process number p (member w j))
 
 -- ---- draws
 
@@ -302,8 +303,8 @@ module _ (out : Outside) where
 abbrev pub mode_at : World → ℕ → Mode
 mode_at w j = mode_of (member w j).machine.heard
 
-abbrev pub totals_of : List Entry → Totals
-totals_of entries = record {
+abbrev pub catalogue_totals : List Entry → CatalogueTotals
+catalogue_totals entries = record {
   entries = length entries;
   segments = sum_by (λ e. e.segments) entries;
   octets = sum_by (λ e. e.octets) entries;
@@ -353,10 +354,10 @@ reply_to out w (Event.Hear j read) = hear_reply out w j read
 reply_to out w (Event.Ask j find) = Reply.Asked (find (logs w) (member w j).held)
 reply_to out w (Event.Feed j f read) = Reply.Fed (passes_checks (came_as w read (claim_at w j f)))
 reply_to out w (Event.Order j read) = Reply.Commanded (order_answer w j read)
-reply_to out w (Event.Issue j client command) = Reply.Commanded (answer_of w j command)
+reply_to out w (Event.Issue j client command) = Reply.Commanded (command_answer w j command)
 reply_to out w (Event.Block j process index content) = block_reply w j (block_at w j process index content)
 reply_to out w Event.Summary =
-    Reply.Summed (map (λ j. totals_of (catalogue_at w j)) (numbers_from 0 (length w.members)))
+    Reply.Summed (map (λ j. catalogue_totals (catalogue_at w j)) (numbers_from 0 (length w.members)))
 reply_to out w Event.Traffic =
     Reply.Counted (length w.sent) w.tally.delivered w.tally.attempts w.tally.parts w.tally.octets
 

@@ -21,7 +21,7 @@ use Rattle.ndn_packet.specs.Outer.{only_of, outer_of}
 use Rattle.ndn_data.specs.MetaInfo.{meta_in}
 use Rattle.ndn_data.specs.declared.data_fields.DataField.{DataField}
 use Rattle.ndn_data.specs.declared.data_fields.DataField.TheVariants as data_field
-use Rattle.ndn_data.specs.Data.{data_table, Data, DataSoFar, no_field, with_data_field, data_fields, data_from, data_of}
+use Rattle.ndn_data.specs.Data.{data_table, Data, DataSoFar, no_data_field, with_data_field, data_fields, data_from, data_of}
 
 err_is_ok : {A E : Type 0} (e : E) (y : A) → let r : Result A E = Err e in r ≡ Ok y → ⊥
 err_is_ok e y h = cc
@@ -95,5 +95,5 @@ data_content_short octets d h =
     let read = bind_ok (data_fields octets outer.0) (data_from outer.0.value) d outer.2 in
     let within = fields_within data_table (elements outer.0.value_start outer.0.value).items (elements outer.0.value_start outer.0.value).fault outer.0.value_start (outer.0.value_start + length outer.0.value) (elements_within_octets outer.0.value_start outer.0.value) in
     let short = outer_fits 0x06 octets outer.0 outer.1 in
-    let fits = content_fits octets 8800 outer.0.value_start (outer.0.value_start + length outer.0.value) (fields data_table (elements outer.0.value_start outer.0.value)).items (fields data_table (elements outer.0.value_start outer.0.value)).fault no_field read.0 within (omega (arith, short)) (omega arith) read.1 in
+    let fits = content_fits octets 8800 outer.0.value_start (outer.0.value_start + length outer.0.value) (fields data_table (elements outer.0.value_start outer.0.value)).items (fields data_table (elements outer.0.value_start outer.0.value)).fault no_data_field read.0 within (omega (arith, short)) (omega arith) read.1 in
     subst (λ (c : List ℕ). length c ≤ 8800) (sym (from_content outer.0.value read.0 d read.2)) fits

@@ -23,7 +23,7 @@ use Rattle.ndn_packet.proofs.ReadBack.{alone, followed, outer_again, name_again,
 use Rattle.ndn_data.specs.declared.meta_info.MetaField.TheVariants.{FinalBlockId}
 use Rattle.ndn_data.specs.declared.data_fields.DataField.TheVariants.{Name, MetaInfo, Content, SignatureInfo, SignatureValue}
 use Rattle.ndn_data.specs.MetaInfo.{meta_info_table, Meta, plain, only_component, final_block_in, with_meta_field, meta_in}
-use Rattle.ndn_data.specs.Data.{data_table, Data, DataSoFar, no_field, with_data_field, data_fields, data_from, data_of}
+use Rattle.ndn_data.specs.Data.{data_table, Data, DataSoFar, no_data_field, with_data_field, data_fields, data_from, data_of}
 use Rattle.ndn_data.specs.WrittenData.{final_block, written_signed, signed, written_data, read_back}
 
 regroup : (a b c d e : List ℕ) → (((a ++ b) ++ c) ++ d) ++ e ≡ a ++ (b ++ (c ++ (d ++ e)))
@@ -102,13 +102,13 @@ module _ (name key_name : List Component) (content mac : List ℕ) (octets : Lis
       (alone (o + length (element 0x15 content) + length (element 0x16 (written_info key_name))) 0x17 mac (omega arith) (omega arith) (omega arith)))
 
   abbrev named : ℕ → DataSoFar
-  named o = record no_field { name = Some (o, name) }
+  named o = record no_data_field { name = Some (o, name) }
 
   abbrev all_fields : ℕ → ℕ → Meta → DataSoFar
   all_fields o p m = record { name = Some (o, name); meta = m; content = content; info = Some info; signature = Some (mac, slice_range octets o p) }
 
-  name_step : (o : ℕ) → with_data_field octets no_field (Name, placed o 0x07 (encoding name)) ≡ Ok (named o)
-  name_step o = ap (λ (r : Result (List Component) PacketFault). r >>= λ n. Ok (record no_field { name = Some (o, n) })) (name_again (BadField field.Name o) o 0x07 name valid)
+  name_step : (o : ℕ) → with_data_field octets no_data_field (Name, placed o 0x07 (encoding name)) ≡ Ok (named o)
+  name_step o = ap (λ (r : Result (List Component) PacketFault). r >>= λ n. Ok (record no_data_field { name = Some (o, n) })) (name_again (BadField field.Name o) o 0x07 name valid)
 
   meta_step : (o p n : ℕ) → length (element 0x14 (final_block n)) ≤ 8800 → with_data_field octets (named o) (MetaInfo, placed p 0x14 (final_block n)) ≡ Ok (record (named o) { meta = last_of n })
   meta_step o p n short = ap (λ (r : Result Meta PacketFault). r >>= λ m. Ok (record (named o) { meta = m })) (meta_again p n short)
@@ -184,9 +184,9 @@ plain_again name key_name content key valid key_valid short =
     let read = ap (elements o) parts ∙ followed o 0x07 (encoding name) rest _ (omega arith) (omega arith) (omega arith) (behind_read name key_name content mac octets valid key_valid p (omega arith)) in
     let take = with_data_field octets in
     let fields_read : data_fields octets (placed 0 0x06 value) ≡ Ok (all_fields name key_name content mac octets valid key_valid o r plain) =
-    ap (λ (l : Listing Item TlvFault). gathered take packet_fault no_field (fields data_table l)) read
-    ∙ ap (gathered take packet_fault no_field) (plain_table (placed o 0x07 (encoding name)) (placed p 0x15 content) (placed q 0x16 info) (placed r 0x17 mac) refl refl refl refl)
-    ∙ gathers take packet_fault no_field (named name key_name content mac octets valid key_valid o) (Name, placed o 0x07 (encoding name)) _ (name_step name key_name content mac octets valid key_valid o)
+    ap (λ (l : Listing Item TlvFault). gathered take packet_fault no_data_field (fields data_table l)) read
+    ∙ ap (gathered take packet_fault no_data_field) (plain_table (placed o 0x07 (encoding name)) (placed p 0x15 content) (placed q 0x16 info) (placed r 0x17 mac) refl refl refl refl)
+    ∙ gathers take packet_fault no_data_field (named name key_name content mac octets valid key_valid o) (Name, placed o 0x07 (encoding name)) _ (name_step name key_name content mac octets valid key_valid o)
     ∙ others name key_name content mac octets valid key_valid o p q r plain (omega arith) in
     let counted : length portion ≡ length first + length second + length third = omega (arith, length-append ((first ++ []) ++ second) third, length-append (first ++ []) second, length-append first []) in
     finished name key_name content mac octets valid key_valid value portion o r plain refl short fields_read (portion_is (head 0x06 (length value)) portion (element 0x17 mac) o r (omega arith) (omega arith))
@@ -223,9 +223,9 @@ last_again name key_name n content key valid key_valid short =
     (followed k 0x14 (final_block n) rest _ (omega arith) (omega arith) (omega arith) (behind_read name key_name content mac octets valid key_valid p (omega arith))) in
     let take = with_data_field octets in
     let fields_read : data_fields octets (placed 0 0x06 value) ≡ Ok (all_fields name key_name content mac octets valid key_valid o r (last_of n)) =
-    ap (λ (l : Listing Item TlvFault). gathered take packet_fault no_field (fields data_table l)) read
-    ∙ ap (gathered take packet_fault no_field) (whole_table (placed o 0x07 (encoding name)) (placed k 0x14 (final_block n)) (placed p 0x15 content) (placed q 0x16 info) (placed r 0x17 mac) refl refl refl refl refl)
-    ∙ gathers take packet_fault no_field (named name key_name content mac octets valid key_valid o) (Name, placed o 0x07 (encoding name)) _ (name_step name key_name content mac octets valid key_valid o)
+    ap (λ (l : Listing Item TlvFault). gathered take packet_fault no_data_field (fields data_table l)) read
+    ∙ ap (gathered take packet_fault no_data_field) (whole_table (placed o 0x07 (encoding name)) (placed k 0x14 (final_block n)) (placed p 0x15 content) (placed q 0x16 info) (placed r 0x17 mac) refl refl refl refl refl)
+    ∙ gathers take packet_fault no_data_field (named name key_name content mac octets valid key_valid o) (Name, placed o 0x07 (encoding name)) _ (name_step name key_name content mac octets valid key_valid o)
     ∙ gathers take packet_fault (named name key_name content mac octets valid key_valid o) (record (named name key_name content mac octets valid key_valid o) { meta = last_of n }) (MetaInfo, placed k 0x14 (final_block n)) _ (meta_step name key_name content mac octets valid key_valid o k n (omega arith))
     ∙ others name key_name content mac octets valid key_valid o p q r (last_of n) (omega arith) in
     let counted : length portion ≡ length first + length meta + length second + length third = omega (arith, length-append ((first ++ meta) ++ second) third, length-append (first ++ meta) second, length-append first meta) in

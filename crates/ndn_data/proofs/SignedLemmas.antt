@@ -25,7 +25,7 @@ use Rattle.ndn_data.specs.declared.data_fields.DataField.{DataField}
 use Rattle.ndn_data.specs.declared.data_fields.DataField.TheVariants.{Name, MetaInfo, Content, SignatureInfo, SignatureValue}
 use Rattle.ndn_data.specs.Signed.{Signs}
 use Rattle.ndn_data.specs.MetaInfo.{Meta, meta_in}
-use Rattle.ndn_data.specs.Data.{data_table, Data, DataSoFar, no_field, signed_before, with_data_field, data_fields, data_from, data_of, IsSpelled}
+use Rattle.ndn_data.specs.Data.{data_table, Data, DataSoFar, no_data_field, signed_before, with_data_field, data_fields, data_from, data_of, DataIsSpelled}
 use Rattle.ndn_packet.specs.Outer.{outer_of}
 use Rattle.ndn_packet.proofs.Outers.{outer_ok}
 
@@ -242,9 +242,9 @@ data_gathers octets e s fits short whole at h =
     let read = elements e.value_start e.value in
     let are = elements_are e.value_start e.value octet in
     let stand = elements_stand octets e.value_start e.value read.items read.fault value are in
-    let first : Keeps octets e.value_start 0 e.value_start no_field = record { above = omega arith; name = tt; signature = tt; last = tt } in
+    let first : Keeps octets e.value_start 0 e.value_start no_data_field = record { above = omega arith; name = tt; signature = tt; last = tt } in
     let kept = keeps data_table (with_data_field octets) (e.value_start + length e.value) (Stands octets) (Keeps octets e.value_start) (at_place octets e.value_start fits short) (λ from low more t le j. later octets e.value_start from low more t le j)
-    0 read.items read.fault (fields data_table read) (fields_stand data_table read.fault read.items 0 data_table refl) e.value_start no_field s first (elements_within_octets e.value_start e.value) stand h in
+    0 read.items read.fault (fields data_table read) (fields_stand data_table read.fault read.items 0 data_table refl) e.value_start no_data_field s first (elements_within_octets e.value_start e.value) stand h in
     let P : List ℕ → Type 0 = λ v. IfSome s.signature (SignatureStands v s.name) in
     record { signature = subst P value kept.holds.signature }
 
@@ -254,7 +254,7 @@ some_is : {A : Type 0} (fault : PacketFault) (o : Option A) (x : A) → ok_or o 
 some_is fault (Some y) x e = cc
 some_is fault None x e = absurd cc
 
-pub data_spelled : (octets : List ℕ) (d : Data) → IsOctets octets → data_of octets ≡ Ok d → IsSpelled octets d
+pub data_spelled : (octets : List ℕ) (d : Data) → IsOctets octets → data_of octets ≡ Ok d → DataIsSpelled octets d
 data_spelled octets d fits h =
     let b = bind_ok (outer_of 0x06 octets) (λ (e : Item). data_fields octets e >>= data_from e.value) d h in
     let e = b.0 in
@@ -273,7 +273,7 @@ data_spelled octets d fits h =
       same : (c d : Data) → finish c ≡ finish d → c ≡ d
       same c d e = cc
 
-      spelled : (octets value : List ℕ) (s : DataSoFar) (d : Data) → octets ≡ element 0x06 value → Gathers value s → data_from value s ≡ Ok d → IsSpelled octets d
+      spelled : (octets value : List ℕ) (s : DataSoFar) (d : Data) → octets ≡ element 0x06 value → Gathers value s → data_from value s ≡ Ok d → DataIsSpelled octets d
       spelled octets value s d whole gathers h =
           let last = λ (name : Named) (info : Info) (signature : Signature). finish (made value s name info signature) in
           let second = λ (name : Named) (info : Info). ok_or s.signature (Missing field.SignatureValue) >>= last name info in
@@ -285,7 +285,7 @@ data_spelled octets d fits h =
           let R : Option Named → Type 0 = λ o. SignatureStands value o g.0 in
           let signed = subst Q (some_is (Missing field.SignatureValue) s.signature g.0 g.1) gathers.signature in
           let stands = subst R (some_is (Missing field.Name) s.name n.0 n.1) signed in
-          subst (IsSpelled octets) (same (made value s n.0 i.0 g.0) d g.2) (record {
+          subst (DataIsSpelled octets) (same (made value s n.0 i.0 g.0) d g.2) (record {
             before = stands.before;
             fields = stands.named.more;
             behind = stands.behind;

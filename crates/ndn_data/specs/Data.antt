@@ -9,13 +9,12 @@ use Rattle.ndn_tlv.specs.declared.order_table.Place.{Place}
 use Rattle.ndn_name.specs.declared.fault.Field.TheVariants as field
 use Rattle.ndn_name.specs.declared.fault.PacketFault.{PacketFault}
 use Rattle.ndn_name.specs.declared.fault.PacketFault.TheVariants.{Missing, BadField}
-use Rattle.ndn_name.specs.Names.{Component, component, encoding}
+use Rattle.ndn_name.specs.Names.{Component, component, encoding, full_name}
 use Rattle.ndn_name.specs.Faults.{packet_fault}
 use Rattle.ndn_packet.specs.Contents.{ok_or, name_in}
 use Rattle.ndn_packet.specs.SignatureInfo.{Info, info_in, info}
 use Rattle.ndn_packet.specs.Outer.{outer_of}
 use Rattle.ndn_name.specs.CanonicalOrder.{IsPrefix}
-use Rattle.ndn_data.specs.FullName.{full_name}
 use Rattle.ndn_data.specs.MetaInfo.{Meta, plain, meta_in, meta}
 use Rattle.ndn_data.specs.declared.data_fields.DataField.{DataField}
 use Rattle.ndn_data.specs.declared.data_fields.DataField.TheVariants.{Name, MetaInfo, Content, SignatureInfo, SignatureValue}
@@ -53,8 +52,8 @@ pub record DataSoFar : Type 0 where
   pub info : Option Info
   pub signature : Option (List ℕ × List ℕ)
 
-abbrev pub no_field : DataSoFar
-no_field = record { name = None; meta = plain; content = []; info = None; signature = None }
+abbrev pub no_data_field : DataSoFar
+no_data_field = record { name = None; meta = plain; content = []; info = None; signature = None }
 
 -- The octets from the beginning of the Name to this offset.
 abbrev pub signed_before : List ℕ → Option (ℕ × List Component) → ℕ → List ℕ
@@ -74,7 +73,7 @@ with_data_field octets s (SignatureValue, e) =
 -- The fields of the packet's element in the order of their table, and what is in them.
 abbrev pub data_fields : List ℕ → Item → Result DataSoFar PacketFault
 data_fields octets e =
-    gathered (with_data_field octets) packet_fault no_field
+    gathered (with_data_field octets) packet_fault no_data_field
     (fields data_table (elements e.value_start e.value))
 
 -- The packet that the fields make, where none is missing.
@@ -106,7 +105,7 @@ IsAllSigned d = d.value ≡ d.signed ++ element types.SignatureValue d.signature
 
 -- The octets are the packet's element, whose value has what is signed, from the beginning of the
 -- Name on, and right behind that the SignatureValue. What stands around them was passed over.
-pub record IsSpelled (octets : List ℕ) (d : Data) : Type 0 where
+pub record DataIsSpelled (octets : List ℕ) (d : Data) : Type 0 where
   pub before : List ℕ
   pub fields : List ℕ
   pub behind : List ℕ
@@ -124,8 +123,8 @@ Satisfies name can_be_prefix digest d =
 
 -- ---- the structs without where their octets lie in memory
 
-abbrev pub so_far : Gathered → DataSoFar
-so_far g =
+abbrev pub data_so_far : Gathered → DataSoFar
+data_so_far g =
     record {
       name = option_map (λ n. (n.0, n.1)) g.name;
       meta = meta g.meta;
@@ -135,11 +134,11 @@ so_far g =
     }
 
 -- The name, if there is one, begins by this offset.
-abbrev pub StartsBy : ℕ → Gathered → Type 0
-StartsBy offset g = IfSome g.name (λ n. n.0 ≤ offset)
+abbrev pub NameStartsBy : ℕ → Gathered → Type 0
+NameStartsBy offset g = IfSome g.name (λ n. n.0 ≤ offset)
 
-abbrev pub packet : DataView → Data
-packet d =
+abbrev pub data_seen : DataView → Data
+data_seen d =
     record {
       name = d.name;
       content = d.content.now;

@@ -4,7 +4,7 @@ ghost use Rattle.ndn_tlv.specs.Spelling.{element};
 ghost use Rattle.ndn_tlv.specs.Elements.{item, placed};
 ghost use Rattle.ndn_packet.specs.Outer.{packet_limit};
 ghost use Rattle.ndn_data.specs.Signed.{Signs};
-ghost use Rattle.ndn_data.specs.Data.{with_data_field, data_fields, so_far, StartsBy};
+ghost use Rattle.ndn_data.specs.Data.{with_data_field, data_fields, data_so_far, NameStartsBy};
 
 use crate::meta_info::{MetaInfo, PLAIN};
 use ndn_name::{Field, NameView, PacketFault};
@@ -70,7 +70,7 @@ impl<'p> Gathered<'p> {
         requires placed { item outer ≡ placed 0 standard.Data outer.value.now }
         requires short { length octets.now ≤ packet_limit }
         ensures read { MatchResult result
-            (λ g. data_fields octets.now (item outer.entry) ≡ Ok (so_far g))
+            (λ g. data_fields octets.now (item outer.entry) ≡ Ok (data_so_far g))
             (λ fault. data_fields octets.now (item outer.entry) ≡ Err fault) }
         ensures signs { IfOk result
             (λ g. IfSome g.signature (λ s. Signs outer.entry.value.now s.1.now s.0.now)) }
@@ -98,14 +98,14 @@ impl<'p> Gathered<'p> {
         element: Element<'p>,
     ) -> Result<(), PacketFault>
         requires fits { element.value_start + length element.value.now ≤ length octets.now }
-        requires starts { StartsBy element.start self.old }
+        requires starts { NameStartsBy element.start self.old }
         requires ends { element.start ≤ length octets.now }
         ensures taken { MatchResult result
-            (λ _. with_data_field octets.now (so_far self.old) (field, item element.entry)
-            ≡ Ok (so_far self.new))
-            (λ fault. with_data_field octets.now (so_far self.old) (field, item element.entry)
+            (λ _. with_data_field octets.now (data_so_far self.old) (field, item element.entry)
+            ≡ Ok (data_so_far self.new))
+            (λ fault. with_data_field octets.now (data_so_far self.old) (field, item element.entry)
             ≡ Err fault) }
-        ensures starts { OnOk result (StartsBy element.entry.start self.new) }
+        ensures starts { OnOk result (NameStartsBy element.entry.start self.new) }
     {
         match field {
             DataField::Name => {

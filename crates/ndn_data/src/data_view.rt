@@ -32,13 +32,13 @@ pub struct DataView<'p> {
 impl<'p> DataView<'p> {
     ghost use Rattle.std.specs.Prelude.{◌≡◌, ◌↔◌, IsTrue, MatchResult, IfSome, Ok, Err};
     ghost use Rattle.ndn_name.specs.CanonicalOrder.{IsPrefix};
-    ghost use Rattle.ndn_data.specs.Data.{data_of, data_from, packet, so_far, IsAllSigned, Satisfies};
+    ghost use Rattle.ndn_data.specs.Data.{data_of, data_from, data_seen, data_so_far, IsAllSigned, Satisfies};
     ghost use Rattle.ndn_data.specs.Signed.{Signs};
 
     /// The Data packet that the octets are.
     pub fn read(octets: &'p [u8]) -> Result<DataView<'p>, PacketFault>
         ensures { MatchResult result
-            (λ d. data_of octets.now ≡ Ok (packet d))
+            (λ d. data_of octets.now ≡ Ok (data_seen d))
             (λ fault. data_of octets.now ≡ Err fault) }
     {
         let outer = outer_element(octets, types::DATA)?;
@@ -50,8 +50,8 @@ impl<'p> DataView<'p> {
     fn of(value: &'p [u8], gathered: Gathered<'p>) -> Result<DataView<'p>, PacketFault>
         requires { IfSome gathered.signature (λ s. Signs value.now s.1.now s.0.now) }
         ensures { MatchResult result
-            (λ d. data_from value.now (so_far gathered.entry) ≡ Ok (packet d))
-            (λ fault. data_from value.now (so_far gathered.entry) ≡ Err fault) }
+            (λ d. data_from value.now (data_so_far gathered.entry) ≡ Ok (data_seen d))
+            (λ fault. data_from value.now (data_so_far gathered.entry) ≡ Err fault) }
     {
         let missing = |field| PacketFault::Missing { field };
         let (_, name) = gathered.name.ok_or(missing(Field::Name))?;
@@ -73,14 +73,14 @@ impl<'p> DataView<'p> {
     /// The octets that are signed: from the beginning of the Name to the beginning of the
     /// SignatureValue, with what was passed over between them.
     pub fn signed_portion(&self) -> &'p [u8]
-        ensures { result.now ≡ (packet self.now).signed }
+        ensures { result.now ≡ (data_seen self.now).signed }
     {
         self.signed
     }
 
     /// Whether the packet has no octets but those that are signed, and the signature behind them.
     pub fn all_signed(&self) -> bool
-        ensures { IsTrue result ↔ IsAllSigned (packet self.now) }
+        ensures { IsTrue result ↔ IsAllSigned (data_seen self.now) }
     {
         let signature = element_len(types::SIGNATURE_VALUE, self.signature.len());
         self.value.len() == self.signed.len() + signature
@@ -90,7 +90,7 @@ impl<'p> DataView<'p> {
     /// by its full name, or by a front of the full name, where the Interest allows that
     /// (CanBePrefix).
     pub fn satisfies(&self, name: &NameView<'_>, can_be_prefix: bool, digest: &[u8; 32]) -> bool
-        ensures { IsTrue result ↔ Satisfies name.now can_be_prefix digest.now (packet self.now) }
+        ensures { IsTrue result ↔ Satisfies name.now can_be_prefix digest.now (data_seen self.now) }
     {
         is_full_name(name, &self.name, digest)
             || if can_be_prefix {

@@ -1,5 +1,5 @@
 ghost use Rattle.std.specs.Prelude.{◌≡◌, ◌↔◌, IsTrue};
-ghost use Rattle.ndn_data.specs.FullName.{full_name};
+ghost use Rattle.ndn_name.specs.Names.{full_name};
 
 use ndn_name::NameView;
 use ndn_tlv::types;

@@ -2,14 +2,14 @@ ghost use Rattle.std.specs.Prelude.{◌≡◌, ◌≤◌, ℕ, List, Option, Ok,
 ghost use Rattle.ndn_tlv.specs.Elements.{IsOctets};
 ghost use Rattle.ndn_name.specs.Names.{Component, IsName};
 ghost use Rattle.ndn_packet.specs.Outer.{packet_limit};
-ghost use Rattle.ndn_data.specs.Data.{Data, data_of, IsSpelled};
+ghost use Rattle.ndn_data.specs.Data.{Data, data_of, DataIsSpelled};
 ghost use Rattle.ndn_data.specs.WrittenData.{written_data, read_back};
 
 /// A Data packet is the spelling of its element, and in that stands what is signed, from the
 /// beginning of the Name on, and then the SignatureValue.
 pub fn data_is_spelled()
     ensures { (octets : List ℕ) (d : Data) → IsOctets octets → data_of octets ≡ Ok d
-        → IsSpelled octets d }
+        → DataIsSpelled octets d }
 {}
 
 /// The content of a packet is no longer than a packet may be.

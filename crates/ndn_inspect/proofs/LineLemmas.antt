@@ -7,7 +7,7 @@ use Rattle.ndn_tlv.specs.Elements.{AreWithin, IsElement, Item, placed, element_a
 use Rattle.ndn_tlv.proofs.Fields.{AreWithin-ends}
 use Rattle.ndn_tlv.proofs.Listings.{elements-nil, elements-element, elements-fault, elements_within_octets}
 use Rattle.ndn_inspect.specs.Types.{has_elements}
-use Rattle.ndn_inspect.specs.Inspection.{Lines, no_lines, ◌before◌, carried_on, ◌and_then◌, line, inner_lines, lines_of, lines_within, lines_at}
+use Rattle.ndn_inspect.specs.Inspection.{Lines, no_lines, ◌before◌, carried_on, ◌and_then◌, element_line, inner_lines, lines_of, lines_within, lines_at}
 
 pub before-before : (a b : List ℕ) (x : Lines) → (a ++ b) before x ≡ a before (b before x)
 before-before a b x =
@@ -50,8 +50,8 @@ lines_of-same f g n depth low high (e ∷ es) fault w room h =
     let ends = AreWithin-ends e.end high es w.3 in
     let here = inner-same f g depth e (h (depth + 1) e.value_start e.value (omega arith)) in
     let others = lines_of-same f g n depth e.end high es fault w.3 (omega arith) h in
-    ap (λ (x : Lines). line depth e before x and_then lines_of f depth es fault) here
-    ∙ ap (λ (x : Lines). line depth e before inner_lines g depth e and_then x) others
+    ap (λ (x : Lines). element_line depth e before x and_then lines_of f depth es fault) here
+    ∙ ap (λ (x : Lines). element_line depth e before inner_lines g depth e and_then x) others
 
 within-same : (n m depth offset : ℕ) (octets : List ℕ) → length octets ≤ n → length octets ≤ m
     → lines_within n depth offset octets ≡ lines_within m depth offset octets
@@ -86,14 +86,14 @@ lines_at-nil depth offset = refl
 pub lines_at-element : (depth offset typ : ℕ) (value rest : List ℕ) → IsElement typ value
     → let e = placed offset typ value in
     lines_at depth offset (element typ value ++ rest)
-    ≡ (line depth e before inner_lines lines_at depth e and_then lines_at depth (offset + length (element typ value)) rest)
+    ≡ (element_line depth e before inner_lines lines_at depth e and_then lines_at depth (offset + length (element typ value)) rest)
 unfolding lines_of
 lines_at-element depth offset typ value rest h =
     let e = placed offset typ value in
     let behind = offset + length (element typ value) in
     lines_at-elements depth offset (element typ value ++ rest)
     ∙ ap (listed_lines depth) (elements-element offset typ value rest h.0 h.1 h.2)
-    ∙ ap (λ (x : Lines). line depth e before inner_lines lines_at depth e and_then x) (sym (lines_at-elements depth behind rest))
+    ∙ ap (λ (x : Lines). element_line depth e before inner_lines lines_at depth e and_then x) (sym (lines_at-elements depth behind rest))
 
 pub lines_at-fault : (depth offset : ℕ) (octets : List ℕ) (f : TlvFault) → 0 < length octets
     → element_at offset octets ≡ Err f

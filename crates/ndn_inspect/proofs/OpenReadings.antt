@@ -7,7 +7,7 @@ use Rattle.ndn_tlv.specs.Elements.{AreWithin, Item, elements}
 use Rattle.ndn_tlv.proofs.Fields.{AreWithin-ends}
 use Rattle.ndn_tlv.proofs.Listings.{elements_within_octets}
 use Rattle.ndn_inspect.specs.Types.{has_elements}
-use Rattle.ndn_inspect.specs.Inspection.{Lines, no_lines, ◌before◌, ◌and_then◌, line, inner_lines, lines_of, lines_at}
+use Rattle.ndn_inspect.specs.Inspection.{Lines, no_lines, ◌before◌, ◌and_then◌, element_line, inner_lines, lines_of, lines_at}
 use Rattle.ndn_inspect.proofs.LineLemmas.{before-before, before-and_then, and_then-assoc, and_then-none, listed_lines, lines_at-elements}
 
 abbrev pub Readings : Type 0
@@ -49,36 +49,36 @@ module _ (text : List ℕ) (outer : Readings) (read : Listing Item TlvFault) (wh
   at_fault f e = sym (ap (λ (r : Listing Item TlvFault). text before (listed_lines (length outer) r and_then pending 0 outer no_lines)) e) ∙ opened
 
   at_element : (e : Item) (rest : Listing Item TlvFault) → read ≡ (e then rest)
-      → (text ++ line (length outer) e) before (inner_lines lines_at (length outer) e and_then (listed_lines (length outer) rest and_then pending 0 outer no_lines)) ≡ whole
+      → (text ++ element_line (length outer) e) before (inner_lines lines_at (length outer) e and_then (listed_lines (length outer) rest and_then pending 0 outer no_lines)) ≡ whole
   unfolding lines_of
   at_element e rest is =
       let depth = length outer in
       let others = pending 0 outer no_lines in
       let inner = inner_lines lines_at depth e in
       let both = inner and_then listed_lines depth rest in
-      let apart = before-and_then (line depth e) both.text both.fault others in
+      let apart = before-and_then (element_line depth e) both.text both.fault others in
       let grouped = and_then-assoc inner.text inner.fault (listed_lines depth rest) others in
-      before-before text (line depth e) (inner and_then (listed_lines depth rest and_then others))
-      ∙ ap (λ (x : Lines). text before (line depth e before x)) (sym grouped)
+      before-before text (element_line depth e) (inner and_then (listed_lines depth rest and_then others))
+      ∙ ap (λ (x : Lines). text before (element_line depth e before x)) (sym grouped)
       ∙ ap (λ (x : Lines). text before x) (sym apart)
       ∙ sym (ap (λ (r : Listing Item TlvFault). text before (listed_lines depth r and_then others)) is)
       ∙ opened
 
   pub at_leaf : (e : Item) (rest : Listing Item TlvFault) → read ≡ (e then rest)
       → has_elements e.typ ≡ false
-      → (text ++ line (length outer) e) before pending 0 (outer ++ rest ∷ []) no_lines ≡ whole
+      → (text ++ element_line (length outer) e) before pending 0 (outer ++ rest ∷ []) no_lines ≡ whole
   at_leaf e rest is leaf =
       let here = at_element e rest is in
-      ap (λ (x : Lines). (text ++ line (length outer) e) before x) (pending-deepest outer rest no_lines)
+      ap (λ (x : Lines). (text ++ element_line (length outer) e) before x) (pending-deepest outer rest no_lines)
       ∙ (rw leaf at here)
 
   pub at_nest : (e : Item) (rest : Listing Item TlvFault) → read ≡ (e then rest)
       → has_elements e.typ ≡ true
-      → (text ++ line (length outer) e) before pending 0 ((outer ++ rest ∷ []) ++ elements e.value_start e.value ∷ []) no_lines ≡ whole
+      → (text ++ element_line (length outer) e) before pending 0 ((outer ++ rest ∷ []) ++ elements e.value_start e.value ∷ []) no_lines ≡ whole
   at_nest e rest is nest =
       let depth = length outer in
       let inner = elements e.value_start e.value in
-      let front = text ++ line depth e in
+      let front = text ++ element_line depth e in
       let here = rw nest at (at_element e rest is) in
       let read = rw (lines_at-elements (depth + 1) e.value_start e.value) at here in
       let deeper : length (outer ++ rest ∷ []) ≡ depth + 1 = omega (arith, length-append outer (rest ∷ [])) in

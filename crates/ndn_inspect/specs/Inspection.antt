@@ -6,7 +6,7 @@ use Rattle.hex.specs.Hex.{encode_lower}
 use Rattle.ndn_tlv.specs.declared.tlv_fault.TlvFault.{TlvFault}
 use Rattle.ndn_tlv.specs.declared.tlv_fault.TlvFault.TheVariants.{Truncated, NotShortest, ZeroType, TypeTooLarge}
 use Rattle.ndn_tlv.specs.Elements.{Item, elements}
-use Rattle.ndn_inspect.specs.Types.{name_of, has_elements}
+use Rattle.ndn_inspect.specs.Types.{type_name, has_elements}
 
 -- Two spaces for each depth.
 unfoldable pub indent : ℕ → List ℕ
@@ -24,9 +24,9 @@ value_digits e =
 
 -- The line of an element: its type, what that is called, how many octets its value has, and those
 -- that are not elements again.
-unfoldable pub line : ℕ → Item → List ℕ
-line depth e =
-    indent depth ++ type_digits e.typ ++ codes " " ++ name_of e.typ ++ codes " "
+unfoldable pub element_line : ℕ → Item → List ℕ
+element_line depth e =
+    indent depth ++ type_digits e.typ ++ codes " " ++ type_name e.typ ++ codes " "
     ++ decimal (length e.value) ++ value_digits e ++ codes "\n"
 
 -- Lines, and the fault behind the last of them, if one ends them.
@@ -60,7 +60,7 @@ inner_lines read depth e =
 unfoldable pub lines_of : (ℕ → ℕ → List ℕ → Lines) → ℕ → List Item → Option TlvFault → Lines
 lines_of read depth [] fault = record { text = []; fault = fault }
 lines_of read depth (e ∷ es) fault =
-    line depth e before inner_lines read depth e and_then lines_of read depth es fault
+    element_line depth e before inner_lines read depth e and_then lines_of read depth es fault
 
 -- The same of octets, where elements are nested so deep at most.
 unfoldable pub lines_within : ℕ → ℕ → ℕ → List ℕ → Lines
@@ -86,6 +86,6 @@ fault_line (ZeroType at) = fault_text at (codes "ZeroType")
 fault_line (TypeTooLarge at) = fault_text at (codes "TypeTooLarge")
 
 -- What the lines are printed as: the fault has a line of its own.
-abbrev pub printed : List ℕ → Option TlvFault → List ℕ
-printed text None = text
-printed text (Some fault) = text ++ fault_line fault
+abbrev pub printed_with_fault : List ℕ → Option TlvFault → List ℕ
+printed_with_fault text None = text
+printed_with_fault text (Some fault) = text ++ fault_line fault

@@ -39,15 +39,15 @@ abbrev pub name_among : List (ℕ × List ℕ) → ℕ → List ℕ
 name_among [] typ = codes "Unknown"
 name_among (named ∷ others) typ = if typ == named.0 then named.1 else name_among others typ
 
-unfoldable pub name_of : ℕ → List ℕ
-name_of typ = name_among type_names typ
+unfoldable pub type_name : ℕ → List ℕ
+type_name typ = name_among type_names typ
 
-abbrev pub is_among : List ℕ → ℕ → Bool
-is_among [] typ = false
-is_among (other ∷ others) typ = typ == other || is_among others typ
+abbrev pub is_type_among : List ℕ → ℕ → Bool
+is_type_among [] typ = false
+is_type_among (other ∷ others) typ = typ == other || is_type_among others typ
 
 -- Whether the value of such an element is read as elements: those of Interest, Data, Name, MetaInfo,
 -- SignatureInfo, FinalBlockId, KeyLocator and InterestSignatureInfo are.
 unfoldable pub has_elements : ℕ → Bool
 has_elements typ =
-    is_among (0x05 ∷ 0x06 ∷ 0x07 ∷ 0x14 ∷ 0x16 ∷ 0x1a ∷ 0x1c ∷ 0x2c ∷ []) typ
+    is_type_among (0x05 ∷ 0x06 ∷ 0x07 ∷ 0x14 ∷ 0x16 ∷ 0x1a ∷ 0x1c ∷ 0x2c ∷ []) typ

@@ -1,5 +1,5 @@
 ghost use Rattle.std.specs.Prelude.{◌≡◌, ◌++◌, IfOk, is_some, not, string_bytes};
-ghost use Rattle.ndn_inspect.specs.Inspection.{inspected, printed};
+ghost use Rattle.ndn_inspect.specs.Inspection.{inspected, printed_with_fault};
 
 use crate::line::{put_fault, put_line};
 use crate::types::has_elements;
@@ -9,7 +9,7 @@ use std::alloc::{AllocError, Global};
 /// The text that the octets are inspected as, and whether they are elements throughout.
 pub fn inspect(alloc: Global, octets: &[u8]) -> Result<(Vec<u8>, bool), AllocError>
     ensures text { IfOk result (λ told. told.0.items
-        ≡ printed (inspected octets.now).text (inspected octets.now).fault) }
+        ≡ printed_with_fault (inspected octets.now).text (inspected octets.now).fault) }
     ensures sound { IfOk result (λ told. told.1 ≡ not (is_some (inspected octets.now).fault)) }
 {
     let mut text = String::new(alloc);

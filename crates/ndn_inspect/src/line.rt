@@ -1,6 +1,6 @@
 ghost use Rattle.std.specs.Prelude.{◌≡◌, ◌++◌, OnOk, string_bytes};
 ghost use Rattle.ndn_tlv.specs.Elements.{item};
-ghost use Rattle.ndn_inspect.specs.Inspection.{indent, type_digits, value_digits, line, fault_text, fault_line};
+ghost use Rattle.ndn_inspect.specs.Inspection.{indent, type_digits, value_digits, element_line, fault_text, fault_line};
 
 use crate::types::{has_elements, name_of};
 use ndn_tlv::{Element, TlvFault};
@@ -16,7 +16,7 @@ pub(crate) fn put_line(
     element: &Element<'_>,
 ) -> Result<(), AllocError>
     ensures { OnOk result (string_bytes text.new
-        ≡ string_bytes text.old ++ line depth (item element.now)) }
+        ≡ string_bytes text.old ++ element_line depth (item element.now)) }
 {
     put_indent(text, depth)?;
     put_type(text, element.typ)?;

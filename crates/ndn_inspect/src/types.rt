@@ -1,10 +1,10 @@
 ghost use Rattle.std.specs.Prelude.{◌≡◌};
-ghost use Rattle.ndn_inspect.specs.Types.{name_of, has_elements};
+ghost use Rattle.ndn_inspect.specs.Types.{type_name, has_elements};
 
 // What elements of this type are called (NDN Packet Format 0.3, "TLV-TYPE numbers").
 #[tactic(auto, unfolding(crate::specs::Types::name_of))]
 pub(crate) fn name_of(typ: u32) -> &'static str
-    ensures { result.now ≡ name_of typ }
+    ensures { result.now ≡ type_name typ }
 {
     match typ {
         0x01 => "ImplicitSha256DigestComponent",

@@ -20,8 +20,8 @@ use Rattle.ndn_packet.specs.Written.{written_info}
 use Rattle.ndn_packet.proofs.Lengths.{length-element}
 use Rattle.ndn_packet.proofs.ReadBack.{alone, followed, outer_again, name_again, info_again, gathers, gathered-nothing}
 use Rattle.ndn_interest.specs.declared.interest_fields.InterestField.TheVariants.{Name, CanBePrefix, ApplicationParameters, InterestSignatureInfo, InterestSignatureValue}
-use Rattle.ndn_interest.specs.Interest.{interest_table, Interest, InterestSoFar, no_field, some_name, interest_name_in, with_interest_field, interest_fields, last_component, without_last, interest_from, interest_of}
-use Rattle.ndn_interest.specs.WrittenInterest.{written_plain, written_parameters, written_digested, written_interest, read_plain, read_signed}
+use Rattle.ndn_interest.specs.Interest.{interest_table, Interest, InterestSoFar, no_interest_field, some_name, interest_name_in, with_interest_field, interest_fields, last_component, without_last, interest_from, interest_of}
+use Rattle.ndn_interest.specs.WrittenInterest.{written_plain, written_signed_parameters, written_digested, written_interest, read_plain, read_signed}
 use Rattle.ndn_interest.proofs.DigestLemmas.{IsOctets-sha256}
 use Rattle.ndn_interest.proofs.LastLemmas.{last-push, without-push, ends-push}
 
@@ -59,11 +59,11 @@ signed_table a b c d h i j k = rw (h, i, j, k) refl
 -- ---- the whole
 
 abbrev named : List Component → InterestSoFar
-named name = record no_field { name = Some name }
+named name = record no_interest_field { name = Some name }
 
 name_step : (octets : List ℕ) (o : ℕ) (name : List Component) → IsName name → 0 < length name
-    → with_interest_field octets no_field (Name, placed o 0x07 (encoding name)) ≡ Ok (named name)
-name_step octets o name valid some = ap (λ (r : Result (List Component) PacketFault). r >>= λ n. Ok (record no_field { name = Some n })) (interest_name_again o name valid some)
+    → with_interest_field octets no_interest_field (Name, placed o 0x07 (encoding name)) ≡ Ok (named name)
+name_step octets o name valid some = ap (λ (r : Result (List Component) PacketFault). r >>= λ n. Ok (record no_interest_field { name = Some n })) (interest_name_again o name valid some)
 
 -- the Interest that the fields make
 finished : (value : List ℕ) (s : InterestSoFar) (result : Result Interest PacketFault) → length (element 0x05 value) ≤ 8800
@@ -91,9 +91,9 @@ plain_again name true valid some short =
     let take = with_interest_field octets in
     let t = record (named name) { can_be_prefix = true } in
     let all : interest_fields octets (placed 0 0x05 value) ≡ Ok t =
-    ap (λ (l : Listing Item TlvFault). gathered take packet_fault no_field (fields interest_table l)) read
-    ∙ ap (gathered take packet_fault no_field) (flag_table (placed o 0x07 (encoding name)) (placed p 0x21 []) refl refl)
-    ∙ gathers take packet_fault no_field (named name) (Name, placed o 0x07 (encoding name)) ((CanBePrefix, placed p 0x21 []) then nothing) (name_step octets o name valid some)
+    ap (λ (l : Listing Item TlvFault). gathered take packet_fault no_interest_field (fields interest_table l)) read
+    ∙ ap (gathered take packet_fault no_interest_field) (flag_table (placed o 0x07 (encoding name)) (placed p 0x21 []) refl refl)
+    ∙ gathers take packet_fault no_interest_field (named name) (Name, placed o 0x07 (encoding name)) ((CanBePrefix, placed p 0x21 []) then nothing) (name_step octets o name valid some)
     ∙ gathers take packet_fault (named name) t (CanBePrefix, placed p 0x21 []) nothing refl
     ∙ gathered-nothing take packet_fault t in
     finished value t (Ok (read_plain name true)) short all refl
@@ -108,9 +108,9 @@ plain_again name false valid some short =
     let read = ap (elements o) (append-nil first) ∙ alone o 0x07 (encoding name) (omega arith) (omega arith) (omega arith) in
     let take = with_interest_field octets in
     let all : interest_fields octets (placed 0 0x05 value) ≡ Ok (named name) =
-    ap (λ (l : Listing Item TlvFault). gathered take packet_fault no_field (fields interest_table l)) read
-    ∙ ap (gathered take packet_fault no_field) (name_table (placed o 0x07 (encoding name)) refl)
-    ∙ gathers take packet_fault no_field (named name) (Name, placed o 0x07 (encoding name)) nothing (name_step octets o name valid some)
+    ap (λ (l : Listing Item TlvFault). gathered take packet_fault no_interest_field (fields interest_table l)) read
+    ∙ ap (gathered take packet_fault no_interest_field) (name_table (placed o 0x07 (encoding name)) refl)
+    ∙ gathers take packet_fault no_interest_field (named name) (Name, placed o 0x07 (encoding name)) nothing (name_step octets o name valid some)
     ∙ gathered-nothing take packet_fault (named name) in
     finished value (named name) (Ok (read_plain name false)) short all refl
 
@@ -129,7 +129,7 @@ between_is front portion tail from to f t =
 
 module _ (name key_name : List Component) (parameters key : List ℕ) where
   abbrev portion : List ℕ
-  portion = written_parameters parameters key_name
+  portion = written_signed_parameters parameters key_name
 
   abbrev mac : List ℕ
   mac = hmac key (encoding name ++ portion)
@@ -214,9 +214,9 @@ module _ (name key_name : List Component) (parameters key : List ℕ) where
       let u = record t { info = Some info } in
       let infos_read : take t (InterestSignatureInfo, c) ≡ Ok u = ap (λ (x : Result Info PacketFault). x >>= λ i. Ok (record t { info = Some i })) (info_again q 0x2c key_name key_valid (omega arith)) in
       let all : interest_fields octets (placed 0 0x05 value) ≡ Ok (all_fields p r) =
-      ap (λ (l : Listing Item TlvFault). gathered take packet_fault no_field (fields interest_table l)) read
-      ∙ ap (gathered take packet_fault no_field) (signed_table a b c d refl refl refl refl)
-      ∙ gathers take packet_fault no_field (named full) (Name, a) ((ApplicationParameters, b) then ((InterestSignatureInfo, c) then ((InterestSignatureValue, d) then nothing))) (name_step octets o full full_valid some)
+      ap (λ (l : Listing Item TlvFault). gathered take packet_fault no_interest_field (fields interest_table l)) read
+      ∙ ap (gathered take packet_fault no_interest_field) (signed_table a b c d refl refl refl refl)
+      ∙ gathers take packet_fault no_interest_field (named full) (Name, a) ((ApplicationParameters, b) then ((InterestSignatureInfo, c) then ((InterestSignatureValue, d) then nothing))) (name_step octets o full full_valid some)
       ∙ gathers take packet_fault (named full) t (ApplicationParameters, b) ((InterestSignatureInfo, c) then ((InterestSignatureValue, d) then nothing)) refl
       ∙ gathers take packet_fault t u (InterestSignatureInfo, c) ((InterestSignatureValue, d) then nothing) infos_read
       ∙ gathers take packet_fault u (all_fields p r) (InterestSignatureValue, d) nothing refl

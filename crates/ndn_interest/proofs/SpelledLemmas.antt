@@ -25,7 +25,7 @@ use Rattle.ndn_packet.proofs.Outers.{outer_ok}
 use Rattle.ndn_packet.proofs.Gathering.{none_before, Stands, elements_stand, keeps}
 use Rattle.ndn_interest.specs.declared.interest_fields.InterestField.{InterestField}
 use Rattle.ndn_interest.specs.declared.interest_fields.InterestField.TheVariants.{Name, CanBePrefix, MustBeFresh, ForwardingHint, Nonce, InterestLifetime, HopLimit, ApplicationParameters, InterestSignatureInfo, InterestSignatureValue}
-use Rattle.ndn_interest.specs.Interest.{interest_table, Interest, InterestSoFar, no_field, interest_name_in, flag_in, nonce_in, hop_limit_in, with_interest_field, interest_fields, last_component, without_last, ends_in_digest, signed_of, interest_named, interest_from, interest_of, IsDigestedFrom, IsSignedUpTo, IsSpelled}
+use Rattle.ndn_interest.specs.Interest.{interest_table, Interest, InterestSoFar, no_interest_field, interest_name_in, flag_in, nonce_in, hop_limit_in, with_interest_field, interest_fields, last_component, without_last, ends_in_digest, signed_of, interest_named, interest_from, interest_of, IsDigestedFrom, IsSignedUpTo, InterestIsSpelled}
 use Rattle.ndn_interest.proofs.LastLemmas.{found, split_at}
 
 -- ---- the places of the table
@@ -247,9 +247,9 @@ interest_gathers octets e s fits whole at h =
     let read = elements e.value_start e.value in
     let are = elements_are e.value_start e.value octet in
     let stand = elements_stand octets e.value_start e.value read.items read.fault value are in
-    let first : Keeps octets e.value_start 0 e.value_start no_field = record { above = omega arith; parameters = tt; signature = tt; last = tt } in
+    let first : Keeps octets e.value_start 0 e.value_start no_interest_field = record { above = omega arith; parameters = tt; signature = tt; last = tt } in
     let kept = keeps interest_table (with_interest_field octets) (e.value_start + length e.value) (Stands octets) (Keeps octets e.value_start) (at_place octets e.value_start) (λ from low more t le j. later octets e.value_start from low more t le j)
-    0 read.items read.fault (fields interest_table read) (fields_stand interest_table read.fault read.items 0 interest_table refl) e.value_start no_field s first (elements_within_octets e.value_start e.value) stand h in
+    0 read.items read.fault (fields interest_table read) (fields_stand interest_table read.fault read.items 0 interest_table refl) e.value_start no_interest_field s first (elements_within_octets e.value_start e.value) stand h in
     record { low = kept.low; parameters = kept.holds.parameters; signature = kept.holds.signature; at = value }
 
 -- ---- the whole packet
@@ -328,7 +328,7 @@ made octets s name =
       digested = option_map (λ (p : Parameters). drop p.0 octets) s.parameters;
     }
 
-pub interest_spelled : (octets : List ℕ) (i : Interest) → IsOctets octets → interest_of octets ≡ Ok i → IsSpelled octets i
+pub interest_spelled : (octets : List ℕ) (i : Interest) → IsOctets octets → interest_of octets ≡ Ok i → InterestIsSpelled octets i
 interest_spelled octets i fits h =
     let b = bind_ok (outer_of 0x05 octets) (λ (e : Item). interest_fields octets e >>= interest_from octets) i h in
     let e = b.0 in
@@ -339,7 +339,7 @@ interest_spelled octets i fits h =
     let n = bind_ok (ok_or s.name (Missing field.Name)) (interest_named octets s) i f.2 in
     let name = n.0 in
     let ok = passed (is_some s.parameters && not (ends_in_digest name)) (is_some s.info && is_none s.signature) (Missing field.ParametersDigest) (Missing field.SignatureValue) (made octets s name) i n.2 in
-    subst (IsSpelled octets) ok.1 (record {
+    subst (InterestIsSpelled octets) ok.1 (record {
       value = e.value;
       packet = outer.whole;
       digested = digests octets e.value e.value_start gathers.low (made octets s name) s.parameters gathers.at refl gathers.parameters;

@@ -7,16 +7,16 @@ use Rattle.ndn_name.specs.Names.{Component, encoding}
 use Rattle.ndn_name.proofs.Encodings.{encoding-push}
 use Rattle.ndn_sign.specs.Hmac.{hmac}
 use Rattle.ndn_packet.proofs.Lengths.{length-element, length-digest_element, packet_len}
-use Rattle.ndn_interest.specs.WrittenInterest.{written_parameters, written_digested, with_digest_of, with_digest, written_interest}
+use Rattle.ndn_interest.specs.WrittenInterest.{written_signed_parameters, written_digested, with_digest_of, with_digest, written_interest}
 
 -- how many octets the name with its digest has
 abbrev pub name_octets : List Component → ℕ
 name_octets name = length (head 0x07 (length (encoding name) + 34)) + (length (encoding name) + 34)
 
 pub length-digested : (name key_name : List Component) (parameters key : List ℕ)
-    → length (written_digested name parameters key_name key) ≡ length (written_parameters parameters key_name) + 34
+    → length (written_digested name parameters key_name key) ≡ length (written_signed_parameters parameters key_name) + 34
 length-digested name key_name parameters key =
-    let portion = written_parameters parameters key_name in
+    let portion = written_signed_parameters parameters key_name in
     let mac = hmac key (encoding name ++ portion) in
     omega (arith, length-append portion (element 0x2e mac), length-digest_element 0x2e mac (omega arith) (length-sha256 _))
 
@@ -35,7 +35,7 @@ length-with_digest name digested =
 
 -- the number of octets that was counted is that of the packet
 pub total : (name key_name : List Component) (parameters key : List ℕ) (digested body heads octets : ℕ)
-    → digested ≡ min (length (written_parameters parameters key_name) + 34) (2 ^ 64 - 1)
+    → digested ≡ min (length (written_signed_parameters parameters key_name) + 34) (2 ^ 64 - 1)
     → body ≡ min (digested + name_octets name) (2 ^ 64 - 1) → heads ≡ length (head 0x05 body)
     → octets ≡ min (body + heads) (2 ^ 64 - 1)
     → octets ≡ min (length (written_interest name parameters key_name key)) (2 ^ 64 - 1)

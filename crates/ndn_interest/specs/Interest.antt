@@ -69,8 +69,8 @@ pub record InterestSoFar : Type 0 where
   pub info : Option Info
   pub signature : Option (List ℕ × Option (List ℕ))
 
-abbrev pub no_field : InterestSoFar
-no_field =
+abbrev pub no_interest_field : InterestSoFar
+no_interest_field =
     record {
       name = None;
       can_be_prefix = false;
@@ -139,7 +139,7 @@ with_interest_field octets s (InterestSignatureValue, e) =
 -- The fields of the packet's element in the order of their table, and what is in them.
 abbrev pub interest_fields : List ℕ → Item → Result InterestSoFar PacketFault
 interest_fields octets e =
-    gathered (with_interest_field octets) packet_fault no_field
+    gathered (with_interest_field octets) packet_fault no_interest_field
     (fields interest_table (elements e.value_start e.value))
 
 -- ---- the whole
@@ -224,7 +224,7 @@ pub record IsSignedUpTo (i : Interest) (pieces : List ℕ × List ℕ) : Type 0 
 
 -- The octets are the packet's element, in which parameters and signature stand where they are
 -- digested and signed.
-pub record IsSpelled (octets : List ℕ) (i : Interest) : Type 0 where
+pub record InterestIsSpelled (octets : List ℕ) (i : Interest) : Type 0 where
   pub value : List ℕ
   pub packet : octets ≡ element types.Interest value
   pub digested : MatchOption i.parameters (i.digested ≡ None) (IsDigestedFrom value i)
@@ -236,8 +236,8 @@ abbrev pub signature_parts : Option (Bor (List ℕ) × Option (Bor (List ℕ)))
     → Option (List ℕ × Option (List ℕ))
 signature_parts signature = option_map (λ s. (s.0.now, option_map (λ o. o.now) s.1)) signature
 
-abbrev pub so_far : Gathered → InterestSoFar
-so_far g =
+abbrev pub interest_so_far : Gathered → InterestSoFar
+interest_so_far g =
     record {
       name = g.name;
       can_be_prefix = g.can_be_prefix;
@@ -251,11 +251,11 @@ so_far g =
     }
 
 -- The parameters, if there are any, begin by this offset.
-abbrev pub StartsBy : ℕ → Gathered → Type 0
-StartsBy offset g = IfSome g.parameters (λ p. p.0 ≤ offset)
+abbrev pub ParametersStartBy : ℕ → Gathered → Type 0
+ParametersStartBy offset g = IfSome g.parameters (λ p. p.0 ≤ offset)
 
-abbrev pub packet : InterestView → Interest
-packet i =
+abbrev pub interest_seen : InterestView → Interest
+interest_seen i =
     record {
       name = i.name;
       can_be_prefix = i.can_be_prefix;

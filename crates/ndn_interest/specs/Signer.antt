@@ -8,7 +8,7 @@ use Rattle.ndn_tlv.specs.Types as types
 use Rattle.ndn_tlv.specs.Listing.{◌>>=◌}
 use Rattle.ndn_name.specs.Names.{Component, encoding}
 use Rattle.ndn_sign.specs.Hmac.{hmac}
-use Rattle.ndn_sign.specs.Ring.{Pair, number_of}
+use Rattle.ndn_sign.specs.Ring.{NamedKey, key_number}
 use Rattle.ndn_packet.specs.SignatureInfo.{SignatureHmacWithSha256}
 use Rattle.ndn_interest.specs.Interest.{Interest, last_component}
 use Rattle.ndn_interest.specs.declared.signature_refusal.SignatureRefusal.{SignatureRefusal}
@@ -27,24 +27,25 @@ abbrev pub has_its_digest : Interest → Bool
 has_its_digest i = option_map_or (λ octets. is_digest_of octets (last_component i.name)) i.digested false
 
 -- The number of the key that the Interest names, where it is signed by HMAC with SHA-256.
-abbrev pub key_of : List Pair → Option ℕ → Option (List Component) → Option ℕ
-key_of ring (Some typ) (Some name) = if typ == SignatureHmacWithSha256 then number_of (encoding name) ring else None
-key_of ring (Some typ) None = None
-key_of ring None locator = None
+abbrev pub located_key : List NamedKey → Option ℕ → Option (List Component) → Option ℕ
+located_key ring (Some typ) (Some name) = if typ == SignatureHmacWithSha256 then key_number (encoding name) ring
+    else None
+located_key ring (Some typ) None = None
+located_key ring None locator = None
 
 -- The signature is the mac of what is signed under the key of that number.
-abbrev pub is_mac : List ℕ × List ℕ → Option Pair → List ℕ → Bool
+abbrev pub is_mac : List ℕ × List ℕ → Option NamedKey → List ℕ → Bool
 is_mac signed None signature = false
 is_mac signed (Some pair) signature = bytes_eq (hmac pair.key (signed.0 ++ signed.1)) signature
 
-abbrev pub is_signed : List Pair → ℕ → List ℕ × List ℕ → Interest → Bool
+abbrev pub is_signed : List NamedKey → ℕ → List ℕ × List ℕ → Interest → Bool
 is_signed ring signer signed i = option_map_or (is_mac signed (slice_get ring signer)) i.signature false
 
 -- The number of the key that signed an Interest, or the first refusal.
-abbrev pub signer_of : List Pair → Interest → Result ℕ SignatureRefusal
+abbrev pub signer_of : List NamedKey → Interest → Result ℕ SignatureRefusal
 signer_of ring i = do
   signed ← ok_or i.signed Unsigned
   _ ← ensured (has_its_digest i) ParamsDigest
-  signer ← ok_or (key_of ring i.signature_type i.locator) UnknownKey
+  signer ← ok_or (located_key ring i.signature_type i.locator) UnknownKey
   _ ← ensured (is_signed ring signer signed i) BadSignature
   Ok signer

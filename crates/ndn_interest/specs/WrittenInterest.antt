@@ -19,15 +19,15 @@ written_plain name can_be_prefix =
     element types.Interest (element types.Name (encoding name) ++ written_flag can_be_prefix)
 
 -- ApplicationParameters and InterestSignatureInfo, which are signed with the name.
-abbrev pub written_parameters : List ℕ → List Component → List ℕ
-written_parameters parameters key_name =
+abbrev pub written_signed_parameters : List ℕ → List Component → List ℕ
+written_signed_parameters parameters key_name =
     element types.ApplicationParameters parameters
     ++ element types.InterestSignatureInfo (written_info key_name)
 
 -- The same, and behind them the mac as the signature: what the parameters digest is of.
 abbrev pub written_digested : List Component → List ℕ → List Component → List ℕ → List ℕ
 written_digested name parameters key_name key =
-    let portion = written_parameters parameters key_name in
+    let portion = written_signed_parameters parameters key_name in
     portion ++ element types.InterestSignatureValue (hmac key (encoding name ++ portion))
 
 -- A name with the digest of these octets behind it as its parameters digest.
@@ -67,7 +67,7 @@ read_plain name can_be_prefix =
 -- signature.
 abbrev pub read_signed : List Component → List ℕ → List Component → List ℕ → Interest
 read_signed name parameters key_name key =
-    let portion = written_parameters parameters key_name in
+    let portion = written_signed_parameters parameters key_name in
     let digested = written_digested name parameters key_name key in
     record {
       name = with_digest_of digested name;

@@ -1,6 +1,6 @@
 ghost use Rattle.std.specs.Prelude.{◌≡◌, ◌+◌, ◌≤◌, ◌^◌, ◌<◌, length, MatchResult, Ok, Err, IfOk, OnOk};
 ghost use Rattle.ndn_tlv.specs.Elements.{item};
-ghost use Rattle.ndn_interest.specs.Interest.{interest_name_in, flag_in, nonce_in, hop_limit_in, with_interest_field, interest_fields, so_far, StartsBy};
+ghost use Rattle.ndn_interest.specs.Interest.{interest_name_in, flag_in, nonce_in, hop_limit_in, with_interest_field, interest_fields, interest_so_far, ParametersStartBy};
 
 use ndn_name::{Field, NameView, PacketFault};
 use ndn_packet::{SignatureInfo, bad_field, name_in, number_in};
@@ -97,9 +97,9 @@ impl<'p> Gathered<'p> {
     ) -> Result<Gathered<'p>, PacketFault>
         requires { outer.value_start + length outer.value.now ≤ length octets.now }
         ensures read { MatchResult result
-            (λ g. interest_fields octets.now (item outer.entry) ≡ Ok (so_far g))
+            (λ g. interest_fields octets.now (item outer.entry) ≡ Ok (interest_so_far g))
             (λ fault. interest_fields octets.now (item outer.entry) ≡ Err fault) }
-        ensures starts { IfOk result (StartsBy (length octets.now)) }
+        ensures starts { IfOk result (ParametersStartBy (length octets.now)) }
     {
         let elements = Reader::new(outer.value, outer.value_start);
         let mut fields = FieldReader::new(elements, &INTEREST);
@@ -128,14 +128,14 @@ impl<'p> Gathered<'p> {
         element: Element<'p>,
     ) -> Result<(), PacketFault>
         requires fits { element.value_start + length element.value.now ≤ length octets.now }
-        requires starts { StartsBy element.start self.old }
+        requires starts { ParametersStartBy element.start self.old }
         requires ends { element.start ≤ length octets.now }
         ensures taken { MatchResult result
-            (λ _. with_interest_field octets.now (so_far self.old) (field, item element.entry)
-            ≡ Ok (so_far self.new))
-            (λ fault. with_interest_field octets.now (so_far self.old) (field, item element.entry)
+            (λ _. with_interest_field octets.now (interest_so_far self.old) (field, item element.entry)
+            ≡ Ok (interest_so_far self.new))
+            (λ fault. with_interest_field octets.now (interest_so_far self.old) (field, item element.entry)
             ≡ Err fault) }
-        ensures starts { OnOk result (StartsBy element.entry.start self.new) }
+        ensures starts { OnOk result (ParametersStartBy element.entry.start self.new) }
     {
         match field {
             InterestField::Name => self.name = Some(interest_name_in(element)?),

@@ -1,7 +1,7 @@
 ghost use Rattle.std.specs.Prelude.{◌≡◌, ◌≤◌, ◌↔◌, length, is_some, option_map, IsTrue, MatchResult, MatchOption, IfOk, Ok, Err, Some, None};
 ghost use Rattle.std.specs.Option.{option_map_or};
 ghost use Rattle.ndn_packet.specs.SignatureInfo.{info};
-ghost use Rattle.ndn_interest.specs.Interest.{interest_of, interest_from, ends_in_digest, signed_of, signature_parts, packet, so_far, StartsBy, IsDigested};
+ghost use Rattle.ndn_interest.specs.Interest.{interest_of, interest_from, ends_in_digest, signed_of, signature_parts, interest_seen, interest_so_far, ParametersStartBy, IsDigested};
 
 use crate::interest_fields::Gathered;
 use crate::parameters_digest::{before_digest, ends_in_digest, last_component};
@@ -39,7 +39,7 @@ impl<'p> InterestView<'p> {
     /// and counts as unsigned.
     pub fn read(octets: &'p [u8]) -> Result<InterestView<'p>, PacketFault>
         ensures { MatchResult result
-            (λ i. interest_of octets.now ≡ Ok (packet i))
+            (λ i. interest_of octets.now ≡ Ok (interest_seen i))
             (λ fault. interest_of octets.now ≡ Err fault) }
     {
         let outer = outer_element(octets, types::INTEREST)?;
@@ -49,10 +49,10 @@ impl<'p> InterestView<'p> {
 
     // The Interest of these octets that the fields make.
     fn of(octets: &'p [u8], gathered: Gathered<'p>) -> Result<InterestView<'p>, PacketFault>
-        requires { StartsBy (length octets.now) gathered }
+        requires { ParametersStartBy (length octets.now) gathered }
         ensures { MatchResult result
-            (λ i. interest_from octets.now (so_far gathered.entry) ≡ Ok (packet i))
-            (λ fault. interest_from octets.now (so_far gathered.entry) ≡ Err fault) }
+            (λ i. interest_from octets.now (interest_so_far gathered.entry) ≡ Ok (interest_seen i))
+            (λ fault. interest_from octets.now (interest_so_far gathered.entry) ≡ Err fault) }
     {
         let missing = |field| PacketFault::Missing { field };
         let name = gathered.name.ok_or(missing(Field::Name))?;
@@ -87,8 +87,8 @@ impl<'p> InterestView<'p> {
     /// Interest counts as unsigned.
     pub fn signed_portion(&self) -> Option<(&'p [u8], &'p [u8])>
         ensures { MatchOption result
-            ((packet self.now).signed ≡ None)
-            (λ pieces. (packet self.now).signed ≡ Some (pieces.0.now, pieces.1.now)) }
+            ((interest_seen self.now).signed ≡ None)
+            (λ pieces. (interest_seen self.now).signed ≡ Some (pieces.0.now, pieces.1.now)) }
     {
         self.signed
     }
@@ -96,7 +96,7 @@ impl<'p> InterestView<'p> {
     /// Whether the Interest has parameters, and the last component of its name is their digest: the
     /// SHA-256 of the octets from the beginning of ApplicationParameters to the packet's end.
     pub fn params_digest_matches(&self) -> bool
-        ensures { IsTrue result ↔ IsDigested (packet self.now) }
+        ensures { IsTrue result ↔ IsDigested (interest_seen self.now) }
     {
         match (self.digested, last_component(&self.name)) {
             (Some(octets), Some(last)) => {

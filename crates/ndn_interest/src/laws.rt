@@ -2,9 +2,9 @@ ghost use Rattle.std.specs.Prelude.{◌≡◌, ◌&&◌, ◌<◌, ◌≤◌, ◌
 ghost use Rattle.ndn_tlv.specs.Elements.{IsOctets};
 ghost use Rattle.ndn_name.specs.Names.{Component, IsName, encoding};
 ghost use Rattle.ndn_sign.specs.Hmac.{hmac};
-ghost use Rattle.ndn_sign.specs.Ring.{Pair, number_of, pair};
+ghost use Rattle.ndn_sign.specs.Ring.{NamedKey, key_number, pair};
 ghost use Rattle.ndn_packet.specs.Outer.{packet_limit};
-ghost use Rattle.ndn_interest.specs.Interest.{Interest, interest_of, IsDigested, IsSpelled};
+ghost use Rattle.ndn_interest.specs.Interest.{Interest, interest_of, IsDigested, InterestIsSpelled};
 ghost use Rattle.ndn_interest.specs.Signer.{has_its_digest, is_signed, signer_of};
 ghost use Rattle.ndn_interest.specs.WrittenInterest.{written_plain, written_interest, read_plain, read_signed};
 
@@ -13,7 +13,7 @@ ghost use Rattle.ndn_interest.specs.WrittenInterest.{written_plain, written_inte
 /// to the signature.
 pub fn interest_is_spelled()
     ensures { (octets : List ℕ) (i : Interest) → IsOctets octets → interest_of octets ≡ Ok i
-        → IsSpelled octets i }
+        → InterestIsSpelled octets i }
 {}
 
 /// An Interest has a signed portion exactly where it has parameters, says how it is signed, and has
@@ -51,18 +51,18 @@ pub fn written_interest_has_its_digest()
 /// number, of what is signed. Whoever signed an Interest is of the ring.
 pub fn signers_are_tested()
     ensures digest { (i : Interest) → IsTrue (has_its_digest i) ↔ IsDigested i }
-    ensures signature { (ring : List Pair) (signer : ℕ) (signed : List ℕ × List ℕ) (i : Interest)
+    ensures signature { (ring : List NamedKey) (signer : ℕ) (signed : List ℕ × List ℕ) (i : Interest)
         → IsTrue (is_signed ring signer signed i)
-        ↔ ((pair : Pair) × (slice_get ring signer ≡ Some pair)
+        ↔ ((pair : NamedKey) × (slice_get ring signer ≡ Some pair)
         × (i.signature ≡ Some (hmac pair.key (signed.0 ++ signed.1)))) }
-    ensures number { (ring : List Pair) (i : Interest) (signer : ℕ)
+    ensures number { (ring : List NamedKey) (i : Interest) (signer : ℕ)
         → signer_of ring i ≡ Ok signer → signer < length ring }
 {}
 
 /// The signer of a signed Interest that was written is the number of its key in the ring.
 pub fn written_interest_has_its_signer()
-    ensures { (name key_name : List Component) (parameters key : List ℕ) (ring : List Pair) (signer : ℕ)
-        → number_of (encoding key_name) ring ≡ Some signer
+    ensures { (name key_name : List Component) (parameters key : List ℕ) (ring : List NamedKey) (signer : ℕ)
+        → key_number (encoding key_name) ring ≡ Some signer
         → slice_get ring signer ≡ Some (pair (encoding key_name) key)
         → signer_of ring (read_signed name parameters key_name key) ≡ Ok signer }
 {}

@@ -1,6 +1,6 @@
 ghost use Rattle.std.specs.Prelude.{◌≡◌, Ok, Err, MatchResult};
-ghost use Rattle.ndn_interest.specs.Interest.{packet};
-ghost use Rattle.ndn_interest.specs.Signer.{key_of, signer_of};
+ghost use Rattle.ndn_interest.specs.Interest.{interest_seen};
+ghost use Rattle.ndn_interest.specs.Signer.{located_key, signer_of};
 
 use crate::interest_view::InterestView;
 use crate::signature_refusal::SignatureRefusal;
@@ -11,8 +11,8 @@ use ndn_sign::KeyRing;
 /// 2104). It takes no memory.
 pub fn signer_of(interest: &InterestView<'_>, ring: &KeyRing) -> Result<u32, SignatureRefusal>
     ensures { MatchResult result
-        (λ signer. signer_of ring.now (packet interest.now) ≡ Ok signer)
-        (λ refusal. signer_of ring.now (packet interest.now) ≡ Err refusal) }
+        (λ signer. signer_of ring.now (interest_seen interest.now) ≡ Ok signer)
+        (λ refusal. signer_of ring.now (interest_seen interest.now) ≡ Err refusal) }
 {
     let (first, second) = interest.signed_portion().ok_or(SignatureRefusal::Unsigned)?;
     if !interest.params_digest_matches() {
@@ -29,7 +29,7 @@ pub fn signer_of(interest: &InterestView<'_>, ring: &KeyRing) -> Result<u32, Sig
 // The number of the key that an Interest names, where it is signed by HMAC with SHA-256.
 fn key_of(interest: &InterestView<'_>, ring: &KeyRing) -> Option<u32>
     ensures { result
-        ≡ key_of ring.now (packet interest.now).signature_type (packet interest.now).locator }
+        ≡ located_key ring.now (interest_seen interest.now).signature_type (interest_seen interest.now).locator }
 {
     match (interest.signature_type, &interest.locator) {
         (Some(SIGNATURE_HMAC_WITH_SHA256), Some(name)) => ring.find(name.octets()),

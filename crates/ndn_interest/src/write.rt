@@ -4,7 +4,7 @@ ghost use Rattle.ndn_tlv.specs.Types as standard;
 ghost use Rattle.ndn_tlv.specs.Spelling.{head};
 ghost use Rattle.ndn_name.specs.Names.{encoding};
 ghost use Rattle.ndn_packet.specs.Outer.{packet_limit};
-ghost use Rattle.ndn_interest.specs.WrittenInterest.{written_flag, written_plain, written_parameters, written_digested, written_interest, with_digest};
+ghost use Rattle.ndn_interest.specs.WrittenInterest.{written_flag, written_plain, written_signed_parameters, written_digested, written_interest, with_digest};
 
 use ndn_name::{Name, PacketWriteFault};
 use ndn_packet::{
@@ -98,7 +98,7 @@ fn name_len(name: &Name) -> usize
 // How many octets what the parameters digest is of has, up to the greatest `usize`.
 fn digested_len(parameters: &[u8], key_name: &Name) -> usize
     ensures { result
-        ≡ min (length (written_parameters parameters.now key_name.now) + 34) usize.MAX }
+        ≡ min (length (written_signed_parameters parameters.now key_name.now) + 34) usize.MAX }
 {
     let info = element_len(types::INTEREST_SIGNATURE_INFO, signature_info_len(key_name));
     let around = info + DIGEST_ELEMENT_LEN;
@@ -114,7 +114,7 @@ fn write_parts(
     key_name: &Name,
     key: &[u8],
 ) -> Result<Vec<u8>, AllocError>
-    requires { length (written_parameters parameters.now key_name.now) + 34 ≤ packet_limit }
+    requires { length (written_signed_parameters parameters.now key_name.now) + 34 ≤ packet_limit }
     ensures { IfOk result
         (λ octets. octets.items ≡ written_interest name.now parameters.now key_name.now key.now) }
 {

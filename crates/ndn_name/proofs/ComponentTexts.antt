@@ -13,8 +13,8 @@ use Rattle.ndn_name.specs.declared.uri_form.Form.{Form}
 use Rattle.ndn_name.specs.declared.uri_form.Form.TheVariants.{Digest, Number, Escaped}
 use Rattle.ndn_name.specs.Names.{Component}
 use Rattle.ndn_name.specs.Uri.{is_unreserved, IsOctetText, plain, escape, IsEscaped, guarded, IsValueText, IsDigits, headed, IsComponentText, generic, typed, implicit_digest, parameters_digest, segment, version, sequence}
-use Rattle.ndn_name.specs.UriVerdict.{Leaves}
-use Rattle.ndn_name.specs.UriReading.{FailsIn, HasNoHead, IsHead, IsTail, Lacks, Reads}
+use Rattle.ndn_name.specs.UriVerdict.{LeavesLanguage}
+use Rattle.ndn_name.specs.UriReading.{FailsIn, HasNoHead, IsHead, IsTail, LacksOctet, ReadsText}
 use Rattle.ndn_name.proofs.Escapes.{escaped-append, escaped-one}
 use Rattle.ndn_name.proofs.Values.{IsSomeValueText, value-other, letter_behind}
 use Rattle.ndn_name.proofs.Separators.{lacks-append, lacks-test, lacks-separator, split-same, cut}
@@ -66,33 +66,33 @@ component-headed (Escaped typ) c head tail h t =
 
 -- ---- what does not stand in a text
 
-escaped-lacks : (s : ℕ) (octets text : List ℕ) → is_unreserved s ≡ false → 16 ≤ digit_value s → s ≢ 37 → IsEscaped octets text → Lacks s text
-escaped-lacks s [] text reserved large other h = let P : List ℕ → Type 0 = λ t. Lacks s t in subst P (sym h) tt
+escaped-lacks : (s : ℕ) (octets text : List ℕ) → is_unreserved s ≡ false → 16 ≤ digit_value s → s ≢ 37 → IsEscaped octets text → LacksOctet s text
+escaped-lacks s [] text reserved large other h = let P : List ℕ → Type 0 = λ t. LacksOctet s t in subst P (sym h) tt
 escaped-lacks s (o ∷ octets) text reserved large other h =
-    let P : List ℕ → Type 0 = λ t. Lacks s t in
+    let P : List ℕ → Type 0 = λ t. LacksOctet s t in
     subst P (sym h.2) (lacks-append s h.0 h.1 (first h.0 h.3) (escaped-lacks s octets h.1 reserved large other h.4)) where
       digit : (d : ℕ) → digit_value d < 16 → d ≢ s
       digit d small e = absurd (omega (arith, ap digit_value e, small, large))
 
-      first : (t : List ℕ) → IsOctetText o t → Lacks s t
+      first : (t : List ℕ) → IsOctetText o t → LacksOctet s t
       first t (plain k e) =
-          let Q : List ℕ → Type 0 = λ x. Lacks s x in
+          let Q : List ℕ → Type 0 = λ x. LacksOctet s x in
           let apart : o ≢ s = λ g. let never : true ≡ false = sym k ∙ ap is_unreserved g ∙ reserved in absurd cc in
           subst Q (sym e) (apart, tt)
       first t (escape high low k e) =
-          let Q : List ℕ → Type 0 = λ x. Lacks s x in
+          let Q : List ℕ → Type 0 = λ x. LacksOctet s x in
           subst Q (sym e) (λ g. other (sym g), (digit high k.0, (digit low k.1, tt)))
 
-digits-lacks : (s : ℕ) (octets text : List ℕ) → 16 ≤ digit_value s → IsDigits octets text → Lacks s text
-digits-lacks s [] text large h = let P : List ℕ → Type 0 = λ t. Lacks s t in subst P (sym h) tt
+digits-lacks : (s : ℕ) (octets text : List ℕ) → 16 ≤ digit_value s → IsDigits octets text → LacksOctet s text
+digits-lacks s [] text large h = let P : List ℕ → Type 0 = λ t. LacksOctet s t in subst P (sym h) tt
 digits-lacks s (o ∷ octets) text large h =
-    let P : List ℕ → Type 0 = λ t. Lacks s t in
+    let P : List ℕ → Type 0 = λ t. LacksOctet s t in
     let digit : (d : ℕ) → digit_value d < 16 → d ≢ s = λ d small e. absurd (omega (arith, ap digit_value e, small, large)) in
     subst P (sym h.3) (digit h.0 h.4.0, (digit h.1 h.4.1, digits-lacks s octets h.2 large h.5))
 
-decimal-lacks : (s n : ℕ) (text : List ℕ) → is_unreserved s ≡ false → n < 2 ^ 64 → text ≡ decimal n → Lacks s text
+decimal-lacks : (s n : ℕ) (text : List ℕ) → is_unreserved s ≡ false → n < 2 ^ 64 → text ≡ decimal n → LacksOctet s text
 decimal-lacks s n text reserved fits e =
-    let P : List ℕ → Type 0 = λ t. Lacks s t in
+    let P : List ℕ → Type 0 = λ t. LacksOctet s t in
     subst P (sym e) (lacks-test s is_unreserved (decimal n) reserved (all_digits_unreserved (decimal n) (decimal_is_IsNumeral n fits).0.1))
 
 equals_reserved : is_unreserved 61 ≡ false
@@ -101,24 +101,24 @@ equals_reserved = refl
 slash_reserved : is_unreserved 47 ≡ false
 slash_reserved = refl
 
-tail-lacks : (form : Form) (c : Component) (tail : List ℕ) → IsTail form c tail → Lacks 47 tail
+tail-lacks : (form : Form) (c : Component) (tail : List ℕ) → IsTail form c tail → LacksOctet 47 tail
 tail-lacks (Digest typ) c tail h = digits-lacks 47 c.1 tail (omega arith) h.1.1
 tail-lacks (Number typ) c tail h = decimal-lacks 47 h.1.0 tail slash_reserved (omega (arith, h.1.2.0)) h.1.2.1
 tail-lacks (Escaped typ) c tail h = escaped-lacks 47 (guarded c.1) tail slash_reserved (omega arith) (omega arith) h.1
 
 -- the text of a component has no slash
-pub component-lacks : (c : Component) (text : List ℕ) → IsComponentText c text → Lacks 47 text
+pub component-lacks : (c : Component) (text : List ℕ) → IsComponentText c text → LacksOctet 47 text
 component-lacks c text h =
     elim (component-cases c text h) [
       | inl a ↦ escaped-lacks 47 (guarded c.1) text slash_reserved (omega arith) (omega arith) a.1
       | inr a ↦
-          let P : List ℕ → Type 0 = λ t. Lacks 47 t in
+          let P : List ℕ → Type 0 = λ t. LacksOctet 47 t in
           subst P (sym a.split) (lacks-append 47 a.head (61 ∷ a.tail) (head-lacks 47 a.form a.head slash_reserved a.is_head) (omega arith, tail-lacks a.form c a.tail a.is_tail))
     ]
 
 pub no_equals : (value text head tail : List ℕ) → IsValueText value text → text ≡ headed head tail → ⊥
 no_equals value text head tail h e =
-    let P : List ℕ → Type 0 = λ t. Lacks 61 t in
+    let P : List ℕ → Type 0 = λ t. LacksOctet 61 t in
     lacks-separator 61 head tail (subst P e (escaped-lacks 61 (guarded value) text equals_reserved (omega arith) (omega arith) h))
 
 -- what follows a head
@@ -136,16 +136,16 @@ component-tail form c head tail is_head h =
 
 -- ---- where texts are left
 
-tail_leaves : (form : Form) (head tail : List ℕ) (k : ℕ) → IsHead form head → Leaves (λ t. (c : Component) × IsTail form c t) tail k → Leaves IsSomeComponent (headed head tail) (length (head ++ 61 ∷ []) + k)
+tail_leaves : (form : Form) (head tail : List ℕ) (k : ℕ) → IsHead form head → LeavesLanguage (λ t. (c : Component) × IsTail form c t) tail k → LeavesLanguage IsSomeComponent (headed head tail) (length (head ++ 61 ∷ []) + k)
 tail_leaves form head tail k is_head h =
-    let P : List ℕ → Type 0 = λ t. Leaves IsSomeComponent t (length (head ++ 61 ∷ []) + k) in
+    let P : List ℕ → Type 0 = λ t. LeavesLanguage IsSomeComponent t (length (head ++ 61 ∷ []) + k) in
     subst P (regroup tail) (Leaves-behind (λ t. (c : Component) × IsTail form c t) IsSomeComponent (head ++ 61 ∷ []) tail k (λ t m. (m.0, subst (IsComponentText m.0) (sym (regroup t)) (component-headed form m.0 head t is_head m.1))) (λ t m. (m.0, component-tail form m.0 head t is_head (subst (IsComponentText m.0) (regroup t) m.1))) h) where
       regroup : (t : List ℕ) → (head ++ 61 ∷ []) ++ t ≡ headed head t
       regroup t = append_assoc head (61 ∷ []) t
 
 pub headed-fails : (form : Form) (at : ℕ) (head tail text : List ℕ) (f : NameFault) → IsHead form head → text ≡ headed head tail → FailsIn (IsTail form) (at + length head + 1) tail f → FailsIn IsComponentText at text f
 headed-fails form at head tail text (BadUri place) is_head e h =
-    let P : List ℕ → Type 0 = λ t. Leaves IsSomeComponent t (length (head ++ 61 ∷ []) + h.0) in
+    let P : List ℕ → Type 0 = λ t. LeavesLanguage IsSomeComponent t (length (head ++ 61 ∷ []) + h.0) in
     (length (head ++ 61 ∷ []) + h.0, omega (arith, h.1, length-append head (61 ∷ [])), subst P (sym e) (tail_leaves form head tail h.0 is_head h.2))
 headed-fails form at head tail text NoMemory is_head e h = h
 headed-fails form at head tail text NameTooLong is_head e h = h
@@ -165,7 +165,7 @@ head_value form head h =
     let whole = escaped-append head (97 ∷ []) head (97 ∷ []) (head_escaped head (head-unreserved form head h)) (escaped-one 97 (97 ∷ []) (plain refl refl)) in
     (head ++ 97 ∷ [], value-other (head ++ 97 ∷ []) (head ++ 97 ∷ []) whole (letter_behind head))
 
-plain_leaves : (text : List ℕ) (k : ℕ) → HasNoHead text → Leaves IsSomeValueText text k → Leaves IsSomeComponent text k
+plain_leaves : (text : List ℕ) (k : ℕ) → HasNoHead text → LeavesLanguage IsSomeValueText text k → LeavesLanguage IsSomeComponent text k
 plain_leaves text k none h = record {
   within = h.within;
   goes_on = (h.goes_on.0, ((8, h.goes_on.1.0), generic refl h.goes_on.1.1));
@@ -198,6 +198,6 @@ plain-fails at text (Tlv f) none h = h
 plain-fails at text (BadComponent p) none h = h
 plain-fails at text (BadDigestLength p) none h = h
 
-pub reads-headed : {X : Type 0} (view : X → Component) (form : Form) (at : ℕ) (head tail text : List ℕ) (r : Result X NameFault) → IsHead form head → text ≡ headed head tail → Reads view (IsTail form) (at + length head + 1) tail r → Reads view IsComponentText at text r
+pub reads-headed : {X : Type 0} (view : X → Component) (form : Form) (at : ℕ) (head tail text : List ℕ) (r : Result X NameFault) → IsHead form head → text ≡ headed head tail → ReadsText view (IsTail form) (at + length head + 1) tail r → ReadsText view IsComponentText at text r
 reads-headed view form at head tail text (Ok x) is_head e h = subst (IsComponentText (view x)) (sym e) (component-headed form (view x) head tail is_head h)
 reads-headed view form at head tail text (Err f) is_head e h = headed-fails form at head tail text f is_head e h

@@ -10,10 +10,10 @@ use Rattle.std.proofs.lemmas.Option.{option_and_then_some, none-some, same_Some,
 use Rattle.ndn_name.specs.declared.uri_form.Form.{Form}
 use Rattle.ndn_name.specs.declared.uri_form.Form.TheVariants.{Digest, Number, Escaped}
 use Rattle.ndn_name.specs.Names.{Component}
-use Rattle.ndn_name.specs.Uri.{IsComponentText, headed, IsValueText, generic, Part, IsPath, IsRooted, IsUri, name_in}
+use Rattle.ndn_name.specs.Uri.{IsComponentText, headed, IsValueText, generic, Part, IsPath, IsRooted, IsUri, name_of_parts}
 use Rattle.ndn_name.specs.UriVerdict.{HasUri}
-use Rattle.ndn_name.specs.UriReading.{HasNoHead, IsHead, IsTail, Lacks, tail_of_text}
-use Rattle.ndn_name.specs.UriText.{unescaped, value_of_text, digest_of_text, decimal_of_text, number_of_text, typed, typed_by, component_of_parts, cut_at, component_by, component_of_text, in_front, components_of_texts, name_of_path, behind, without_scheme, name_of_text}
+use Rattle.ndn_name.specs.UriReading.{HasNoHead, IsHead, IsTail, LacksOctet, tail_of_text}
+use Rattle.ndn_name.specs.UriText.{unescaped, value_of_text, digest_of_text, decimal_of_text, number_of_text, typed, typed_by, component_of_parts, cut_at, component_by, component_of_text, component_in_front, components_of_texts, name_of_path, behind_word, without_scheme, name_of_text}
 use Rattle.ndn_name.proofs.Heads.{head-lacks, head-same}
 use Rattle.ndn_name.proofs.ComponentTexts.{component-cases, component-headed, component-lacks, no_equals}
 use Rattle.ndn_name.proofs.PathTexts.{rooted_begins, rooted-path}
@@ -22,12 +22,12 @@ use Rattle.ndn_name.proofs.ComputedValues.{option_map_some, none_from, either, v
 -- ---- what stands before an equals sign
 
 -- the first separator of a text
-pub cut_at-splits : (s : ℕ) (front text : List ℕ) → Lacks s front → cut_at s (front ++ s ∷ text) ≡ Some (front, text)
+pub cut_at-splits : (s : ℕ) (front text : List ℕ) → LacksOctet s front → cut_at s (front ++ s ∷ text) ≡ Some (front, text)
 unfolding cut_at
 cut_at-splits s [] text h = rw (eq-eqb s s refl) refl
 cut_at-splits s (c ∷ front) text h = rw (ne_eqb c s h.0, cut_at-splits s front text h.1) refl
 
-pub cut_at-lacks : (s : ℕ) (text : List ℕ) → Lacks s text → cut_at s text ≡ None
+pub cut_at-lacks : (s : ℕ) (text : List ℕ) → LacksOctet s text → cut_at s text ≡ None
 unfolding cut_at
 cut_at-lacks s [] h = refl
 cut_at-lacks s (c ∷ text) h = rw (ne_eqb c s h.0, cut_at-lacks s text h.1) refl
@@ -35,7 +35,7 @@ cut_at-lacks s (c ∷ text) h = rw (ne_eqb c s h.0, cut_at-lacks s text h.1) ref
 -- what is cut
 pub record IsCut (s : ℕ) (text front rest : List ℕ) : Type 0 where
   pub split : text ≡ front ++ s ∷ rest
-  pub lacks : Lacks s front
+  pub lacks : LacksOctet s front
 
 cut_step : (s c : ℕ) (text front rest : List ℕ)
     → ((f r : List ℕ) → cut_at s text ≡ Some (f, r) → IsCut s text f r)
@@ -48,7 +48,7 @@ cut_step s c text front rest behind_it h = by_test (eqb c s) refl where
       record {
         split = ap (λ (n : ℕ). n ∷ text) (eqb-true c s e) ∙ ap (λ (t : List ℕ). s ∷ t) same.1
             ∙ ap (λ (f : List ℕ). f ++ s ∷ rest) same.0;
-        lacks = subst (λ (f : List ℕ). Lacks s f) same.0 tt;
+        lacks = subst (λ (f : List ℕ). LacksOctet s f) same.0 tt;
       }
   by_test false e =
       let m = option_map_some (λ (p : List ℕ × List ℕ). (c ∷ p.0, p.1)) (cut_at s text) (front, rest) (rw e at h) in
@@ -58,7 +58,7 @@ cut_step s c text front rest behind_it h = by_test (eqb c s) refl where
       record {
         split = ap (λ (t : List ℕ). c ∷ t) inner.split ∙ ap (λ (f : List ℕ). f ++ s ∷ m.0.1) front_is
             ∙ ap (λ (r : List ℕ). front ++ s ∷ r) rest_is;
-        lacks = subst (λ (f : List ℕ). Lacks s f) front_is (eqb-false c s e, inner.lacks);
+        lacks = subst (λ (f : List ℕ). LacksOctet s f) front_is (eqb-false c s e, inner.lacks);
       }
 
 pub is_cut : (s : ℕ) (text front rest : List ℕ) → cut_at s text ≡ Some (front, rest) → IsCut s text front rest
@@ -221,11 +221,11 @@ is_component text c h = by_cut (cut_at 61 text) refl where
 abbrev pub is_slash : ℕ → Bool
 is_slash o = eqb o 47
 
-pub split-lacks : (front : List ℕ) → Lacks 47 front → slice_split is_slash front ≡ front ∷ []
+pub split-lacks : (front : List ℕ) → LacksOctet 47 front → slice_split is_slash front ≡ front ∷ []
 split-lacks [] h = refl
 split-lacks (c ∷ front) h = rw (ne_eqb c 47 h.0, split-lacks front h.1) refl
 
-pub split-slash : (front rest : List ℕ) → Lacks 47 front
+pub split-slash : (front rest : List ℕ) → LacksOctet 47 front
     → slice_split is_slash (front ++ 47 ∷ rest) ≡ front ∷ slice_split is_slash rest
 split-slash [] rest h = refl
 split-slash (c ∷ front) rest h = rw (ne_eqb c 47 h.0, split-slash front rest h.1) refl
@@ -244,7 +244,7 @@ unfolding components_of_texts
 no_texts = refl
 
 path_is : (parts : List Part) (at : ℕ) (part : Part) (path : List ℕ) → IsPath at (part ∷ parts) (47 ∷ path)
-    → components_of_texts (slice_split is_slash path) ≡ Some (name_in (part ∷ parts))
+    → components_of_texts (slice_split is_slash path) ≡ Some (name_of_parts (part ∷ parts))
 path_is [] at part path h =
     let whole = h.2 in
     let split : path ≡ h.0 ++ h.1 = cc in
@@ -262,7 +262,7 @@ path_is (q ∷ parts) at part path h =
     let parted : path ≡ h.0 ++ 47 ∷ behind_it = split ∙ ap (λ (t : List ℕ). h.0 ++ t) others.2 in
     ap (λ (t : List ℕ). components_of_texts (slice_split is_slash t)) parted
     ∙ ap components_of_texts (split-slash h.0 behind_it (component-lacks part.1 h.0 h.4))
-    ∙ texts-cons part.1 (name_in (q ∷ parts)) h.0 (slice_split is_slash behind_it) (component_is part.1 h.0 h.4)
+    ∙ texts-cons part.1 (name_of_parts (q ∷ parts)) h.0 (slice_split is_slash behind_it) (component_is part.1 h.0 h.4)
     (path_is parts (at + 1 + length h.0) q behind_it there)
 
 -- texts with a slash before each
@@ -293,14 +293,14 @@ slashed-split (c ∷ path) = step c path (slashed-split path) where
 pub record IsNamed (L : List Part → Type 0) (name : List Component) : Type 0 where
   pub parts : List Part
   pub is : L parts
-  pub name_is : name ≡ name_in parts
+  pub name_is : name ≡ name_of_parts parts
 
 texts-named : (texts : List (List ℕ)) (at : ℕ) (name : List Component) → components_of_texts texts ≡ Some name
     → IsNamed (λ parts. IsPath at parts (slashed texts)) name
 unfolding components_of_texts
 texts-named [] at name h = record { parts = []; is = refl; name_is = sym (same_Some [] name h) }
 texts-named (text ∷ texts) at name h =
-    option_and_then_some (λ (c : Component). in_front c (components_of_texts texts)) (component_of_text text) name h
+    option_and_then_some (λ (c : Component). component_in_front c (components_of_texts texts)) (component_of_text text) name h
     (λ c e k.
     let m = option_map_some (λ (others : List Component). c ∷ others) (components_of_texts texts) name k in
     let others = texts-named texts (at + 1 + length text) m.0 m.1 in
@@ -323,23 +323,23 @@ path-named path at name h =
 
 -- ---- the front of a text
 
-pub behind-append : (word path : List ℕ) → behind word (word ++ path) ≡ Some path
-unfolding behind
+pub behind-append : (word path : List ℕ) → behind_word word (word ++ path) ≡ Some path
+unfolding behind_word
 behind-append [] path = refl
 behind-append (c ∷ word) path = rw (eq-eqb c c refl) (behind-append word path)
 
-pub is_behind : (word text path : List ℕ) → behind word text ≡ Some path → text ≡ word ++ path
-unfolding behind
+pub is_behind : (word text path : List ℕ) → behind_word word text ≡ Some path → text ≡ word ++ path
+unfolding behind_word
 is_behind [] text path h = same_Some text path h
 is_behind (c ∷ word) [] path h = absurd (none-some path h)
 is_behind (c ∷ word) (d ∷ text) path h =
-    either (eqb c d) (behind word text) None path h
+    either (eqb c d) (behind_word word text) None path h
     (λ e k. ap (λ (n : ℕ). n ∷ text) (sym (eqb-true c d e)) ∙ ap (λ (t : List ℕ). c ∷ t) (is_behind word text path k))
     (λ k. absurd (none-some path k))
 
 -- the name behind the scheme
 abbrev pub rooted_name : List ℕ → Option (List Component)
-rooted_name text = option_and_then name_of_path (behind (codes "/") text)
+rooted_name text = option_and_then name_of_path (behind_word (codes "/") text)
 
 no_component : (c : Component) → component_of_text [] ≡ Some c → ⊥
 unfolding component_of_text cut_at unescaped
@@ -351,8 +351,8 @@ some_path [] rest some = absurd (some refl)
 some_path (c ∷ first) rest some = refl
 
 rooted_is : (at : ℕ) (parts : List Part) (text : List ℕ) → IsRooted at parts text
-    → rooted_name text ≡ Some (name_in parts)
-unfolding behind
+    → rooted_name text ≡ Some (name_of_parts parts)
+unfolding behind_word
 rooted_is at [] text h = rw h refl
 rooted_is at (part ∷ parts) text h =
     let path = h.0 ++ h.1 in
@@ -371,7 +371,7 @@ root-named at (c ∷ path) name h =
 rooted-named : (at : ℕ) (text : List ℕ) (name : List Component) → rooted_name text ≡ Some name
     → IsNamed (λ parts. IsRooted at parts text) name
 rooted-named at text name h =
-    option_and_then_some name_of_path (behind (codes "/") text) name h
+    option_and_then_some name_of_path (behind_word (codes "/") text) name h
     (λ path e k.
     let n = root-named at path name k in
     record {
@@ -383,10 +383,10 @@ rooted-named at text name h =
 -- ---- texts
 
 no_scheme : (rest : List ℕ) → without_scheme (47 ∷ rest) ≡ 47 ∷ rest
-unfolding behind
+unfolding behind_word
 no_scheme rest = refl
 
-uri_is : (parts : List Part) (text : List ℕ) → IsUri parts text → name_of_text text ≡ Some (name_in parts)
+uri_is : (parts : List Part) (text : List ℕ) → IsUri parts text → name_of_text text ≡ Some (name_of_parts parts)
 unfolding name_of_text
 uri_is parts text h =
     elim h [
@@ -402,8 +402,8 @@ uri_is parts text h =
 
 is_uri : (text : List ℕ) (name : List Component) → name_of_text text ≡ Some name → HasUri name text
 unfolding name_of_text
-is_uri text name h = by_scheme (behind (codes "ndn:") text) refl where
-  by_scheme : (path : Option (List ℕ)) → behind (codes "ndn:") text ≡ path → HasUri name text
+is_uri text name h = by_scheme (behind_word (codes "ndn:") text) refl where
+  by_scheme : (path : Option (List ℕ)) → behind_word (codes "ndn:") text ≡ path → HasUri name text
   by_scheme None e =
       let n = rooted-named 0 text name (rw e at h) in
       (n.parts, inl n.is, n.name_is)

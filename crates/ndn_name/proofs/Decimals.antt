@@ -7,7 +7,7 @@ use Rattle.std.proofs.lemmas.Bool.{cases_lt, ltb-true, ltb-false, leb-true, leb-
 use Rattle.std.proofs.lemmas.List.{append-nil}
 use Rattle.std.proofs.lemmas.Fmt.{decimal_is_IsNumeral, decimal_digit, decimal_step, decimal_nonempty, first_decimal, decimal_injective}
 use Rattle.ndn_name.specs.Uri.{IsDecimal}
-use Rattle.ndn_name.specs.UriVerdict.{Leaves}
+use Rattle.ndn_name.specs.UriVerdict.{LeavesLanguage}
 use Rattle.ndn_name.specs.UriReading.{with_digit}
 use Rattle.ndn_name.proofs.LeavesLemmas.{Leaves-behind, Leaves-first, Leaves-end}
 
@@ -125,15 +125,15 @@ goes_on : (most : ℕ) (number : Option ℕ) (w : List ℕ) → SoFar most numbe
 goes_on most None w so_far = (decimal 0, (0, (omega arith, ap (λ (t : List ℕ). t ++ decimal 0) so_far)))
 goes_on most (Some n) w so_far = ([], (n, (so_far.0, append-nil w ∙ so_far.1)))
 
-pub longer-none : (most : ℕ) (number : Option ℕ) (w : List ℕ) (c : ℕ) (rest : List ℕ) → most < 2 ^ 64 → SoFar most number w → with_digit most number c ≡ None → Leaves (IsSomeDecimal most) (w ++ c ∷ rest) (length w)
+pub longer-none : (most : ℕ) (number : Option ℕ) (w : List ℕ) (c : ℕ) (rest : List ℕ) → most < 2 ^ 64 → SoFar most number w → with_digit most number c ≡ None → LeavesLanguage (IsSomeDecimal most) (w ++ c ∷ rest) (length w)
 longer-none most number w c rest fits so_far e =
-    let P : ℕ → Type 0 = λ k. Leaves (IsSomeDecimal most) (w ++ c ∷ rest) k in
+    let P : ℕ → Type 0 = λ k. LeavesLanguage (IsSomeDecimal most) (w ++ c ∷ rest) k in
     let here : length w + 0 ≡ length w = omega arith in
     subst P here (Leaves-behind (λ t. IsSomeDecimal most (w ++ t)) (IsSomeDecimal most) w (c ∷ rest) 0 (λ t m. m) (λ t m. m) (Leaves-first (λ t. IsSomeDecimal most (w ++ t)) c rest (goes_on most number w so_far) (λ more m. stuck most number w c fits so_far e more m.0 m.1.0 m.1.1)))
 
-pub decimal-empty : (most : ℕ) (text : List ℕ) → most < 2 ^ 64 → text ≡ [] → Leaves (IsSomeDecimal most) text 0
+pub decimal-empty : (most : ℕ) (text : List ℕ) → most < 2 ^ 64 → text ≡ [] → LeavesLanguage (IsSomeDecimal most) text 0
 decimal-empty most text fits e =
-    let P : List ℕ → Type 0 = λ t. Leaves (IsSomeDecimal most) t 0 in
+    let P : List ℕ → Type 0 = λ t. LeavesLanguage (IsSomeDecimal most) t 0 in
     subst P (sym e) (Leaves-end (IsSomeDecimal most) (decimal 0, (0, (omega arith, refl))) (λ m. absurd (omega (arith, m.1.0, ap length m.1.1, decimal_nonempty m.0 (omega (arith, m.1.0))))))
 
 pub decimal-same : (most m n : ℕ) (text : List ℕ) → most < 2 ^ 64 → IsDecimal most m text → IsDecimal most n text → m ≡ n

@@ -4,7 +4,7 @@ use Rattle.std.specs.Char.{digit_value}
 use Rattle.std.proofs.lemmas.List.{append-nil}
 use Rattle.ndn_name.specs.declared.name_fault.NameFault.{NameFault}
 use Rattle.ndn_name.specs.Uri.{IsDigits, IsDigestText}
-use Rattle.ndn_name.specs.UriVerdict.{Leaves}
+use Rattle.ndn_name.specs.UriVerdict.{LeavesLanguage}
 use Rattle.ndn_name.specs.UriReading.{FailsIn, pair_at}
 use Rattle.ndn_name.proofs.Escapes.{TakesPair, BeginsWithPair, pair-leaves, pair-same}
 use Rattle.ndn_name.proofs.LeavesLemmas.{Leaves-behind, Leaves-first}
@@ -87,14 +87,14 @@ pub digest-pair_fails : (at : ℕ) (a front rest text : List ℕ) (f : NameFault
 digest-pair_fails at a front rest text f read short split e =
     let p = pair-leaves (Continues front) (begins_digits a front read short) (at + (length text - length rest)) rest f e in
     let there : at + (length text - length rest) + p.place ≡ at + (length front + p.place) = omega (arith, ap length split, length-append front rest) in
-    let P : List ℕ → Type 0 = λ t. Leaves IsSomeDigest t (length front + p.place) in
+    let P : List ℕ → Type 0 = λ t. LeavesLanguage IsSomeDigest t (length front + p.place) in
     let Q : NameFault → Type 0 = λ x. FailsIn IsDigestText at text x in
     subst Q p.fault (length front + p.place, there, subst P split (Leaves-behind (Continues front) IsSomeDigest front rest p.place (λ t m. m) (λ t m. m) p.leaves))
 
 -- octets behind a whole digest
-pub digest-long : (a front text : List ℕ) (c : ℕ) (rest : List ℕ) → IsDigits a front → length a ≡ 32 → front ++ c ∷ rest ≡ text → Leaves IsSomeDigest text (length front + 0)
+pub digest-long : (a front text : List ℕ) (c : ℕ) (rest : List ℕ) → IsDigits a front → length a ≡ 32 → front ++ c ∷ rest ≡ text → LeavesLanguage IsSomeDigest text (length front + 0)
 digest-long a front text c rest read long split =
-    let P : List ℕ → Type 0 = λ t. Leaves IsSomeDigest t (length front + 0) in
+    let P : List ℕ → Type 0 = λ t. LeavesLanguage IsSomeDigest t (length front + 0) in
     let whole : IsSomeDigest (front ++ []) = (a ++ [], (omega (arith, long, length-append a []), digits-append a [] front [] read refl)) in
     subst P split (Leaves-behind (Continues front) IsSomeDigest front (c ∷ rest) 0 (λ t m. m) (λ t m. m) (Leaves-first (Continues front) c rest ([], whole) (λ more m. none more (digits-front a m.0 front (c ∷ more) read m.1.1) m.1.0))) where
       empty : (t others : List ℕ) → IsDigits others t → length others ≡ 0 → length t ≡ 0

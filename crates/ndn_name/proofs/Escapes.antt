@@ -7,7 +7,7 @@ use Rattle.ndn_tlv.specs.Listing.{◌>>=◌}
 use Rattle.ndn_name.specs.declared.name_fault.NameFault.{NameFault}
 use Rattle.ndn_name.specs.declared.name_fault.NameFault.TheVariants.{BadUri}
 use Rattle.ndn_name.specs.Uri.{is_unreserved, IsPair, IsOctetText, plain, escape, IsEscaped}
-use Rattle.ndn_name.specs.UriVerdict.{Leaves}
+use Rattle.ndn_name.specs.UriVerdict.{LeavesLanguage}
 use Rattle.ndn_name.specs.UriReading.{digit_at, pair_at, octet_at}
 use Rattle.ndn_name.proofs.Encodings.{bind_ok, done, ok_is}
 use Rattle.ndn_name.proofs.LeavesLemmas.{Leaves-behind, Leaves-first, Leaves-end}
@@ -95,9 +95,9 @@ pub record BeginsWithPair (L : List ℕ → Type 0) : Type 0 where
 pub record FailsAt (L : List ℕ → Type 0) (at : ℕ) (text : List ℕ) (f : NameFault) : Type 0 where
   pub place : ℕ
   pub fault : BadUri (at + place) ≡ f
-  pub leaves : Leaves L text place
+  pub leaves : LeavesLanguage L text place
 
-first_digit : (L : List ℕ → Type 0) → BeginsWithPair L → (text : List ℕ) → NoDigit text → Leaves L text 0
+first_digit : (L : List ℕ → Type 0) → BeginsWithPair L → (text : List ℕ) → NoDigit text → LeavesLanguage L text 0
 first_digit L begins [] none = Leaves-end L (let m = begins.goes 48 48 (omega arith) (omega arith) in (48 ∷ 48 ∷ m.0, m.1)) (λ m. let o = begins.only [] m in let e = o.3 in absurd cc)
 first_digit L begins (c ∷ text) none =
     Leaves-first L c text (let m = begins.goes 48 48 (omega arith) (omega arith) in (48 ∷ 48 ∷ m.0, m.1)) (λ more m.
@@ -107,7 +107,7 @@ first_digit L begins (c ∷ text) none =
     let P : ℕ → Type 0 = λ d. digit_value d < 16 in
     none (subst P same o.4))
 
-second_digit : (L : List ℕ → Type 0) → BeginsWithPair L → (c : ℕ) → digit_value c < 16 → (text : List ℕ) → NoDigit text → Leaves (λ t. L (c ∷ t)) text 0
+second_digit : (L : List ℕ → Type 0) → BeginsWithPair L → (c : ℕ) → digit_value c < 16 → (text : List ℕ) → NoDigit text → LeavesLanguage (λ t. L (c ∷ t)) text 0
 second_digit L begins c small [] none =
     Leaves-end (λ t. L (c ∷ t)) (let m = begins.goes c 48 small (omega arith) in (48 ∷ m.0, m.1)) (λ m. let o = begins.only (c ∷ []) m in let e = o.3 in absurd cc)
 second_digit L begins c small (d ∷ text) none =
@@ -132,7 +132,7 @@ pair-leaves L begins at text f e =
             | inl b ↦
                 let none = digit-fails (at + 1) a.0.1 f b in
                 let c = high.digit in
-                let P : List ℕ → Type 0 = λ t. Leaves L t 1 in
+                let P : List ℕ → Type 0 = λ t. LeavesLanguage L t 1 in
                 record {
                   place = 1;
                   fault = none.0;
@@ -248,7 +248,7 @@ octet-leaves at c text f e =
       | inl a ↦
           let p = pair-leaves (λ t. IsEscapedText (37 ∷ t)) begins_escape (at + 1) text f a.1 in
           let k : c ≡ 37 = eqb-true c 37 a.0 in
-          let P : ℕ → Type 0 = λ n. Leaves IsEscapedText (n ∷ text) (1 + p.place) in
+          let P : ℕ → Type 0 = λ n. LeavesLanguage IsEscapedText (n ∷ text) (1 + p.place) in
           let there : at + (1 + p.place) ≡ at + 1 + p.place = omega arith in
           record {
             place = 1 + p.place;
@@ -306,7 +306,7 @@ octet-takes at (c ∷ text) x e =
     ]
 
 -- behind what was read
-pub escaped-leaves : (a front rest text : List ℕ) (k : ℕ) → IsEscaped a front → front ++ rest ≡ text → Leaves IsEscapedText rest k → Leaves IsEscapedText text (length front + k)
+pub escaped-leaves : (a front rest text : List ℕ) (k : ℕ) → IsEscaped a front → front ++ rest ≡ text → LeavesLanguage IsEscapedText rest k → LeavesLanguage IsEscapedText text (length front + k)
 escaped-leaves a front rest text k read split h =
-    let P : List ℕ → Type 0 = λ t. Leaves IsEscapedText t (length front + k) in
+    let P : List ℕ → Type 0 = λ t. LeavesLanguage IsEscapedText t (length front + k) in
     subst P split (Leaves-behind IsEscapedText IsEscapedText front rest k (λ t m. (a ++ m.0, escaped-append a m.0 front t read m.1)) (λ t m. let b = escaped-front a m.0 front t read m.1 in (b.others, b.read)) h)

@@ -10,7 +10,7 @@ use Rattle.std.proofs.lemmas.Fmt.{decimal_is_IsNumeral, decimal_injective, decim
 use Rattle.ndn_name.specs.declared.uri_form.Form.{Form}
 use Rattle.ndn_name.specs.declared.uri_form.Form.TheVariants.{Digest, Number, Escaped}
 use Rattle.ndn_name.specs.Uri.{is_unreserved, IsDecimal}
-use Rattle.ndn_name.specs.UriReading.{HasNoHead, IsHead, keyword_of, Lacks}
+use Rattle.ndn_name.specs.UriReading.{HasNoHead, IsHead, keyword_of, LacksOctet}
 use Rattle.ndn_name.proofs.Decimals.{digit_char}
 use Rattle.ndn_name.proofs.Separators.{lacks-test, lacks-separator, split-same}
 
@@ -109,7 +109,7 @@ head-unreserved (Number typ) head h =
 head-unreserved (Escaped typ) head h =
     of_word head (decimal typ) (all_digits_unreserved (decimal typ) (decimal_is_IsNumeral typ (omega (arith, h.1.0))).0.1) h.1.1
 
-pub head-lacks : (s : ℕ) (form : Form) (head : List ℕ) → is_unreserved s ≡ false → IsHead form head → Lacks s head
+pub head-lacks : (s : ℕ) (form : Form) (head : List ℕ) → is_unreserved s ≡ false → IsHead form head → LacksOctet s head
 head-lacks s form head none h = lacks-test s is_unreserved head none (head-unreserved form head h)
 
 -- ---- a head is of one form
@@ -184,10 +184,10 @@ no_head head none no_type form h =
 
 -- ---- texts without a head
 
-pub lacks_head : (text : List ℕ) → Lacks 61 text → HasNoHead text
-lacks_head text h form head tail is_head e = let P : List ℕ → Type 0 = λ t. Lacks 61 t in lacks-separator 61 head tail (subst P e h)
+pub lacks_head : (text : List ℕ) → LacksOctet 61 text → HasNoHead text
+lacks_head text h form head tail is_head e = let P : List ℕ → Type 0 = λ t. LacksOctet 61 t in lacks-separator 61 head tail (subst P e h)
 
-pub other_head : (text front rest : List ℕ) → text ≡ front ++ 61 ∷ rest → Lacks 61 front → ((form : Form) → IsHead form front → ⊥) → HasNoHead text
+pub other_head : (text front rest : List ℕ) → text ≡ front ++ 61 ∷ rest → LacksOctet 61 front → ((form : Form) → IsHead form front → ⊥) → HasNoHead text
 other_head text front rest split lacks none form head tail is_head e =
     let same = split-same 61 front head rest tail lacks (head-lacks 61 form head refl is_head) (sym split ∙ e) in
     let P : List ℕ → Type 0 = λ x. IsHead form x in

@@ -3,11 +3,11 @@ use Rattle.std.proofs.Common.{◌≡◌, ℕ, ◌+◌, List, [], ◌∷◌, ◌+
 use Rattle.std.proofs.Math.Seq.{take-append-add, take-length}
 use Rattle.ndn_name.specs.declared.name_fault.NameFault.{NameFault}
 use Rattle.ndn_name.specs.declared.name_fault.NameFault.TheVariants.{Tlv, BadComponent, BadDigestLength, NameTooLong, BadUri, NoMemory}
-use Rattle.ndn_name.specs.UriVerdict.{Leaves}
+use Rattle.ndn_name.specs.UriVerdict.{LeavesLanguage}
 use Rattle.ndn_name.specs.UriReading.{FailsIn}
 
 -- languages that have the same texts
-pub Leaves-same : (L M : List ℕ → Type 0) (text : List ℕ) (k : ℕ) → ((t : List ℕ) → L t → M t) → ((t : List ℕ) → M t → L t) → Leaves L text k → Leaves M text k
+pub Leaves-same : (L M : List ℕ → Type 0) (text : List ℕ) (k : ℕ) → ((t : List ℕ) → L t → M t) → ((t : List ℕ) → M t → L t) → LeavesLanguage L text k → LeavesLanguage M text k
 Leaves-same L M text k there back h = record {
   within = h.within;
   goes_on = (h.goes_on.0, there (take k text ++ h.goes_on.0) h.goes_on.1);
@@ -16,7 +16,7 @@ Leaves-same L M text k there back h = record {
 }
 
 -- what follows a front leaves what may follow it
-pub Leaves-behind : (L M : List ℕ → Type 0) (front text : List ℕ) (k : ℕ) → ((t : List ℕ) → L t → M (front ++ t)) → ((t : List ℕ) → M (front ++ t) → L t) → Leaves L text k → Leaves M (front ++ text) (length front + k)
+pub Leaves-behind : (L M : List ℕ → Type 0) (front text : List ℕ) (k : ℕ) → ((t : List ℕ) → L t → M (front ++ t)) → ((t : List ℕ) → M (front ++ t) → L t) → LeavesLanguage L text k → LeavesLanguage M (front ++ text) (length front + k)
 Leaves-behind L M front text k there back h = record {
   within = omega (arith, h.within, length-append front text);
   goes_on = (h.goes_on.0, subst M (regroup k h.goes_on.0) (there (take k text ++ h.goes_on.0) h.goes_on.1));
@@ -30,7 +30,7 @@ Leaves-behind L M front text k there back h = record {
   one_more more = let e : length front + (k + 1) ≡ length front + k + 1 = omega arith in regroup (k + 1) more ∙ ap (λ (n : ℕ). take n (front ++ text) ++ more) e
 
 -- at the first octet
-pub Leaves-first : (L : List ℕ → Type 0) (c : ℕ) (text : List ℕ) → (more : List ℕ) × L more → ((more : List ℕ) → L (c ∷ more) → ⊥) → Leaves L (c ∷ text) 0
+pub Leaves-first : (L : List ℕ → Type 0) (c : ℕ) (text : List ℕ) → (more : List ℕ) × L more → ((more : List ℕ) → L (c ∷ more) → ⊥) → LeavesLanguage L (c ∷ text) 0
 Leaves-first L c text some none = record {
   within = omega arith;
   goes_on = some;
@@ -39,7 +39,7 @@ Leaves-first L c text some none = record {
 }
 
 -- at the end of an empty text
-pub Leaves-end : (L : List ℕ → Type 0) → (more : List ℕ) × L more → (L [] → ⊥) → Leaves L [] 0
+pub Leaves-end : (L : List ℕ → Type 0) → (more : List ℕ) × L more → (L [] → ⊥) → LeavesLanguage L [] 0
 Leaves-end L some none = record {
   within = omega arith;
   goes_on = some;
@@ -48,7 +48,7 @@ Leaves-end L some none = record {
 }
 
 -- at the end of a text
-pub Leaves-whole : (L : List ℕ → Type 0) (text : List ℕ) → (more : List ℕ) × L (text ++ more) → (L text → ⊥) → Leaves L text (length text)
+pub Leaves-whole : (L : List ℕ → Type 0) (text : List ℕ) → (more : List ℕ) × L (text ++ more) → (L text → ⊥) → LeavesLanguage L text (length text)
 Leaves-whole L text some none = record {
   within = omega arith;
   goes_on = (some.0, subst L (ap (λ (x : List ℕ). x ++ some.0) (sym (take-length text))) some.1);

@@ -9,8 +9,8 @@ use Rattle.ndn_name.specs.declared.name_fault.NameFault.TheVariants.{Tlv, BadCom
 use Rattle.ndn_name.specs.declared.uri_form.Form.{Form}
 use Rattle.ndn_name.specs.declared.uri_form.Form.TheVariants.{Digest, Number, Escaped}
 use Rattle.ndn_name.specs.Names.{Component, encoding}
-use Rattle.ndn_name.specs.Uri.{are_periods, guarded, IsEscaped, IsComponentText, Part, IsPath, IsRooted, IsUri, name_in}
-use Rattle.ndn_name.specs.UriVerdict.{Leaves, IsUriText, first_bad_digest, IsAnswer}
+use Rattle.ndn_name.specs.Uri.{are_periods, guarded, IsEscaped, IsComponentText, Part, IsPath, IsRooted, IsUri, name_of_parts}
+use Rattle.ndn_name.specs.UriVerdict.{LeavesLanguage, IsUriText, first_bad_digest, IsUriVerdict}
 use Rattle.ndn_name.specs.UriReading.{IsHead, IsTail}
 use Rattle.ndn_name.proofs.Values.{value-same, guarded-other, guarded-periods}
 use Rattle.ndn_name.proofs.Escapes.{escaped-nothing}
@@ -124,14 +124,14 @@ uri-same a b text h k =
 
 -- ---- places
 
-not_before : (L : List ℕ → Type 0) (text : List ℕ) (p q : ℕ) → Leaves L text p → Leaves L text q → p < q → ⊥
+not_before : (L : List ℕ → Type 0) (text : List ℕ) (p q : ℕ) → LeavesLanguage L text p → LeavesLanguage L text q → p < q → ⊥
 not_before L text p q h k lt =
     let more = drop (p + 1) (take q text) ++ k.goes_on.0 in
     let split : take q text ++ k.goes_on.0 ≡ take (p + 1) text ++ more =
     ap (λ (t : List ℕ). t ++ k.goes_on.0) (sym (take-append-drop (p + 1) (take q text)) ∙ ap (λ (t : List ℕ). t ++ drop (p + 1) (take q text)) (take-take (p + 1) q text (omega arith))) ∙ append_assoc (take (p + 1) text) (drop (p + 1) (take q text)) k.goes_on.0 in
     h.breaks (omega (arith, lt, k.within)) more (subst L split k.goes_on.1)
 
-place-same : (L : List ℕ → Type 0) (text : List ℕ) (p q : ℕ) → Leaves L text p → Leaves L text q → p ≡ q
+place-same : (L : List ℕ → Type 0) (text : List ℕ) (p q : ℕ) → LeavesLanguage L text p → LeavesLanguage L text q → p ≡ q
 place-same L text p q h k =
     elim (cases_lt p q) [
       | inl a ↦ absurd (not_before L text p q h k a)
@@ -143,24 +143,24 @@ place-same L text p q h k =
 -- what the parts of a text come to
 abbrev if_good : List Part → Option ℕ → Result (List Component) NameFault
 if_good parts (Some at) = Err (BadDigestLength at)
-if_good parts None = cond (ltb 1000 (length (encoding (name_in parts)))) (Err NameTooLong) (Ok (name_in parts))
+if_good parts None = cond (ltb 1000 (length (encoding (name_of_parts parts)))) (Err NameTooLong) (Ok (name_of_parts parts))
 
 abbrev verdict : List Part → Result (List Component) NameFault
 verdict parts = if_good parts (first_bad_digest parts)
 
 abbrev Cases : List ℕ → Result (List Component) NameFault → Type 0
-Cases text r = ((place : ℕ) × (r ≡ Err (BadUri place)) × Leaves IsUriText text place) ⊎ ((parts : List Part) × IsUri parts text × (r ≡ verdict parts))
+Cases text r = ((place : ℕ) × (r ≡ Err (BadUri place)) × LeavesLanguage IsUriText text place) ⊎ ((parts : List Part) × IsUri parts text × (r ≡ verdict parts))
 
 abbrev good : List Component → Result (List Component) NameFault
 good n = Ok n
 
-answer-cases : (text : List ℕ) (r : Result (List Component) NameFault) → IsAnswer text r → Cases text r
-answer-cases text (Ok name) h = inr (h.0, h.1, rw (h.2, le-ltb 1000 (length (encoding (name_in h.0))) (in_limit h.3 h.4)) (ap good h.4)) where
-  in_limit : length (encoding name) ≤ 1000 → name ≡ name_in h.0 → length (encoding (name_in h.0)) ≤ 1000
+answer-cases : (text : List ℕ) (r : Result (List Component) NameFault) → IsUriVerdict text r → Cases text r
+answer-cases text (Ok name) h = inr (h.0, h.1, rw (h.2, le-ltb 1000 (length (encoding (name_of_parts h.0))) (in_limit h.3 h.4)) (ap good h.4)) where
+  in_limit : length (encoding name) ≤ 1000 → name ≡ name_of_parts h.0 → length (encoding (name_of_parts h.0)) ≤ 1000
   in_limit short is = let P : List Component → Type 0 = λ n. length (encoding n) ≤ 1000 in subst P is short
 answer-cases text (Err (BadUri place)) h = inl (place, refl, h)
 answer-cases text (Err (BadDigestLength at)) h = inr (h.0, h.1, rw h.2 refl)
-answer-cases text (Err NameTooLong) h = inr (h.0, h.1, rw (h.2, lt-ltb 1000 (length (encoding (name_in h.0))) h.3) refl)
+answer-cases text (Err NameTooLong) h = inr (h.0, h.1, rw (h.2, lt-ltb 1000 (length (encoding (name_of_parts h.0))) h.3) refl)
 answer-cases text (Err NoMemory) h = absurd h
 answer-cases text (Err (Tlv f)) h = absurd h
 answer-cases text (Err (BadComponent p)) h = absurd h
@@ -168,7 +168,7 @@ answer-cases text (Err (BadComponent p)) h = absurd h
 abbrev left_at : ℕ → Result (List Component) NameFault
 left_at place = Err (BadUri place)
 
-pub one-answer : (text : List ℕ) (r s : Result (List Component) NameFault) → IsAnswer text r → IsAnswer text s → r ≡ s
+pub one-answer : (text : List ℕ) (r s : Result (List Component) NameFault) → IsUriVerdict text r → IsUriVerdict text s → r ≡ s
 one-answer text r s h k =
     elim (answer-cases text r h) [
       | inl a ↦

@@ -8,8 +8,8 @@ use Rattle.ndn_name.specs.declared.name_fault.NameFault.{NameFault}
 use Rattle.ndn_name.specs.declared.name_fault.NameFault.TheVariants.{Tlv, BadComponent, BadDigestLength, NameTooLong, BadUri, NoMemory}
 use Rattle.ndn_name.specs.Names.{Component}
 use Rattle.ndn_name.specs.Uri.{plain, IsComponentText, generic, Part, IsPath, IsRooted, IsUri}
-use Rattle.ndn_name.specs.UriVerdict.{Leaves}
-use Rattle.ndn_name.specs.UriReading.{BeginsOtherwise, BreaksOff, FailsIn, Lacks, Reads, Splits}
+use Rattle.ndn_name.specs.UriVerdict.{LeavesLanguage}
+use Rattle.ndn_name.specs.UriReading.{BeginsWithAnother, BreaksOff, FailsIn, LacksOctet, ReadsText, Splits}
 use Rattle.ndn_name.proofs.Escapes.{escaped-one}
 use Rattle.ndn_name.proofs.Values.{value-other}
 use Rattle.ndn_name.proofs.Separators.{Bounded, lacks-front, parts-same, front-first}
@@ -84,7 +84,7 @@ one_part at c text h = (text, [], ap (λ (t : List ℕ). 47 ∷ t) (sym (append-
 abbrev AfterSlash : ℕ → List ℕ → Type 0
 AfterSlash at text = IsSomePath at (47 ∷ text)
 
-first_leaves : (at : ℕ) (first after : List ℕ) (k : ℕ) → Lacks 47 first → Bounded 47 after → Leaves IsSomeComponent first k → Leaves (AfterSlash at) (first ++ after) k
+first_leaves : (at : ℕ) (first after : List ℕ) (k : ℕ) → LacksOctet 47 first → Bounded 47 after → LeavesLanguage IsSomeComponent first k → LeavesLanguage (AfterSlash at) (first ++ after) k
 first_leaves at first after k lacks bounded h = record {
   within = omega (arith, h.within, length-append first after);
   goes_on = (h.goes_on.0, ((at + 1, h.goes_on.1.0) ∷ [], one_part at h.goes_on.1.0 (take k (first ++ after) ++ h.goes_on.0) (subst (IsComponentText h.goes_on.1.0) (ap (λ (t : List ℕ). t ++ h.goes_on.0) (sym (take-append-le k first after h.within))) h.goes_on.1.1)));
@@ -101,7 +101,7 @@ first_leaves at first after k lacks bounded h = record {
       let front = take (k + 1) first in
       let front-is : take (k + 1) (first ++ after) ≡ front = take-append-le (k + 1) first after (omega arith) in
       let split : front ++ more ≡ o.first ++ o.rest = ap (λ (t : List ℕ). t ++ more) (sym front-is) ∙ o.split in
-      let P : List ℕ → Type 0 = λ t. Lacks 47 t in
+      let P : List ℕ → Type 0 = λ t. LacksOctet 47 t in
       let f = front-first 47 front more o.first o.rest (lacks-front 47 front (drop (k + 1) first) (subst P (sym (take-append-drop (k + 1) first)) lacks)) (path-bounded (at + 1 + length o.first) o.others o.rest o.path) split in
       h.breaks lt f.0 (o.component, subst (IsComponentText o.component) f.1 o.is)
 
@@ -120,9 +120,9 @@ first_leaves at first after k lacks bounded h = record {
         | inr a ↦ behind after refl more o (omega (arith, a, h.within)) (omega (arith, a, lt, length-append first after)) bounded
       ]
 
-pub component-path_leaves : (at : ℕ) (parts : List Part) (front first after path : List ℕ) (k : ℕ) → IsPath at parts front → front ++ 47 ∷ (first ++ after) ≡ 47 ∷ path → Lacks 47 first → Bounded 47 after → Leaves IsSomeComponent first k → Leaves (IsSomePath at) (47 ∷ path) (length (front ++ 47 ∷ []) + k)
+pub component-path_leaves : (at : ℕ) (parts : List Part) (front first after path : List ℕ) (k : ℕ) → IsPath at parts front → front ++ 47 ∷ (first ++ after) ≡ 47 ∷ path → LacksOctet 47 first → Bounded 47 after → LeavesLanguage IsSomeComponent first k → LeavesLanguage (IsSomePath at) (47 ∷ path) (length (front ++ 47 ∷ []) + k)
 component-path_leaves at parts front first after path k read split lacks bounded h =
-    let P : List ℕ → Type 0 = λ t. Leaves (IsSomePath at) t (length (front ++ 47 ∷ []) + k) in
+    let P : List ℕ → Type 0 = λ t. LeavesLanguage (IsSomePath at) t (length (front ++ 47 ∷ []) + k) in
     subst P (regroup (first ++ after) ∙ split) (Leaves-behind (AfterSlash (at + length front)) (IsSomePath at) (front ++ 47 ∷ []) (first ++ after) k (λ t m. (parts ++ m.0, there t m.0 m.1)) (λ t m. path-front parts m.0 at front (47 ∷ t) read (subst (IsPath at m.0) (regroup t) m.1) refl) (first_leaves (at + length front) first after k lacks bounded h)) where
       regroup : (t : List ℕ) → (front ++ 47 ∷ []) ++ t ≡ front ++ 47 ∷ t
       regroup t = append_assoc front (47 ∷ []) t
@@ -130,7 +130,7 @@ component-path_leaves at parts front first after path k read split lacks bounded
       there : (t : List ℕ) (more : List Part) → IsPath (at + length front) more (47 ∷ t) → IsPath at (parts ++ more) ((front ++ 47 ∷ []) ++ t)
       there t more m = subst (IsPath at (parts ++ more)) (sym (regroup t)) (path-append parts more at front (47 ∷ t) read m)
 
-pub component-path_fails : (at place : ℕ) (parts : List Part) (front first after path : List ℕ) (f : NameFault) → place ≡ at + length front + 1 → IsPath at parts front → front ++ 47 ∷ (first ++ after) ≡ 47 ∷ path → Lacks 47 first → Bounded 47 after → FailsIn IsComponentText place first f → FailsIn (IsPath at) at (47 ∷ path) f
+pub component-path_fails : (at place : ℕ) (parts : List Part) (front first after path : List ℕ) (f : NameFault) → place ≡ at + length front + 1 → IsPath at parts front → front ++ 47 ∷ (first ++ after) ≡ 47 ∷ path → LacksOctet 47 first → Bounded 47 after → FailsIn IsComponentText place first f → FailsIn (IsPath at) at (47 ∷ path) f
 component-path_fails at place parts front first after path (BadUri p) e read split lacks bounded h =
     (length (front ++ 47 ∷ []) + h.0, omega (arith, e, h.1, length-append front (47 ∷ [])), component-path_leaves at parts front first after path h.0 read split lacks bounded h.2)
 component-path_fails at place parts front first after path NoMemory e read split lacks bounded h = h
@@ -157,7 +157,7 @@ path-step at parts path text front place c first (Some rest) e read split h s =
     (front ++ 47 ∷ first, path-push at parts front place c first e read h, append_assoc front (47 ∷ first) (47 ∷ rest) ∙ ap (λ (t : List ℕ). front ++ 47 ∷ t) (sym s.0) ∙ split)
 
 -- what follows the first part of what is left
-pub after_first : (text first : List ℕ) (behind : Option (List ℕ)) → Splits 47 text first behind → (after : List ℕ) × (text ≡ first ++ after) × Bounded 47 after × Lacks 47 first
+pub after_first : (text first : List ℕ) (behind : Option (List ℕ)) → Splits 47 text first behind → (after : List ℕ) × (text ≡ first ++ after) × Bounded 47 after × LacksOctet 47 first
 after_first text first None s = ([], s.0 ∙ sym (append-nil first), tt, s.1)
 after_first text first (Some rest) s = (47 ∷ rest, s.0, refl, s.1)
 
@@ -174,7 +174,7 @@ rooted-path at (part ∷ parts) path h = h
 letter : (at : ℕ) → IsPath at ((at + 1, (8, 97 ∷ [])) ∷ []) (47 ∷ 97 ∷ [])
 letter at = one_part at (8, 97 ∷ []) (97 ∷ []) (generic refl (value-other (97 ∷ []) (97 ∷ []) (escaped-one 97 (97 ∷ []) (plain refl refl)) refl))
 
-pub rooted-leaves : (at : ℕ) (path : List ℕ) (k : ℕ) → 0 < length path → Leaves (IsSomePath at) (47 ∷ path) k → Leaves (IsSomeRooted at) (47 ∷ path) k
+pub rooted-leaves : (at : ℕ) (path : List ℕ) (k : ℕ) → 0 < length path → LeavesLanguage (IsSomePath at) (47 ∷ path) k → LeavesLanguage (IsSomeRooted at) (47 ∷ path) k
 rooted-leaves at path k some h = record {
   within = h.within;
   goes_on = goes (take k (47 ∷ path)) h.goes_on.0 h.goes_on.1;
@@ -210,7 +210,7 @@ rooted-fails at path (BadComponent p) some h = h
 rooted-fails at path (BadDigestLength p) some h = h
 
 -- no slash at the front
-pub no_slash : (at : ℕ) (text : List ℕ) → ((rest : List ℕ) → text ≡ 47 ∷ rest → ⊥) → Leaves (IsSomeRooted at) text 0
+pub no_slash : (at : ℕ) (text : List ℕ) → ((rest : List ℕ) → text ≡ 47 ∷ rest → ⊥) → LeavesLanguage (IsSomeRooted at) text 0
 no_slash at [] none = Leaves-end (IsSomeRooted at) (47 ∷ [], ([], refl)) (λ m. let r = rooted_begins at m.0 [] m.1 in none r.0 r.1)
 no_slash at (c ∷ text) none =
     Leaves-first (IsSomeRooted at) c text (47 ∷ [], ([], refl)) (λ more m.
@@ -242,19 +242,19 @@ scheme_goes : (front : List ℕ) (next : ℕ) (others : List ℕ) → codes "ndn
 scheme_goes front next others e =
     (next ∷ others ++ 47 ∷ [], ([], inr (47 ∷ [], ap (λ (x : List ℕ). 110 ∷ x) (sym (append_assoc front (next ∷ others) (47 ∷ []))) ∙ ap (λ (x : List ℕ). x ++ 47 ∷ []) (sym e), refl)))
 
-scheme_rest : (front : List ℕ) (next : ℕ) (others rest : List ℕ) → codes "ndn:" ≡ 110 ∷ front ++ next ∷ others → BeginsOtherwise next rest → Leaves (λ t. IsUriText (110 ∷ front ++ t)) rest 0
+scheme_rest : (front : List ℕ) (next : ℕ) (others rest : List ℕ) → codes "ndn:" ≡ 110 ∷ front ++ next ∷ others → BeginsWithAnother next rest → LeavesLanguage (λ t. IsUriText (110 ∷ front ++ t)) rest 0
 scheme_rest front next others [] e other =
     Leaves-end (λ t. IsUriText (110 ∷ front ++ t)) (scheme_goes front next others e) (λ m. let n = scheme_next front next others [] e m in let g = n.1 in absurd cc)
 scheme_rest front next others (c ∷ rest) e other =
     Leaves-first (λ t. IsUriText (110 ∷ front ++ t)) c rest (scheme_goes front next others e) (λ more m. let n = scheme_next front next others (c ∷ more) e m in let g = n.1 in let same : c ≡ next = cc in other same)
 
-scheme_leaves : (front : List ℕ) (next : ℕ) (others rest text : List ℕ) → codes "ndn:" ≡ 110 ∷ front ++ next ∷ others → BeginsOtherwise next rest → text ≡ 110 ∷ front ++ rest → Leaves IsUriText text (length (110 ∷ front) + 0)
+scheme_leaves : (front : List ℕ) (next : ℕ) (others rest text : List ℕ) → codes "ndn:" ≡ 110 ∷ front ++ next ∷ others → BeginsWithAnother next rest → text ≡ 110 ∷ front ++ rest → LeavesLanguage IsUriText text (length (110 ∷ front) + 0)
 scheme_leaves front next others rest text e other is =
-    let P : List ℕ → Type 0 = λ t. Leaves IsUriText t (length (110 ∷ front) + 0) in
+    let P : List ℕ → Type 0 = λ t. LeavesLanguage IsUriText t (length (110 ∷ front) + 0) in
     subst P (sym is) (Leaves-behind (λ t. IsUriText (110 ∷ front ++ t)) IsUriText (110 ∷ front) rest 0 (λ t m. m) (λ t m. m) (scheme_rest front next others rest e other))
 
 -- a front of the scheme that breaks off
-pub scheme-fails : (text : List ℕ) (place : ℕ) → 0 < place → BreaksOff (codes "ndn:") text place → Leaves IsUriText text place
+pub scheme-fails : (text : List ℕ) (place : ℕ) → 0 < place → BreaksOff (codes "ndn:") text place → LeavesLanguage IsUriText text place
 scheme-fails text zero some b = absurd (omega arith)
 scheme-fails text (suc zero) some b = scheme_leaves [] 100 (110 ∷ 58 ∷ []) b.0 text refl b.3 b.1
 scheme-fails text (suc (suc zero)) some b = scheme_leaves (100 ∷ []) 110 (58 ∷ []) b.0 text refl b.3 b.1
@@ -262,7 +262,7 @@ scheme-fails text (suc (suc (suc zero))) some b = scheme_leaves (100 ∷ 110 ∷
 scheme-fails text (suc (suc (suc (suc n)))) some b = absurd (omega (arith, b.2))
 
 -- a text behind the scheme
-pub scheme-reads : {X : Type 0} (view : X → List Part) (path text : List ℕ) (r : Result X NameFault) → text ≡ codes "ndn:" ++ path → Reads view (IsRooted 4) 4 path r → Reads view IsUri 0 text r
+pub scheme-reads : {X : Type 0} (view : X → List Part) (path text : List ℕ) (r : Result X NameFault) → text ≡ codes "ndn:" ++ path → ReadsText view (IsRooted 4) 4 path r → ReadsText view IsUri 0 text r
 scheme-reads view path text (Ok x) e h = inr (path, e, h)
 scheme-reads view path text (Err f) e h = fails f h where
   path_of : (t : List ℕ) → IsUriText (codes "ndn:" ++ t) → IsSomeRooted 4 t
@@ -274,7 +274,7 @@ scheme-reads view path text (Err f) e h = fails f h where
 
   fails : (g : NameFault) → FailsIn (IsRooted 4) 4 path g → FailsIn IsUri 0 text g
   fails (BadUri place) k =
-      let P : List ℕ → Type 0 = λ t. Leaves IsUriText t (4 + k.0) in
+      let P : List ℕ → Type 0 = λ t. LeavesLanguage IsUriText t (4 + k.0) in
       (4 + k.0, omega (arith, k.1), subst P (sym e) (Leaves-behind (IsSomeRooted 4) IsUriText (codes "ndn:") path k.0 (λ t m. (m.0, inr (t, refl, m.1))) path_of k.2))
   fails NoMemory k = k
   fails NameTooLong k = k
@@ -283,18 +283,18 @@ scheme-reads view path text (Err f) e h = fails f h where
   fails (BadDigestLength p) k = k
 
 -- a text without it
-pub plain-reads : {X : Type 0} (view : X → List Part) (text : List ℕ) (r : Result X NameFault) → BeginsOtherwise 110 text → Reads view (IsRooted 0) 0 text r → Reads view IsUri 0 text r
+pub plain-reads : {X : Type 0} (view : X → List Part) (text : List ℕ) (r : Result X NameFault) → BeginsWithAnother 110 text → ReadsText view (IsRooted 0) 0 text r → ReadsText view IsUri 0 text r
 plain-reads view text (Ok x) other h = inl h
 plain-reads view text (Err f) other h = fails f h where
-  no_scheme : (t path : List ℕ) → BeginsOtherwise 110 t → t ≡ codes "ndn:" ++ path → ⊥
+  no_scheme : (t path : List ℕ) → BeginsWithAnother 110 t → t ≡ codes "ndn:" ++ path → ⊥
   no_scheme [] path o e = absurd cc
   no_scheme (c ∷ t) path o e = let same : c ≡ 110 = cc in o same
 
-  front_other : (t more : List ℕ) (k : ℕ) → k < length t → BeginsOtherwise 110 t → BeginsOtherwise 110 (take (k + 1) t ++ more)
+  front_other : (t more : List ℕ) (k : ℕ) → k < length t → BeginsWithAnother 110 t → BeginsWithAnother 110 (take (k + 1) t ++ more)
   front_other [] more k lt o = absurd (omega arith)
   front_other (c ∷ t) more k lt o = rw add-one o
 
-  leaves : (k : ℕ) → Leaves (IsSomeRooted 0) text k → Leaves IsUriText text k
+  leaves : (k : ℕ) → LeavesLanguage (IsSomeRooted 0) text k → LeavesLanguage IsUriText text k
   leaves k l = record {
     within = l.within;
     goes_on = (l.goes_on.0, (l.goes_on.1.0, inl l.goes_on.1.1));
@@ -312,9 +312,9 @@ plain-reads view text (Err f) other h = fails f h where
 
 -- ---- a text that begins with a slash
 
-pub rooted-reads : {X : Type 0} (view : X → List Part) (at : ℕ) (path text : List ℕ) (r : Result X NameFault) → text ≡ 47 ∷ path → 0 < length path → Reads view (IsPath at) at (47 ∷ path) r → Reads view (IsRooted at) at text r
+pub rooted-reads : {X : Type 0} (view : X → List Part) (at : ℕ) (path text : List ℕ) (r : Result X NameFault) → text ≡ 47 ∷ path → 0 < length path → ReadsText view (IsPath at) at (47 ∷ path) r → ReadsText view (IsRooted at) at text r
 rooted-reads view at path text (Ok x) e some h = subst (IsRooted at (view x)) (sym e) (rooted-path at (view x) path h)
 rooted-reads view at path text (Err f) e some h = let P : List ℕ → Type 0 = λ t. FailsIn (IsRooted at) at t f in subst P (sym e) (rooted-fails at path f some h)
 
-pub otherwise : (at : ℕ) (text : List ℕ) → BeginsOtherwise 47 text → Leaves (IsSomeRooted at) text 0
-otherwise at text other = no_slash at text (λ rest e. let P : List ℕ → Type 0 = λ t. BeginsOtherwise 47 t in let k = subst P e other in k refl)
+pub otherwise : (at : ℕ) (text : List ℕ) → BeginsWithAnother 47 text → LeavesLanguage (IsSomeRooted at) text 0
+otherwise at text other = no_slash at text (λ rest e. let P : List ℕ → Type 0 = λ t. BeginsWithAnother 47 t in let k = subst P e other in k refl)

@@ -6,8 +6,8 @@ use Rattle.std.proofs.lemmas.Option.{option_and_then_some, none-some, same_Some}
 use Rattle.ndn_name.specs.declared.name_fault.NameFault.{NameFault}
 use Rattle.ndn_name.specs.declared.name_fault.NameFault.TheVariants.{Tlv, BadComponent, BadDigestLength, NameTooLong, BadUri, NoMemory}
 use Rattle.ndn_name.specs.Names.{Component, encoding, name_limit}
-use Rattle.ndn_name.specs.Uri.{Part, name_in}
-use Rattle.ndn_name.specs.UriVerdict.{first_bad_digest, IsAnswer}
+use Rattle.ndn_name.specs.Uri.{Part, name_of_parts}
+use Rattle.ndn_name.specs.UriVerdict.{first_bad_digest, IsUriVerdict}
 use Rattle.ndn_name.specs.UriText.{is_digest, name_of_text, plain_name, plain_name_of_text}
 use Rattle.ndn_name.proofs.ComputedNames.{texts-computed}
 use Rattle.ndn_name.proofs.OneAnswer.{one-answer}
@@ -28,24 +28,24 @@ is_plain text name h =
     let P : List Component → Type 0 = λ x. IsPlain text x in
     subst P p.1 (record { computed = e; no_digest = p.0 }))
 
-no_bad_digest : (parts : List Part) → list_any is_digest (name_in parts) ≡ false → first_bad_digest parts ≡ None
+no_bad_digest : (parts : List Part) → list_any is_digest (name_of_parts parts) ≡ false → first_bad_digest parts ≡ None
 no_bad_digest [] h = refl
 no_bad_digest (part ∷ parts) h =
-    let p = or_parts (leb part.1.0 2) (list_any is_digest (name_in parts)) h in
+    let p = or_parts (leb part.1.0 2) (list_any is_digest (name_of_parts parts)) h in
     rw p.0 (no_bad_digest parts p.1)
 
 -- what such a text is, where the name is within the limit
 pub answer-plain : (text : List ℕ) (r : Result (List Component) NameFault) (name : List Component)
-    → IsAnswer text r → plain_name_of_text text ≡ Some name → length (encoding name) ≤ name_limit → r ≡ Ok name
+    → IsUriVerdict text r → plain_name_of_text text ≡ Some name → length (encoding name) ≤ name_limit → r ≡ Ok name
 answer-plain text r name answer h short =
     let p = is_plain text name h in
     let uri = (texts-computed text name).0 p.computed in
-    let none : list_any is_digest (name_in uri.0) ≡ false =
+    let none : list_any is_digest (name_of_parts uri.0) ≡ false =
     ap (list_any is_digest) (sym uri.2) ∙ p.no_digest in
     one-answer text r (Ok name) answer (uri.0, uri.1, no_bad_digest uri.0 none, short, uri.2)
 
 pub plain-answered : (text : List ℕ) (r : Result (List Component) NameFault)
-    → (r ≢ Err NoMemory → IsAnswer text r) → (name : List Component)
+    → (r ≢ Err NoMemory → IsUriVerdict text r) → (name : List Component)
     → plain_name_of_text text ≡ Some name → length (encoding name) ≤ name_limit
     → (r ≡ Ok name) ⊎ (r ≡ Err NoMemory)
 plain-answered text (Err NoMemory) answer name h short = inr refl

@@ -11,7 +11,7 @@ use Rattle.ndn_tlv.specs.Elements.{IsOctets}
 use Rattle.ndn_tlv.proofs.Numbers.{wide16, wide32, wide64}
 use Rattle.ndn_tlv.specs.NumberField.{number_of, number_field}
 use Rattle.ndn_name.specs.Names.{Component, IsComponent, IsName}
-use Rattle.ndn_name.specs.Uri.{is_unreserved, IsPair, IsOctetText, plain, escape, IsEscaped, are_periods, guarded, IsValueText, IsDigits, IsComponentText, generic, typed, implicit_digest, parameters_digest, segment, version, sequence, Part, IsPath, IsUri, name_in, pair_of, escape_of, value_text, digest_text, in_shortest_width, plain_text, number_text, component_text, path_text, uri}
+use Rattle.ndn_name.specs.Uri.{is_unreserved, IsPair, IsOctetText, plain, escape, IsEscaped, are_periods, guarded, IsValueText, IsDigits, IsComponentText, generic, typed, implicit_digest, parameters_digest, segment, version, sequence, Part, IsPath, IsUri, name_of_parts, hex_pair, escape_of, value_text, digest_text, in_shortest_width, plain_text, number_text, component_text, path_text, uri}
 use Rattle.ndn_name.specs.UriVerdict.{is_bad_digest, first_bad_digest}
 
 -- ---- digits
@@ -40,7 +40,7 @@ pair_is upper o h =
 
 octet_text : (o : ℕ) → o < 256 → IsOctetText o (escape_of o)
 octet_text o h = by_test (is_unreserved o) refl where
-  by_test : (b : Bool) → is_unreserved o ≡ b → IsOctetText o (cond b (o ∷ []) (37 ∷ pair_of true o))
+  by_test : (b : Bool) → is_unreserved o ≡ b → IsOctetText o (cond b (o ∷ []) (37 ∷ hex_pair true o))
   by_test true e = plain e refl
   by_test false e = escape (digit_glyph true (o / 16)) (digit_glyph true (o % 16)) (pair_is true o h) refl
 
@@ -196,7 +196,7 @@ pub uri-is : (name : List Component) → IsName name → IsUri (parts_at 0 name)
 uri-is [] h = inl refl
 uri-is (c ∷ cs) h = inl (path-is 0 (c ∷ cs) h)
 
-pub parts-name : (at : ℕ) (name : List Component) → name ≡ name_in (parts_at at name)
+pub parts-name : (at : ℕ) (name : List Component) → name ≡ name_of_parts (parts_at at name)
 parts-name at [] = refl
 parts-name at (c ∷ cs) = ap (λ (n : List Component). c ∷ n) (parts-name (at + 1 + length (component_text c)) cs)
 

@@ -2,28 +2,28 @@
 use Rattle.std.proofs.Common.{◌≡◌, ℕ, Bool, true, false, List, [], ◌∷◌, ◌++◌, refl, sym, ap, ◌∙◌, ◌⊎◌, inl, inr}
 use Rattle.std.specs.List.{list_all}
 use Rattle.std.proofs.lemmas.Bool.{and_parts}
-use Rattle.ndn_name.specs.UriReading.{Lacks}
+use Rattle.ndn_name.specs.UriReading.{LacksOctet}
 
-pub lacks-append : (s : ℕ) (a b : List ℕ) → Lacks s a → Lacks s b → Lacks s (a ++ b)
+pub lacks-append : (s : ℕ) (a b : List ℕ) → LacksOctet s a → LacksOctet s b → LacksOctet s (a ++ b)
 lacks-append s [] b h k = k
 lacks-append s (c ∷ a) b h k = (h.0, lacks-append s a b h.1 k)
 
-pub lacks-front : (s : ℕ) (a b : List ℕ) → Lacks s (a ++ b) → Lacks s a
+pub lacks-front : (s : ℕ) (a b : List ℕ) → LacksOctet s (a ++ b) → LacksOctet s a
 lacks-front s [] b h = tt
 lacks-front s (c ∷ a) b h = (h.0, lacks-front s a b h.1)
 
-pub lacks-separator : (s : ℕ) (a x : List ℕ) → Lacks s (a ++ s ∷ x) → ⊥
+pub lacks-separator : (s : ℕ) (a x : List ℕ) → LacksOctet s (a ++ s ∷ x) → ⊥
 lacks-separator s [] x h = h.0 refl
 lacks-separator s (c ∷ a) x h = lacks-separator s a x h.1
 
-pub lacks-test : (s : ℕ) (p : ℕ → Bool) (text : List ℕ) → p s ≡ false → list_all p text ≡ true → Lacks s text
+pub lacks-test : (s : ℕ) (p : ℕ → Bool) (text : List ℕ) → p s ≡ false → list_all p text ≡ true → LacksOctet s text
 lacks-test s p [] none h = tt
 lacks-test s p (c ∷ text) none h =
     let both = and_parts (p c) (list_all p text) h in
     (λ e. let same : p c ≡ p s = ap p e in let never : true ≡ false = sym both.0 ∙ same ∙ none in absurd cc, lacks-test s p text none both.1)
 
 -- the front and what follows, where the separator stands first
-pub split-same : (s : ℕ) (a b x y : List ℕ) → Lacks s a → Lacks s b → a ++ s ∷ x ≡ b ++ s ∷ y → (a ≡ b) × (x ≡ y)
+pub split-same : (s : ℕ) (a b x y : List ℕ) → LacksOctet s a → LacksOctet s b → a ++ s ∷ x ≡ b ++ s ∷ y → (a ≡ b) × (x ≡ y)
 split-same s [] [] x y h k e = (refl, cc)
 split-same s [] (d ∷ b) x y h k e = absurd (k.0 cc)
 split-same s (c ∷ a) [] x y h k e = absurd (h.0 cc)
@@ -50,7 +50,7 @@ abbrev pub Bounded : ℕ → List ℕ → Type 0
 Bounded s [] = Unit {0}
 Bounded s (c ∷ text) = c ≡ s
 
-pub parts-same : (s : ℕ) (a b x y : List ℕ) → Lacks s a → Lacks s b → Bounded s x → Bounded s y → a ++ x ≡ b ++ y → (a ≡ b) × (x ≡ y)
+pub parts-same : (s : ℕ) (a b x y : List ℕ) → LacksOctet s a → LacksOctet s b → Bounded s x → Bounded s y → a ++ x ≡ b ++ y → (a ≡ b) × (x ≡ y)
 parts-same s [] [] x y h k p q e = (refl, e)
 parts-same s [] (d ∷ b) [] y h k p q e = absurd cc
 parts-same s [] (d ∷ b) (c ∷ x) y h k p q e = let first : c ≡ d = cc in absurd (k.0 (sym first ∙ p))
@@ -63,7 +63,7 @@ parts-same s (c ∷ a) (d ∷ b) x y h k p q e =
     (ap (λ (n : ℕ). n ∷ a) first ∙ ap (λ (t : List ℕ). d ∷ t) rest.0, rest.1)
 
 -- a front without the separator is a front of the first part
-pub front-first : (s : ℕ) (p more a x : List ℕ) → Lacks s p → Bounded s x → p ++ more ≡ a ++ x → (r : List ℕ) × (a ≡ p ++ r)
+pub front-first : (s : ℕ) (p more a x : List ℕ) → LacksOctet s p → Bounded s x → p ++ more ≡ a ++ x → (r : List ℕ) × (a ≡ p ++ r)
 front-first s [] more a x h b e = (a, refl)
 front-first s (c ∷ p) more [] [] h b e = absurd cc
 front-first s (c ∷ p) more [] (d ∷ x) h b e = let first : c ≡ d = cc in absurd (h.0 (first ∙ b))

@@ -18,8 +18,8 @@ use Rattle.ndn_name.specs.declared.uri_form.Form.{Form}
 use Rattle.ndn_name.specs.declared.uri_form.Form.TheVariants.{Digest, Number, Escaped}
 use Rattle.ndn_name.specs.Names.{Component, encoding}
 use Rattle.ndn_name.specs.Uri.{are_periods, IsDecimal, IsDigestText}
-use Rattle.ndn_name.specs.UriReading.{BeginsOtherwise, BreaksOff, FailsIn, IsHead, Splits, octet_at, shape}
-use Rattle.ndn_name.specs.UriText.{onto, digest_of_text, unescaped, behind_three, value_of_text, decimal_of_text, number_of_text, typed, component_of_text, in_front, components_of_texts, name_of_path, behind, without_scheme, name_of_text, is_digest, plain_component, plain_name}
+use Rattle.ndn_name.specs.UriReading.{BeginsWithAnother, BreaksOff, FailsIn, IsHead, Splits, octet_at, shape}
+use Rattle.ndn_name.specs.UriText.{onto, digest_of_text, unescaped, behind_three, value_of_text, decimal_of_text, number_of_text, typed, component_of_text, component_in_front, components_of_texts, name_of_path, behind_word, without_scheme, name_of_text, is_digest, plain_component, plain_name}
 use Rattle.ndn_name.proofs.Digests.{length-digits}
 use Rattle.ndn_name.proofs.Escapes.{octet-takes, octet-leaves}
 use Rattle.ndn_name.proofs.ComputedValues.{none_from, unescaped-octet, is_unescaped, digest_is, is_digest_text, decimal_is, is_decimal_text}
@@ -303,7 +303,7 @@ size-none text texts h = by_component (component_of_text text) refl where
     by_test : (b : Bool) → is_digest c ≡ b → size_of_texts (text ∷ texts) ≡ None
     by_test true g = rw e (others (components_of_texts texts)) where
       others : (o : Option (List Component))
-          → option_map (λ (name : List Component). length (encoding name)) (option_and_then plain_name (in_front c o)) ≡ None
+          → option_map (λ (name : List Component). length (encoding name)) (option_and_then plain_name (component_in_front c o)) ≡ None
       others None = refl
       others (Some name) = rw g refl
     by_test false g = let k = rw (e, g) at h in absurd cc
@@ -323,7 +323,7 @@ size-some text texts n h = by_component (component_of_text text) refl where
       size = same_Some (length (element c.0 c.1)) n (rw (e, g) at h)
 
       others : (o : Option (List Component))
-          → option_map (λ (name : List Component). length (encoding name)) (option_and_then plain_name (in_front c o))
+          → option_map (λ (name : List Component). length (encoding name)) (option_and_then plain_name (component_in_front c o))
           ≡ plus n (option_map (λ (name : List Component). length (encoding name)) (option_and_then plain_name o))
       others None = refl
       others (Some name) = rw g (tested (list_any is_digest name)) where
@@ -372,11 +372,11 @@ plus-plus a b (Some n) = ap (λ (k : ℕ). some_size k) (omega arith)
 
 -- ---- the front of a text
 
-pub broken_off : (word text : List ℕ) (place : ℕ) → BreaksOff word text place → behind word text ≡ None
-unfolding behind
+pub broken_off : (word text : List ℕ) (place : ℕ) → BreaksOff word text place → behind_word word text ≡ None
+unfolding behind_word
 broken_off [] text place h = absurd (omega (arith, h.2))
 broken_off (c ∷ word) text zero h = rw h.1 (begins h.0 h.3) where
-  begins : (rest : List ℕ) → BeginsOtherwise c rest → behind (c ∷ word) rest ≡ None
+  begins : (rest : List ℕ) → BeginsWithAnother c rest → behind_word (c ∷ word) rest ≡ None
   begins [] k = refl
   begins (d ∷ rest) k = rw (ne_eqb c d (λ e. k (sym e))) refl
 broken_off (c ∷ word) text (suc place) h =
@@ -400,16 +400,16 @@ rooted-is : (text rooted : List ℕ) → rooted ≡ without_scheme text → name
 unfolding name_of_text
 rooted-is text rooted e = ap rooted_name (sym e)
 
-unrooted : (rooted : List ℕ) → BeginsOtherwise 47 rooted → rooted_name rooted ≡ None
-unfolding behind
+unrooted : (rooted : List ℕ) → BeginsWithAnother 47 rooted → rooted_name rooted ≡ None
+unfolding behind_word
 unrooted [] h = refl
 unrooted (c ∷ rooted) h = rw (ne_eqb 47 c (λ e. h (sym e))) refl
 
 behind_slash : (path : List ℕ) → rooted_name (47 ∷ path) ≡ name_of_path path
-unfolding behind
+unfolding behind_word
 behind_slash path = refl
 
-pub text_size-none : (text rooted : List ℕ) → rooted ≡ without_scheme text → BeginsOtherwise 47 rooted
+pub text_size-none : (text rooted : List ℕ) → rooted ≡ without_scheme text → BeginsWithAnother 47 rooted
     → text_size text ≡ None
 text_size-none text rooted e h = ap size_of_name (rooted-is text rooted e ∙ unrooted rooted h)
 

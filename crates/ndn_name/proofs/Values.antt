@@ -5,7 +5,7 @@ use Rattle.std.proofs.lemmas.List.{length-take-le}
 use Rattle.ndn_name.specs.declared.name_fault.NameFault.{NameFault}
 use Rattle.ndn_name.specs.declared.name_fault.NameFault.TheVariants.{Tlv, BadComponent, BadDigestLength, NameTooLong, BadUri, NoMemory}
 use Rattle.ndn_name.specs.Uri.{plain, IsEscaped, are_periods, guarded, IsValueText}
-use Rattle.ndn_name.specs.UriVerdict.{Leaves}
+use Rattle.ndn_name.specs.UriVerdict.{LeavesLanguage}
 use Rattle.ndn_name.specs.UriReading.{FailsIn}
 use Rattle.ndn_name.proofs.Escapes.{IsEscapedText, escaped-append, escaped-one, escaped-same}
 use Rattle.ndn_name.proofs.LeavesLemmas.{Leaves-whole}
@@ -66,7 +66,7 @@ with_letter octets text h =
     (octets ++ 97 ∷ [], value-other (octets ++ 97 ∷ []) (text ++ 97 ∷ []) whole (letter_behind octets))
 
 -- one or two periods, or nothing
-pub value-short : (octets text : List ℕ) → IsEscaped octets text → are_periods octets ≡ true → length octets < 3 → Leaves IsSomeValueText text (length text)
+pub value-short : (octets text : List ℕ) → IsEscaped octets text → are_periods octets ≡ true → length octets < 3 → LeavesLanguage IsSomeValueText text (length text)
 value-short octets text h periods short =
     Leaves-whole IsSomeValueText text (97 ∷ [], with_letter octets text h) (λ m. no_value m.0 (are_periods m.0) refl (escaped-same (guarded m.0) octets text m.1 h)) where
       no_value : (value : List ℕ) (b : Bool) → are_periods value ≡ b → guarded value ≡ octets → ⊥
@@ -77,7 +77,7 @@ value-short octets text h periods short =
 
 -- ---- what leaves the texts of octets leaves those of values
 
-pub value-leaves : (text : List ℕ) (k : ℕ) → Leaves IsEscapedText text k → Leaves IsSomeValueText text k
+pub value-leaves : (text : List ℕ) (k : ℕ) → LeavesLanguage IsEscapedText text k → LeavesLanguage IsSomeValueText text k
 value-leaves text k h = record {
   within = h.within;
   goes_on = (h.goes_on.0 ++ 97 ∷ [], subst IsSomeValueText (append_assoc (take k text) h.goes_on.0 (97 ∷ [])) (with_letter h.goes_on.1.0 (take k text ++ h.goes_on.0) h.goes_on.1.1));

@@ -106,23 +106,23 @@ IsUri parts text =
     IsRooted 0 parts text
     ⊎ ((path : List ℕ) × (text ≡ codes "ndn:" ++ path) × IsRooted 4 parts path)
 
-abbrev pub name_in : List Part → List Component
-name_in parts = map (λ part. part.1) parts
+abbrev pub name_of_parts : List Part → List Component
+name_of_parts parts = map (λ part. part.1) parts
 
 -- ---- the text that is printed
 
 -- Two hexadecimal digits, in upper case or in lower.
-abbrev pub pair_of : Bool → ℕ → List ℕ
-pair_of upper octet = digit_glyph upper (octet / 16) ∷ digit_glyph upper (octet % 16) ∷ []
+abbrev pub hex_pair : Bool → ℕ → List ℕ
+hex_pair upper octet = digit_glyph upper (octet / 16) ∷ digit_glyph upper (octet % 16) ∷ []
 
 abbrev pub escape_of : ℕ → List ℕ
-escape_of octet = if is_unreserved octet then octet ∷ [] else 37 ∷ pair_of true octet
+escape_of octet = if is_unreserved octet then octet ∷ [] else 37 ∷ hex_pair true octet
 
 abbrev pub value_text : List ℕ → List ℕ
 value_text value = flat_map escape_of (guarded value)
 
 abbrev pub digest_text : List ℕ → List ℕ
-digest_text value = flat_map (λ o. pair_of false o) value
+digest_text value = flat_map (λ o. hex_pair false o) value
 
 -- A number in the fewest octets.
 abbrev pub in_shortest_width : List ℕ → Option ℕ → Option ℕ

@@ -14,12 +14,12 @@ use Rattle.ndn_name.specs.declared.uri_form.UriPart.{UriPart}
 use Rattle.ndn_name.specs.Names.{Component, greatest_type}
 use Rattle.ndn_name.specs.Uri.{Part, IsDecimal, IsDigestText, IsNumberText, IsValueText, headed, is_unreserved}
 use Rattle.ndn_name.specs.UriText.{digest_of_text, number_of_text, typed, value_of_text}
-use Rattle.ndn_name.specs.UriVerdict.{Leaves}
+use Rattle.ndn_name.specs.UriVerdict.{LeavesLanguage}
 
 -- The text that begins at this place leaves the language of all values at the place that is told.
 abbrev pub FailsIn : {V : Type 0} → (V → List ℕ → Type 0) → ℕ → List ℕ → NameFault → Type 0
 FailsIn {V} L at text (BadUri place) =
-    (k : ℕ) × (place ≡ at + k) × Leaves (λ t. (v : V) × L v t) text k
+    (k : ℕ) × (place ≡ at + k) × LeavesLanguage (λ t. (v : V) × L v t) text k
 FailsIn L at text NoMemory = Unit {0}
 FailsIn L at text NameTooLong = ⊥
 FailsIn L at text (Tlv f) = ⊥
@@ -27,20 +27,20 @@ FailsIn L at text (BadComponent p) = ⊥
 FailsIn L at text (BadDigestLength p) = ⊥
 
 -- The text has the value, as it is seen, or it fails.
-abbrev pub Reads : {X V : Type 0} → (X → V) → (V → List ℕ → Type 0) → ℕ → List ℕ
+abbrev pub ReadsText : {X V : Type 0} → (X → V) → (V → List ℕ → Type 0) → ℕ → List ℕ
     → Result X NameFault → Type 0
-Reads view L at text (Ok x) = L (view x) text
-Reads view L at text (Err f) = FailsIn L at text f
+ReadsText view L at text (Ok x) = L (view x) text
+ReadsText view L at text (Err f) = FailsIn L at text f
 
 -- The octet doesn't stand in the text.
-abbrev pub Lacks : ℕ → List ℕ → Type 0
-Lacks octet [] = Unit {0}
-Lacks octet (c ∷ text) = (c ≢ octet) × Lacks octet text
+abbrev pub LacksOctet : ℕ → List ℕ → Type 0
+LacksOctet octet [] = Unit {0}
+LacksOctet octet (c ∷ text) = (c ≢ octet) × LacksOctet octet text
 
 -- What stands before the first such octet, and what behind it, if there is one.
 abbrev pub Splits : ℕ → List ℕ → List ℕ → Option (List ℕ) → Type 0
-Splits octet text front None = (text ≡ front) × Lacks octet front
-Splits octet text front (Some rest) = (text ≡ front ++ octet ∷ rest) × Lacks octet front
+Splits octet text front None = (text ≡ front) × LacksOctet octet front
+Splits octet text front (Some rest) = (text ≡ front ++ octet ∷ rest) × LacksOctet octet front
 
 -- The digit at the front of a text that begins at this place, and what follows it.
 unfoldable pub digit_at : ℕ → List ℕ → Result (ℕ × List ℕ) NameFault
@@ -113,19 +113,19 @@ abbrev pub uri_part : UriPart → Part
 uri_part p = (p.at, (p.typ, value_octets p.value))
 
 -- A part that may be appended to a name.
-abbrev pub IsSound : Component → Type 0
-IsSound c = (0 < c.0) × (c.0 ≤ types.ParametersSha256DigestComponent → length c.1 ≡ 32)
+abbrev pub MayBeAppended : Component → Type 0
+MayBeAppended c = (0 < c.0) × (c.0 ≤ types.ParametersSha256DigestComponent → length c.1 ≡ 32)
 
 -- The text is empty, or its first octet is another.
-abbrev pub BeginsOtherwise : ℕ → List ℕ → Type 0
-BeginsOtherwise octet [] = Unit {0}
-BeginsOtherwise octet (c ∷ text) = c ≢ octet
+abbrev pub BeginsWithAnother : ℕ → List ℕ → Type 0
+BeginsWithAnother octet [] = Unit {0}
+BeginsWithAnother octet (c ∷ text) = c ≢ octet
 
 -- So many octets of the word are at the front of the text, and not the next.
 abbrev pub BreaksOff : List ℕ → List ℕ → ℕ → Type 0
 BreaksOff word text place =
     (rest : List ℕ) × (text ≡ take place word ++ rest) × (place < length word)
-    × BeginsOtherwise (slice_index word place) rest
+    × BeginsWithAnother (slice_index word place) rest
 
 -- The component that a tail is computed as.
 abbrev pub tail_of_text : Form → List ℕ → Option Component

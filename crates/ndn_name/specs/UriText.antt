@@ -105,13 +105,13 @@ component_of_text text = component_by text (cut_at 61 text)
 
 -- ---- names
 
-abbrev pub in_front : Component → Option (List Component) → Option (List Component)
-in_front c name = option_map (λ others. c ∷ others) name
+abbrev pub component_in_front : Component → Option (List Component) → Option (List Component)
+component_in_front c name = option_map (λ others. c ∷ others) name
 
 unfoldable pub components_of_texts : List (List ℕ) → Option (List Component)
 components_of_texts [] = Some []
 components_of_texts (text ∷ texts) =
-    option_and_then (λ c. in_front c (components_of_texts texts)) (component_of_text text)
+    option_and_then (λ c. component_in_front c (components_of_texts texts)) (component_of_text text)
 
 -- What stands behind the first slash: nothing, or the texts of components and a slash between any
 -- two.
@@ -120,17 +120,17 @@ name_of_path [] = Some []
 name_of_path (c ∷ path) = components_of_texts (slice_split (λ o. o == 47) (c ∷ path))
 
 -- What follows a word at the front of a text, where the word is there.
-unfoldable pub behind : List ℕ → List ℕ → Option (List ℕ)
-behind [] text = Some text
-behind (c ∷ word) [] = None
-behind (c ∷ word) (d ∷ text) = if c == d then behind word text else None
+unfoldable pub behind_word : List ℕ → List ℕ → Option (List ℕ)
+behind_word [] text = Some text
+behind_word (c ∷ word) [] = None
+behind_word (c ∷ word) (d ∷ text) = if c == d then behind_word word text else None
 
 abbrev pub without_scheme : List ℕ → List ℕ
-without_scheme text = unwrap_or (behind (codes "ndn:") text) text
+without_scheme text = unwrap_or (behind_word (codes "ndn:") text) text
 
 -- The name whose URI the text is, where it is one.
 unfoldable pub name_of_text : List ℕ → Option (List Component)
-name_of_text text = option_and_then name_of_path (behind (codes "/") (without_scheme text))
+name_of_text text = option_and_then name_of_path (behind_word (codes "/") (without_scheme text))
 
 -- A digest is a component of type 1 or 2.
 abbrev pub is_digest : Component → Bool

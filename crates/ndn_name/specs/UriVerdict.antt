@@ -4,11 +4,11 @@ use Rattle.ndn_tlv.specs.Types as types
 use Rattle.ndn_name.specs.declared.name_fault.NameFault.{NameFault}
 use Rattle.ndn_name.specs.declared.name_fault.NameFault.TheVariants.{Tlv, BadComponent, BadDigestLength, NameTooLong, BadUri, NoMemory}
 use Rattle.ndn_name.specs.Names.{Component, encoding, name_limit}
-use Rattle.ndn_name.specs.Uri.{Part, IsUri, name_in}
+use Rattle.ndn_name.specs.Uri.{Part, IsUri, name_of_parts}
 
 -- The text leaves a language at this place: what is before it can be continued to a text of the
 -- language; with the octet there it can't, or the text ends there too early.
-pub record Leaves (L : List ℕ → Type 0) (text : List ℕ) (place : ℕ) : Type 0 where
+pub record LeavesLanguage (L : List ℕ → Type 0) (text : List ℕ) (place : ℕ) : Type 0 where
   pub within : place ≤ length text
   pub goes_on : (more : List ℕ) × L (take place text ++ more)
   pub breaks : place < length text → (more : List ℕ) → L (take (place + 1) text ++ more) → ⊥
@@ -20,7 +20,7 @@ IsUriText text = (parts : List Part) × IsUri parts text
 
 -- The name has this URI.
 abbrev pub HasUri : List Component → List ℕ → Type 0
-HasUri name text = (parts : List Part) × IsUri parts text × (name ≡ name_in parts)
+HasUri name text = (parts : List Part) × IsUri parts text × (name ≡ name_of_parts parts)
 
 abbrev pub is_bad_digest : Component → Bool
 is_bad_digest c = nat_le c.0 types.ParametersSha256DigestComponent && not (length c.1 == 32)
@@ -33,16 +33,16 @@ first_bad_digest (part ∷ parts) =
 
 -- What a text is. It leaves the language; or a digest has not 32 octets, and the first such is
 -- told; or the name is too long; or it is this name.
-abbrev pub IsAnswer : List ℕ → Result (List Component) NameFault → Type 0
-IsAnswer text (Ok name) =
+abbrev pub IsUriVerdict : List ℕ → Result (List Component) NameFault → Type 0
+IsUriVerdict text (Ok name) =
     (parts : List Part) × IsUri parts text × (first_bad_digest parts ≡ None)
-    × (length (encoding name) ≤ name_limit) × (name ≡ name_in parts)
-IsAnswer text (Err (BadUri place)) = Leaves IsUriText text place
-IsAnswer text (Err (BadDigestLength at)) = (parts : List Part) × IsUri parts text
+    × (length (encoding name) ≤ name_limit) × (name ≡ name_of_parts parts)
+IsUriVerdict text (Err (BadUri place)) = LeavesLanguage IsUriText text place
+IsUriVerdict text (Err (BadDigestLength at)) = (parts : List Part) × IsUri parts text
     × (first_bad_digest parts ≡ Some at)
-IsAnswer text (Err NameTooLong) =
+IsUriVerdict text (Err NameTooLong) =
     (parts : List Part) × IsUri parts text × (first_bad_digest parts ≡ None)
-    × (name_limit < length (encoding (name_in parts)))
-IsAnswer text (Err NoMemory) = ⊥
-IsAnswer text (Err (Tlv f)) = ⊥
-IsAnswer text (Err (BadComponent at)) = ⊥
+    × (name_limit < length (encoding (name_of_parts parts)))
+IsUriVerdict text (Err NoMemory) = ⊥
+IsUriVerdict text (Err (Tlv f)) = ⊥
+IsUriVerdict text (Err (BadComponent at)) = ⊥

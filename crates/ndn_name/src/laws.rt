@@ -10,7 +10,7 @@ ghost use Rattle.ndn_name.specs.Names.{Component, IsName, encoding, name_limit, 
 ghost use Rattle.ndn_name.specs.declared.name_fault.NameFault.{NameFault};
 ghost use Rattle.ndn_name.specs.Uri.{uri};
 ghost use Rattle.ndn_name.specs.UriText.{name_of_text, plain_name_of_text};
-ghost use Rattle.ndn_name.specs.UriVerdict.{HasUri, IsAnswer};
+ghost use Rattle.ndn_name.specs.UriVerdict.{HasUri, IsUriVerdict};
 ghost use Rattle.ndn_name.specs.CanonicalOrder.{IsPrefix, canonical_cmp};
 
 use crate::name::NAME_LIMIT;
@@ -59,7 +59,7 @@ pub fn canonical_order_is_of_octets()
 /// The text that is printed for a name within the limit is a text of that name.
 pub fn printed_names_are_read()
     ensures { (name : List Component) → IsName name → length (encoding name) ≤ name_limit
-        → IsAnswer (uri name) (Ok name) }
+        → IsUriVerdict (uri name) (Ok name) }
 {}
 
 /// What is computed of a text is what the grammar of URIs has for it.
@@ -99,5 +99,5 @@ pub fn limits_are_of_the_format()
 /// A text is one thing alone: one name, or one fault.
 pub fn texts_have_one_answer()
     ensures { (text : List ℕ) (r s : Result (List Component) NameFault)
-        → IsAnswer text r → IsAnswer text s → r ≡ s }
+        → IsUriVerdict text r → IsUriVerdict text s → r ≡ s }
 {}

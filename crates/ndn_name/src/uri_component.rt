@@ -2,7 +2,7 @@ ghost use Rattle.std.specs.Prelude.{◌≡◌, ◌+◌, ◌^◌, ◌<◌, length
 ghost use Rattle.std.specs.Option.{option_copied};
 ghost use Rattle.ndn_name.specs.declared.uri_form.Form.{Form};
 ghost use Rattle.ndn_name.specs.Uri.{IsComponentText, headed};
-ghost use Rattle.ndn_name.specs.UriReading.{HasNoHead, IsHead, IsTail, Reads, Splits, keyword_of, value_octets};
+ghost use Rattle.ndn_name.specs.UriReading.{HasNoHead, IsHead, IsTail, ReadsText, Splits, keyword_of, value_octets};
 
 use crate::name_fault::NameFault;
 use crate::uri_digits::{read_decimal, read_digest};
@@ -18,7 +18,7 @@ pub(crate) fn read_component(
     at: usize,
 ) -> Result<(u16, PartValue), NameFault>
     requires { at + length text.now < 2 ^ 63 }
-    ensures { Reads (λ x. (x.0, value_octets x.1)) IsComponentText at text.now result }
+    ensures { ReadsText (λ x. (x.0, value_octets x.1)) IsComponentText at text.now result }
 {
     match split_head(text) {
         Some((form, head, tail)) => read_tail(alloc, form, tail, at + head.len() + 1),
@@ -48,7 +48,7 @@ fn read_tail(
     at: usize,
 ) -> Result<(u16, PartValue), NameFault>
     requires { at + length tail.now < 2 ^ 63 }
-    ensures { Reads (λ x. (x.0, value_octets x.1)) (IsTail form) at tail.now result }
+    ensures { ReadsText (λ x. (x.0, value_octets x.1)) (IsTail form) at tail.now result }
 {
     match form {
         Form::Digest(typ) => {

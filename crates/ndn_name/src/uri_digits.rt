@@ -1,6 +1,6 @@
 ghost use Rattle.std.specs.Prelude.{◌≡◌, ◌≢◌, ◌+◌, ◌^◌, ◌<◌, ◌≤◌, length, MatchResult, Ok, Err};
 ghost use Rattle.ndn_name.specs.Uri.{IsDecimal, IsDigestText};
-ghost use Rattle.ndn_name.specs.UriReading.{Reads, digit_at, pair_at, with_digit};
+ghost use Rattle.ndn_name.specs.UriReading.{ReadsText, digit_at, pair_at, with_digit};
 
 use crate::name_fault::NameFault;
 
@@ -35,7 +35,7 @@ pub(crate) fn pair_at(text: &[u8], at: usize) -> Result<(u8, &[u8]), NameFault>
 // The digest whose digits are the text.
 pub(crate) fn read_digest(text: &[u8], at: usize) -> Result<[u8; 32], NameFault>
     requires { at + length text.now < 2 ^ 63 }
-    ensures read { Reads (λ d. d) IsDigestText at text.now result }
+    ensures read { ReadsText (λ d. d) IsDigestText at text.now result }
     ensures told { result ≢ Err NameFault.NoMemory }
 {
     let mut digest = [0; 32];
@@ -56,7 +56,7 @@ pub(crate) fn read_digest(text: &[u8], at: usize) -> Result<[u8; 32], NameFault>
 pub(crate) fn read_decimal(text: &[u8], at: usize, most: u64) -> Result<u64, NameFault>
     requires place { at + length text.now < 2 ^ 63 }
     requires digit { 9 ≤ most }
-    ensures read { Reads (λ n. n) (IsDecimal most) at text.now result }
+    ensures read { ReadsText (λ n. n) (IsDecimal most) at text.now result }
     ensures told { result ≢ Err NameFault.NoMemory }
 {
     let mut number = None;

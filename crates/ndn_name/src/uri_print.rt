@@ -2,7 +2,7 @@ ghost use Rattle.std.specs.Prelude.{◌≡◌, ◌++◌, ◌<◌, IfOk, OnOk, On
 ghost use Rattle.std.specs.Fmt.{digit_glyph};
 ghost use Rattle.std.specs.List.{flat_map};
 ghost use Rattle.ndn_tlv.specs.NumberField.{number_field, number_of};
-ghost use Rattle.ndn_name.specs.Uri.{component_text, digest_text, escape_of, in_shortest_width, number_text, pair_of, plain_text, uri, value_text};
+ghost use Rattle.ndn_name.specs.Uri.{component_text, digest_text, escape_of, in_shortest_width, number_text, hex_pair, plain_text, uri, value_text};
 
 use crate::name::Name;
 use crate::name_view::NameView;
@@ -93,7 +93,7 @@ fn put_digits(out: &mut Vec<u8>, octets: &[u8]) -> Result<(), AllocError>
 
 // The two hexadecimal digits of an octet.
 fn pair(octet: u8, upper: bool) -> [u8; 2]
-    ensures { result ≡ pair_of upper octet }
+    ensures { result ≡ hex_pair upper octet }
 {
     [digit(octet / 16, upper), digit(octet % 16, upper)]
 }

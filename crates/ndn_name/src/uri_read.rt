@@ -1,9 +1,9 @@
 ghost use Rattle.std.specs.Prelude.{◌≡◌, ◌≢◌, ◌+◌, ◌^◌, ◌<◌, ◌≤◌, [], ◌∷◌, ◌++◌, ◌⊎◌, ◌↔◌, length, map, codes, MatchOption, MatchResult, IfOk, IfErr, OnOk, None, Some, Ok, Err, List};
 ghost use Rattle.std.specs.List.{AllByRecursion};
 ghost use Rattle.ndn_name.specs.Names.{Component, encoding};
-ghost use Rattle.ndn_name.specs.Uri.{IsPath, IsRooted, IsUri, name_in};
-ghost use Rattle.ndn_name.specs.UriVerdict.{IsAnswer, first_bad_digest};
-ghost use Rattle.ndn_name.specs.UriReading.{BeginsOtherwise, BreaksOff, IsSound, Reads, uri_part};
+ghost use Rattle.ndn_name.specs.Uri.{IsPath, IsRooted, IsUri, name_of_parts};
+ghost use Rattle.ndn_name.specs.UriVerdict.{IsUriVerdict, first_bad_digest};
+ghost use Rattle.ndn_name.specs.UriReading.{BeginsWithAnother, BreaksOff, MayBeAppended, ReadsText, uri_part};
 ghost use Rattle.ndn_name.specs.UriText.{plain_name_of_text};
 
 use crate::name::{NAME_LIMIT, Name};
@@ -18,7 +18,7 @@ impl Name {
     ///
     /// A place in a fault counts the octets of the text before it.
     pub fn from_uri(alloc: Global, text: &str) -> Result<Name, NameFault>
-        ensures answer { result ≢ Err NameFault.NoMemory → IsAnswer text.now result }
+        ensures answer { result ≢ Err NameFault.NoMemory → IsUriVerdict text.now result }
         ensures plain { (name : List Component)
             → plain_name_of_text text.now ≡ Some name → length (encoding name) ≤ NAME_LIMIT
             → (result ≡ Ok name) ⊎ (result ≡ Err NameFault.NoMemory) }
@@ -34,7 +34,7 @@ impl Name {
 // The parts of the text of a name.
 fn read_uri(alloc: Global, text: &[u8]) -> Result<Vec<UriPart>, NameFault>
     requires { length text.now < 2 ^ 63 }
-    ensures { Reads (λ v. map uri_part v.items) IsUri 0 text.now result }
+    ensures { ReadsText (λ v. map uri_part v.items) IsUri 0 text.now result }
 {
     match behind_scheme(text) {
         Ok(path) => read_rooted(alloc, path, 4),
@@ -60,7 +60,7 @@ pub(crate) fn behind_scheme(text: &[u8]) -> Result<&[u8], usize>
 
 // What follows an octet at the front, where it is there.
 pub(crate) fn behind_octet(text: &[u8], octet: u8) -> Option<&[u8]>
-    ensures { MatchOption result (BeginsOtherwise octet text.now)
+    ensures { MatchOption result (BeginsWithAnother octet text.now)
         (λ rest. text.now ≡ octet ∷ rest.now) }
 {
     match text {
@@ -72,7 +72,7 @@ pub(crate) fn behind_octet(text: &[u8], octet: u8) -> Option<&[u8]>
 // The parts of a text that begins with a slash at place `at`.
 fn read_rooted(alloc: Global, text: &[u8], at: usize) -> Result<Vec<UriPart>, NameFault>
     requires { at + length text.now < 2 ^ 63 }
-    ensures { Reads (λ v. map uri_part v.items) (IsRooted at) at text.now result }
+    ensures { ReadsText (λ v. map uri_part v.items) (IsRooted at) at text.now result }
 {
     let Some(path) = behind_octet(text, b'/') else {
         return Err(NameFault::BadUri { place: at });
@@ -86,7 +86,7 @@ fn read_rooted(alloc: Global, text: &[u8], at: usize) -> Result<Vec<UriPart>, Na
 // The parts of a text that follows a slash at place `at`.
 fn read_path(alloc: Global, path: &[u8], at: usize) -> Result<Vec<UriPart>, NameFault>
     requires { at + 1 + length path.now < 2 ^ 63 }
-    ensures { Reads (λ v. map uri_part v.items) (IsPath at) at (47 ∷ path.now) result }
+    ensures { ReadsText (λ v. map uri_part v.items) (IsPath at) at (47 ∷ path.now) result }
 {
     let mut parts = Vec::new(alloc);
     let mut left = Some(path);
@@ -114,11 +114,11 @@ fn first_bad_digest(parts: &[UriPart]) -> Option<usize>
 
 // The name of the parts.
 fn name_of_parts(alloc: Global, parts: &[UriPart]) -> Result<Name, NameFault>
-    requires { AllByRecursion IsSound (name_in (map uri_part parts.now)) }
-    ensures ok { IfOk result (λ name. name ≡ name_in (map uri_part parts.now)) }
-    ensures fits { OnOk result (length (encoding (name_in (map uri_part parts.now))) ≤ NAME_LIMIT) }
+    requires { AllByRecursion MayBeAppended (name_of_parts (map uri_part parts.now)) }
+    ensures ok { IfOk result (λ name. name ≡ name_of_parts (map uri_part parts.now)) }
+    ensures fits { OnOk result (length (encoding (name_of_parts (map uri_part parts.now))) ≤ NAME_LIMIT) }
     ensures too_long { result ≡ Err NameFault.NameTooLong
-        → NAME_LIMIT < length (encoding (name_in (map uri_part parts.now))) }
+        → NAME_LIMIT < length (encoding (name_of_parts (map uri_part parts.now))) }
     ensures refused { IfErr result
         (λ fault. (fault ≡ NameFault.NameTooLong) ⊎ (fault ≡ NameFault.NoMemory)) }
 {
@@ -131,7 +131,7 @@ fn name_of_parts(alloc: Global, parts: &[UriPart]) -> Result<Name, NameFault>
 
 // Appends a part.
 fn push_part(name: &mut Name, part: &UriPart) -> Result<(), NameFault>
-    requires { IsSound (uri_part part.now).1 }
+    requires { MayBeAppended (uri_part part.now).1 }
     ensures ok { OnOk result (name.new ≡ name.old ++ (uri_part part.now).1 ∷ []) }
     ensures too_long { (result ≡ Err NameFault.NameTooLong)
         ↔ (NAME_LIMIT < length (encoding (name.old ++ (uri_part part.now).1 ∷ []))) }

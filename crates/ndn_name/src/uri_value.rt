@@ -1,6 +1,6 @@
 ghost use Rattle.std.specs.Prelude.{◌≡◌, ◌+◌, ◌^◌, ◌<◌, length, MatchResult, Ok, Err};
 ghost use Rattle.ndn_name.specs.Uri.{IsEscaped, IsValueText, are_periods, is_unreserved};
-ghost use Rattle.ndn_name.specs.UriReading.{Reads, octet_at};
+ghost use Rattle.ndn_name.specs.UriReading.{ReadsText, octet_at};
 
 use crate::name_fault::NameFault;
 use crate::uri_digits::pair_at;
@@ -30,7 +30,7 @@ pub(crate) fn octet_at(text: &[u8], at: usize) -> Result<(u8, &[u8]), NameFault>
 // The octets that the text is the escapes of.
 fn unescape(alloc: Global, text: &[u8], at: usize) -> Result<Vec<u8>, NameFault>
     requires { at + length text.now < 2 ^ 63 }
-    ensures { Reads (λ v. v.items) IsEscaped at text.now result }
+    ensures { ReadsText (λ v. v.items) IsEscaped at text.now result }
 {
     let mut octets = Vec::new(alloc);
     let mut rest = text;
@@ -45,7 +45,7 @@ fn unescape(alloc: Global, text: &[u8], at: usize) -> Result<Vec<u8>, NameFault>
 // The value whose text this is: three periods or more, alone, stand for three fewer.
 pub(crate) fn read_value(alloc: Global, text: &[u8], at: usize) -> Result<Vec<u8>, NameFault>
     requires { at + length text.now < 2 ^ 63 }
-    ensures { Reads (λ v. v.items) IsValueText at text.now result }
+    ensures { ReadsText (λ v. v.items) IsValueText at text.now result }
 {
     let mut value = unescape(alloc, text, at)?;
     if !are_periods(&value) {

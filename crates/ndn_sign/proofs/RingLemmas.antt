@@ -8,13 +8,13 @@ use Rattle.std.proofs.lemmas.List.{length-map, map-append}
 use Rattle.std.proofs.lemmas.Option.{none-some, same_Some, slice_get_within}
 use Rattle.indexmap.specs.IndexMap.{insert_entry}
 use Rattle.indexmap.proofs.MapLemmas.{Missing-position, insert_entry-absent}
-use Rattle.ndn_sign.specs.Ring.{IsRing, Pair, has_same_name, number_of, pair, pair_limit}
+use Rattle.ndn_sign.specs.Ring.{IsRing, NamedKey, has_same_name, key_number, pair, pair_limit}
 
 -- an entry of the map: the octets of a name, and the key
 abbrev pub Entry : Type 0 → Type 0
 Entry X = Vec ℕ X × List ℕ
 
-abbrev pub pairs : {X : Type 0} → List (Entry X) → List Pair
+abbrev pub pairs : {X : Type 0} → List (Entry X) → List NamedKey
 pairs entries = map (λ entry. pair entry.0.items entry.1) entries
 
 abbrev is_same_key : {X : Type 0} → Vec ℕ X → Vec ℕ X → Bool
@@ -28,7 +28,7 @@ prefixes name [] = refl
 prefixes name (e ∷ entries) = rw (prefixes name entries) refl
 
 pub number_of-entries : {X : Type 0} (name : List ℕ) (entries : List (Entry X))
-    → number_of name (pairs entries) ≡ position (λ key. bytes_eq name key.items) (map (λ entry. entry.0) entries)
+    → key_number name (pairs entries) ≡ position (λ key. bytes_eq name key.items) (map (λ entry. entry.0) entries)
 number_of-entries {X} name entries =
     let of_pairs = length-map entries (λ (entry : Entry X). pair entry.0.items entry.1) in
     let of_keys = length-map entries (λ (entry : Entry X). entry.0) in
@@ -65,7 +65,7 @@ is_ring : {X : Type 0} (entries : List (Entry X)) → length (pairs entries) ≤
 is_ring entries few apart = record { few = few; different = names_differ entries apart }
 
 -- one pair more
-pub still_ring : {X : Type 0} (p : Pair) (entries new : List (Entry X)) → pairs new ≡ pairs entries ++ p ∷ []
+pub still_ring : {X : Type 0} (p : NamedKey) (entries new : List (Entry X)) → pairs new ≡ pairs entries ++ p ∷ []
     → length (pairs entries) < pair_limit → IsDistinct is_same_key (map (λ entry. entry.0) new) → IsRing (pairs new)
 still_ring p entries new written room apart =
     is_ring new (omega (arith, ap length written, length-append (pairs entries) (p ∷ []), room)) apart
@@ -83,25 +83,25 @@ other_way a b apart =
     false_from_ne_true (bytes_eq b a)
     (λ same. both_ways (bytes_eq a b) apart ((bytes_decides a b).1 (sym ((bytes_decides b a).0 same))))
 
-differs_at : (first : Pair) (ring : List Pair) (number : ℕ) (p : Pair)
+differs_at : (first : NamedKey) (ring : List NamedKey) (number : ℕ) (p : NamedKey)
     → AllByRecursion (λ q. has_same_name first q ≡ false) ring → slice_get ring number ≡ Some p
     → has_same_name first p ≡ false
 differs_at first [] number p apart at = absurd (none-some p at)
 differs_at first (q ∷ ring) zero p apart at = ap (has_same_name first) (sym (same_Some q p at)) ∙ apart.0
 differs_at first (q ∷ ring) (suc number) p apart at = differs_at first ring number p apart.1 at
 
-place : (ring : List Pair) (number : ℕ) (p : Pair) → IsDistinct has_same_name ring → slice_get ring number ≡ Some p
+place : (ring : List NamedKey) (number : ℕ) (p : NamedKey) → IsDistinct has_same_name ring → slice_get ring number ≡ Some p
     → prefix_len (λ q. not (bytes_eq p.name q.name)) ring ≡ number
 unfolding IsDistinct
 place [] number p apart at = absurd (none-some p at)
 place (q ∷ ring) zero p apart at =
-    let same : bytes_eq p.name q.name ≡ true = (bytes_decides p.name q.name).1 (ap (λ (r : Pair). r.name) (sym (same_Some q p at))) in
+    let same : bytes_eq p.name q.name ≡ true = (bytes_decides p.name q.name).1 (ap (λ (r : NamedKey). r.name) (sym (same_Some q p at))) in
     rw same refl
 place (q ∷ ring) (suc number) p apart at =
     let other = other_way q.name p.name (differs_at q ring number p apart.0 at) in
     rw (other, place ring number p apart.1 at) (omega arith)
 
-pub number-name : (ring : List Pair) (number : ℕ) (p : Pair) → IsRing ring → slice_get ring number ≡ Some p
-    → number_of p.name ring ≡ Some number
+pub number-name : (ring : List NamedKey) (number : ℕ) (p : NamedKey) → IsRing ring → slice_get ring number ≡ Some p
+    → key_number p.name ring ≡ Some number
 number-name ring number p is at =
     rw (place ring number p is.different at, lt-ltb number (length ring) (slice_get_within ring number p at)) refl

@@ -4,18 +4,18 @@ use Rattle.std.specs.List.{IsDistinct}
 use Rattle.std.specs.Str.{bytes_eq}
 
 -- The octets of a key name, and the key.
-pub record Pair : Type 0 where
+pub record NamedKey : Type 0 where
   pub name : List ℕ
   pub key : List ℕ
 
-abbrev pub pair : List ℕ → List ℕ → Pair
+abbrev pub pair : List ℕ → List ℕ → NamedKey
 pair name key = record { name = name; key = key }
 
 -- The number of the pair of this name.
-abbrev pub number_of : List ℕ → List Pair → Option ℕ
-number_of name ring = position (λ pair. bytes_eq name pair.name) ring
+abbrev pub key_number : List ℕ → List NamedKey → Option ℕ
+key_number name ring = position (λ pair. bytes_eq name pair.name) ring
 
-abbrev pub has_same_name : Pair → Pair → Bool
+abbrev pub has_same_name : NamedKey → NamedKey → Bool
 has_same_name a b = bytes_eq a.name b.name
 
 -- How many pairs a ring may have: a number has 32 bits.
@@ -23,6 +23,6 @@ abbrev pub pair_limit : ℕ
 pair_limit = 4294967295
 
 -- The names of a ring differ, and its numbers have 32 bits.
-pub record IsRing (ring : List Pair) : Type 0 where
+pub record IsRing (ring : List NamedKey) : Type 0 where
   pub few : length ring ≤ pair_limit
   pub different : IsDistinct has_same_name ring

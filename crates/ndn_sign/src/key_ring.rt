@@ -1,6 +1,6 @@
 ghost use Rattle.std.specs.Prelude.{◌≡◌, ◌<◌, ◌↔◌, ◌++◌, ◌∷◌, [], ℕ, Some, length, slice_get, option_map, IfOk, OnOk, OnErr, IsTrue};
 ghost use Rattle.ndn_sign.specs.Hmac.{hmac};
-ghost use Rattle.ndn_sign.specs.Ring.{IsRing, number_of, pair_limit};
+ghost use Rattle.ndn_sign.specs.Ring.{IsRing, key_number, pair_limit};
 
 use crate::prepared_key::PreparedKey;
 use crate::ring_fault::RingFault;
@@ -19,9 +19,9 @@ pub struct KeyRing {
 // A ring is seen as the list of its pairs.
 impl Model for KeyRing {
     ghost use Rattle.std.specs.Prelude.{List, map};
-    ghost use Rattle.ndn_sign.specs.Ring.{IsRing, Pair, pair};
+    ghost use Rattle.ndn_sign.specs.Ring.{IsRing, NamedKey, pair};
 
-    ghost Value = { List Pair };
+    ghost Value = { List NamedKey };
 
     ghost view = { λ ring. map (λ entry. pair entry.0.items entry.1) ring.pairs.entries };
 
@@ -44,7 +44,7 @@ impl KeyRing {
         ensures number { IfOk result (λ number. number ≡ length self.old) }
         ensures ok { OnOk result (self.new ≡ self.old ++ record { name = name.now; key = key.now } ∷ []) }
         ensures duplicate { (number : ℕ)
-            → (result ≡ Err (RingFault.Duplicate number)) ↔ (number_of name.now self.old ≡ Some number) }
+            → (result ≡ Err (RingFault.Duplicate number)) ↔ (key_number name.now self.old ≡ Some number) }
         ensures err { OnErr result (self.new ≡ self.old) }
         ensures ring { IsRing self.new }
     {
@@ -58,7 +58,7 @@ impl KeyRing {
 
     // Adds a pair whose name is not there.
     fn insert(&mut self, name: &[u8], key: &[u8]) -> Result<(), AllocError>
-        requires new_name { number_of name.now self.old ≡ None }
+        requires new_name { key_number name.now self.old ≡ None }
         requires room { length self.old < pair_limit }
         ensures ok { OnOk result (self.new ≡ self.old ++ record { name = name.now; key = key.now } ∷ []) }
         ensures err { OnErr result (self.new ≡ self.old) }
@@ -73,7 +73,7 @@ impl KeyRing {
 
     /// The number of the key of this name.
     pub fn find(&self, name: &[u8]) -> Option<u32>
-        ensures number { result ≡ number_of name.now self.now }
+        ensures number { result ≡ key_number name.now self.now }
         ensures ring { IsRing self.now }
     {
         let number = self.pairs.get_index_of(name)?;

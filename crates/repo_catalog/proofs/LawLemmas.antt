@@ -14,8 +14,8 @@ use Rattle.repo_plan.specs.SortedList.{by_order, IsBefore}
 use Rattle.repo_plan.proofs.Orders.{less_back, greater_back, equal_from_is_eq, exact_pairs}
 use Rattle.repo_plan.proofs.Sets.{before_more, eq_same, eq_itself}
 use Rattle.repo_catalog.specs.declared.entry.Entry.{Entry}
-use Rattle.repo_catalog.specs.Entries.{publication_of, is_of, has_name, entry_of, lists, first_named, with_entry, without, IsCatalogue}
-use Rattle.repo_catalog.specs.Laws.{AddsOne, RemovesOne, EntriesTellAll, IsListed, IsLeastNamed, HasNone, FirstIsLeast}
+use Rattle.repo_catalog.specs.Entries.{publication_of, is_of, entry_has_name, entry_of, lists, first_named, with_entry, without, IsCatalogue}
+use Rattle.repo_catalog.specs.Laws.{AddsOne, RemovesOne, EntriesTellAll, IsListed, IsLeastNamed, NoEntryHasName, FirstIsLeast}
 
 -- ---- keys
 
@@ -154,10 +154,10 @@ entries_tell_all (x ∷ xs) (y ∷ ys) r s h = go (λ t. entries_tell_all xs ys 
 
 -- ---- the first of a name
 
-named : (name : List Component) (e : Entry) → has_name name e ≡ true → e.name ≡ name
+named : (name : List Component) (e : Entry) → entry_has_name name e ≡ true → e.name ≡ name
 named name e h = canonical_cmp-equal e.name name (equal_from_is_eq (canonical_cmp e.name name) h)
 
-has_named : (name : List Component) (e : Entry) → e.name ≡ name → has_name name e ≡ true
+has_named : (name : List Component) (e : Entry) → e.name ≡ name → entry_has_name name e ≡ true
 has_named name e same = ap (λ (n : List Component). eq_by_cmp canonical_cmp e.name n) (sym same) ∙ ap is_eq (tied_itself canonical_cmp_total e.name)
 
 -- what is listed behind an entry is of a later publication
@@ -189,9 +189,9 @@ not_less x f h e = let back = less_back exact_pairs.total (publication_of x) (pu
 
 module _ (name : List Component) where
   abbrev IsAnswer : List Entry → Option Entry → Type 0
-  IsAnswer es o = MatchOption o (HasNone name es) (IsLeastNamed name es)
+  IsAnswer es o = MatchOption o (NoEntryHasName name es) (IsLeastNamed name es)
 
-  here : (x : Entry) (xs : List Entry) → IsCatalogue (x ∷ xs) → has_name name x ≡ true → IsLeastNamed name (x ∷ xs) x
+  here : (x : Entry) (xs : List Entry) → IsCatalogue (x ∷ xs) → entry_has_name name x ≡ true → IsLeastNamed name (x ∷ xs) x
   here x xs r h = record {
     listed = first_entry x xs;
     named = named name x h;
@@ -201,10 +201,10 @@ module _ (name : List Component) where
     ];
   }
 
-  differs : (x f : Entry) → has_name name x ≡ false → x ≡ f → f.name ≢ name
+  differs : (x f : Entry) → entry_has_name name x ≡ false → x ≡ f → f.name ≢ name
   differs x f h same n = true≢false (sym (has_named name x (ap (λ (g : Entry). g.name) same ∙ n)) ∙ h)
 
-  later_on : (x : Entry) (xs : List Entry) → IsCatalogue (x ∷ xs) → has_name name x ≡ false → (o : Option Entry) → IsAnswer xs o → IsAnswer (x ∷ xs) o
+  later_on : (x : Entry) (xs : List Entry) → IsCatalogue (x ∷ xs) → entry_has_name name x ≡ false → (o : Option Entry) → IsAnswer xs o → IsAnswer (x ∷ xs) o
   later_on x xs r h None none = λ f l. elim (is_in x xs f l) [ first same ↦ differs x f h same | later behind ↦ none f behind ]
   later_on x xs r h (Some e) least = record {
     listed = listed_later x e xs r.0 least.listed;
@@ -217,8 +217,8 @@ module _ (name : List Component) where
 
   least_first : (es : List Entry) → IsCatalogue es → IsAnswer es (first_named name es)
   least_first [] r = λ f l. absurd cc
-  least_first (x ∷ xs) r = go (least_first xs r.1) (has_name name x) refl where
-    go : IsAnswer xs (first_named name xs) → (b : Bool) → has_name name x ≡ b → IsAnswer (x ∷ xs) (cond b (Some x) (first_named name xs))
+  least_first (x ∷ xs) r = go (least_first xs r.1) (entry_has_name name x) refl where
+    go : IsAnswer xs (first_named name xs) → (b : Bool) → entry_has_name name x ≡ b → IsAnswer (x ∷ xs) (cond b (Some x) (first_named name xs))
     go a true h = here x xs r h
     go a false h = later_on x xs r h (first_named name xs) a
 

@@ -35,10 +35,10 @@ pub record IsLeastNamed (name : List Component) (entries : List Entry) (e : Entr
       → pair_cmp (publication_of f) (publication_of e) ≢ Less
 
 -- No entry has the name.
-abbrev pub HasNone : List Component → List Entry → Type 0
-HasNone name entries = (f : Entry) → IsListed entries f → f.name ≢ name
+abbrev pub NoEntryHasName : List Component → List Entry → Type 0
+NoEntryHasName name entries = (f : Entry) → IsListed entries f → f.name ≢ name
 
 -- The first entry of a name is the least, and there is none only where no entry has the name.
 abbrev pub FirstIsLeast : Type 0
 FirstIsLeast = (name : List Component) (entries : List Entry) → IsCatalogue entries
-    → MatchOption (first_named name entries) (HasNone name entries) (IsLeastNamed name entries)
+    → MatchOption (first_named name entries) (NoEntryHasName name entries) (IsLeastNamed name entries)

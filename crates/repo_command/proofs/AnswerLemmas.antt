@@ -18,7 +18,7 @@ use Rattle.repo_command.specs.declared.answer.Answer.{Answer}
 use Rattle.repo_command.specs.declared.answer_fields.AnswerField.{AnswerField}
 use Rattle.repo_command.specs.declared.answer_fields.AnswerField.TheVariants.{ProcessId, StatusCode, InsertNum, DeleteNum}
 use Rattle.repo_command.specs.OrderTables.{repo_command_response}
-use Rattle.repo_command.specs.Answers.{IsSmall, IsAnswer, NoAnswer, none, written_field, response_value, written_answer, AnswerSoFar, no_number, with_number, with_answer_field, bad_field, answer_fields, whole_answer, response_among, answer_in, answer_of}
+use Rattle.repo_command.specs.Answers.{IsSmall, IsAnswer, NoAnswer, none, written_field, response_value, written_answer, AnswerSoFar, no_number, with_number, with_answer_field, bad_answer_field, answer_fields, whole_answer, response_among, answer_in, answer_of}
 use Rattle.repo_command.proofs.LengthLemmas.{field_short, number_element-size}
 use Rattle.repo_command.proofs.FieldLemmas.{field_again, fields_end}
 
@@ -32,7 +32,7 @@ abbrev behind_inserted : List (Place AnswerField)
 behind_inserted = once 210 DeleteNum ∷ []
 
 abbrev gather_answer : AnswerSoFar → List (Place AnswerField) → ℕ → List ℕ → Result AnswerSoFar NoAnswer
-gather_answer s places o octets = gathered with_answer_field bad_field s (fields places (elements o octets))
+gather_answer s places o octets = gathered with_answer_field bad_answer_field s (fields places (elements o octets))
 
 -- with a number that may be there
 abbrev with_some : AnswerSoFar → AnswerField → Option ℕ → AnswerSoFar
@@ -49,16 +49,16 @@ next_number : (places behind : List (Place AnswerField)) (field : AnswerField) (
     → gather_answer s places o (element typ (number_field n) ++ rest)
     ≡ gather_answer (with_number s field n) behind (o + length (element typ (number_field n))) rest
 next_number places behind field o typ n rest s place above below small =
-    field_again with_answer_field bad_field places behind field o typ (number_field n) rest s (with_number s field n) place above below (omega (arith, field_short n)) (number_taken s field o typ n small)
+    field_again with_answer_field bad_answer_field places behind field o typ (number_field n) rest s (with_number s field n) place above below (omega (arith, field_short n)) (number_taken s field o typ n small)
 
 -- ---- field by field, from the last
 
 deleted_again : (places : List (Place AnswerField)) (o : ℕ) (s : AnswerSoFar) (d : Option ℕ) → place_of 210 places ≡ Some (DeleteNum, []) → IsSmall d
     → gather_answer s places o (written_field 210 d ++ []) ≡ Ok (with_some s DeleteNum d)
-deleted_again places o s None place small = fields_end with_answer_field bad_field places o s
+deleted_again places o s None place small = fields_end with_answer_field bad_answer_field places o s
 deleted_again places o s (Some n) place small =
     next_number places [] DeleteNum o 210 n [] s place (omega arith) (omega arith) small
-    ∙ fields_end with_answer_field bad_field [] (o + length (element 210 (number_field n))) (with_number s DeleteNum n)
+    ∙ fields_end with_answer_field bad_answer_field [] (o + length (element 210 (number_field n))) (with_number s DeleteNum n)
 
 last_place : place_of 210 behind_inserted ≡ Some (DeleteNum, [])
 unfolding place_of

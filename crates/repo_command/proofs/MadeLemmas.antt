@@ -14,7 +14,7 @@ use Rattle.ndn_name.specs.declared.fault.PacketFault.{PacketFault}
 use Rattle.ndn_name.specs.declared.name_fault.NameFault.{NameFault}
 use Rattle.ndn_name.specs.Names.{Component, IsName, encoding}
 use Rattle.ndn_name.proofs.Encodings.{name_of-encoding}
-use Rattle.ndn_sign.specs.Ring.{Pair, number_of as key_number, pair}
+use Rattle.ndn_sign.specs.Ring.{NamedKey, key_number, pair}
 use Rattle.ndn_interest.specs.Interest.{Interest}
 use Rattle.ndn_interest.specs.WrittenInterest as written
 use Rattle.ndn_interest.proofs.ReadBackLemmas.{signed_again}
@@ -29,9 +29,9 @@ use Rattle.repo_command.specs.declared.parameters.ParameterField.{ParameterField
 use Rattle.repo_command.specs.declared.parameters.ParameterField.TheVariants.{Name, StartBlockId, EndBlockId, ProcessId}
 use Rattle.repo_command.specs.OrderTables.{repo_command_parameter}
 use Rattle.repo_command.specs.Verbs.{verb_of, command_name}
-use Rattle.repo_command.specs.Commands.{named_length, is_command, IsSpelled, parameters_value, written_parameters, command_interest}
-use Rattle.repo_command.specs.Parameters.{Parameters, no_parameters, good_name, with_parameter, bad_field, parameters_in, parameter_among, parameters_of, command_from}
-use Rattle.repo_command.specs.Verdict.{packet_or, interest_verdict, command_verdict}
+use Rattle.repo_command.specs.Commands.{named_length, is_command, CommandIsSpelled, parameters_value, written_parameters, command_interest}
+use Rattle.repo_command.specs.Parameters.{Parameters, no_parameters, good_name, with_parameter, bad_parameter_field, parameters_in, parameter_among, parameters_of, command_from}
+use Rattle.repo_command.specs.Verdict.{packet_or, command_interest_verdict, command_verdict}
 use Rattle.repo_command.proofs.NameLemmas.{IsName-command, verb_in-made}
 use Rattle.repo_command.proofs.LengthLemmas.{field_short, value-size, command-size}
 use Rattle.repo_command.proofs.FieldLemmas.{field_again, last_field}
@@ -55,7 +55,7 @@ given (Check process) = record { name = None; first = None; last = None; process
 given (Delete name) = record { name = Some name; first = None; last = None; process = None }
 
 abbrev gather_parameters : Parameters → List (Place ParameterField) → ℕ → List ℕ → Result Parameters CommandRefusal
-gather_parameters p places o octets = gathered with_parameter bad_field p (fields places (elements o octets))
+gather_parameters p places o octets = gathered with_parameter bad_parameter_field p (fields places (elements o octets))
 
 name_taken : (o typ : ℕ) (name : List Component) → IsName name
     → with_parameter no_parameters (Name, placed o typ (encoding name)) ≡ Ok (record no_parameters { name = Some name })
@@ -67,7 +67,7 @@ number_taken : (n : ℕ) (with : ℕ → Parameters) → n < 2 ^ 64
 number_taken n with small =
     ap (λ (r : Option ℕ). ok_or {E = CommandRefusal} r BadParameter >>= λ m. Ok (with m)) (number_of-number_field n small)
 
-value_again : (c : Command) (o : ℕ) → IsSpelled c → named_length c ≤ 400
+value_again : (c : Command) (o : ℕ) → CommandIsSpelled c → named_length c ≤ 400
     → gather_parameters no_parameters repo_command_parameter o (parameters_value c) ≡ Ok (given c)
 unfolding place_of
 value_again (Insert name first last) o is short =
@@ -78,15 +78,15 @@ value_again (Insert name first last) o is short =
     let begun = record named { first = Some first } in
     let p = o + length a in
     let q = p + length b in
-    field_again with_parameter bad_field repo_command_parameter behind_name Name o 7 (encoding name) (b ++ d) no_parameters named refl (omega arith) (omega arith) (omega (arith, short)) (name_taken o 7 name is.0)
-    ∙ field_again with_parameter bad_field behind_name behind_first StartBlockId p 204 (number_field first) d named begun refl (omega arith) (omega arith) (omega (arith, field_short first)) (number_taken first (λ m. record named { first = Some m }) is.1)
-    ∙ last_field with_parameter bad_field behind_first behind_last EndBlockId q 205 (number_field last) begun (given (Insert name first last)) refl (omega arith) (omega arith) (omega (arith, field_short last)) (number_taken last (λ m. record begun { last = Some m }) is.2)
+    field_again with_parameter bad_parameter_field repo_command_parameter behind_name Name o 7 (encoding name) (b ++ d) no_parameters named refl (omega arith) (omega arith) (omega (arith, short)) (name_taken o 7 name is.0)
+    ∙ field_again with_parameter bad_parameter_field behind_name behind_first StartBlockId p 204 (number_field first) d named begun refl (omega arith) (omega arith) (omega (arith, field_short first)) (number_taken first (λ m. record named { first = Some m }) is.1)
+    ∙ last_field with_parameter bad_parameter_field behind_first behind_last EndBlockId q 205 (number_field last) begun (given (Insert name first last)) refl (omega arith) (omega arith) (omega (arith, field_short last)) (number_taken last (λ m. record begun { last = Some m }) is.2)
 value_again (Check process) o is short =
-    last_field with_parameter bad_field repo_command_parameter [] ProcessId o 206 (number_field process) no_parameters (given (Check process)) refl (omega arith) (omega arith) (omega (arith, field_short process)) (number_taken process (λ m. record no_parameters { process = Some m }) is)
+    last_field with_parameter bad_parameter_field repo_command_parameter [] ProcessId o 206 (number_field process) no_parameters (given (Check process)) refl (omega arith) (omega arith) (omega (arith, field_short process)) (number_taken process (λ m. record no_parameters { process = Some m }) is)
 value_again (Delete name) o is short =
-    last_field with_parameter bad_field repo_command_parameter behind_name Name o 7 (encoding name) no_parameters (given (Delete name)) refl (omega arith) (omega arith) (omega (arith, short)) (name_taken o 7 name is)
+    last_field with_parameter bad_parameter_field repo_command_parameter behind_name Name o 7 (encoding name) no_parameters (given (Delete name)) refl (omega arith) (omega arith) (omega (arith, short)) (name_taken o 7 name is)
 
-parameters_again : (c : Command) → IsSpelled c → named_length c ≤ 400 → parameters_of (written_parameters c) ≡ Ok (given c)
+parameters_again : (c : Command) → CommandIsSpelled c → named_length c ≤ 400 → parameters_of (written_parameters c) ≡ Ok (given c)
 parameters_again c is short =
     let value = parameters_value c in
     let e = placed 0 201 value in
@@ -116,8 +116,8 @@ last_step (Insert name first last) client = insertion (is_object_name name) (leb
 last_step (Check process) client = refl
 last_step (Delete name) client = deletion (is_object_name name) client name
 
-module _ (node : List Component) (ring : List Pair) (c : Command) (key_name : List Component) (key : List ℕ) (client : ℕ) (found : key_number (encoding key_name) ring ≡ Some client) (at : slice_get ring client ≡ Some (pair (encoding key_name) key)) (read : parameters_of (written_parameters c) ≡ Ok (given c)) where
-  made_verdict : interest_verdict node ring (written.read_signed (command_name node (verb_of c)) (written_parameters c) key_name key) ≡ or_bad client c (is_command c)
+module _ (node : List Component) (ring : List NamedKey) (c : Command) (key_name : List Component) (key : List ℕ) (client : ℕ) (found : key_number (encoding key_name) ring ≡ Some client) (at : slice_get ring client ≡ Some (pair (encoding key_name) key)) (read : parameters_of (written_parameters c) ≡ Ok (given c)) where
+  made_verdict : command_interest_verdict node ring (written.read_signed (command_name node (verb_of c)) (written_parameters c) key_name key) ≡ or_bad client c (is_command c)
   made_verdict =
       let name = command_name node (verb_of c) in
       let parameters = written_parameters c in
@@ -130,10 +130,10 @@ module _ (node : List Component) (ring : List Pair) (c : Command) (key_name : Li
       let name = command_name node (verb_of c) in
       let small = command-size node c key_name key short_node short short_key in
       let packet = signed_again name key_name (written_parameters c) key (IsName-command node (verb_of c) valid_node) valid_key small in
-      ap (λ (r : Result Interest PacketFault). packet_or r >>= interest_verdict node ring) packet ∙ made_verdict
+      ap (λ (r : Result Interest PacketFault). packet_or r >>= command_interest_verdict node ring) packet ∙ made_verdict
 
-pub made_commands : (node key_name : List Component) (c : Command) (key : List ℕ) (ring : List Pair) (client : ℕ)
-    → IsName node → length (encoding node) ≤ 200 → IsSpelled c → named_length c ≤ 400 → IsName key_name → length (encoding key_name) ≤ 205
+pub made_commands : (node key_name : List Component) (c : Command) (key : List ℕ) (ring : List NamedKey) (client : ℕ)
+    → IsName node → length (encoding node) ≤ 200 → CommandIsSpelled c → named_length c ≤ 400 → IsName key_name → length (encoding key_name) ≤ 205
     → key_number (encoding key_name) ring ≡ Some client → slice_get ring client ≡ Some (pair (encoding key_name) key)
     → command_verdict node ring (command_interest node c key_name key) ≡ or_bad client c (is_command c)
 made_commands node key_name c key ring client valid_node short_node spelled short valid_key short_key found at =

@@ -4,7 +4,7 @@ use Rattle.std.specs.Prelude.{unwrap_or, ok_or}
 use Rattle.ndn_tlv.specs.Listing.{◌>>=◌}
 use Rattle.ndn_name.specs.Names.{Component}
 use Rattle.ndn_name.proofs.Encodings.{bind_ok}
-use Rattle.ndn_sign.specs.Ring.{Pair}
+use Rattle.ndn_sign.specs.Ring.{NamedKey}
 use Rattle.ndn_interest.specs.declared.signature_refusal.SignatureRefusal.{SignatureRefusal}
 use Rattle.ndn_interest.specs.Interest.{interest_of}
 use Rattle.ndn_interest.specs.Signer.{signer_of}
@@ -19,7 +19,7 @@ use Rattle.repo_command.specs.declared.verb.Verb.TheVariants.{Insert, Check, Del
 use Rattle.repo_command.specs.Verbs.{verb_in}
 use Rattle.repo_command.specs.Commands.{is_command}
 use Rattle.repo_command.specs.Parameters.{Parameters, parameters_of, object_name_of, range_of, command_from}
-use Rattle.repo_command.specs.Verdict.{packet_or, signed_or, interest_verdict, command_verdict}
+use Rattle.repo_command.specs.Verdict.{packet_or, signed_or, command_interest_verdict, command_verdict}
 
 abbrev done : {A : Type 0} → A → Result A CommandRefusal
 done x = Ok x
@@ -75,10 +75,10 @@ signed_is (Err refusal) client e = absurd cc
 
 -- ---- the whole
 
-pub taken_commands : (node : List Component) (ring : List Pair) (octets : List ℕ) (client : ℕ) (c : Command)
+pub taken_commands : (node : List Component) (ring : List NamedKey) (octets : List ℕ) (client : ℕ) (c : Command)
     → command_verdict node ring octets ≡ Ok (client, c) → (is_command c ≡ true) × (client < length ring)
 taken_commands node ring octets client c e =
-    let read = bind_ok (packet_or (interest_of octets)) (interest_verdict node ring) (client, c) e in
+    let read = bind_ok (packet_or (interest_of octets)) (command_interest_verdict node ring) (client, c) e in
     let i = read.0 in
     let named = bind_ok (ok_or (verb_in node i.name) OtherName) (λ verb. signed_or (signer_of ring i) >>= λ n. parameters_of (unwrap_or i.parameters []) >>= λ p. command_from verb p >>= λ x. done (n, x)) (client, c) read.2 in
     let signed = bind_ok (signed_or (signer_of ring i)) (λ n. parameters_of (unwrap_or i.parameters []) >>= λ p. command_from named.0 p >>= λ x. done (n, x)) (client, c) named.2 in

@@ -4,7 +4,7 @@ use Rattle.std.specs.Prelude.{◌⊎◌, unwrap_or, option_map, IsOk}
 use Rattle.std.specs.Borrow.{Bor}
 use Rattle.ndn_tlv.specs.Listing.{◌>>=◌}
 use Rattle.ndn_name.specs.Names.{Component}
-use Rattle.ndn_sign.specs.Ring.{Pair}
+use Rattle.ndn_sign.specs.Ring.{NamedKey}
 use Rattle.ndn_interest.specs.Interest.{Interest, interest_of}
 use Rattle.ndn_interest.specs.Signer.{signer_of}
 use Rattle.repo_command.specs.declared.command.Command.{Command}
@@ -23,7 +23,7 @@ lent_or (Some p) d r none is = sym (ap (λ (b : Bor (List ℕ)). b.now) is)
 abbrev pub from_client : ℕ → Command → Result (ℕ × Command) CommandRefusal
 from_client client command = Ok (client, command)
 
-module _ (node : List Component) (ring : List Pair) (octets : List ℕ) (i : Interest) (verb : Verb) (client : ℕ) (p : Parameters)
+module _ (node : List Component) (ring : List NamedKey) (octets : List ℕ) (i : Interest) (verb : Verb) (client : ℕ) (p : Parameters)
     (read : interest_of octets ≡ Ok i) (named : verb_in node i.name ≡ Some verb) (signed : signer_of ring i ≡ Ok client)
     (given : parameters_of (unwrap_or i.parameters []) ≡ Ok p) where
   -- what is left of the verdict

@@ -18,8 +18,8 @@ use Rattle.repo_command.specs.ElementTypes as types
 use Rattle.repo_command.specs.OrderTables.{repo_command_response}
 
 -- An answer that has a code alone.
-abbrev pub only : ℕ → Answer
-only code = record { code = code; process = None; inserted = None; deleted = None }
+abbrev pub code_alone : ℕ → Answer
+code_alone code = record { code = code; process = None; inserted = None; deleted = None }
 
 -- What an answer may be: a code of 16 bits, and numbers of 64.
 abbrev pub IsSmall : Option ℕ → Type 0
@@ -73,12 +73,13 @@ with_number s DeleteNum n = record s { deleted = Some n }
 abbrev pub with_answer_field : AnswerSoFar → AnswerField × Item → Result AnswerSoFar NoAnswer
 with_answer_field s field = ok_or (number_of field.1.value) none >>= λ n. Ok (with_number s field.0 n)
 
-abbrev pub bad_field : FieldFault → NoAnswer
-bad_field fault = none
+abbrev pub bad_answer_field : FieldFault → NoAnswer
+bad_answer_field fault = none
 
 abbrev pub answer_fields : Item → Result AnswerSoFar NoAnswer
 answer_fields e =
-    gathered with_answer_field bad_field no_number (fields repo_command_response (elements e.value_start e.value))
+    gathered with_answer_field bad_answer_field no_number
+    (fields repo_command_response (elements e.value_start e.value))
 
 -- The answer of these numbers: its code is there, and at most 65,535.
 abbrev pub coded_answer : AnswerSoFar → ℕ → Option Answer
@@ -104,5 +105,5 @@ answer_of octets = option_and_then answer_in (response_among (elements 0 octets)
 
 -- ---- the numbers without where they lie in memory
 
-abbrev pub so_far : declared_gathered.Gathered → AnswerSoFar
-so_far g = record { process = g.process; code = g.code; inserted = g.inserted; deleted = g.deleted }
+abbrev pub answer_so_far : declared_gathered.Gathered → AnswerSoFar
+answer_so_far g = record { process = g.process; code = g.code; inserted = g.inserted; deleted = g.deleted }

@@ -18,10 +18,10 @@ is_command (Check process) = true
 is_command (Delete name) = is_object_name name
 
 -- What can be spelled: a name is one, and numbers have 64 bits at most.
-abbrev pub IsSpelled : Command → Type 0
-IsSpelled (Insert name first last) = IsName name × (first < 2 ^ 64) × (last < 2 ^ 64)
-IsSpelled (Check process) = process < 2 ^ 64
-IsSpelled (Delete name) = IsName name
+abbrev pub CommandIsSpelled : Command → Type 0
+CommandIsSpelled (Insert name first last) = IsName name × (first < 2 ^ 64) × (last < 2 ^ 64)
+CommandIsSpelled (Check process) = process < 2 ^ 64
+CommandIsSpelled (Delete name) = IsName name
 
 -- How many octets of value a name in a command has.
 abbrev pub named_length : Command → ℕ

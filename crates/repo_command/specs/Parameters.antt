@@ -32,25 +32,26 @@ no_parameters = record { name = None; first = None; last = None; process = None 
 
 -- ---- what the fields hold
 
-abbrev pub bad_field : FieldFault → CommandRefusal
-bad_field fault = BadParameter
+abbrev pub bad_parameter_field : FieldFault → CommandRefusal
+bad_parameter_field fault = BadParameter
 
 abbrev pub good_name : Result (List Component) NameFault → Result (List Component) CommandRefusal
 good_name (Ok name) = Ok name
 good_name (Err fault) = Err BadParameter
 
-abbrev pub number_in : Item → Result ℕ CommandRefusal
-number_in e = ok_or (number_of e.value) BadParameter
+abbrev pub parameter_number : Item → Result ℕ CommandRefusal
+parameter_number e = ok_or (number_of e.value) BadParameter
 
 abbrev pub with_parameter : Parameters → ParameterField × Item → Result Parameters CommandRefusal
 with_parameter p (Name, e) = good_name (name_of e.value_start e.value) >>= λ name. Ok (record p { name = Some name })
-with_parameter p (StartBlockId, e) = number_in e >>= λ n. Ok (record p { first = Some n })
-with_parameter p (EndBlockId, e) = number_in e >>= λ n. Ok (record p { last = Some n })
-with_parameter p (ProcessId, e) = number_in e >>= λ n. Ok (record p { process = Some n })
+with_parameter p (StartBlockId, e) = parameter_number e >>= λ n. Ok (record p { first = Some n })
+with_parameter p (EndBlockId, e) = parameter_number e >>= λ n. Ok (record p { last = Some n })
+with_parameter p (ProcessId, e) = parameter_number e >>= λ n. Ok (record p { process = Some n })
 
 abbrev pub parameters_in : Item → Result Parameters CommandRefusal
 parameters_in e =
-    gathered with_parameter bad_field no_parameters (fields repo_command_parameter (elements e.value_start e.value))
+    gathered with_parameter bad_parameter_field no_parameters
+    (fields repo_command_parameter (elements e.value_start e.value))
 
 -- The first element is the RepoCommandParameter. What follows it is not looked at.
 abbrev pub parameter_among : List Item → Result Item CommandRefusal

@@ -3,7 +3,7 @@ use Rattle.std.specs.Prelude.{ℕ, List, [], unwrap_or, ok_or, Result, Ok, Err}
 use Rattle.ndn_tlv.specs.Listing.{◌>>=◌}
 use Rattle.ndn_name.specs.declared.fault.PacketFault.{PacketFault}
 use Rattle.ndn_name.specs.Names.{Component}
-use Rattle.ndn_sign.specs.Ring.{Pair}
+use Rattle.ndn_sign.specs.Ring.{NamedKey}
 use Rattle.ndn_interest.specs.declared.signature_refusal.SignatureRefusal.{SignatureRefusal}
 use Rattle.ndn_interest.specs.Interest.{Interest, interest_of}
 use Rattle.ndn_interest.specs.Signer.{signer_of}
@@ -23,8 +23,8 @@ signed_or (Ok signer) = Ok signer
 signed_or (Err refusal) = Err (unsigned_as refusal)
 
 -- The number of the key that signed a command for the node, and the command; or the first refusal.
-abbrev pub interest_verdict : List Component → List Pair → Interest → Result (ℕ × Command) CommandRefusal
-interest_verdict node ring i = do
+abbrev pub command_interest_verdict : List Component → List NamedKey → Interest → Result (ℕ × Command) CommandRefusal
+command_interest_verdict node ring i = do
   verb ← ok_or (verb_in node i.name) OtherName
   client ← signed_or (signer_of ring i)
   parameters ← parameters_of (unwrap_or i.parameters [])
@@ -32,5 +32,5 @@ interest_verdict node ring i = do
   Ok (client, command)
 
 -- The same of octets.
-abbrev pub command_verdict : List Component → List Pair → List ℕ → Result (ℕ × Command) CommandRefusal
-command_verdict node ring octets = packet_or (interest_of octets) >>= interest_verdict node ring
+abbrev pub command_verdict : List Component → List NamedKey → List ℕ → Result (ℕ × Command) CommandRefusal
+command_verdict node ring octets = packet_or (interest_of octets) >>= command_interest_verdict node ring

@@ -1,5 +1,5 @@
 ghost use Rattle.std.specs.Prelude.{◌≡◌, ◌++◌, ◌<◌, IfOk, OnOk};
-ghost use Rattle.repo_command.specs.Answers.{only, written_field, written_answer, answer_of};
+ghost use Rattle.repo_command.specs.Answers.{code_alone, written_field, written_answer, answer_of};
 
 use crate::answer_fields::Gathered;
 use crate::element_types::{
@@ -23,7 +23,7 @@ pub struct Answer {
 impl Answer {
     /// An answer that has a code alone.
     pub fn only(code: u16) -> Answer
-        ensures { result ≡ only code }
+        ensures { result ≡ code_alone code }
     {
         Answer {
             code,

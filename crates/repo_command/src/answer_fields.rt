@@ -1,6 +1,6 @@
 ghost use Rattle.std.specs.Prelude.{◌≡◌, ◌+◌, ◌^◌, ◌<◌, length, MatchResult, Ok, Err};
 ghost use Rattle.ndn_tlv.specs.Elements.{item};
-ghost use Rattle.repo_command.specs.Answers.{so_far, with_answer_field, answer_fields, whole_answer};
+ghost use Rattle.repo_command.specs.Answers.{answer_so_far, with_answer_field, answer_fields, whole_answer};
 
 use crate::answer::Answer;
 use crate::element_types::{DELETE_NUM, INSERT_NUM, PROCESS_ID, STATUS_CODE};
@@ -54,7 +54,7 @@ impl Gathered {
     pub(crate) fn of_fields(element: Element<'_>) -> Result<Gathered, NoAnswer>
         requires { element.value_start + length element.value.now < 2 ^ 64 }
         ensures { MatchResult result
-            (λ g. answer_fields (item element.entry) ≡ Ok (so_far g))
+            (λ g. answer_fields (item element.entry) ≡ Ok (answer_so_far g))
             (λ refusal. answer_fields (item element.entry) ≡ Err refusal) }
     {
         let elements = Reader::new(element.value, element.value_start);
@@ -76,9 +76,9 @@ impl Gathered {
 
     fn take(&mut self, field: AnswerField, element: Element<'_>) -> Result<(), NoAnswer>
         ensures { MatchResult result
-            (λ _. with_answer_field (so_far self.old) (field, item element.entry)
-            ≡ Ok (so_far self.new))
-            (λ refusal. with_answer_field (so_far self.old) (field, item element.entry)
+            (λ _. with_answer_field (answer_so_far self.old) (field, item element.entry)
+            ≡ Ok (answer_so_far self.new))
+            (λ refusal. with_answer_field (answer_so_far self.old) (field, item element.entry)
             ≡ Err refusal) }
     {
         let number = read_number(element.value).ok_or(NoAnswer)?;
@@ -93,7 +93,7 @@ impl Gathered {
 
     // The answer of these fields, where its code is there and is one.
     pub(crate) fn into_answer(self) -> Option<Answer>
-        ensures { result ≡ whole_answer (so_far self) }
+        ensures { result ≡ whole_answer (answer_so_far self) }
     {
         let code = u16::try_from(self.code?).ok()?;
         Some(Answer {

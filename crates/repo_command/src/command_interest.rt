@@ -1,6 +1,6 @@
 ghost use Rattle.std.specs.Prelude.{◌≡◌, ◌≤◌, ◌⊎◌, ◌++◌, length, IsOk, IfOk, OnOk, MatchResult, Ok, Err};
 ghost use Rattle.ndn_name.specs.Names.{encoding};
-ghost use Rattle.repo_command.specs.Commands.{IsSpelled, command_interest, written_parameters, parameters_value, named_length};
+ghost use Rattle.repo_command.specs.Commands.{CommandIsSpelled, command_interest, written_parameters, parameters_value, named_length};
 ghost use Rattle.repo_command.specs.Verdict.{command_verdict};
 ghost use Rattle.repo_command.specs.Verbs.{verb_of};
 
@@ -93,7 +93,7 @@ pub fn check_command(
         (λ taken. command_verdict node.now ring.now octets.now ≡ Ok (taken.0, taken.1))
         (λ refusal. (command_verdict node.now ring.now octets.now ≡ Err refusal)
         ⊎ ((refusal ≡ CommandRefusal.NoMemory) × IsOk (command_verdict node.now ring.now octets.now))) }
-    ensures spelled { IfOk result (λ taken. IsSpelled taken.1) }
+    ensures spelled { IfOk result (λ taken. CommandIsSpelled taken.1) }
 {
     let interest = InterestView::read(octets)?;
     let verb = verb_in(&interest.name, node).ok_or(CommandRefusal::OtherName)?;

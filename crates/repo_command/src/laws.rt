@@ -1,7 +1,7 @@
 ghost use Rattle.std.specs.Prelude.{◌≡◌, ◌^◌, ◌<◌, ◌≤◌, ◌↔◌, ◌++◌, ◌∷◌, [], ℕ, List, Ok, Err, Some, IsTrue, length, slice_get, if◌then◌else◌};
 ghost use Rattle.ndn_tlv.specs.Types as standard;
 ghost use Rattle.ndn_name.specs.Names.{Component, IsName, encoding};
-ghost use Rattle.ndn_sign.specs.Ring.{Pair, number_of, pair};
+ghost use Rattle.ndn_sign.specs.Ring.{NamedKey, key_number, pair};
 ghost use Rattle.repo_command.specs.declared.answer.Answer.{Answer};
 ghost use Rattle.repo_command.specs.declared.command.Command.{Command};
 ghost use Rattle.repo_command.specs.declared.command_refusal.CommandRefusal.TheVariants.{BadParameter};
@@ -10,7 +10,7 @@ ghost use Rattle.repo_command.specs.ElementTypes as types;
 ghost use Rattle.repo_command.specs.OrderTables.{repo_command_parameter, repo_command_response};
 ghost use Rattle.repo_command.specs.StatusCodes as status;
 ghost use Rattle.repo_command.specs.Verbs.{verb_component, verb_in};
-ghost use Rattle.repo_command.specs.Commands.{named_length, is_command, command_interest, IsSpelled};
+ghost use Rattle.repo_command.specs.Commands.{named_length, is_command, command_interest, CommandIsSpelled};
 ghost use Rattle.repo_command.specs.Verdict.{command_verdict};
 ghost use Rattle.repo_command.specs.Answers.{written_answer, answer_of, IsAnswer};
 
@@ -49,10 +49,10 @@ pub fn status_codes_are_the_profiles()
 /// The command that was made is checked: it tells the command that was given, and the number of the client's key in the
 /// ring. One that goes beyond the limits is refused as such.
 pub fn made_commands_are_checked()
-    ensures { (node key_name : List Component) (command : Command) (key : List ℕ) (ring : List Pair) (client : ℕ)
-        → IsName node → length (encoding node) ≤ 200 → IsSpelled command → named_length command ≤ 400
+    ensures { (node key_name : List Component) (command : Command) (key : List ℕ) (ring : List NamedKey) (client : ℕ)
+        → IsName node → length (encoding node) ≤ 200 → CommandIsSpelled command → named_length command ≤ 400
         → IsName key_name → length (encoding key_name) ≤ 205
-        → number_of (encoding key_name) ring ≡ Some client
+        → key_number (encoding key_name) ring ≡ Some client
         → slice_get ring client ≡ Some (pair (encoding key_name) key)
         → command_verdict node ring (command_interest node command key_name key)
         ≡ (if is_command command then Ok (client, command) else Err BadParameter) }
@@ -60,7 +60,7 @@ pub fn made_commands_are_checked()
 
 /// What is taken is within the limits of commands, and of a client of the ring.
 pub fn taken_commands_are_within_limits()
-    ensures { (node : List Component) (ring : List Pair) (octets : List ℕ) (client : ℕ) (command : Command)
+    ensures { (node : List Component) (ring : List NamedKey) (octets : List ℕ) (client : ℕ) (command : Command)
         → command_verdict node ring octets ≡ Ok (client, command)
         → IsTrue (is_command command) × (client < length ring) }
 {}

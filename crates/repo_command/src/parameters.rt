@@ -1,8 +1,8 @@
 ghost use Rattle.std.specs.Prelude.{◌≡◌, ◌+◌, ◌^◌, ◌<◌, ◌≤◌, ◌⊎◌, length, IsOk, IfOk, MatchResult, Ok, Err};
 ghost use Rattle.ndn_name.specs.Names.{IsName, encoding};
 ghost use Rattle.ndn_tlv.specs.Elements.{item, elements};
-ghost use Rattle.repo_command.specs.Commands.{IsSpelled};
-ghost use Rattle.repo_command.specs.Parameters.{parameters, with_parameter, parameters_in, parameters_of, parameter_among, number_in, object_name_of, range_of, command_from};
+ghost use Rattle.repo_command.specs.Commands.{CommandIsSpelled};
+ghost use Rattle.repo_command.specs.Parameters.{parameters, with_parameter, parameters_in, parameters_of, parameter_among, parameter_number, object_name_of, range_of, command_from};
 
 use crate::command::Command;
 use crate::command_refusal::CommandRefusal;
@@ -116,7 +116,7 @@ impl<'p> Parameters<'p> {
             (λ command. command_from verb (parameters self.entry) ≡ Ok command)
             (λ refusal. (command_from verb (parameters self.entry) ≡ Err refusal)
             ⊎ ((refusal ≡ CommandRefusal.NoMemory) × IsOk (command_from verb (parameters self.entry)))) }
-        ensures spelled { IfOk result IsSpelled }
+        ensures spelled { IfOk result CommandIsSpelled }
     {
         match verb {
             Verb::Insert => {
@@ -154,8 +154,8 @@ fn parameter_element(octets: &[u8]) -> Result<Element<'_>, CommandRefusal>
 // The number that a field's element holds.
 fn number_in(element: Element<'_>) -> Result<u64, CommandRefusal>
     ensures { MatchResult result
-        (λ n. number_in (item element.entry) ≡ Ok n)
-        (λ refusal. number_in (item element.entry) ≡ Err refusal) }
+        (λ n. parameter_number (item element.entry) ≡ Ok n)
+        (λ refusal. parameter_number (item element.entry) ≡ Err refusal) }
 {
     read_number(element.value).ok_or(CommandRefusal::BadParameter)
 }

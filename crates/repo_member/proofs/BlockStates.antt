@@ -9,7 +9,7 @@ use Rattle.repo_object.specs.Objects.{NamedContents}
 use Rattle.repo_process.specs.declared.block_state.BlockState.TheVariants.{Kept, Complete}
 use Rattle.repo_process.specs.Processes.{Process, BlockState, has_block, with_block, without_block, is_whole, object_of, closed, block_state}
 use Rattle.repo_process.specs.Processes.BlockState.{Unknown, Already, Waiting, Whole}
-use Rattle.repo_process.specs.Arrivals.{told, whole_object, reopened}
+use Rattle.repo_process.specs.Arrivals.{told_of_block, whole_object, reopened}
 use Rattle.repo_process.specs.Fields.{blocks_from}
 use Rattle.repo_process.specs.Insertions.{Insertions, with_process, with_changed, changes_process, with_arrival}
 use Rattle.repo_process.proofs.LawLemmas.{block_stays, block_gone, block_comes}
@@ -70,18 +70,18 @@ some_lent p open_ whole none = let both : Some (object_of p) ≡ None = sym (len
 module _ (before after : Insertions) (number index : ℕ) (content : List ℕ) (waiting : AreWaiting before.processes)
     (state : BlockState) (comes : block_state before.processes number index content ≡ state) (arrives : after ≡ with_arrival number before state) where
   -- another block is missing
-  pub kept_waiting : (missing : ℕ) → told state ≡ Kept missing → AreWaiting after.processes
+  pub kept_waiting : (missing : ℕ) → told_of_block state ≡ Kept missing → AreWaiting after.processes
   kept_waiting missing h = go state comes arrives h where
-    go : (s : BlockState) → block_state before.processes number index content ≡ s → after ≡ with_arrival number before s → told s ≡ Kept missing → AreWaiting after.processes
+    go : (s : BlockState) → block_state before.processes number index content ≡ s → after ≡ with_arrival number before s → told_of_block s ≡ Kept missing → AreWaiting after.processes
     go Unknown c a k = absurd cc
     go Already c a k = absurd cc
     go (Waiting p) c a k = subst (λ (i : Insertions). AreWaiting i.processes) (sym a) (waiting_with before number p (λ h. (comes_waiting before.processes number index content p c).has_all) waiting)
     go (Whole p) c a k = absurd cc
 
   -- it was published before
-  pub nothing_lent : told state ≡ Complete → whole_object (value_of nat_cmp after.processes number) ≡ None → (state ≡ Already) × (after ≡ before)
+  pub nothing_lent : told_of_block state ≡ Complete → whole_object (value_of nat_cmp after.processes number) ≡ None → (state ≡ Already) × (after ≡ before)
   nothing_lent h none = go state comes arrives h where
-    go : (s : BlockState) → block_state before.processes number index content ≡ s → after ≡ with_arrival number before s → told s ≡ Complete → (s ≡ Already) × (after ≡ before)
+    go : (s : BlockState) → block_state before.processes number index content ≡ s → after ≡ with_arrival number before s → told_of_block s ≡ Complete → (s ≡ Already) × (after ≡ before)
     go Unknown c a k = absurd cc
     go Already c a k = (refl, a)
     go (Waiting p) c a k = absurd cc
@@ -104,7 +104,7 @@ pub record ComesLast (before after : Insertions) (number index : ℕ) (content :
 
 pub comes_last : (before after : Insertions) (number index : ℕ) (content : List ℕ) (object : NamedContents) → AreWaiting before.processes
     → after ≡ with_arrival number before (block_state before.processes number index content)
-    → told (block_state before.processes number index content) ≡ Complete → whole_object (value_of nat_cmp after.processes number) ≡ Some object
+    → told_of_block (block_state before.processes number index content) ≡ Complete → whole_object (value_of nat_cmp after.processes number) ≡ Some object
     → (p : Process) × ComesLast before after number index content p
 comes_last before after number index content object waiting arrives is lent = go (block_state before.processes number index content) refl arrives is where
   -- an unpublished process would be whole without the block
@@ -137,7 +137,7 @@ comes_last before after number index content object waiting arrives is lent = go
             absurd (true≢false (sym came.has_all ∙ ap is_whole same ∙ waiting number came.before came.there came.unpublished))
         lacks false h = refl
 
-  go : (s : BlockState) → block_state before.processes number index content ≡ s → after ≡ with_arrival number before s → told s ≡ Complete → (p : Process) × ComesLast before after number index content p
+  go : (s : BlockState) → block_state before.processes number index content ≡ s → after ≡ with_arrival number before s → told_of_block s ≡ Complete → (p : Process) × ComesLast before after number index content p
   go Unknown c a k = absurd cc
   go Already c a k = absurd (not_lent (value_of nat_cmp before.processes number) refl (ap (λ (i : Insertions). whole_object (value_of nat_cmp i.processes number)) (sym a) ∙ lent))
   go (Waiting p) c a k = absurd cc

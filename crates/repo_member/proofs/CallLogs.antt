@@ -22,7 +22,7 @@ use Rattle.repo_member.specs.Alone.{Alone, Fetched, alone_plan, alone_publishes,
 use Rattle.repo_member.specs.Verdicts.{hear_verdict, accept_verdict}
 use Rattle.repo_member.specs.Outcomes.{outcome_of}
 use Rattle.repo_member.specs.Deleting.{alone_deletes}
-use Rattle.repo_member.specs.Commanded.{order_of, alone_starts, alone_obeys, after_order}
+use Rattle.repo_member.specs.Commanded.{order_of, alone_starts, alone_obeys, alone_after_order}
 use Rattle.repo_member.specs.Blocks.{alone_block, alone_keeps, after_block}
 use Rattle.repo_member.specs.Calls.{MemberCall, Publish, Hear, JoinFrom, Fire, Claim, Lose, Accept, TakeOutcome, Command, Block, EndClaims, Reset, Restart, if_heard, if_joined, if_claimed, if_lost, if_accepted, after_call, after_calls, LogsGoOn, PublicationsStay, LoggedPacketsStay}
 
@@ -85,7 +85,7 @@ more_after g (Command octets) a = go (order_of g a.number octets) where
   obeyed (Check process) = nothing_more a a refl refl
   obeyed (Delete name) = nothing_more a (alone_deletes name a) refl refl
 
-  go : (order : Result (ℕ × commands.Command) ℕ) → HasMore a (after_order order a)
+  go : (order : Result (ℕ × commands.Command) ℕ) → HasMore a (alone_after_order order a)
   go (Ok order) = obeyed order.1
   go (Err code) = nothing_more a a refl refl
 more_after g (Block process index content moment draw) a = go (alone_block a process index content) where

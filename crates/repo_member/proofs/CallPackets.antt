@@ -25,8 +25,8 @@ use Rattle.group_model.specs.Member.{with_tries}
 use Rattle.repo_member.specs.Alone.{Alone, Fetched, alone_plan, with_packets, new_packets, alone_publishes, logged, alone_takes, with_fetched}
 use Rattle.repo_member.specs.Verdicts.{hear_verdict, accept_verdict}
 use Rattle.repo_member.specs.Outcomes.{outcome_of}
-use Rattle.repo_member.specs.Deleting.{catalogued, alone_hides}
-use Rattle.repo_member.specs.Commanded.{order_of, alone_starts, alone_obeys, after_order}
+use Rattle.repo_member.specs.Deleting.{catalogued_named, alone_hides}
+use Rattle.repo_member.specs.Commanded.{order_of, alone_starts, alone_obeys, alone_after_order}
 use Rattle.repo_member.specs.Blocks.{alone_block, alone_keeps, after_block}
 use Rattle.repo_member.specs.Calls.{MemberCall, Publish, Hear, JoinFrom, Fire, Claim, Lose, Accept, TakeOutcome, Command, Block, EndClaims, Reset, Restart, if_heard, if_joined, if_claimed, if_lost, if_accepted, after_call, after_calls, HeldPacketsStay, HiddenForGood, HiddenIsGone, OwnStored}
 use Rattle.repo_member.proofs.GainingLemmas.{put_elsewhere}
@@ -150,9 +150,9 @@ keeps_after g (Command octets) a = go (order_of g a.number octets) where
   obeyed : (command : commands.Command) → Keeps a (alone_obeys command a)
   obeyed (Insert name first last) = started name first last (next_number a.insertions)
   obeyed (Check process) = keeps_as_it_is a a refl refl
-  obeyed (Delete name) = keeps_hidden (catalogued name a) a
+  obeyed (Delete name) = keeps_hidden (catalogued_named name a) a
 
-  go : (order : Result (ℕ × commands.Command) ℕ) → Keeps a (after_order order a)
+  go : (order : Result (ℕ × commands.Command) ℕ) → Keeps a (alone_after_order order a)
   go (Ok order) = obeyed order.1
   go (Err code) = keeps_as_it_is a a refl refl
 keeps_after g (Block process index content moment draw) a = go (alone_block a process index content) where

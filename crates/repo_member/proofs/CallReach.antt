@@ -6,7 +6,7 @@ use Rattle.svs_sync.specs.KeptVector.{Keeper, steady_kept, hears_kept, fired_kep
 use Rattle.ndn_data.specs.Data.{Data}
 use Rattle.repo_plan.specs.declared.part.Part.{Part}
 use Rattle.repo_plan.specs.Plan.{claim_of, unclaimed, first}
-use Rattle.repo_plan.specs.Sound.{IsSound}
+use Rattle.repo_plan.specs.Sound.{PlanIsSound}
 use Rattle.repo_plan.specs.Calls.{ClaimsOnce}
 use Rattle.repo_plan.proofs.Changes.{wanted_parts, sound_first, sound_release, sound_end, released_can_be_held}
 use Rattle.repo_object.specs.declared.part_refusal.PartRefusal.{PartRefusal}
@@ -44,7 +44,7 @@ fired_wide moment draw k = go (nat_lt moment k.deadline) where
   go false = refl
 
 -- only claims change
-claims_too : (g : GroupKeys) (a : Alone) (claims : List (Option Part)) → IsSound (alone_plan (record a { claims = claims })) → IsReached g a → IsReached g (record a { claims = claims })
+claims_too : (g : GroupKeys) (a : Alone) (claims : List (Option Part)) → PlanIsSound (alone_plan (record a { claims = claims })) → IsReached g a → IsReached g (record a { claims = claims })
 claims_too g a claims sound r = reached_with g a claims a.attempts a.machine refl sound r
 
 -- what is accepted passes for the part that is claimed

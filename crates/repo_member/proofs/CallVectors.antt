@@ -24,7 +24,7 @@ use Rattle.repo_member.specs.Alone.{Alone, alone_plan, alone_publishes, alone_ta
 use Rattle.repo_member.specs.Verdicts.{told_verdict, hear_verdict, accept_verdict}
 use Rattle.repo_member.specs.Outcomes.{outcome_of}
 use Rattle.repo_member.specs.Deleting.{alone_deletes}
-use Rattle.repo_member.specs.Commanded.{order_of, alone_starts, alone_obeys, after_order}
+use Rattle.repo_member.specs.Commanded.{order_of, alone_starts, alone_obeys, alone_after_order}
 use Rattle.repo_member.specs.Blocks.{alone_block, alone_keeps, after_block}
 use Rattle.repo_member.specs.Calls.{MemberCall, Publish, Hear, JoinFrom, Fire, Claim, Lose, Accept, TakeOutcome, Command, Block, EndClaims, Reset, Restart, if_heard, if_joined, if_claimed, if_lost, if_accepted, after_call, after_calls, vector_taken, vector_of_call, vectors_told, NumbersNeverFall, KnownIsTheJoin}
 use Rattle.repo_member.proofs.CallLogs.{takes_same}
@@ -178,7 +178,7 @@ learns_by g (Command octets) a is = go (order_of g a.number octets) where
   obeyed (Check process) = learns_nothing a a refl refl refl is
   obeyed (Delete name) = learns_nothing a (alone_deletes name a) refl refl refl is
 
-  go : (order : Result (ℕ × commands.Command) ℕ) → Learns [] a (after_order order a)
+  go : (order : Result (ℕ × commands.Command) ℕ) → Learns [] a (alone_after_order order a)
   go (Ok order) = obeyed order.1
   go (Err code) = learns_nothing a a refl refl refl is
 learns_by g (Block process index content moment draw) a is = go (alone_block a process index content) where

@@ -9,20 +9,20 @@ use Rattle.repo_plan.specs.SortedList.{value_of}
 use Rattle.repo_command.specs.declared.command.Command.{Command}
 use Rattle.repo_command.specs.declared.command.Command.TheVariants.{Insert, Check, Delete}
 use Rattle.repo_command.specs.declared.answer.Answer.{Answer}
-use Rattle.repo_command.specs.Answers.{only}
+use Rattle.repo_command.specs.Answers.{code_alone}
 use Rattle.repo_process.specs.Processes.{Process, BlockState, object_of, closed, block_state}
 use Rattle.repo_process.specs.Processes.BlockState.{Unknown, Already, Waiting, Whole}
 use Rattle.group_model.specs.Publications.{pair_in}
-use Rattle.group_model.specs.Member.{Member, named, member_hides_all}
+use Rattle.group_model.specs.Member.{Member, catalogued_under, member_hides_all}
 use Rattle.group_model.specs.Changes as group
 use Rattle.group_model.specs.Replies.{Reply}
 use Rattle.group_model.specs.World.{World, member, with_member, logs}
-use Rattle.group_model.specs.Steps.{drawn, can_start, check_answer, after_command, answer_of, dropped, with_process_at, after_block}
+use Rattle.group_model.specs.Steps.{drawn, can_start, check_answer, after_command, command_answer, packets_dropped, with_process_at, after_block}
 use Rattle.group_model.specs.Refusals.{Refusal, unless, if_whole}
 use Rattle.repo_member.specs.Groups.{GroupKeys}
 use Rattle.repo_member.specs.Alone.{Alone, alone_publishes}
 use Rattle.repo_member.specs.Deleting as alone
-use Rattle.repo_member.specs.Deleting.{catalogued, alone_deletes}
+use Rattle.repo_member.specs.Deleting.{catalogued_named, alone_deletes}
 use Rattle.repo_member.specs.Commanded.{alone_starts, alone_obeys, start_answer, answer_to}
 use Rattle.repo_member.specs.Blocks as own
 use Rattle.repo_member.specs.Blocks.{alone_block, alone_keeps, alone_blocks}
@@ -35,7 +35,7 @@ use Rattle.repo_member.proofs.EventLemmas.{changed, publish_is_event}
 
 pub starts_alike : StartsAlike
 starts_alike name first last a = go (nat_le a.insertions.next_process 4294967295) where
-  go : (b : Bool) → in_group (alone_starts name first last a (cond b (Some a.insertions.next_process) None)) ≡ cond b (group.starts name first last (in_group a)) (in_group a)
+  go : (b : Bool) → in_group (alone_starts name first last a (cond b (Some a.insertions.next_process) None)) ≡ cond b (group.member_starts name first last (in_group a)) (in_group a)
   go true = refl
   go false = refl
 
@@ -45,14 +45,14 @@ keeps_alike number p a = refl
 module _ (w : World) (j : ℕ) (g : GroupKeys) (a : Alone) (is : IsMemberOf w j a) (truly : IsTrueIn g w a) where
   obeyed : (command : Command) → member (after_command w j command) j ≡ in_group (alone_obeys command a)
   obeyed (Insert name first last) =
-      ap (λ (m : Member). member (cond (can_start m) (with_member w j (group.starts name first last (member w j))) w) j) is.same
+      ap (λ (m : Member). member (cond (can_start m) (with_member w j (group.member_starts name first last (member w j))) w) j) is.same
       ∙ go (can_start (in_group a)) ∙ sym (starts_alike name first last a) where
-        go : (b : Bool) → member (cond b (with_member w j (group.starts name first last (member w j))) w) j ≡ cond b (group.starts name first last (in_group a)) (in_group a)
-        go true = changed w j a is (group.starts name first last)
+        go : (b : Bool) → member (cond b (with_member w j (group.member_starts name first last (member w j))) w) j ≡ cond b (group.member_starts name first last (in_group a)) (in_group a)
+        go true = changed w j a is (group.member_starts name first last)
         go false = is.same
   obeyed (Check process) = is.same
   obeyed (Delete name) =
-      changed w j a is (λ m. member_hides_all (named (logs w) m name) m)
+      changed w j a is (λ m. member_hides_all (catalogued_under (logs w) m name) m)
       ∙ sym (deletes_alike g (logs w) name a truly.published truly.stores)
 
   stored_before : length (member w j).held ≡ length a.store
@@ -61,30 +61,30 @@ module _ (w : World) (j : ℕ) (g : GroupKeys) (a : Alone) (is : IsMemberOf w j 
   stored_after : (name : List Component) → length (member (after_command w j (Delete name)) j).held ≡ length (alone_deletes name a).store
   stored_after name = ap (λ (m : Member). length m.held) (obeyed (Delete name)) ∙ length-map (alone_deletes name a).store (λ e. e.0)
 
-  dropped_alike : (name : List Component) → dropped w j (Delete name) ≡ alone.dropped name a
+  dropped_alike : (name : List Component) → packets_dropped w j (Delete name) ≡ alone.alone_drops name a
   dropped_alike name = ap (λ (n : ℕ). n - length (member (after_command w j (Delete name)) j).held) stored_before ∙ ap (λ (n : ℕ). length a.store - n) (stored_after name)
 
-  named_many : (name : List Component) → length (named (logs w) (member w j) name) ≡ length (catalogued name a)
+  named_many : (name : List Component) → length (catalogued_under (logs w) (member w j) name) ≡ length (catalogued_named name a)
   named_many name =
-      ap (λ (m : Member). length (named (logs w) m name)) is.same
-      ∙ sym (length-map (named (logs w) (in_group a) name) pair_in)
+      ap (λ (m : Member). length (catalogued_under (logs w) m name)) is.same
+      ∙ sym (length-map (catalogued_under (logs w) (in_group a) name) pair_in)
       ∙ ap length (sym (named_alike g (logs w) name a truly.published truly.stores))
 
-  answered : (command : Command) → answer_of w j command ≡ answer_to command a
+  answered : (command : Command) → command_answer w j command ≡ answer_to command a
   answered (Insert name first last) =
-      ap (λ (m : Member). cond (can_start m) (started m.next_process) (only 403)) is.same ∙ go (nat_le a.insertions.next_process 4294967295) where
+      ap (λ (m : Member). cond (can_start m) (started m.next_process) (code_alone 403)) is.same ∙ go (nat_le a.insertions.next_process 4294967295) where
         started : ℕ → Answer
-        started n = record (only 100) { process = Some n }
+        started n = record (code_alone 100) { process = Some n }
 
-        go : (b : Bool) → cond b (started a.insertions.next_process) (only 403) ≡ start_answer (cond b (Some a.insertions.next_process) None)
+        go : (b : Bool) → cond b (started a.insertions.next_process) (code_alone 403) ≡ start_answer (cond b (Some a.insertions.next_process) None)
         go true = refl
         go false = refl
   answered (Check process) = ap (λ (m : Member). check_answer (value_of nat_cmp m.processes process)) is.same
   answered (Delete name) =
-      ap (λ (n : ℕ). cond (n == 0) (only 404) (done (dropped w j (Delete name)))) (named_many name)
-      ∙ ap (λ (n : ℕ). cond (length (catalogued name a) == 0) (only 404) (done n)) (dropped_alike name) where
+      ap (λ (n : ℕ). cond (n == 0) (code_alone 404) (done (packets_dropped w j (Delete name)))) (named_many name)
+      ∙ ap (λ (n : ℕ). cond (length (catalogued_named name a) == 0) (code_alone 404) (done n)) (dropped_alike name) where
         done : ℕ → Answer
-        done n = record (only 200) { deleted = Some n }
+        done n = record (code_alone 200) { deleted = Some n }
 
 pub order_is_event : OrderIsEvent
 order_is_event out w j (Ok order) g a is truly = obeyed w j g a is truly order.1
@@ -110,9 +110,9 @@ block_states_alike w j process index content a is = ap (λ (m : Member). block_s
 -- the member still is, with another process
 kept_member : (w : World) (j number : ℕ) (p : Process) (a : Alone) → IsMemberOf w j a → IsMemberOf (with_process_at w j number p) j (alone_keeps number p a)
 kept_member w j number p a is = record {
-  there = omega (arith, is.there, length-set w.members j (group.with_process number p (member w j)));
+  there = omega (arith, is.there, length-set w.members j (group.member_with_process number p (member w j)));
   number = is.number;
-  same = changed w j a is (group.with_process number p);
+  same = changed w j a is (group.member_with_process number p);
 }
 
 not_spent : (n : ℕ) → unless (not (nat_le 65535 n)) Refusal.NumbersSpent ≡ None → nat_lt n 65535 ≡ true
@@ -131,13 +131,13 @@ block_is_event out w j process index content g a is order taken =
       go : (state : BlockState) → if_whole w j state ≡ None → member (after_block out w j process state) j ≡ in_group (own.after_block g process w.moment (drawn out w j) a state)
       go Unknown k = is.same
       go Already k = is.same
-      go (Waiting p) k = changed w j a is (group.with_process process p)
+      go (Waiting p) k = changed w j a is (group.member_with_process process p)
       go (Whole p) k =
           let v : World = with_process_at w j process (closed p) in
           let kept : Alone = alone_keeps process (closed p) a in
           let still = kept_member w j process (closed p) a is in
           let room : nat_lt (length a.log) 65535 ≡ true = ap (λ (n : ℕ). nat_lt n 65535) (sym log) ∙ not_spent (length (member w j).log) k in
-          let draws : drawn out v j ≡ drawn out w j = ap (λ (m : Member). out.draw j m.machine.draws) (still.same ∙ sym (ap (group.with_process process (closed p)) is.same)) in
+          let draws : drawn out v j ≡ drawn out w j = ap (λ (m : Member). out.draw j m.machine.draws) (still.same ∙ sym (ap (group.member_with_process process (closed p)) is.same)) in
           publish_is_event out v j g (object_of p) kept still order
           ∙ ap (λ (d : ℕ). in_group (alone_publishes g (object_of p) w.moment d kept)) draws
           ∙ sym (ap (λ (b : Bool). in_group (cond b (alone_publishes g (object_of p) w.moment (drawn out w j) kept) a)) room)

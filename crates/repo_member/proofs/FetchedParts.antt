@@ -22,7 +22,7 @@ use Rattle.repo_member.specs.Listed.{listing_at, listed_shape}
 use Rattle.repo_member.specs.Groups.{GroupKeys}
 use Rattle.group_model.specs.Member.{with_tries}
 use Rattle.repo_member.specs.Alone.{Alone, alone_plan, want_of, alone_takes}
-use Rattle.repo_member.specs.Outcomes.{outcome_of, AreApart, IsCheckedFor, AreFetched, IsOutcome}
+use Rattle.repo_member.specs.Outcomes.{outcome_of, PartsDiffer, IsCheckedFor, AreFetched, IsOutcome}
 use Rattle.repo_member.proofs.GainingLemmas.{contains-value, put_elsewhere, shape_told}
 use Rattle.repo_member.proofs.PlanChanges.{gains, tied_alone, sound_tried}
 use Rattle.repo_member.proofs.HeldParts.{IsReached, PassesNow, StaysStored, listing_still, want_stays, stays_stored, missing_value, not_there, reached_with, reached_gains}
@@ -145,7 +145,7 @@ module _ (g : GroupKeys) (a : Alone) (t : Part) (octets : List ℕ) (r : IsReach
 tried : (g : GroupKeys) (a : Alone) (t : Part) (n : ℕ) → IsReached g a → IsReached g (record a { attempts = with_tries t n a.attempts })
 tried g a t n r = reached_with g a a.claims (with_tries t n a.attempts) a.machine refl (sound_tried a t n r.sound) r
 
-takes_open : (g : GroupKeys) (a : Alone) (jobs : List Job) (parts : List (Option CheckedPart)) (ns : List ℕ) → AreApart (map (λ (job : Job). job.want.part) jobs) → AreOpen g a jobs parts ns → IsReached g a
+takes_open : (g : GroupKeys) (a : Alone) (jobs : List Job) (parts : List (Option CheckedPart)) (ns : List ℕ) → PartsDiffer (map (λ (job : Job). job.want.part) jobs) → AreOpen g a jobs parts ns → IsReached g a
     → IsReached g (alone_takes (outcome_of jobs parts ns) a)
 takes_open g a [] [] [] apart h r = r
 takes_open g a (job ∷ jobs) (None ∷ parts) (n ∷ ns) apart h r =

@@ -12,7 +12,7 @@ use Rattle.repo_plan.specs.declared.part.Part.{Part}
 use Rattle.repo_plan.specs.SortedList.{keys, Rises, contains}
 use Rattle.repo_plan.specs.Parts.{Pair, pair_cmp, part_cmp, pair_of, part_of, parts_of, numbers_from}
 use Rattle.repo_plan.specs.Plan.{Holdings, holds, knows, is_in, is_asked, can_be_asked, shape_of, is_claim_in, claims_part_in, opening}
-use Rattle.repo_plan.specs.Sound.{IsSound}
+use Rattle.repo_plan.specs.Sound.{PlanIsSound}
 use Rattle.repo_plan.proofs.Orders.{exact_pairs, exact_parts}
 use Rattle.repo_plan.proofs.Sets.{In, eq_same, eq_itself, keys-filter, rises_filter, in_filter, contains_in, in_contains, from_map, in_map, each_before}
 use Rattle.repo_plan.proofs.Known.{in_numbers, rises_numbers, from_parts_of, in_parts_of}
@@ -23,7 +23,7 @@ use Rattle.repo_store.specs.StoreList.{packets_in, packets_outside}
 use Rattle.repo_store.proofs.StoreLemmas.{lengths_inside}
 use Rattle.repo_process.proofs.ProcessLemmas.{length-numbers}
 use Rattle.repo_catalog.specs.declared.entry.Entry.{Entry}
-use Rattle.repo_catalog.specs.Entries.{publication_of, has_name, IsCatalogue}
+use Rattle.repo_catalog.specs.Entries.{publication_of, entry_has_name, IsCatalogue}
 use Rattle.group_model.proofs.Lists.{from_filter, each_all, in_at}
 use Rattle.group_model.proofs.SortedSets.{same_set}
 use Rattle.repo_member.specs.Records.{Packet}
@@ -88,7 +88,7 @@ entry_listed_whole packets e r i =
 
 -- ---- such a publication in a sound plan
 
-module _ (p : Holdings) (packets : List Packet) (pair : Pair) (n : ℕ) (s : IsSound p) (tied : AreTied p packets) (whole : IsWhole packets pair n) where
+module _ (p : Holdings) (packets : List Packet) (pair : Pair) (n : ℕ) (s : PlanIsSound p) (tied : AreTied p packets) (whole : IsWhole packets pair n) where
   pub held_each : (x : ℕ) → x ≤ n → holds p (part_of pair x) ≡ true
   held_each x below = held_value p packets pair tied (part_of pair x) ∙ whole.each x below
 
@@ -186,15 +186,15 @@ inside_all pair (k ∷ pairs) packets others =
 -- ---- the entries of a name
 
 pub named_append : (name : List Component) (es : List Entry) (e : Entry)
-    → publications_named name (es ++ e ∷ []) ≡ publications_named name es ++ cond (has_name name e) (publication_of e ∷ []) []
-named_append name [] e = go (has_name name e) where
+    → publications_named name (es ++ e ∷ []) ≡ publications_named name es ++ cond (entry_has_name name e) (publication_of e ∷ []) []
+named_append name [] e = go (entry_has_name name e) where
   go : (b : Bool) → map publication_of (cond b (e ∷ []) []) ≡ cond b (publication_of e ∷ []) []
   go true = refl
   go false = refl
-named_append name (x ∷ es) e = go (has_name name x) (named_append name es e) where
-  go : (b : Bool) → publications_named name (es ++ e ∷ []) ≡ publications_named name es ++ cond (has_name name e) (publication_of e ∷ []) []
-      → map publication_of (cond b (x ∷ filter (has_name name) (es ++ e ∷ [])) (filter (has_name name) (es ++ e ∷ [])))
-      ≡ map publication_of (cond b (x ∷ filter (has_name name) es) (filter (has_name name) es)) ++ cond (has_name name e) (publication_of e ∷ []) []
+named_append name (x ∷ es) e = go (entry_has_name name x) (named_append name es e) where
+  go : (b : Bool) → publications_named name (es ++ e ∷ []) ≡ publications_named name es ++ cond (entry_has_name name e) (publication_of e ∷ []) []
+      → map publication_of (cond b (x ∷ filter (entry_has_name name) (es ++ e ∷ [])) (filter (entry_has_name name) (es ++ e ∷ [])))
+      ≡ map publication_of (cond b (x ∷ filter (entry_has_name name) es) (filter (entry_has_name name) es)) ++ cond (entry_has_name name e) (publication_of e ∷ []) []
   go true h = ap (λ (rest : List Pair). publication_of x ∷ rest) h
   go false h = h
 
@@ -210,13 +210,13 @@ entries_before (x ∷ es) (suc i) d e r l (inr j) = entries_before es i d e r.1 
 pub others_before : (name : List Component) (es : List Entry) (i : ℕ) (d : Entry) → IsCatalogue es → i < length es
     → (q : Pair) → In q (publications_named name (take i es)) → eq_by_cmp pair_cmp q (publication_of (get_or es i d)) ≡ false
 others_before name es i d r l q j =
-    let x : (e : Entry) × (In e (filter (has_name name) (take i es))) × (q ≡ publication_of e) = from_map publication_of (filter (has_name name) (take i es)) q j in
-    let there = from_filter (has_name name) (take i es) x.0 x.1 in
+    let x : (e : Entry) × (In e (filter (entry_has_name name) (take i es))) × (q ≡ publication_of e) = from_map publication_of (filter (entry_has_name name) (take i es)) q j in
+    let there = from_filter (entry_has_name name) (take i es) x.0 x.1 in
     let less : pair_cmp (publication_of x.0) (publication_of (get_or es i d)) ≡ Less = entries_before es i d x.0 r l there.0 in
     ap (λ (k : Pair). eq_by_cmp pair_cmp k (publication_of (get_or es i d))) x.2 ∙ ap is_eq less
 
 -- one publication more has so many packets
-pub one_more_dropped : (p : Holdings) (packets : List Packet) (pair : Pair) (n : ℕ) (pairs : List Pair) → IsSound p → AreTied p packets → IsWhole packets pair n
+pub one_more_dropped : (p : Holdings) (packets : List Packet) (pair : Pair) (n : ℕ) (pairs : List Pair) → PlanIsSound p → AreTied p packets → IsWhole packets pair n
     → ((q : Pair) → In q pairs → eq_by_cmp pair_cmp q pair ≡ false)
     → length (outside_all (pairs ++ pair ∷ []) packets) + (n + 1) ≡ length (outside_all pairs packets)
 one_more_dropped p packets pair n pairs s tied whole others =
@@ -245,7 +245,7 @@ pub record IsEntryAt (p : Holdings) (packets : List Packet) (name : List Compone
       ≡ length (outside_all (publications_named name (take i entries)) packets)
 
 pub entry_is_at : (p : Holdings) (packets : List Packet) (name : List Component) (entries : List Entry) (i : ℕ) (d e : Entry)
-    → IsSound p → AreTied p packets → entries ≡ alone_catalogue packets → IsCatalogue entries → i < length entries → e ≡ get_or entries i d
+    → PlanIsSound p → AreTied p packets → entries ≡ alone_catalogue packets → IsCatalogue entries → i < length entries → e ≡ get_or entries i d
     → IsEntryAt p packets name entries i e
 entry_is_at p packets name entries i d e sound tied listed order low is =
     let there : In e (alone_catalogue packets) = subst (In e) listed (subst (λ (x : Entry). In x entries) (sym is) (in_at entries i d low)) in

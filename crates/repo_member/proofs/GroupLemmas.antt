@@ -12,17 +12,17 @@ use Rattle.std.proofs.lemmas.List.{length-map, map-append}
 use Rattle.std.proofs.lemmas.List.Elements.{All-nil, All-cons, All-push, All-head, All-tail}
 use Rattle.ndn_name.specs.Names.{Component, encoding}
 use Rattle.repo_object.specs.Objects.{key_name}
-use Rattle.svs_vector.specs.Rosters.{is_same_name, member_of, IsOwnName, IsRoster}
+use Rattle.svs_vector.specs.Rosters.{has_same_octets, member_of, IsOwnName, IsRoster}
 use Rattle.repo_member.specs.Groups.{NodeKeys, GroupKeys, HaveKeys, DifferInNames, IsPlainNodeName, IsKey, is_name_taken, no_nodes, with_node}
 use Rattle.std.specs.List.{slice_get}
 use Rattle.std.specs.Option.{option_map}
 use Rattle.std.proofs.Math.Seq.{take-suc}
 use Rattle.std.proofs.lemmas.Option.{slice_get-get_or}
-use Rattle.ndn_sign.specs.Ring.{Pair, pair}
+use Rattle.ndn_sign.specs.Ring.{NamedKey, pair}
 
 -- one pair more of a ring, from its name and its key
-pub take-pair : (ring : List Pair) (i : ℕ) (name key : List ℕ) → i < length ring
-    → option_map (λ (p : Pair). p.name) (slice_get ring i) ≡ Some name → option_map (λ (p : Pair). p.key) (slice_get ring i) ≡ Some key
+pub take-pair : (ring : List NamedKey) (i : ℕ) (name key : List ℕ) → i < length ring
+    → option_map (λ (p : NamedKey). p.name) (slice_get ring i) ≡ Some name → option_map (λ (p : NamedKey). p.key) (slice_get ring i) ≡ Some key
     → take (i + 1) ring ≡ take i ring ++ pair name key ∷ []
 take-pair ring i name key inside is_name is_key =
     let none = pair [] [] in
@@ -36,7 +36,7 @@ take-pair ring i name key inside is_name is_key =
 -- ---- names that differ
 
 -- names are the same where their octets are
-same_name : IsEquivalence is_same_name
+same_name : IsEquivalence has_same_octets
 same_name = record {
   refl = λ x. (bytes_eq-Decides (encoding x) (encoding x)).1 refl;
   symm = λ x y. flips (encoding x) (encoding y);
@@ -76,7 +76,7 @@ roster_too : (names : List (List Component)) (node : List Component) → IsRoste
 roster_too names node roster is_node new room = record {
   few = omega (arith, room, length-append names (node ∷ []));
   names = All-push IsOwnName names node roster.names (is_node.valid, omega (arith, is_node.short));
-  different = IsDistinct-push same_name names node roster.different (none_passes (is_same_name node) names new);
+  different = IsDistinct-push same_name names node roster.different (none_passes (has_same_octets node) names new);
 }
 
 -- one node more keeps what holds of nodes
@@ -84,12 +84,12 @@ pub have_keys_too : (nodes : NodeKeys) (node : List Component) (key : List ℕ) 
     → HaveKeys (with_node node key nodes)
 have_keys_too nodes node key have is_node is_key new room = record {
   keys =
-      map-append (λ (p : Pair). p.name) nodes.ring (pair (encoding (key_name node)) key ∷ [])
+      map-append (λ (p : NamedKey). p.name) nodes.ring (pair (encoding (key_name node)) key ∷ [])
       ∙ ap (λ (names : List (List ℕ)). names ++ encoding (key_name node) ∷ []) have.keys
       ∙ sym (map-append (λ (n : List Component). encoding (key_name n)) nodes.names (node ∷ []));
   roster = roster_too nodes.names node have.roster is_node new room;
   node_names = All-push IsPlainNodeName nodes.names node have.node_names is_node;
-  short_keys = All-push (λ (p : Pair). IsKey p.key) nodes.ring (pair (encoding (key_name node)) key) have.short_keys is_key;
+  short_keys = All-push (λ (p : NamedKey). IsKey p.key) nodes.ring (pair (encoding (key_name node)) key) have.short_keys is_key;
 }
 
 -- no nodes have no keys
@@ -99,7 +99,7 @@ none_have_keys = record {
   keys = refl;
   roster = record { few = omega arith; names = All-nil IsOwnName; different = tt };
   node_names = All-nil IsPlainNodeName;
-  short_keys = All-nil (λ (p : Pair). IsKey p.key);
+  short_keys = All-nil (λ (p : NamedKey). IsKey p.key);
 }
 
 -- a member's name that no client has
@@ -108,19 +108,19 @@ member_differs members clients node key differ new = All-push (λ (n : List Comp
 
 -- a client's name that no member has
 pub client_differs : (members clients : NodeKeys) (node : List Component) (key : List ℕ) → DifferInNames members clients → member_of node members.names ≡ None → DifferInNames members (with_node node key clients)
-client_differs members clients node key differ new = each members.names differ (none_passes (is_same_name node) members.names new) where
-  one : (n : List Component) → member_of n clients.names ≡ None → is_same_name node n ≡ false → member_of n (clients.names ++ node ∷ []) ≡ None
+client_differs members clients node key differ new = each members.names differ (none_passes (has_same_octets node) members.names new) where
+  one : (n : List Component) → member_of n clients.names ≡ None → has_same_octets node n ≡ false → member_of n (clients.names ++ node ∷ []) ≡ None
   one n none apart =
-      none_found (is_same_name n) (clients.names ++ node ∷ [])
-      (list_any-append (is_same_name n) clients.names (node ∷ [])
-      ∙ ap (λ (b : Bool). b || (is_same_name n node || false)) (none_passes (is_same_name n) clients.names none)
+      none_found (has_same_octets n) (clients.names ++ node ∷ [])
+      (list_any-append (has_same_octets n) clients.names (node ∷ [])
+      ∙ ap (λ (b : Bool). b || (has_same_octets n node || false)) (none_passes (has_same_octets n) clients.names none)
       ∙ ap (λ (b : Bool). b || false) (same_name.symm n node ∙ apart))
 
-  each : (names : List (List Component)) → All (λ (n : List Component). member_of n clients.names ≡ None) names → list_any (is_same_name node) names ≡ false
+  each : (names : List (List Component)) → All (λ (n : List Component). member_of n clients.names ≡ None) names → list_any (has_same_octets node) names ≡ false
       → All (λ (n : List Component). member_of n (clients.names ++ node ∷ []) ≡ None) names
   each [] all apart = All-nil (λ (n : List Component). member_of n (clients.names ++ node ∷ []) ≡ None)
   each (n ∷ names) all apart =
-      let both = or_parts (is_same_name node n) (list_any (is_same_name node) names) apart in
+      let both = or_parts (has_same_octets node n) (list_any (has_same_octets node) names) apart in
       All-cons (λ (m : List Component). member_of m (clients.names ++ node ∷ []) ≡ None) n names
       (one n (All-head (λ (m : List Component). member_of m clients.names ≡ None) n names all) both.0)
       (each names (All-tail (λ (m : List Component). member_of m clients.names ≡ None) n names all) both.1)
@@ -137,5 +137,5 @@ not_taken group node free =
 -- there are as many keys as names
 pub ring_length : (nodes : NodeKeys) → HaveKeys nodes → length nodes.ring ≡ length nodes.names
 ring_length nodes have =
-    sym (length-map nodes.ring (λ (p : Pair). p.name)) ∙ ap (λ (names : List (List ℕ)). length names) have.keys
+    sym (length-map nodes.ring (λ (p : NamedKey). p.name)) ∙ ap (λ (names : List (List ℕ)). length names) have.keys
     ∙ length-map nodes.names (λ (n : List Component). encoding (key_name n))

@@ -16,7 +16,7 @@ use Rattle.repo_plan.specs.declared.part.Part.{Part}
 use Rattle.repo_plan.specs.SortedList.{keys, Rises, contains, value_of}
 use Rattle.repo_plan.specs.Parts.{Pair, part_cmp, pair_of, part_of}
 use Rattle.repo_plan.specs.Plan.{knows, holds, hides, is_asked, can_be_asked, shape_of}
-use Rattle.repo_plan.specs.Sound.{IsSound, CanBeHeld}
+use Rattle.repo_plan.specs.Sound.{PlanIsSound, CanBeHeld}
 use Rattle.repo_plan.proofs.Orders.{exact_parts}
 use Rattle.repo_plan.proofs.Sets.{eq_same}
 use Rattle.repo_plan.proofs.Changes.{sound_opening}
@@ -32,7 +32,7 @@ use Rattle.repo_store.specs.StoreList.{with_packet}
 use Rattle.repo_member.specs.Records.{Packet}
 use Rattle.repo_member.specs.Listed.{stored_at, listing_at, listed_shape}
 use Rattle.repo_member.specs.Groups.{GroupKeys, IsGroup, node_at, publisher_at}
-use Rattle.repo_member.specs.Alone.{Alone, IsAlone, IsOf, alone_plan, alone_opening, logged, packet_in, nothing_listed, want_of, alone_learns}
+use Rattle.repo_member.specs.Alone.{Alone, IsAlone, IsOfGroup, alone_plan, alone_opening, logged, packet_in, nothing_listed, want_of, alone_learns}
 use Rattle.repo_member.specs.Gaining.{told_shape}
 use Rattle.repo_member.specs.Blocks.{AreWithinLimits}
 use Rattle.repo_member.proofs.GainingLemmas.{contains-value, put_elsewhere, value_of-put}
@@ -50,8 +50,8 @@ PassesNow g stored t octets = IsOk (ring_verdict (want_of g stored t) g.members.
 pub record IsReached (g : GroupKeys) (a : Alone) : Type 0 where
   pub group : IsGroup g
   pub alone : IsAlone a
-  pub of : IsOf g a
-  pub sound : IsSound (alone_plan a)
+  pub of : IsOfGroup g a
+  pub sound : PlanIsSound (alone_plan a)
   pub few : length a.log ≤ 65535
   pub objects : All IsObject a.log
   pub own : (t : Part) → t.publisher ≡ a.number → hides (alone_plan a) (pair_of t) ≡ false → value_of part_cmp a.store t ≡ logged g a t
@@ -91,7 +91,7 @@ reached_opening g number moment draw group inside =
 
 -- claims, attempts and the machine
 pub reached_with : (g : GroupKeys) (a : Alone) (claims : List (Option Part)) (attempts : List (Part × ℕ)) (machine : Keeper) → machine.members ≡ a.machine.members
-    → IsSound (alone_plan (record a { claims = claims; attempts = attempts })) → IsReached g a → IsReached g (record a { claims = claims; attempts = attempts; machine = machine })
+    → PlanIsSound (alone_plan (record a { claims = claims; attempts = attempts })) → IsReached g a → IsReached g (record a { claims = claims; attempts = attempts; machine = machine })
 reached_with g a claims attempts machine wide sound r = record {
   group = r.group;
   alone = record { member = r.alone.member; own = r.alone.own; width = wide ∙ r.alone.width; in_order = r.alone.in_order; hidden = r.alone.hidden };

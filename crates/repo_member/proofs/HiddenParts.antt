@@ -9,7 +9,7 @@ use Rattle.repo_plan.specs.declared.part.Part.{Part}
 use Rattle.repo_plan.specs.SortedList.{Rises, keys, value_of, insert_key}
 use Rattle.repo_plan.specs.Parts.{Pair, pair_cmp, part_cmp, pair_of}
 use Rattle.repo_plan.specs.Plan.{Holdings, knows, hides, is_in, claims_part_in, hides_too}
-use Rattle.repo_plan.specs.Sound.{IsSound}
+use Rattle.repo_plan.specs.Sound.{PlanIsSound}
 use Rattle.repo_plan.proofs.Orders.{exact_pairs}
 use Rattle.repo_plan.proofs.Sets.{In, eq_same, contains-insert_key, from_map}
 use Rattle.repo_plan.proofs.Changes.{same_holdings, sound_hides}
@@ -17,14 +17,14 @@ use Rattle.repo_object.specs.Wants.{WantedPart, want_record, want_segment}
 use Rattle.repo_object.specs.Verdict.{listing_in, ring_verdict}
 use Rattle.repo_store.specs.StoreList.{packets_outside}
 use Rattle.repo_catalog.specs.declared.entry.Entry.{Entry}
-use Rattle.repo_catalog.specs.Entries.{publication_of, has_name}
+use Rattle.repo_catalog.specs.Entries.{publication_of, entry_has_name}
 use Rattle.group_model.proofs.Lists.{from_filter}
 use Rattle.repo_member.specs.Records.{Packet}
 use Rattle.repo_member.specs.Listed.{alone_catalogue}
 use Rattle.repo_member.specs.Groups.{GroupKeys, node_at}
 use Rattle.repo_member.specs.Gaining.{AreTied}
 use Rattle.repo_member.specs.Alone.{Alone, alone_plan, want_of, nothing_listed}
-use Rattle.repo_member.specs.Deleting.{publications_named, catalogued, alone_hides, alone_deletes}
+use Rattle.repo_member.specs.Deleting.{publications_named, catalogued_named, alone_hides, alone_deletes}
 use Rattle.repo_member.proofs.HidingLemmas.{other_way, value_outside, rises_outside, keys_outside, shapes_outside, others_stay}
 use Rattle.repo_member.proofs.FoundLemmas.{entry_listed_whole, whole_known, whole_unclaimed}
 use Rattle.repo_member.proofs.PlanChanges.{tied_alone}
@@ -37,11 +37,11 @@ pub record CanHide (p : Holdings) (pair : Pair) : Type 0 where
   pub known : knows p pair ≡ true
   pub unclaimed : claims_part_in p pair ≡ false
 
-pub named_can_hide : (p : Holdings) (packets : List Packet) (name : List Component) → IsSound p → AreTied p packets
+pub named_can_hide : (p : Holdings) (packets : List Packet) (name : List Component) → PlanIsSound p → AreTied p packets
     → (pair : Pair) → In pair (publications_named name (alone_catalogue packets)) → CanHide p pair
 named_can_hide p packets name s tied pair i =
-    let e : (e : Entry) × (In e (filter (has_name name) (alone_catalogue packets))) × (pair ≡ publication_of e) = from_map publication_of (filter (has_name name) (alone_catalogue packets)) pair i in
-    let there = from_filter (has_name name) (alone_catalogue packets) e.0 e.1 in
+    let e : (e : Entry) × (In e (filter (entry_has_name name) (alone_catalogue packets))) × (pair ≡ publication_of e) = from_map publication_of (filter (entry_has_name name) (alone_catalogue packets)) pair i in
+    let there = from_filter (entry_has_name name) (alone_catalogue packets) e.0 e.1 in
     let whole = entry_listed_whole packets e.0 tied.in_order there.0 in
     subst (CanHide p) (sym e.2) (record {
       known = whole_known p packets (publication_of e.0) e.0.segments s tied whole;
@@ -86,7 +86,7 @@ reached_hides g pair a can r = record {
     ];
   };
   of = r.of;
-  sound = subst IsSound (plan_hidden pair a r.alone.in_order) (sound_hides pair (alone_plan a) can.unclaimed r.sound);
+  sound = subst PlanIsSound (plan_hidden pair a r.alone.in_order) (sound_hides pair (alone_plan a) can.unclaimed r.sound);
   few = r.few;
   objects = r.objects;
   own = λ t own shown.
@@ -110,4 +110,4 @@ reached_hides_all g (pair ∷ pairs) a each r =
 
 pub reached_deletes : (g : GroupKeys) (name : List Component) (a : Alone) → IsReached g a → IsReached g (alone_deletes name a)
 reached_deletes g name a r =
-    reached_hides_all g (catalogued name a) a (named_can_hide (alone_plan a) a.store name r.sound (tied_alone a r.alone.in_order)) r
+    reached_hides_all g (catalogued_named name a) a (named_can_hide (alone_plan a) a.store name r.sound (tied_alone a r.alone.in_order)) r

@@ -15,7 +15,7 @@ use Rattle.repo_object.specs.Objects.{is_object_name, IsContent, IsObject}
 use Rattle.repo_command.specs.declared.command.Command.{Command}
 use Rattle.repo_command.specs.declared.command.Command.TheVariants.{Insert, Check, Delete}
 use Rattle.repo_command.specs.declared.command_refusal.CommandRefusal.{CommandRefusal}
-use Rattle.repo_command.specs.Commands.{is_command, IsSpelled}
+use Rattle.repo_command.specs.Commands.{is_command, CommandIsSpelled}
 use Rattle.repo_command.specs.Verdict.{command_verdict}
 use Rattle.repo_command.proofs.TakenLemmas.{taken_commands}
 use Rattle.repo_process.specs.Processes.{Process, BlockState, starting, indexes, has_index, has_block, is_whole, with_block, object_of, closed, with_it, block_in, block_state}
@@ -25,7 +25,7 @@ use Rattle.repo_process.proofs.ProcessLemmas.{length-numbers}
 use Rattle.group_model.proofs.Lists.{each_all}
 use Rattle.repo_member.specs.Groups.{GroupKeys, node_at}
 use Rattle.repo_member.specs.Alone.{Alone, alone_publishes, alone_clears}
-use Rattle.repo_member.specs.Commanded.{coded, order_of, alone_starts, alone_obeys, after_order}
+use Rattle.repo_member.specs.Commanded.{coded, order_of, alone_starts, alone_obeys, alone_after_order}
 use Rattle.repo_member.specs.Blocks.{IsWithinLimits, AreWithinLimits, alone_block, alone_keeps, after_block, alone_blocks}
 use Rattle.repo_member.proofs.HeldParts.{IsReached, reached_insertions}
 use Rattle.repo_member.proofs.PublishedParts.{reached_publishes}
@@ -168,14 +168,14 @@ reached_starts g name first last a valid is r = go (next_number a.insertions) wh
   go None = r
   go (Some number) = reached_insertions g a (starts name first last a.insertions) (within_with a.insertions a.insertions.next_process (starting name first last) (begun_within name first last valid is) r.insertions) r
 
-reached_obeys : (g : GroupKeys) (command : Command) (a : Alone) → IsSpelled command → is_command command ≡ true → IsReached g a → IsReached g (alone_obeys command a)
+reached_obeys : (g : GroupKeys) (command : Command) (a : Alone) → CommandIsSpelled command → is_command command ≡ true → IsReached g a → IsReached g (alone_obeys command a)
 reached_obeys g (Insert name first last) a spelled is r = reached_starts g name first last a spelled.0 is r
 reached_obeys g (Check process) a spelled is r = r
 reached_obeys g (Delete name) a spelled is r = reached_deletes g name a r
 
-pub reached_order : (g : GroupKeys) (octets : List ℕ) (a : Alone) → IfOk (order_of g a.number octets) (λ order. IsSpelled order.1) → IsReached g a → IsReached g (after_order (order_of g a.number octets) a)
+pub reached_order : (g : GroupKeys) (octets : List ℕ) (a : Alone) → IfOk (order_of g a.number octets) (λ order. CommandIsSpelled order.1) → IsReached g a → IsReached g (alone_after_order (order_of g a.number octets) a)
 reached_order g octets a spelled r = go (order_of g a.number octets) refl spelled where
-  go : (order : Result (ℕ × Command) ℕ) → order_of g a.number octets ≡ order → IfOk order (λ o. IsSpelled o.1) → IsReached g (after_order order a)
+  go : (order : Result (ℕ × Command) ℕ) → order_of g a.number octets ≡ order → IfOk order (λ o. CommandIsSpelled o.1) → IsReached g (alone_after_order order a)
   go (Ok order) e k = reached_obeys g order.1 a k (order_within g a.number octets order e) r
   go (Err code) e k = r
 

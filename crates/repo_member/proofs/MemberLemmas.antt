@@ -7,7 +7,7 @@ use Rattle.repo_plan.specs.declared.part.Part.{Part}
 use Rattle.repo_plan.specs.Parts.{Pair, part_cmp, pair_of, part_of}
 use Rattle.repo_plan.specs.SortedList.{value_of}
 use Rattle.repo_plan.specs.Plan.{is_asked, is_wanted, knows, claim_of, with_claim}
-use Rattle.repo_plan.specs.Sound.{IsSound, CanBeHeld}
+use Rattle.repo_plan.specs.Sound.{PlanIsSound, CanBeHeld}
 use Rattle.repo_plan.specs.declared.plan.claims.FetcherIdle.{FetcherIdle}
 use Rattle.svs_vector.specs.Vectors.{join, covers}
 use Rattle.svs_vector.proofs.JoinLemmas.{length-join, join-at}
@@ -22,7 +22,7 @@ use Rattle.repo_member.specs.Listed.{listing_at, listed_shape}
 use Rattle.repo_object.specs.Wants.{want_record, want_segment}
 use Rattle.repo_member.specs.Records.{Packet}
 use Rattle.repo_member.specs.Groups.{GroupKeys, HaveKeys, node_at}
-use Rattle.repo_member.specs.Alone.{Alone, IsOf, alone_plan, want_of, nothing_listed}
+use Rattle.repo_member.specs.Alone.{Alone, IsOfGroup, alone_plan, want_of, nothing_listed}
 use Rattle.repo_member.specs.Members.{alone, IsMember}
 use Rattle.repo_member.proofs.AskedLemmas.{IsListedSegment, asked_segment, asked_member}
 use Rattle.repo_member.proofs.GroupLemmas.{ring_length}
@@ -115,11 +115,11 @@ want_part g packets t = go (t.part == 0) where
   go false = refl
 
 -- a claimed part is wanted
-pub claimed_wanted : (m : Inside) (a : Alone) (f : ℕ) (t : Part) → IsMember m → alone m ≡ a → IsSound m.plan → claim_of m.plan f ≡ Some t → is_wanted (alone_plan a) t ≡ true
+pub claimed_wanted : (m : Inside) (a : Alone) (f : ℕ) (t : Part) → IsMember m → alone m ≡ a → PlanIsSound m.plan → claim_of m.plan f ≡ Some t → is_wanted (alone_plan a) t ≡ true
 claimed_wanted m a f t is view sound claim = sym (reading (λ p. is_wanted p t) m a is view refl) ∙ sound.claimed (f - 1) t claim
 
 -- the key of a publisher that is asked for is in the ring
-pub publisher_in_ring : (g : GroupKeys) (m : Inside) (a : Alone) (t : Part) → IsMember m → alone m ≡ a → IsOf g a → HaveKeys g.members → is_asked (alone_plan a) t ≡ true → t.publisher < length g.members.ring
+pub publisher_in_ring : (g : GroupKeys) (m : Inside) (a : Alone) (t : Part) → IsMember m → alone m ≡ a → IsOfGroup g a → HaveKeys g.members → is_asked (alone_plan a) t ≡ true → t.publisher < length g.members.ring
 publisher_in_ring g m a t is view of keys asked =
     let known = asked_member (alone_plan a) t asked in
     let ring = ring_length g.members keys in

@@ -5,14 +5,14 @@ use Rattle.std.proofs.lemmas.Bool.{and_parts}
 use Rattle.std.proofs.lemmas.Option.{slice_get-get_or, unwrap_or-slice_get}
 use Rattle.ndn_name.specs.Names.{Component, encoding}
 use Rattle.ndn_sign.specs.Ring
-use Rattle.ndn_sign.specs.Ring.{pair, number_of}
+use Rattle.ndn_sign.specs.Ring.{pair, key_number}
 use Rattle.repo_object.specs.Objects.{is_object_name, key_name}
 use Rattle.repo_object.proofs.NameLemmas.{IsName-key}
 use Rattle.repo_object.proofs.PacketSizes.{key_name-size}
 use Rattle.repo_object.proofs.Sizes.{named_short}
 use Rattle.repo_command.specs.declared.command.Command.{Command}
 use Rattle.repo_command.specs.declared.command.Command.TheVariants.{Insert, Check, Delete}
-use Rattle.repo_command.specs.Commands.{named_length, is_command, IsSpelled}
+use Rattle.repo_command.specs.Commands.{named_length, is_command, CommandIsSpelled}
 use Rattle.repo_command.specs.Verdict.{command_verdict}
 use Rattle.repo_command.proofs.MadeLemmas.{or_bad, made_commands}
 use Rattle.repo_member.specs.Groups.{GroupKeys, IsGroup, IsPlainNodeName, node_at, client_at, client_key_at}
@@ -39,19 +39,19 @@ module _ (g : GroupKeys) (number client : ℕ) (group : IsGroup g) (there : numb
   client_name : IsPlainNodeName (client_at g client)
   client_name = subst IsPlainNodeName (sym client_is) (group.clients.node_names client [] known)
 
-  client_found : number_of (encoding (key_name (client_at g client))) g.clients.ring ≡ Some client
-  client_found = subst (λ (n : List Component). number_of (encoding (key_name n)) g.clients.ring ≡ Some client) (sym client_is) (number_at g.clients group.clients client known)
+  client_found : key_number (encoding (key_name (client_at g client))) g.clients.ring ≡ Some client
+  client_found = subst (λ (n : List Component). key_number (encoding (key_name n)) g.clients.ring ≡ Some client) (sym client_is) (number_at g.clients group.clients client known)
 
   key_is : slice_get g.clients.ring client ≡ Some (pair (encoding (key_name (client_at g client))) (client_key_at g client))
-  key_is = slice_get-get_or g.clients.ring client (pair [] []) (omega (arith, known, ring_length g.clients group.clients)) ∙ ap (λ (q : Ring.Pair). Some q) made where
+  key_is = slice_get-get_or g.clients.ring client (pair [] []) (omega (arith, known, ring_length g.clients group.clients)) ∙ ap (λ (q : Ring.NamedKey). Some q) made where
     made : get_or g.clients.ring client (pair [] []) ≡ pair (encoding (key_name (client_at g client))) (client_key_at g client)
     made =
         let n : (get_or g.clients.ring client (pair [] [])).name ≡ encoding (key_name (client_at g client)) =
         ring_at g.clients group.clients client known client known ∙ ap (λ (node : List Component). encoding (key_name node)) (sym client_is) in
-        let k : (get_or g.clients.ring client (pair [] [])).key ≡ client_key_at g client = sym (ap (λ (q : Ring.Pair). q.key) (unwrap_or-slice_get g.clients.ring client (pair [] []))) in
+        let k : (get_or g.clients.ring client (pair [] [])).key ≡ client_key_at g client = sym (ap (λ (q : Ring.NamedKey). q.key) (unwrap_or-slice_get g.clients.ring client (pair [] []))) in
         λ i. record { name = n i; key = k i }
 
-  pub verdict : (command : Command) → IsSpelled command → named_length command ≤ 400
+  pub verdict : (command : Command) → CommandIsSpelled command → named_length command ≤ 400
       → command_verdict (node_at g number) g.clients.ring (order_made g number client command) ≡ or_bad client command (is_command command)
   verdict command spelled short =
       made_commands (node_at g number) (key_name (client_at g client)) command (client_key_at g client) g.clients.ring client

@@ -35,13 +35,13 @@ use Rattle.repo_member.specs.Groups.{GroupKeys, HaveKeys}
 use Rattle.repo_member.specs.Records.{Packet}
 use Rattle.repo_member.specs.Listed.{listing_at, stored_at, listed_shape}
 use Rattle.group_model.specs.Member.{with_tries}
-use Rattle.repo_member.specs.Alone.{Alone, Fetched, IsOf, alone_plan, want_of, with_fetched, alone_takes}
+use Rattle.repo_member.specs.Alone.{Alone, Fetched, IsOfGroup, alone_plan, want_of, with_fetched, alone_takes}
 use Rattle.repo_member.specs.Gaining.{AreTied, IsArrival}
 use Rattle.repo_member.specs.declared.gaining.Arrival.{Arrival}
 use Rattle.repo_member.specs.Members.{alone, IsMember}
 use Rattle.repo_member.specs.declared.member.Member.TheInside.{Inside}
 use Rattle.repo_member.specs.declared.member.outcome.Tried.{Tried}
-use Rattle.repo_member.specs.Outcomes.{job_for, IsPlannedJob, WereTried, JobsArePlanned, PlannedJobsAreOutcomes, IsOutcome, outcome_of, IsFetched, AreFetched, AreApart, CanBeTaken, AreTakable, KeepsButTries, came, octets_in, arrival_octets, with_all_fetched, with_all_tries}
+use Rattle.repo_member.specs.Outcomes.{job_for, IsPlannedJob, WereTried, JobsArePlanned, PlannedJobsAreOutcomes, IsOutcome, outcome_of, IsFetched, AreFetched, PartsDiffer, CanBeTaken, AreTakable, KeepsButTries, came, octets_in, arrival_octets, with_all_fetched, with_all_tries}
 use Rattle.repo_member.proofs.GainingLemmas.{absent, held_value, shape_told, put_elsewhere}
 use Rattle.repo_member.proofs.GroupLemmas.{ring_length}
 use Rattle.repo_member.proofs.AskedLemmas.{asked_segment, asked_member}
@@ -230,7 +230,7 @@ places_apart t (u ∷ us) small all apart =
       places_apart t us small (All-tail IsSmallPart u us all) both.1,
     )
 
-places_differ : (ts : List Part) → All IsSmallPart ts → AreApart ts → IsDistinct (◌==◌) (map place ts)
+places_differ : (ts : List Part) → All IsSmallPart ts → PartsDiffer ts → IsDistinct (◌==◌) (map place ts)
 unfolding IsDistinct
 places_differ [] all apart = tt
 places_differ (t ∷ ts) all apart =
@@ -246,7 +246,7 @@ places_below n (t ∷ ts) all publishers q h = elim (or_cases (q == place t) _ h
   | inr later ↦ places_below n ts (All-tail IsSmallPart t ts all) (All-tail (λ (t : Part). t.publisher < n) t ts publishers) q later
 ]
 
-pub few_parts : (n : ℕ) (ts : List Part) → AreApart ts → All IsSmallPart ts → All (λ (t : Part). t.publisher < n) ts → length ts ≤ n * 16777216
+pub few_parts : (n : ℕ) (ts : List Part) → PartsDiffer ts → All IsSmallPart ts → All (λ (t : Part). t.publisher < n) ts → length ts ≤ n * 16777216
 few_parts n ts apart all publishers =
     let few = length-le_from_distinct_below (map place ts) (n * 16777216) (places_differ ts all apart) (places_below n ts all publishers) in
     omega (arith, few, length-map ts place)
@@ -294,8 +294,8 @@ module _ (g : GroupKeys) (a : Alone) where
   packets_fetched (job ∷ jobs) (part ∷ parts) (n ∷ ns) are = ap (λ (os : List (Option (List ℕ))). option_map (λ (c : CheckedPart). c.octets) part ∷ os) (packets_fetched jobs parts ns are.1)
 
   module _ (jobs : List Job) (parts : List (Option CheckedPart)) (ns : List ℕ) (is : IsOutcome g a jobs parts ns) (xs : List Tried) (all : map came xs ≡ outcome_of jobs parts ns) where
-    pub all_apart : AreApart (map (λ (x : Tried). x.part) xs)
-    all_apart = subst AreApart (sym (parts_came xs ∙ ap (map (λ (y : Fetched). y.part)) all ∙ parts_fetched jobs parts ns is.each)) is.apart
+    pub all_apart : PartsDiffer (map (λ (x : Tried). x.part) xs)
+    all_apart = subst PartsDiffer (sym (parts_came xs ∙ ap (map (λ (y : Fetched). y.part)) all ∙ parts_fetched jobs parts ns is.each)) is.apart
 
     -- a sum over what came of each
     came_sum : (q : Option (List ℕ) → ℕ) → sum_by (λ (x : Tried). q (came x).packet) xs ≡ sum_by (λ (part : Option CheckedPart). q (option_map (λ (c : CheckedPart). c.octets) part)) parts
@@ -386,7 +386,7 @@ apart_before : (t : Part) (ts : List Part) → IsBefore part_cmp t ts → contai
 apart_before t [] before = refl
 apart_before t (u ∷ us) before = ap (λ (o : Ordering). is_eq o || contains part_cmp us t) before.0 ∙ apart_before t us before.1
 
-apart_in_order : (ts : List Part) → Rises part_cmp ts → AreApart ts
+apart_in_order : (ts : List Part) → Rises part_cmp ts → PartsDiffer ts
 apart_in_order [] rises = tt
 apart_in_order (t ∷ ts) rises = (apart_before t ts rises.0, apart_in_order ts rises.1)
 
@@ -405,7 +405,7 @@ module _ (g : GroupKeys) (a : Alone) where
   parts_of_jobs [] = refl
   parts_of_jobs (t ∷ ts) = rw (want_part g a.store t, parts_of_jobs ts) refl
 
-  planned_job : (t : Part) → HaveKeys g.members → IsOf g a → is_unclaimed (alone_plan a) t ≡ true → IsPlannedJob g a (job_for g a t)
+  planned_job : (t : Part) → HaveKeys g.members → IsOfGroup g a → is_unclaimed (alone_plan a) t ≡ true → IsPlannedJob g a (job_for g a t)
   planned_job t have of free =
       let same : (want_of g a.store t).part ≡ t = want_part g a.store t in
       let wanted : is_wanted (alone_plan a) t ≡ true = (and_parts (is_wanted (alone_plan a) t) (not (is_claimed (alone_plan a) t)) free).0 in
@@ -425,7 +425,7 @@ jobs_are_planned g a after most have of =
     let free = All-take (λ t. is_unclaimed (alone_plan a) t ≡ true) most (filter (is_after after) (unclaimed (alone_plan a)))
     (All-filter (is_after after) (λ t. is_unclaimed (alone_plan a) t ≡ true) (unclaimed (alone_plan a)) (filter_passes (is_unclaimed (alone_plan a)) (known_parts (alone_plan a)))) in
     record {
-      apart = subst AreApart (sym (parts_of_jobs g a ts)) (apart_in_order ts rises);
+      apart = subst PartsDiffer (sym (parts_of_jobs g a ts)) (apart_in_order ts rises);
       each = All-map (IsPlannedJob g a) (job_for g a) ts
           (All-weaker (λ t. is_unclaimed (alone_plan a) t ≡ true) (λ t. IsPlannedJob g a (job_for g a t)) (λ t h. planned_job g a t have of h) ts free);
     }

@@ -16,7 +16,7 @@ use Rattle.repo_plan.specs.declared.part.Part.{Part}
 use Rattle.repo_plan.specs.SortedList.{contains, keys, Rises}
 use Rattle.repo_plan.specs.Parts.{Pair, part_cmp, pair_of, part_of}
 use Rattle.repo_plan.specs.Plan.{Holdings, knows, holds, hides, is_asked, is_claimed, is_claim_of, can_be_asked, shape_of, raises}
-use Rattle.repo_plan.specs.Sound.{IsSound}
+use Rattle.repo_plan.specs.Sound.{PlanIsSound}
 use Rattle.repo_plan.proofs.Orders.{exact_parts}
 use Rattle.repo_plan.proofs.Sets.{eq_same}
 use Rattle.repo_plan.proofs.Known.{wanted_is_asked}
@@ -90,7 +90,7 @@ asked_known_up_to : (p : Holdings) (t : Part) → is_asked p t ≡ true → t.se
 asked_known_up_to p t h = known_up_to p (pair_of t) (and_parts (knows p (pair_of t)) (can_be_asked p.held (shape_of p (pair_of t)) t) h).0
 
 -- nothing is held, hidden or claimed of the publication behind the last one that is known
-pub next_to_last : (p : Holdings) (number last : ℕ) → IsSound p → number < length p.known → slice_index p.known number ≡ last
+pub next_to_last : (p : Holdings) (number last : ℕ) → PlanIsSound p → number < length p.known → slice_index p.known number ≡ last
     → (hides p (number, last + 1) ≡ true → knows p (number, last + 1) ≡ true) → IsNew (raises number (last + 1) p) (number, last + 1)
 next_to_last p number last sound inside own hidden = record {
   known = and_from (nat_le 1 seq) (nat_le seq (slice_index (slice_set p.known number (max (slice_index p.known number) seq)) number)) (le-leb 1 seq (omega arith)) (le-leb seq _ (omega (arith, at)));
@@ -110,7 +110,7 @@ next_to_last p number last sound inside own hidden = record {
   past h = omega (arith, own, h)
 
 -- such is a member's next publication
-pub next_is_new : (m : Inside) (plan after : Holdings) → IsMember m → IsSound m.plan → plan ≡ record m.plan { spare = plan.spare }
+pub next_is_new : (m : Inside) (plan after : Holdings) → IsMember m → PlanIsSound m.plan → plan ≡ record m.plan { spare = plan.spare }
     → after ≡ raises m.number (length m.log.items + 1) plan → IsNew after (m.number, length m.log.items + 1)
 next_is_new m plan after is sound same raised =
     let seq = length m.log.items + 1 in
@@ -180,7 +180,7 @@ module _ (m : Inside) (is : IsMember m) where
 
 -- ---- what is stored and listed of it
 
-pub next_is_new_at : (m : Inside) (plan after : Holdings) (log : ℕ) → IsMember m → IsSound m.plan → plan ≡ record m.plan { spare = plan.spare } → log ≡ length m.log.items
+pub next_is_new_at : (m : Inside) (plan after : Holdings) (log : ℕ) → IsMember m → PlanIsSound m.plan → plan ≡ record m.plan { spare = plan.spare } → log ≡ length m.log.items
     → after ≡ raises m.number (log + 1) plan → IsNew after (m.number, log + 1)
 next_is_new_at m plan after log is sound same long raised =
     subst (λ (n : ℕ). IsNew after (m.number, n + 1)) (sym long) (next_is_new m plan after is sound same (raised ∙ ap (λ (n : ℕ). raises m.number (n + 1) plan) long))

@@ -7,7 +7,7 @@ use Rattle.repo_plan.specs.declared.part.Part.{Part}
 use Rattle.repo_plan.specs.SortedList.{keys, Rises, with_value}
 use Rattle.repo_plan.specs.Parts.{Pair, part_cmp, part_of}
 use Rattle.repo_plan.specs.Plan.{Holdings, holds, holds_too, uses_room, attempts_of}
-use Rattle.repo_plan.specs.Sound.{IsSound, CanBeHeld}
+use Rattle.repo_plan.specs.Sound.{PlanIsSound, CanBeHeld}
 use Rattle.repo_plan.proofs.Changes.{Keeps, IsWanted, wanted_parts, wanted_from, asked_kept, same_holdings, sound_room, sound_holds, sound_attempts}
 use Rattle.repo_object.specs.Verdict.{listing_in}
 use Rattle.repo_store.specs.StoreList.{with_packet}
@@ -30,7 +30,7 @@ keeps_known p known more = record {
   shapes = λ pair n h. h;
 }
 
-pub sound_known : (p : Holdings) (known : List ℕ) → length known ≤ 2 ^ 32 → ((q : ℕ) → slice_index p.known q ≤ slice_index known q) → IsSound p → IsSound (record p { known = known })
+pub sound_known : (p : Holdings) (known : List ℕ) → length known ≤ 2 ^ 32 → ((q : ℕ) → slice_index p.known q ≤ slice_index known q) → PlanIsSound p → PlanIsSound (record p { known = known })
 sound_known p known few more s = record {
   in_order = record { held = s.in_order.held; shapes = s.in_order.shapes; hidden = s.in_order.hidden; attempts = s.in_order.attempts };
   publishers = λ q h. elim (cases_lt q (length known)) [
@@ -65,15 +65,15 @@ module _ (a : Alone) (t : Part) (octets : List ℕ) (order : Rises part_cmp (key
       same_holdings (alone_plan (gains t octets a)) (uses_room (holds_too t (told_shape t octets) (alone_plan a)))
       (sym others.known) (sym tied.held) (sym tied.shapes) (sym others.claims) (sym others.hidden) (sym others.attempts) (sym (room_kept t (told_shape t octets) (alone_plan a)))
 
-  pub sound_gained : CanBeHeld (alone_plan a) t → IsSound (alone_plan a) → IsSound (alone_plan (gains t octets a))
+  pub sound_gained : CanBeHeld (alone_plan a) t → PlanIsSound (alone_plan a) → PlanIsSound (alone_plan (gains t octets a))
   sound_gained can s =
       let p = holds_too t (told_shape t octets) (alone_plan a) in
-      subst IsSound (sym plan_gained) (sound_room (p.spare - 1) p (sound_holds t (told_shape t octets) (alone_plan a) told can s))
+      subst PlanIsSound (sym plan_gained) (sound_room (p.spare - 1) p (sound_holds t (told_shape t octets) (alone_plan a) told can s))
 
 -- ---- attempts
 
-pub sound_tried : (a : Alone) (t : Part) (n : ℕ) → IsSound (alone_plan a) → IsSound (alone_plan (record a { attempts = with_tries t n a.attempts }))
-sound_tried a t n s = subst IsSound (go (n == 0)) (sound_attempts t n (alone_plan a) s) where
+pub sound_tried : (a : Alone) (t : Part) (n : ℕ) → PlanIsSound (alone_plan a) → PlanIsSound (alone_plan (record a { attempts = with_tries t n a.attempts }))
+sound_tried a t n s = subst PlanIsSound (go (n == 0)) (sound_attempts t n (alone_plan a) s) where
   more : List (Part × ℕ)
   more = with_value part_cmp t (attempts_of (alone_plan a) t + n) a.attempts
 
@@ -96,7 +96,7 @@ first_told segments x = go (x == 0) where
   go false = refl
 
 pub sound_puts : (start : Holdings) (pair : Pair) (segments : ℕ) → IsNew start pair → (x : ℕ) (made : List (List ℕ)) (a : Alone) → x + length made ≡ segments + 1 → TellsTheRest segments x made
-    → Rises part_cmp (keys a.store) → HasGained start (alone_plan a) pair segments x → IsSound (alone_plan a) → IsSound (alone_plan (record a { store = with_packets (as_parts pair x made) a.store }))
+    → Rises part_cmp (keys a.store) → HasGained start (alone_plan a) pair segments x → PlanIsSound (alone_plan a) → PlanIsSound (alone_plan (record a { store = with_packets (as_parts pair x made) a.store }))
 sound_puts start pair segments new x [] a count tells order so_far s = s
 sound_puts start pair segments new x (octets ∷ made) a count tells order so_far s =
     let t = part_of pair x in

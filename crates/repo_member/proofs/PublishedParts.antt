@@ -10,7 +10,7 @@ use Rattle.repo_plan.specs.declared.part.Part.{Part}
 use Rattle.repo_plan.specs.SortedList.{keys, contains, value_of}
 use Rattle.repo_plan.specs.Parts.{Pair, part_cmp, pair_of, part_of}
 use Rattle.repo_plan.specs.Plan.{hides}
-use Rattle.repo_plan.specs.Sound.{IsSound}
+use Rattle.repo_plan.specs.Sound.{PlanIsSound}
 use Rattle.repo_plan.proofs.Orders.{exact_parts}
 use Rattle.repo_plan.proofs.Sets.{eq_same}
 use Rattle.repo_object.specs.Objects.{NamedContents, IsObject, Publisher}
@@ -97,7 +97,7 @@ module _ (g : GroupKeys) (object : NamedContents) (moment draw : ℕ) (a : Alone
   abbrev told : Alone
   told = record a { known = known }
 
-  told_sound : IsSound (alone_plan told)
+  told_sound : PlanIsSound (alone_plan told)
   told_sound = sound_known (alone_plan a) known (omega (arith, long, r.group.members.roster.few, r.of)) more r.sound
 
   new : IsNew (alone_plan told) pair
@@ -106,7 +106,7 @@ module _ (g : GroupKeys) (object : NamedContents) (moment draw : ℕ) (a : Alone
       subst (λ (n : ℕ). IsNew (alone_plan (record a { known = slice_set a.known a.number n })) pair) greater
       (next_to_last (alone_plan a) a.number (length a.log) r.sound r.alone.member r.alone.own (r.alone.hidden pair))
 
-  all_sound : IsSound (alone_plan (record told { store = after }))
+  all_sound : PlanIsSound (alone_plan (record told { store = after }))
   all_sound =
       let are = packets_are by object (next_seq a) (is_publisher g a.number r.group (omega (arith, r.alone.member, r.of))) is_object (omega (arith, room)) made refl in
       sound_puts (alone_plan told) pair segments new 0 made told (omega arith) (λ e. are.lists) r.alone.in_order (gained_none (alone_plan told) pair segments new) told_sound

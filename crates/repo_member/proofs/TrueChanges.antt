@@ -28,7 +28,7 @@ use Rattle.group_model.proofs.Gains.{Publishes, AreTried, sound_takes, sound_gai
 use Rattle.group_model.proofs.Deletions.{sound_deletes}
 use Rattle.group_model.proofs.Settles.{no_claim}
 use Rattle.repo_member.specs.Records.{Packet}
-use Rattle.repo_member.specs.Deleting.{catalogued, outside_all}
+use Rattle.repo_member.specs.Deleting.{catalogued_named, outside_all}
 use Rattle.repo_member.specs.Commanded.{alone_starts}
 use Rattle.repo_member.specs.Blocks.{alone_block, alone_keeps, after_block}
 use Rattle.repo_member.specs.Groups.{GroupKeys}
@@ -222,7 +222,7 @@ deletes_true g logs name a are t = record {
   log = t.log;
   sound = subst (IsSoundMember logs a.number) (sym (deletes_alike g logs name a are (true_stores g logs a t))) (sound_deletes logs a.number name (in_group a) t.sound);
   machine = t.machine;
-  packets = λ u octets h. t.packets u octets (stored_before (catalogued name a) a.store u octets h);
+  packets = λ u octets h. t.packets u octets (stored_before (catalogued_named name a) a.store u octets h);
 }
 
 pub obeys_true : ObeysTrue

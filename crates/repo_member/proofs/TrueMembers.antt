@@ -27,7 +27,7 @@ use Rattle.group_model.specs.Member.{member_holds}
 use Rattle.group_model.specs.Sound.{IsPublished, IsPublishedPart}
 use Rattle.group_model.proofs.Plans.{IsWanted, wanted_parts}
 use Rattle.group_model.proofs.Members.{known_published}
-use Rattle.repo_member.specs.Groups.{GroupKeys, IsGroup, node_at, key_at, publisher_at}
+use Rattle.repo_member.specs.Groups.{GroupKeys, IsGroup, node_at, member_key, publisher_at}
 use Rattle.repo_member.specs.Records.{Packet}
 use Rattle.repo_member.specs.Listed.{listing_at}
 use Rattle.repo_member.specs.Alone.{Alone, alone_plan, want_of, nothing_listed}
@@ -87,8 +87,8 @@ logs_those g logs a t truly own there =
 pub ring_name : (g : GroupKeys) (p : ℕ) → IsGroup g → p < length g.members.names → (unwrap_or (slice_get g.members.ring p) (pair [] [])).name ≡ encoding (key_name (node_at g p))
 ring_name g p is inside =
     let long : length g.members.ring ≡ length g.members.names = ring_length g.members is.members in
-    ap (λ (q : Ring.Pair). q.name) (unwrap_or-slice_get g.members.ring p (pair [] []))
-    ∙ sym (get_or-map (λ (q : Ring.Pair). q.name) g.members.ring p (pair [] []) [] (omega (arith, long, inside)))
+    ap (λ (q : Ring.NamedKey). q.name) (unwrap_or-slice_get g.members.ring p (pair [] []))
+    ∙ sym (get_or-map (λ (q : Ring.NamedKey). q.name) g.members.ring p (pair [] []) [] (omega (arith, long, inside)))
     ∙ ap (λ (xs : List (List ℕ)). get_or xs p []) is.members.keys
     ∙ get_or-map (λ (node : List Component). encoding (key_name node)) g.members.names p [] [] inside
     ∙ ap (λ (node : List Component). encoding (key_name node)) (sym (unwrap_or-slice_get g.members.names p []))
@@ -118,12 +118,12 @@ module _ (g : GroupKeys) (logs : Logs) (t : Part) (are : AreLogs g logs) (is : I
         → IsOk (ring_verdict (cond b (want_record t (node_at g t.publisher) g.name) (want_segment t (published_listing (publisher_at g t.publisher) object))) g.members.ring octets)
     go true p =
         let zero : t.part ≡ 0 = eqb-true t.part 0 p in
-        subst (λ (name : List ℕ). IsOk (part_verdict (want_record t (node_at g t.publisher) g.name) name (key_at g t.publisher) octets)) (sym named)
+        subst (λ (name : List ℕ). IsOk (part_verdict (want_record t (node_at g t.publisher) g.name) name (member_key g t.publisher) octets)) (sym named)
         (record_passes (publisher_at g t.publisher) object (published_by g logs are (pair_of t) is.there) (published_object g logs are (pair_of t) is.there) t octets (published_low g logs are (pair_of t) is.there)
         (subst (λ (n : ℕ). packet_at (publisher_at g t.publisher) t.seq object n ≡ Some octets) zero its))
     go false p =
         let above : 0 < t.part = elim (cases_eq t.part 0) [ inl z ↦ absurd (true≢false (sym (eq-eqb t.part 0 z) ∙ p)) | inr n ↦ omega (arith, n) ] in
-        subst (λ (name : List ℕ). IsOk (part_verdict (want_segment t (published_listing (publisher_at g t.publisher) object)) name (key_at g t.publisher) octets)) (sym named)
+        subst (λ (name : List ℕ). IsOk (part_verdict (want_segment t (published_listing (publisher_at g t.publisher) object)) name (member_key g t.publisher) octets)) (sym named)
         (segment_passes (publisher_at g t.publisher) object (published_by g logs are (pair_of t) is.there) (published_object g logs are (pair_of t) is.there) t octets above its)
 
 pub packets_are_there : PacketsAreThere

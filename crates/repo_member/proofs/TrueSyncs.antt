@@ -12,8 +12,8 @@ use Rattle.ndn_tlv.specs.Spelling.{element}
 use Rattle.ndn_name.specs.Names.{Component, encoding}
 use Rattle.ndn_name.proofs.Encodings.{encoding-push}
 use Rattle.ndn_sign.specs.Ring
-use Rattle.ndn_sign.specs.Ring.{pair, number_of}
-use Rattle.svs_vector.specs.Rosters.{is_same_name}
+use Rattle.ndn_sign.specs.Ring.{pair, key_number}
+use Rattle.svs_vector.specs.Rosters.{has_same_octets}
 use Rattle.svs_vector.proofs.ReadBackLemmas.{read_back}
 use Rattle.svs_sync.specs.SyncInterest.{sync_verdict}
 use Rattle.svs_sync.proofs.VerdictLemmas.{made_is_checked}
@@ -22,7 +22,7 @@ use Rattle.repo_object.proofs.NameLemmas.{IsName-key}
 use Rattle.group_model.specs.Publications.{Logs, last_of}
 use Rattle.group_model.specs.Sound.{IsTrueVector}
 use Rattle.repo_member.specs.declared.refusals.HearRefusal.TheVariants.{OwnNumberAhead}
-use Rattle.repo_member.specs.Groups.{NodeKeys, GroupKeys, HaveKeys, IsPlainNodeName, node_at, key_at}
+use Rattle.repo_member.specs.Groups.{NodeKeys, GroupKeys, HaveKeys, IsPlainNodeName, node_at, member_key}
 use Rattle.repo_member.specs.Verdicts.{sync_of, told_verdict}
 use Rattle.repo_member.specs.InGroup.{AreLogs}
 use Rattle.repo_member.specs.TrueSyncs.{KeysAreFound, SyncsAreTold, SyncsAreTaken}
@@ -52,7 +52,7 @@ module _ (nodes : NodeKeys) (have : HaveKeys nodes) (j : ℕ) (there : j < lengt
   abbrev name_at : ℕ → List Component
   name_at k = get_or nodes.names k []
 
-  abbrev pair_at : ℕ → Ring.Pair
+  abbrev pair_at : ℕ → Ring.NamedKey
   pair_at k = get_or nodes.ring k (pair [] [])
 
   long : length nodes.ring ≡ length nodes.names
@@ -60,7 +60,7 @@ module _ (nodes : NodeKeys) (have : HaveKeys nodes) (j : ℕ) (there : j < lengt
 
   pub ring_at : (k : ℕ) → k < length nodes.names → (get_or nodes.ring k (pair [] [])).name ≡ encoding (key_name (get_or nodes.names k []))
   ring_at k l =
-      sym (get_or-map (λ (q : Ring.Pair). q.name) nodes.ring k (pair [] []) [] (omega (arith, long, l)))
+      sym (get_or-map (λ (q : Ring.NamedKey). q.name) nodes.ring k (pair [] []) [] (omega (arith, long, l)))
       ∙ ap (λ (xs : List (List ℕ)). get_or xs k []) have.keys
       ∙ get_or-map (λ (node : List Component). encoding (key_name node)) nodes.names k [] [] l
 
@@ -70,33 +70,33 @@ module _ (nodes : NodeKeys) (have : HaveKeys nodes) (j : ℕ) (there : j < lengt
       let both : encoding (get_or nodes.names j []) ++ element 8 (75 ∷ 69 ∷ 89 ∷ []) ≡ encoding (get_or nodes.names k []) ++ element 8 (75 ∷ 69 ∷ 89 ∷ []) = sym (push (get_or nodes.names j [])) ∙ e ∙ push (get_or nodes.names k []) in
       sym (append_cancel_right (encoding (get_or nodes.names j [])) (encoding (get_or nodes.names k [])) (element 8 (75 ∷ 69 ∷ 89 ∷ [])) both)
 
-  pub number_at : number_of (encoding (key_name (get_or nodes.names j []))) nodes.ring ≡ Some j
-  number_at = first_position (λ (q : Ring.Pair). bytes_eq (encoding (key_name (get_or nodes.names j []))) q.name) nodes.ring j (pair [] []) (omega (arith, there, long))
+  pub number_at : key_number (encoding (key_name (get_or nodes.names j []))) nodes.ring ≡ Some j
+  number_at = first_position (λ (q : Ring.NamedKey). bytes_eq (encoding (key_name (get_or nodes.names j []))) q.name) nodes.ring j (pair [] []) (omega (arith, there, long))
       (same_octets (encoding (key_name (get_or nodes.names j []))) (get_or nodes.ring j (pair [] [])).name (sym (ring_at j there)))
       (λ k l. false_from_ne_true (bytes_eq (encoding (key_name (get_or nodes.names j []))) (get_or nodes.ring k (pair [] [])).name) (λ found.
       let same : encoding (key_name (get_or nodes.names j [])) ≡ (get_or nodes.ring k (pair [] [])).name = (bytes_eq-Decides (encoding (key_name (get_or nodes.names j []))) (get_or nodes.ring k (pair [] [])).name).0 found in
       let e : encoding (get_or nodes.names k []) ≡ encoding (get_or nodes.names j []) = same_key k (same ∙ ring_at k (omega (arith, l, there))) in
-      true≢false (sym (same_octets (encoding (get_or nodes.names k [])) (encoding (get_or nodes.names j [])) e) ∙ apart_from_distinct is_same_name nodes.names k j [] have.roster.different l there)))
+      true≢false (sym (same_octets (encoding (get_or nodes.names k [])) (encoding (get_or nodes.names j [])) e) ∙ apart_from_distinct has_same_octets nodes.names k j [] have.roster.different l there)))
 
 pub keys_are_found : KeysAreFound
 keys_are_found nodes number node have is =
     let there : number < length nodes.names = slice_get_within nodes.names number node is in
-    subst (λ (n : List Component). number_of (encoding (key_name n)) nodes.ring ≡ Some number) (get_or_from_slice_get nodes.names number node [] is) (number_at nodes have number there)
+    subst (λ (n : List Component). key_number (encoding (key_name n)) nodes.ring ≡ Some number) (get_or_from_slice_get nodes.names number node [] is) (number_at nodes have number there)
 
 module _ (g : GroupKeys) (have : HaveKeys g.members) (j : ℕ) (there : j < length g.members.names) where
   node_is : node_at g j ≡ get_or g.members.names j []
   node_is = unwrap_or-slice_get g.members.names j []
 
-  member_found : number_of (encoding (key_name (node_at g j))) g.members.ring ≡ Some j
-  member_found = subst (λ (n : List Component). number_of (encoding (key_name n)) g.members.ring ≡ Some j) (sym node_is) (number_at g.members have j there)
+  member_found : key_number (encoding (key_name (node_at g j))) g.members.ring ≡ Some j
+  member_found = subst (λ (n : List Component). key_number (encoding (key_name n)) g.members.ring ≡ Some j) (sym node_is) (number_at g.members have j there)
 
-  key_is : slice_get g.members.ring j ≡ Some (pair (encoding (key_name (node_at g j))) (key_at g j))
-  key_is = slice_get-get_or g.members.ring j (pair [] []) (omega (arith, there, ring_length g.members have)) ∙ ap (λ (q : Ring.Pair). Some q) made where
-    made : get_or g.members.ring j (pair [] []) ≡ pair (encoding (key_name (node_at g j))) (key_at g j)
+  key_is : slice_get g.members.ring j ≡ Some (pair (encoding (key_name (node_at g j))) (member_key g j))
+  key_is = slice_get-get_or g.members.ring j (pair [] []) (omega (arith, there, ring_length g.members have)) ∙ ap (λ (q : Ring.NamedKey). Some q) made where
+    made : get_or g.members.ring j (pair [] []) ≡ pair (encoding (key_name (node_at g j))) (member_key g j)
     made =
         let n : (get_or g.members.ring j (pair [] [])).name ≡ encoding (key_name (node_at g j)) =
         ring_at g.members have j there j there ∙ ap (λ (node : List Component). encoding (key_name node)) (sym node_is) in
-        let k : (get_or g.members.ring j (pair [] [])).key ≡ key_at g j = sym (ap (λ (q : Ring.Pair). q.key) (unwrap_or-slice_get g.members.ring j (pair [] []))) in
+        let k : (get_or g.members.ring j (pair [] [])).key ≡ member_key g j = sym (ap (λ (q : Ring.NamedKey). q.key) (unwrap_or-slice_get g.members.ring j (pair [] []))) in
         λ i. record { name = n i; key = k i }
 
 -- ---- a sync Interest of the group
@@ -115,7 +115,7 @@ module _ (g : GroupKeys) (logs : Logs) (are : AreLogs g logs) where
   pub sync_told : (sender : ℕ) (v : List ℕ) → sender < length g.members.names → IsTrueVector logs v → sync_verdict g.name g.members.names g.members.ring (sync_of g sender v) ≡ Ok (sender, v)
   sync_told sender v there t =
       let node = node_name sender there in
-      made_is_checked g.name g.members.names g.members.ring v (key_name (node_at g sender)) (key_at g sender) sender
+      made_is_checked g.name g.members.names g.members.ring v (key_name (node_at g sender)) (member_key g sender) sender
       (member_found g are.group.members sender there) (key_is g are.group.members sender there) (read_back g.members.names v are.group.members.roster (t.width ∙ are.width) (small v t))
       are.group.name.valid (are.group.name.some, are.group.name.short) are.group.members.roster.few (λ k d l. let h = are.group.members.node_names k d l in (h.some, h.short))
       (IsName-key (node_at g sender) node.valid) (record { node = node_at g sender; parts = refl; limits = (node.some, node.short) })

@@ -70,8 +70,8 @@ pub record IsAlone (a : Alone) : Type 0 where
   pub hidden : (pair : Pair) → hides (alone_plan a) pair ≡ true → knows (alone_plan a) pair ≡ true
 
 -- the group has as many members as the member knows of
-abbrev pub IsOf : GroupKeys → Alone → Type 0
-IsOf g a = length g.members.names ≡ length a.known
+abbrev pub IsOfGroup : GroupKeys → Alone → Type 0
+IsOfGroup g a = length g.members.names ≡ length a.known
 
 -- ---- publishing
 

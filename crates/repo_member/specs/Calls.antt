@@ -10,14 +10,14 @@ use Rattle.repo_plan.specs.Calls.{IsFetcher}
 use Rattle.repo_object.specs.declared.job.Job.{Job}
 use Rattle.repo_object.specs.Objects.{NamedContents, IsContent, IsObject}
 use Rattle.repo_object.specs.Verdict.{CheckedPart, IsChecked, ring_verdict}
-use Rattle.repo_command.specs.Commands.{IsSpelled}
+use Rattle.repo_command.specs.Commands.{CommandIsSpelled}
 use Rattle.repo_member.specs.declared.refusals.HearRefusal.{HearRefusal}
 use Rattle.repo_member.specs.declared.refusals.AcceptRefusal.{AcceptRefusal}
 use Rattle.repo_member.specs.Groups.{GroupKeys, IsGroup}
 use Rattle.repo_member.specs.Alone.{Alone, IsAlone, publication_limit, alone_plan, alone_opening, alone_publishes, logged, alone_learns, alone_hears, alone_fires, alone_claims, want_of, alone_accepts, alone_takes, alone_ends_claims, alone_resets, alone_restarts}
 use Rattle.repo_member.specs.Verdicts.{hear_verdict, accept_verdict}
 use Rattle.repo_member.specs.Outcomes.{outcome_of, IsOutcome}
-use Rattle.repo_member.specs.Commanded.{order_of, after_order}
+use Rattle.repo_member.specs.Commanded.{order_of, alone_after_order}
 use Rattle.repo_member.specs.Blocks.{alone_blocks}
 
 -- A call that may change a member, with what it is given: octets, fetchers, moments and draws. One that answers want of
@@ -75,7 +75,7 @@ after_call g (Claim f) a = if_claimed f a (claim_of (alone_plan a) f)
 after_call g (Lose f) a = if_lost f a (claim_of (alone_plan a) f)
 after_call g (Accept f octets) a = if_accepted f octets a (accept_verdict g a f octets)
 after_call g (TakeOutcome jobs parts attempts) a = alone_takes (outcome_of jobs parts attempts) a
-after_call g (Command octets) a = after_order (order_of g a.number octets) a
+after_call g (Command octets) a = alone_after_order (order_of g a.number octets) a
 after_call g (Block process index content moment draw) a = alone_blocks g process index content moment draw a
 after_call g EndClaims a = alone_ends_claims a
 after_call g (Reset moment draw) a = alone_resets moment draw a
@@ -100,7 +100,7 @@ IsAllowedCall g a (Lose f) = IsFetcher f
 IsAllowedCall g a (Accept f octets) = IsFetcher f
 IsAllowedCall g a (TakeOutcome jobs parts attempts) =
     IsOutcome g a jobs parts attempts × All (λ part. IfSome part IsChecked) parts
-IsAllowedCall g a (Command octets) = IfOk (order_of g a.number octets) (λ order. IsSpelled order.1)
+IsAllowedCall g a (Command octets) = IfOk (order_of g a.number octets) (λ order. CommandIsSpelled order.1)
 IsAllowedCall g a (Block process index content moment draw) = IsContent content
 IsAllowedCall g a EndClaims = Unit {0}
 IsAllowedCall g a (Reset moment draw) = Unit {0}

@@ -8,7 +8,7 @@ use Rattle.ndn_interest.specs.Interest.{Interest, interest_of}
 use Rattle.repo_plan.specs.SortedList.{value_of}
 use Rattle.repo_object.specs.Limits.{object_name_limit}
 use Rattle.repo_object.specs.Objects.{key_name}
-use Rattle.repo_command.specs.Commands.{named_length, is_command, IsSpelled, command_interest}
+use Rattle.repo_command.specs.Commands.{named_length, is_command, CommandIsSpelled, command_interest}
 use Rattle.repo_command.specs.declared.command.Command.{Command}
 use Rattle.repo_command.specs.declared.command.Command.TheVariants.{Insert, Check, Delete}
 use Rattle.repo_command.specs.declared.command_refusal.CommandRefusal.{CommandRefusal}
@@ -16,12 +16,12 @@ use Rattle.repo_command.specs.declared.answer.Answer.{Answer}
 use Rattle.repo_command.specs.StatusCodes as status
 use Rattle.repo_command.specs.StatusCodes.{refusal_code}
 use Rattle.repo_command.specs.Verdict.{command_verdict}
-use Rattle.repo_command.specs.Answers.{only, written_answer}
+use Rattle.repo_command.specs.Answers.{code_alone, written_answer}
 use Rattle.repo_process.specs.Insertions.{next_number, starts}
 use Rattle.group_model.specs.Steps.{check_answer}
-use Rattle.repo_member.specs.Groups.{GroupKeys, IsGroup, node_at, key_at, client_at, client_key_at}
+use Rattle.repo_member.specs.Groups.{GroupKeys, IsGroup, node_at, member_key, client_at, client_key_at}
 use Rattle.repo_member.specs.Alone.{Alone}
-use Rattle.repo_member.specs.Deleting.{catalogued, alone_deletes, dropped}
+use Rattle.repo_member.specs.Deleting.{catalogued_named, alone_deletes, alone_drops}
 
 -- ---- whose command octets are, and which
 
@@ -42,13 +42,14 @@ order_made g number client command =
 -- A command within the limits that a client of the group makes for a member is that client's and that command.
 abbrev pub MadeOrdersAreTaken : Type 0
 MadeOrdersAreTaken = (g : GroupKeys) (number client : ℕ) (command : Command) → IsGroup g
-    → number < length g.members.names → client < length g.clients.names → IsSpelled command → is_command command ≡ true
+    → number < length g.members.names → client < length g.clients.names → CommandIsSpelled command
+    → is_command command ≡ true
     → order_of g number (order_made g number client command) ≡ Ok (client, command)
 
 -- One that goes beyond them is refused as what doesn't read so, whoever makes it.
 abbrev pub OrdersBeyondAreMalformed : Type 0
 OrdersBeyondAreMalformed = (g : GroupKeys) (number client : ℕ) (command : Command) → IsGroup g
-    → number < length g.members.names → client < length g.clients.names → IsSpelled command
+    → number < length g.members.names → client < length g.clients.names → CommandIsSpelled command
     → named_length command ≤ object_name_limit → is_command command ≡ false
     → order_of g number (order_made g number client command) ≡ Err status.Malformed
 
@@ -64,29 +65,29 @@ alone_obeys (Insert name first last) a = alone_starts name first last a (next_nu
 alone_obeys (Check process) a = a
 alone_obeys (Delete name) a = alone_deletes name a
 
-abbrev pub after_order : Result (ℕ × Command) ℕ → Alone → Alone
-after_order (Ok order) a = alone_obeys order.1 a
-after_order (Err code) a = a
+abbrev pub alone_after_order : Result (ℕ × Command) ℕ → Alone → Alone
+alone_after_order (Ok order) a = alone_obeys order.1 a
+alone_after_order (Err code) a = a
 
 -- ---- what is answered
 
 abbrev pub start_answer : Option ℕ → Answer
-start_answer None = only status.Malformed
-start_answer (Some number) = record (only status.Accepted) { process = Some number }
+start_answer None = code_alone status.Malformed
+start_answer (Some number) = record (code_alone status.Accepted) { process = Some number }
 
 abbrev pub delete_answer : List Component → Alone → Answer
 delete_answer name a =
-    if length (catalogued name a) == 0 then only status.NotFound
-    else record (only status.Done) { deleted = Some (dropped name a) }
+    if length (catalogued_named name a) == 0 then code_alone status.NotFound
+    else record (code_alone status.Done) { deleted = Some (alone_drops name a) }
 
 abbrev pub answer_to : Command → Alone → Answer
 answer_to (Insert name first last) a = start_answer (next_number a.insertions)
 answer_to (Check process) a = check_answer (value_of nat_cmp a.insertions.processes process)
 answer_to (Delete name) a = delete_answer name a
 
-abbrev pub order_answer : Result (ℕ × Command) ℕ → Alone → Answer
-order_answer (Ok order) a = answer_to order.1 a
-order_answer (Err code) a = only code
+abbrev pub alone_order_answer : Result (ℕ × Command) ℕ → Alone → Answer
+alone_order_answer (Ok order) a = answer_to order.1 a
+alone_order_answer (Err code) a = code_alone code
 
 -- ---- the packet that says it
 
@@ -98,7 +99,7 @@ reply_name_limit = 1000
 abbrev pub reply_named : GroupKeys → ℕ → Answer → List Component → Option (List ℕ)
 reply_named g number answer name =
     if nat_le (length (encoding name)) reply_name_limit
-    then Some (written_data name None (written_answer answer) (key_name (node_at g number)) (key_at g number))
+    then Some (written_data name None (written_answer answer) (key_name (node_at g number)) (member_key g number))
     else None
 
 -- the same of the name of an Interest
@@ -106,5 +107,5 @@ abbrev pub reply_to_interest : GroupKeys → ℕ → Answer → Result Interest 
 reply_to_interest g number answer (Ok i) = reply_named g number answer i.name
 reply_to_interest g number answer (Err fault) = None
 
-abbrev pub reply_to : GroupKeys → ℕ → Answer → List ℕ → Option (List ℕ)
-reply_to g number answer octets = reply_to_interest g number answer (interest_of octets)
+abbrev pub reply_to_octets : GroupKeys → ℕ → Answer → List ℕ → Option (List ℕ)
+reply_to_octets g number answer octets = reply_to_interest g number answer (interest_of octets)

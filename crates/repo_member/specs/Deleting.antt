@@ -7,14 +7,14 @@ use Rattle.repo_plan.specs.SortedList.{insert_key}
 use Rattle.repo_plan.specs.Plan.{Holdings}
 use Rattle.repo_store.specs.StoreList.{packets_outside}
 use Rattle.repo_catalog.specs.declared.entry.Entry.{Entry}
-use Rattle.repo_catalog.specs.Entries.{publication_of, has_name}
+use Rattle.repo_catalog.specs.Entries.{publication_of, entry_has_name}
 use Rattle.repo_member.specs.Records.{Packet}
 use Rattle.repo_member.specs.Listed.{alone_catalogue}
 use Rattle.repo_member.specs.Alone.{Alone}
 
 -- the publications of the objects of a name that are listed
 abbrev pub publications_named : List Component → List Entry → List Pair
-publications_named name entries = map publication_of (filter (has_name name) entries)
+publications_named name entries = map publication_of (filter (entry_has_name name) entries)
 
 -- the packets without those of these publications
 abbrev pub outside_all : List Pair → List Packet → List Packet
@@ -38,12 +38,12 @@ abbrev pub alone_hides : List Pair → Alone → Alone
 alone_hides pairs a = record a { store = outside_all pairs a.store; hidden = with_hidden pairs a.hidden }
 
 -- the catalogued publications of the objects of a name
-abbrev pub catalogued : List Component → Alone → List Pair
-catalogued name a = publications_named name (alone_catalogue a.store)
+abbrev pub catalogued_named : List Component → Alone → List Pair
+catalogued_named name a = publications_named name (alone_catalogue a.store)
 
 abbrev pub alone_deletes : List Component → Alone → Alone
-alone_deletes name a = alone_hides (catalogued name a) a
+alone_deletes name a = alone_hides (catalogued_named name a) a
 
 -- how many packets are dropped
-abbrev pub dropped : List Component → Alone → ℕ
-dropped name a = length a.store - length (alone_deletes name a).store
+abbrev pub alone_drops : List Component → Alone → ℕ
+alone_drops name a = length a.store - length (alone_deletes name a).store

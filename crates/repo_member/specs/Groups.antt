@@ -2,7 +2,7 @@
 use Rattle.std.specs.Prelude.{◌≡◌, ℕ, ◌<◌, ◌≤◌, Bool, List, [], ◌∷◌, ◌++◌, map, length, None, is_some, ◌||◌, unwrap_or, slice_get}
 use Rattle.std.specs.List.{All}
 use Rattle.ndn_name.specs.Names.{Component, IsName, encoding}
-use Rattle.ndn_sign.specs.Ring.{Pair, pair}
+use Rattle.ndn_sign.specs.Ring.{NamedKey, pair}
 use Rattle.svs_vector.specs.Rosters.{member_of, IsRoster}
 use Rattle.repo_object.specs.Objects.{Publisher, publisher, key_name}
 
@@ -13,7 +13,7 @@ node_limit = 16
 -- nodes, numbered from 0, and the ring of their keys under the same numbers
 pub record NodeKeys : Type 0 where
   pub names : List (List Component)
-  pub ring : List Pair
+  pub ring : List NamedKey
 
 abbrev pub no_nodes : NodeKeys
 no_nodes = record { names = []; ring = [] }
@@ -40,8 +40,8 @@ abbrev pub node_at : GroupKeys → ℕ → List Component
 node_at group number = unwrap_or (slice_get group.members.names number) []
 
 -- the key of a member
-abbrev pub key_at : GroupKeys → ℕ → List ℕ
-key_at group number = (unwrap_or (slice_get group.members.ring number) (pair [] [])).key
+abbrev pub member_key : GroupKeys → ℕ → List ℕ
+member_key group number = (unwrap_or (slice_get group.members.ring number) (pair [] [])).key
 
 -- the node name and the key of a client
 abbrev pub client_at : GroupKeys → ℕ → List Component
@@ -52,7 +52,7 @@ client_key_at group client = (unwrap_or (slice_get group.clients.ring client) (p
 
 -- who a member publishes as
 abbrev pub publisher_at : GroupKeys → ℕ → Publisher
-publisher_at group number = publisher (node_at group number) group.name (key_at group number)
+publisher_at group number = publisher (node_at group number) group.name (member_key group number)
 
 -- ---- limits
 
@@ -71,17 +71,17 @@ pub record IsKey (key : List ℕ) : Type 0 where
 -- the names in the ring are those of the nodes' keys, number by number; there are 16 nodes at most, and no two have one
 -- name
 pub record HaveKeys (nodes : NodeKeys) : Type 0 where
-  pub keys : map (λ (p : Pair). p.name) nodes.ring ≡ map (λ node. encoding (key_name node)) nodes.names
+  pub keys : map (λ (p : NamedKey). p.name) nodes.ring ≡ map (λ node. encoding (key_name node)) nodes.names
   pub roster : IsRoster nodes.names
   pub node_names : All IsPlainNodeName nodes.names
-  pub short_keys : All (λ (p : Pair). IsKey p.key) nodes.ring
+  pub short_keys : All (λ (p : NamedKey). IsKey p.key) nodes.ring
 
 -- no client has the name of a member
 abbrev pub DifferInNames : NodeKeys → NodeKeys → Type 0
 DifferInNames members clients = All (λ node. member_of node clients.names ≡ None) members.names
 
 -- a group's name is one, and no client has the name of a member
-pub record AreNamed (group : GroupKeys) : Type 0 where
+pub record GroupIsNamed (group : GroupKeys) : Type 0 where
   pub name : IsPlainNodeName group.name
   pub apart : DifferInNames group.members group.clients
 

@@ -17,7 +17,7 @@ use Rattle.repo_member.specs.Groups.{GroupKeys}
 use Rattle.repo_member.specs.Listed.{alone_catalogue}
 use Rattle.repo_member.specs.Alone.{Alone, Fetched, alone_plan, alone_publishes, alone_learns, alone_hears, alone_fires, alone_claims, alone_accepts, alone_takes, alone_ends_claims, alone_resets, alone_restarts}
 use Rattle.repo_member.specs.InGroup.{in_group, StoresInOrder, AreLogs, StoresTruly, asked_for, that_came, AreTries}
-use Rattle.repo_member.specs.Commanded.{alone_obeys, after_order, answer_to, order_answer}
+use Rattle.repo_member.specs.Commanded.{alone_obeys, alone_after_order, answer_to, alone_order_answer}
 use Rattle.repo_member.specs.Blocks.{alone_block, alone_blocks}
 
 -- The member of that number is this one.
@@ -102,12 +102,12 @@ FetchIsEvent = (out : Outside) (w : World) (j tries loss : ℕ) (xs : List Fetch
 abbrev pub OrderIsEvent : Type 0
 OrderIsEvent = (out : Outside) (w : World) (j : ℕ) (order : Result (ℕ × Command) ℕ) (g : GroupKeys) (a : Alone)
     → IsMemberOf w j a → IsTrueIn g w a
-    → member (after_event out w (Event.Order j order)) j ≡ in_group (after_order order a)
+    → member (after_event out w (Event.Order j order)) j ≡ in_group (alone_after_order order a)
 
 abbrev pub OrderIsAnswered : Type 0
 OrderIsAnswered = (out : Outside) (w : World) (j : ℕ) (order : Result (ℕ × Command) ℕ) (g : GroupKeys) (a : Alone)
     → IsMemberOf w j a → IsTrueIn g w a
-    → reply_to out w (Event.Order j order) ≡ Reply.Commanded (order_answer order a)
+    → reply_to out w (Event.Order j order) ≡ Reply.Commanded (alone_order_answer order a)
 
 -- A client makes a command and gives it to the member.
 abbrev pub IssueIsEvent : Type 0

@@ -15,7 +15,7 @@ use Rattle.repo_process.specs.Processes.{Process}
 use Rattle.repo_process.specs.Insertions.{next_number}
 use Rattle.repo_object.specs.Publication.{packet_at}
 use Rattle.group_model.specs.Publications.{Logs, object_at, last_of}
-use Rattle.group_model.specs.Member.{Member, member_holds, catalogue, named, gains, member_hides_all, with_each_tried, member_without_claims}
+use Rattle.group_model.specs.Member.{Member, member_holds, catalogue, catalogued_under, gains, member_hides_all, with_each_tried, member_without_claims}
 use Rattle.group_model.specs.Member as group_member
 use Rattle.group_model.specs.Sound.{IsPublished, IsSoundMember}
 use Rattle.group_model.specs.Wanted.{IsWantedPart}
@@ -127,12 +127,12 @@ RestartsAlike = (moment draw : ℕ) (a : Alone)
 abbrev pub StartsAlike : Type 0
 StartsAlike = (name : List Component) (first last : ℕ) (a : Alone)
     → in_group (alone_starts name first last a (next_number a.insertions))
-    ≡ (if can_start (in_group a) then group.starts name first last (in_group a) else in_group a)
+    ≡ (if can_start (in_group a) then group.member_starts name first last (in_group a) else in_group a)
 
 -- A block is kept.
 abbrev pub KeepsAlike : Type 0
 KeepsAlike = (number : ℕ) (p : Process) (a : Alone)
-    → in_group (alone_keeps number p a) ≡ group.with_process number p (in_group a)
+    → in_group (alone_keeps number p a) ≡ group.member_with_process number p (in_group a)
 
 -- ---- what is stored and what was published
 
@@ -183,7 +183,7 @@ ListsAlike = (g : GroupKeys) (logs : Logs) (a : Alone) → AreLogs g logs → St
 -- So the publications of a name that it hides are those that the group says.
 abbrev pub DeletesAlike : Type 0
 DeletesAlike = (g : GroupKeys) (logs : Logs) (name : List Component) (a : Alone) → AreLogs g logs → StoresTruly g logs a
-    → in_group (alone_deletes name a) ≡ member_hides_all (named logs (in_group a) name) (in_group a)
+    → in_group (alone_deletes name a) ≡ member_hides_all (catalogued_under logs (in_group a) name) (in_group a)
 
 -- ---- what lasts
 

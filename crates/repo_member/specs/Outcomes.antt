@@ -11,7 +11,7 @@ use Rattle.repo_object.specs.Verdict.{CheckedPart, publisher_key}
 use Rattle.repo_member.specs.Groups.{GroupKeys, HaveKeys}
 use Rattle.repo_member.specs.Records.{Packet}
 use Rattle.group_model.specs.Member.{with_tries}
-use Rattle.repo_member.specs.Alone.{Alone, Fetched, IsOf, alone_plan, want_of, with_fetched}
+use Rattle.repo_member.specs.Alone.{Alone, Fetched, IsOfGroup, alone_plan, want_of, with_fetched}
 use Rattle.repo_member.specs.Gaining.{KeepsOthers, IsArrival}
 use Rattle.repo_member.specs.declared.member.outcome.Tried.{Tried}
 
@@ -30,9 +30,9 @@ abbrev pub octets_in : Option CheckedPart → ℕ
 octets_in part = length (unwrap_or (option_map (λ c. c.octets) part) [])
 
 -- no part stands twice in the list
-abbrev pub AreApart : List Part → Type 0
-AreApart [] = Unit {0}
-AreApart (t ∷ ts) = (contains part_cmp ts t ≡ false) × AreApart ts
+abbrev pub PartsDiffer : List Part → Type 0
+PartsDiffer [] = Unit {0}
+PartsDiffer (t ∷ ts) = (contains part_cmp ts t ≡ false) × PartsDiffer ts
 
 -- a packet was checked for the want, under the key that the group has for its publisher
 pub record IsCheckedFor (g : GroupKeys) (want : WantedPart) (c : CheckedPart) : Type 0 where
@@ -57,7 +57,7 @@ AreFetched g a _ _ _ = ⊥
 -- the outcome of a fetch that the member planned, of different parts
 pub record IsOutcome (g : GroupKeys) (a : Alone) (jobs : List Job) (parts : List (Option CheckedPart))
     (attempts : List ℕ) : Type 0 where
-  pub apart : AreApart (map (λ (job : Job). job.want.part) jobs)
+  pub apart : PartsDiffer (map (λ (job : Job). job.want.part) jobs)
   pub each : AreFetched g a jobs parts attempts
 
 -- ---- jobs that were planned
@@ -72,7 +72,7 @@ pub record IsPlannedJob (g : GroupKeys) (a : Alone) (job : Job) : Type 0 where
 
 -- such jobs, of different parts
 pub record ArePlannedJobs (g : GroupKeys) (a : Alone) (jobs : List Job) : Type 0 where
-  pub apart : AreApart (map (λ (job : Job). job.want.part) jobs)
+  pub apart : PartsDiffer (map (λ (job : Job). job.want.part) jobs)
   pub each : All (IsPlannedJob g a) jobs
 
 -- the jobs of the next parts that are wanted and unclaimed, behind a place
@@ -88,7 +88,7 @@ WereTried g _ _ _ = ⊥
 
 -- those jobs are planned
 abbrev pub JobsArePlanned : Type 0
-JobsArePlanned = (g : GroupKeys) (a : Alone) (after : Option Part) (most : ℕ) → HaveKeys g.members → IsOf g a
+JobsArePlanned = (g : GroupKeys) (a : Alone) (after : Option Part) (most : ℕ) → HaveKeys g.members → IsOfGroup g a
     → ArePlannedJobs g a (jobs_behind g a after most)
 
 -- whatever comes of planned jobs can be taken
@@ -119,7 +119,7 @@ pub record CanBeTaken (plan : Holdings) (packets : List Packet) (x : Tried) : Ty
 -- the same of each of different parts
 pub record AreTakable (plan : Holdings) (packets : List Packet) (xs : List Tried) : Type 0 where
   pub each : All (CanBeTaken plan packets) xs
-  pub apart : AreApart (map (λ (x : Tried). x.part) xs)
+  pub apart : PartsDiffer (map (λ (x : Tried). x.part) xs)
 
 -- stored packets with all that came
 abbrev pub with_all_fetched : List Fetched → List Packet → List Packet

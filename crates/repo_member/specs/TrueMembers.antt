@@ -12,7 +12,7 @@ use Rattle.group_model.specs.Publications.{Logs, object_at}
 use Rattle.group_model.specs.Sound.{IsPublished, IsPublishedPart, IsSoundMember}
 use Rattle.repo_member.specs.Groups.{GroupKeys, node_at, publisher_at}
 use Rattle.repo_member.specs.Records.{Packet}
-use Rattle.repo_member.specs.Alone.{Alone, IsAlone, IsOf, alone_plan, want_of, logged}
+use Rattle.repo_member.specs.Alone.{Alone, IsAlone, IsOfGroup, alone_plan, want_of, logged}
 use Rattle.repo_member.specs.Verdicts.{accept_verdict}
 use Rattle.repo_member.specs.InGroup.{in_group, AreLogs, true_packet, AreItsPackets, StoresTruly}
 
@@ -42,7 +42,7 @@ abbrev pub TrueIsAlone : Type 0
 TrueIsAlone = (g : GroupKeys) (logs : Logs) (a : Alone) → IsTrueMember g logs a → IsAlone a
 
 abbrev pub TrueIsOf : Type 0
-TrueIsOf = (g : GroupKeys) (logs : Logs) (a : Alone) → AreLogs g logs → IsTrueMember g logs a → IsOf g a
+TrueIsOf = (g : GroupKeys) (logs : Logs) (a : Alone) → AreLogs g logs → IsTrueMember g logs a → IsOfGroup g a
 
 abbrev pub TrueStores : Type 0
 TrueStores = (g : GroupKeys) (logs : Logs) (a : Alone) → IsTrueMember g logs a → StoresTruly g logs a

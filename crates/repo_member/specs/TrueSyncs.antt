@@ -1,7 +1,7 @@
 -- The sync Interests of a group's members are told from whom they are, and are taken.
 use Rattle.std.specs.Prelude.{◌≡◌, ℕ, ◌<◌, List, length, Some, Ok, slice_get}
 use Rattle.ndn_name.specs.Names.{Component, encoding}
-use Rattle.ndn_sign.specs.Ring.{number_of}
+use Rattle.ndn_sign.specs.Ring.{key_number}
 use Rattle.svs_sync.specs.SyncInterest.{sync_verdict}
 use Rattle.repo_object.specs.Objects.{key_name}
 use Rattle.group_model.specs.Publications.{Logs}
@@ -15,7 +15,7 @@ use Rattle.repo_member.specs.TrueMembers.{IsTrueMember}
 -- A key is found under its node's number: keys differ in their names, since the nodes do.
 abbrev pub KeysAreFound : Type 0
 KeysAreFound = (nodes : NodeKeys) (number : ℕ) (node : List Component) → HaveKeys nodes
-    → slice_get nodes.names number ≡ Some node → number_of (encoding (key_name node)) nodes.ring ≡ Some number
+    → slice_get nodes.names number ≡ Some node → key_number (encoding (key_name node)) nodes.ring ≡ Some number
 
 -- A sync Interest of a member tells its number and the vector.
 abbrev pub SyncsAreTold : Type 0

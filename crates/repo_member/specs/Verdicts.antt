@@ -12,13 +12,13 @@ use Rattle.repo_member.specs.declared.refusals.HearRefusal.{HearRefusal}
 use Rattle.repo_member.specs.declared.refusals.HearRefusal.TheVariants.{Sync, OwnNumberAhead}
 use Rattle.repo_member.specs.declared.refusals.AcceptRefusal.{AcceptRefusal}
 use Rattle.repo_member.specs.declared.refusals.AcceptRefusal.TheVariants.{FetcherIdle, Refused}
-use Rattle.repo_member.specs.Groups.{GroupKeys, node_at, key_at}
+use Rattle.repo_member.specs.Groups.{GroupKeys, node_at, member_key}
 use Rattle.repo_member.specs.Alone.{Alone, alone_plan, want_of}
 
 -- the sync Interest by which a member tells a vector
 abbrev pub sync_of : GroupKeys → ℕ → List ℕ → List ℕ
 sync_of g number vector =
-    sync_interest g.name vector g.members.names (key_name (node_at g number)) (key_at g number)
+    sync_interest g.name vector g.members.names (key_name (node_at g number)) (member_key g number)
 
 -- a vector that is told, unless it tells of more publications of the member than it made
 abbrev pub vector_verdict : Alone → List ℕ → Result (List ℕ) HearRefusal

@@ -30,11 +30,11 @@ impl Model for Group {
 
     ghost Value = { GroupKeys };
 
-    ghost use Rattle.repo_member.specs.Groups.{AreNamed};
+    ghost use Rattle.repo_member.specs.Groups.{GroupIsNamed};
 
     ghost view = { λ group. record { name = group.name; members = group.members; clients = group.clients } };
 
-    ghost invariant = { λ group. AreNamed
+    ghost invariant = { λ group. GroupIsNamed
         (record { name = group.name; members = group.members; clients = group.clients }) };
 }
 

@@ -1,6 +1,6 @@
-ghost use Rattle.repo_plan.specs.Sound.{IsSound};
+ghost use Rattle.repo_plan.specs.Sound.{PlanIsSound};
 ghost use Rattle.repo_plan.specs.Calls.{ClaimsOnce};
-ghost use Rattle.repo_member.specs.Alone.{IsAlone, IsOf, alone_plan};
+ghost use Rattle.repo_member.specs.Alone.{IsAlone, IsOfGroup, alone_plan};
 ghost use Rattle.repo_member.specs.Blocks.{AreWithinLimits};
 ghost use Rattle.repo_member.specs.InGroup.{BeginsAlike, PublishesAlike, HearsAlike, LearnsAlike, FiresAlike, ClaimsAlike, AcceptsAlike, TakesAlike, EndsClaimsAlike, ResetsAlike, RestartsAlike, StartsAlike, KeepsAlike, SoundStoresTruly, PlansAlike, WantsAlike, ListsAlike, DeletesAlike, BeginsTruly, GrowsTruly, PublishesTruly, AcceptsTruly, TakesTruly, StaysTrue, LogsBegin, LogsGrow};
 ghost use Rattle.repo_member.specs.InEvents.{PublishIsEvent, DeliverIsEvent, HearIsEvent, FireIsEvent, RestartIsEvent, ClaimIsEvent, LoseIsEvent, AnswerIsEvent, FeedIsEvent, FetchIsEvent, OrderIsEvent, OrderIsAnswered, IssueIsEvent, IssueIsAnswered, BlockIsEvent, BlockStatesAlike, LearnsAtOnce, LearnsWhatAllKnow, GatheringIsEvent, SettleIsEvent, OpenPartsAlike, CataloguesAlike};
@@ -130,8 +130,8 @@ pub fn hidden_publications_are_gone()
 /// processes are within the limits of objects.
 pub fn calls_keep_members_sound()
     ensures alone { InEveryMember (λ g a. IsAlone a) }
-    ensures group { InEveryMember IsOf }
-    ensures plan { InEveryMember (λ g a. IsSound (alone_plan a)) }
+    ensures group { InEveryMember IsOfGroup }
+    ensures plan { InEveryMember (λ g a. PlanIsSound (alone_plan a)) }
     ensures insertions { InEveryMember (λ g a. AreWithinLimits a.insertions.processes) }
 {}
 

@@ -6,10 +6,9 @@ use Rattle.sha2.specs.Sha256.{sha256}
 use Rattle.ndn_tlv.specs.Spelling.{element}
 use Rattle.ndn_tlv.specs.NumberField.{number_field}
 use Rattle.ndn_tlv.specs.Elements.{IsOctets}
-use Rattle.ndn_name.specs.Names.{Component, IsComponent, IsName, encoding}
+use Rattle.ndn_name.specs.Names.{Component, IsComponent, IsName, encoding, full_name}
 use Rattle.ndn_name.proofs.Encodings.{IsName-append, encoding-same}
 use Rattle.ndn_data.specs.Data.{Data, Satisfies}
-use Rattle.ndn_data.specs.FullName.{full_name}
 use Rattle.ndn_interest.specs.Interest.{interest_of}
 use Rattle.ndn_interest.specs.WrittenInterest.{written_plain, read_plain}
 use Rattle.ndn_interest.proofs.ReadBackLemmas.{plain_again}

@@ -12,7 +12,7 @@ use Rattle.ndn_name.specs.declared.fault.PacketWriteFault.TheVariants.{TooLong, 
 use Rattle.ndn_name.specs.Names.{Component, encoding}
 use Rattle.repo_object.specs.Objects.{NamedContents, IsContent, Publisher, key_name}
 use Rattle.repo_object.specs.Publication.{record_content, packet_at, segment_packet, segment_packets_from, segment_packets, published_segments, published_listing}
-use Rattle.repo_object.specs.Records.{listed}
+use Rattle.repo_object.specs.Records.{listed_record}
 use Rattle.repo_object.proofs.RecordLemmas.{mapped_some}
 
 abbrev pub items : Vec ℕ Global → List ℕ
@@ -92,7 +92,7 @@ packet_behind publisher seq object (suc i) behind =
 pub content_written : (name : List Component) (digests : List (List ℕ)) (written : List ℕ) (i : ℕ) → length digests ≤ i
     → written ++ flat_map (element 0x83) (drop i digests)
     ≡ (element 0x07 (encoding name) ++ element 0x81 (number_field (length digests))) ++ flat_map (element 0x83) digests
-    → written ≡ record_content (listed name digests)
+    → written ≡ record_content (listed_record name digests)
 content_written name digests written i past so_far =
     sym (append-nil written)
     ∙ ap (λ (ds : List ℕ). written ++ ds) (sym (at_drop_all (flat_map (element 0x83)) digests i past))
@@ -105,7 +105,7 @@ digest_of segment = sha256 segment.items
 
 -- what the record of packets lists that were written
 pub listing_is : (publisher : Publisher) (object : NamedContents) (keyed name : List Component) (packets : List (Vec ℕ Global)) → keyed ≡ key_name publisher.node → name ≡ object.name
-    → map items packets ≡ segment_packets keyed publisher.key object → listed name (map digest_of packets) ≡ published_listing publisher object
+    → map items packets ≡ segment_packets keyed publisher.key object → listed_record name (map digest_of packets) ≡ published_listing publisher object
 listing_is publisher object keyed name packets key_is name_is packets_are =
     let all : map digest_of packets ≡ map sha256 (published_segments publisher object) = sym (map-map sha256 items packets) ∙ ap (map sha256) (packets_are ∙ ap (λ (k : List Component). segment_packets k publisher.key object) key_is) in
-    ap (λ (n : List Component). listed n (map digest_of packets)) name_is ∙ ap (listed object.name) all
+    ap (λ (n : List Component). listed_record n (map digest_of packets)) name_is ∙ ap (listed_record object.name) all

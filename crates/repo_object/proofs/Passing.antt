@@ -14,13 +14,13 @@ use Rattle.ndn_name.specs.declared.fault.PacketFault.{PacketFault}
 use Rattle.ndn_name.specs.Names.{Component, encoding}
 use Rattle.ndn_tlv.proofs.Steps.{bind_ok}
 use Rattle.ndn_sign.specs.Hmac.{hmac}
-use Rattle.ndn_sign.specs.Ring.{Pair}
+use Rattle.ndn_sign.specs.Ring.{NamedKey}
 use Rattle.ndn_data.specs.Data.{Data, data_of}
 use Rattle.repo_object.specs.declared.part_refusal.PartRefusal.{PartRefusal}
 use Rattle.repo_object.specs.declared.part_refusal.PartRefusal.TheVariants.{UnsignedOctets, OtherName, OtherDigest, UnknownKey, BadSignature, BadRecord}
 use Rattle.repo_object.specs.Records.{listing_of}
 use Rattle.repo_object.specs.Wants.{WantedPart}
-use Rattle.repo_object.specs.Verdict.{is_all_signed, has_name, has_digest, locates, names_key, is_signed_by, lists_if_record, packet_verdict, read_packet, part_verdict, Passes, key_at}
+use Rattle.repo_object.specs.Verdict.{is_all_signed, data_has_name, has_digest, locates, names_key, is_signed_by, lists_if_record, packet_verdict, read_packet, part_verdict, Passes, key_at}
 
 abbrev passed : Data → Result Data PartRefusal
 passed d = Ok d
@@ -72,8 +72,8 @@ pub same_bytes : (a b : List ℕ) → a ≡ b → bytes_eq a b ≡ true
 same_bytes a b = (bytes_eq-Decides a b).1
 
 -- a mac that the ring says is that of a message
-pub mac_is : (ring : List Pair) (n : ℕ) (signed mac : List ℕ) (b : Bool) → n < length ring
-    → ((b ≡ true) ↔ (option_map (λ (p : Pair). hmac p.key (signed ++ [])) (slice_get ring n) ≡ Some mac))
+pub mac_is : (ring : List NamedKey) (n : ℕ) (signed mac : List ℕ) (b : Bool) → n < length ring
+    → ((b ≡ true) ↔ (option_map (λ (p : NamedKey). hmac p.key (signed ++ [])) (slice_get ring n) ≡ Some mac))
     → b ≡ is_mac (key_at ring n).key signed mac
 mac_is [] n signed mac b low is = absurd (omega arith)
 mac_is (p ∷ ps) zero signed mac b low is =
@@ -118,7 +118,7 @@ pub passes : (want : WantedPart) (key_name key octets : List ℕ) (d : Data) →
 passes want key_name key octets d h =
     let b = bind_ok (read_packet (data_of octets)) (packet_verdict want key_name key octets) d h in
     let x = b.0 in
-    let all = chain_passes (is_all_signed x) (has_name want.name x) (has_digest want.digest octets) (names_key key_name x) (is_signed_by key x) (lists_if_record want.part.part x) x d b.2 in
+    let all = chain_passes (is_all_signed x) (data_has_name want.name x) (has_digest want.digest octets) (names_key key_name x) (is_signed_by key x) (lists_if_record want.part.part x) x d b.2 in
     let key_parts = and_parts (eqb x.signature_type 4) (locates key_name x.locator) all.0.key in
     let found = located_at key_name x.locator key_parts.1 in
     subst (Passes want key_name key octets) all.1 (record {
@@ -138,7 +138,7 @@ pub verdict_of : (want : WantedPart) (key_name key octets : List ℕ) (d : Data)
 verdict_of want key_name key octets d p =
     let located : locates key_name d.locator ≡ true = ap (locates key_name) p.located ∙ same_bytes (encoding p.locator) key_name p.key_named in
     ap (λ (r : Result Data PacketFault). read_packet r >>= packet_verdict want key_name key octets) p.read
-    ∙ all_pass (is_all_signed d) (has_name want.name d) (has_digest want.digest octets) (names_key key_name d) (is_signed_by key d) (lists_if_record want.part.part d) d (record {
+    ∙ all_pass (is_all_signed d) (data_has_name want.name d) (has_digest want.digest octets) (names_key key_name d) (is_signed_by key d) (lists_if_record want.part.part d) d (record {
       all_signed = same_bytes d.value (d.signed ++ element 0x17 d.signature) p.all_signed;
       name = same_bytes (encoding d.name) (encoding want.name) p.name;
       digest = is_digest want.digest octets p.digest;

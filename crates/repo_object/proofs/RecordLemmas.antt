@@ -24,7 +24,7 @@ use Rattle.repo_object.specs.declared.record_fields.RecordField.TheVariants as f
 use Rattle.repo_object.specs.Objects.{is_object_name}
 use Rattle.repo_object.specs.Publication.{Listed}
 use Rattle.repo_object.specs.declared.record_fields.DigestReader.{DigestReader}
-use Rattle.repo_object.specs.Records.{record_table, that_passes, read_name, object_name_in, segment_count_in, digest_in, digests_among, counted_digests, listed, listing_among, record_fields, listing_of, IsDigest, IsListing, IsRead, digests_to_come, Lists}
+use Rattle.repo_object.specs.Records.{record_table, that_passes, read_name, object_name_in, segment_count_in, digest_in, digests_among, counted_digests, listed_record, listing_among, record_fields, listing_of, IsDigest, IsListing, RecordIsRead, digests_to_come, Lists}
 
 abbrev Field : Type 0
 Field = RecordField × Item
@@ -122,7 +122,7 @@ found l = Some l
 abbrev listing_of_fields : Item → Item → List Field → Option FieldFault → Option Listed
 listing_of_fields n c ds fault =
     option_and_then (λ (name : List Component).
-    option_and_then (λ (count : ℕ). option_map (listed name) (counted_digests count (record { items = ds; fault = fault })))
+    option_and_then (λ (count : ℕ). option_map (listed_record name) (counted_digests count (record { items = ds; fault = fault })))
     (segment_count_in c))
     (object_name_in n)
 
@@ -153,9 +153,9 @@ pub lists : (content : List ℕ) (l : Listed) → listing_of content ≡ Some l 
 lists content l h =
     let read = record_fields content in
     let b = begins read.items read.fault l h in
-    let n = and_then_some (λ (name : List Component). option_and_then (λ (count : ℕ). option_map (listed name) (counted_digests count (record { items = b.digests; fault = read.fault }))) (segment_count_in b.count)) (object_name_in b.name) l b.lists in
-    let c = and_then_some (λ (count : ℕ). option_map (listed n.0) (counted_digests count (record { items = b.digests; fault = read.fault }))) (segment_count_in b.count) l n.2 in
-    let m = mapped_some (listed n.0) (counted_digests c.0 (record { items = b.digests; fault = read.fault })) l c.2 in
+    let n = and_then_some (λ (name : List Component). option_and_then (λ (count : ℕ). option_map (listed_record name) (counted_digests count (record { items = b.digests; fault = read.fault }))) (segment_count_in b.count)) (object_name_in b.name) l b.lists in
+    let c = and_then_some (λ (count : ℕ). option_map (listed_record n.0) (counted_digests count (record { items = b.digests; fault = read.fault }))) (segment_count_in b.count) l n.2 in
+    let m = mapped_some (listed_record n.0) (counted_digests c.0 (record { items = b.digests; fault = read.fault })) l c.2 in
     let counted = passes_some (λ (ds : List (List ℕ)). eqb (length ds) c.0) (digests_among b.digests read.fault) m.0 m.1 in
     let name = passes_some is_object_name (read_name (name_of b.name.value_start b.name.value)) n.0 n.1 in
     let count = passes_some (λ (k : ℕ). leb k 200) (number_of b.count.value) c.0 c.1 in
@@ -195,9 +195,9 @@ listing_from content l s =
     let read : digests_among items None ≡ Some l.digests = digests_of_fields s.digests (subst (All IsDigest) (sym s.values) s.are) ∙ ap (λ (ds : List (List ℕ)). all ds) s.values in
     let counted = some_passes (λ (ds : List (List ℕ)). eqb (length ds) (length l.digests)) (digests_among items None) l.digests read (eq-eqb (length l.digests) (length l.digests) refl) in
     ap (λ (f : Listing Field FieldFault). listing_among f.items f.fault) s.fields
-    ∙ ap (option_and_then (λ (n : List Component). option_and_then (λ (k : ℕ). option_map (listed n) (counted_digests k (record { items = items; fault = None }))) (segment_count_in s.count))) name
-    ∙ ap (option_and_then (λ (k : ℕ). option_map (listed l.name) (counted_digests k (record { items = items; fault = None })))) count
-    ∙ ap (option_map (listed l.name)) counted
+    ∙ ap (option_and_then (λ (n : List Component). option_and_then (λ (k : ℕ). option_map (listed_record n) (counted_digests k (record { items = items; fault = None }))) (segment_count_in s.count))) name
+    ∙ ap (option_and_then (λ (k : ℕ). option_map (listed_record l.name) (counted_digests k (record { items = items; fault = None })))) count
+    ∙ ap (option_map (listed_record l.name)) counted
   where
     all : List (List ℕ) → Option (List (List ℕ))
     all ds = Some ds
@@ -255,13 +255,13 @@ some_mapped f (Some x) s = refl
 
 -- a record's name and digests were read, where they are what its content lists
 pub record_is_read : (content : List ℕ) (name : List Component) (reader : DigestReader) → IsOctets content → length content < 2 ^ 64
-    → listing_of content ≡ option_map (listed name) (digests_to_come reader) → IsSome (digests_to_come reader) → IsRead name reader
+    → listing_of content ≡ option_map (listed_record name) (digests_to_come reader) → IsSome (digests_to_come reader) → RecordIsRead name reader
 record_is_read content name reader fits short is all = go (digests_to_come reader) refl all where
-  go : (o : Option (List (List ℕ))) → digests_to_come reader ≡ o → IsSome o → IsRead name reader
+  go : (o : Option (List (List ℕ))) → digests_to_come reader ≡ o → IsSome o → RecordIsRead name reader
   go None p s = absurd cc
   go (Some digests) p s =
-      let read : listing_of content ≡ Some (listed name digests) = is ∙ ap (option_map (listed name)) p in
+      let read : listing_of content ≡ Some (listed_record name digests) = is ∙ ap (option_map (listed_record name)) p in
       record {
         all = subst IsSome (sym p) s;
-        within = subst (λ (o : Option (List (List ℕ))). IsListing (listed name (unwrap_or o []))) (sym p) (lists_within content (listed name digests) fits short (lists content (listed name digests) read));
+        within = subst (λ (o : Option (List (List ℕ))). IsListing (listed_record name (unwrap_or o []))) (sym p) (lists_within content (listed_record name digests) fits short (lists content (listed_record name digests) read));
       }

@@ -69,15 +69,15 @@ abbrev pub counted_digests : ℕ → Listing (RecordField × Item) FieldFault �
 counted_digests count fields =
     that_passes (λ digests. length digests == count) (digests_among fields.items fields.fault)
 
-abbrev pub listed : List Component → List (List ℕ) → Listed
-listed name digests = record { name = name; digests = digests }
+abbrev pub listed_record : List Component → List (List ℕ) → Listed
+listed_record name digests = record { name = name; digests = digests }
 
 -- What the fields of a record list: a Name, a SegmentCount, and as many Digests as that says.
 abbrev pub listing_among : List (RecordField × Item) → Option FieldFault → Option Listed
 listing_among ((field.Name, n) ∷ (field.SegmentCount, c) ∷ digests) fault =
     option_and_then (λ name.
     option_and_then (λ count.
-    option_map (listed name) (counted_digests count (record { items = digests; fault = fault })))
+    option_map (listed_record name) (counted_digests count (record { items = digests; fault = fault })))
     (segment_count_in c))
     (object_name_in n)
 listing_among _ fault = None
@@ -100,7 +100,7 @@ abbrev pub digests_left : DigestReader → List (List ℕ)
 digests_left reader = unwrap_or (digests_to_come reader) []
 
 abbrev pub listing_to_come : RecordReader → Option Listed
-listing_to_come reader = option_map (listed reader.name) (digests_to_come reader.digests)
+listing_to_come reader = option_map (listed_record reader.name) (digests_to_come reader.digests)
 
 -- ---- the same in the words of the format
 
@@ -115,9 +115,9 @@ pub record IsListing (l : Listed) : Type 0 where
   pub digests : All IsDigest l.digests
 
 -- A record's name and digests were read, and are within the limits.
-pub record IsRead (name : List Component) (digests : DigestReader) : Type 0 where
+pub record RecordIsRead (name : List Component) (digests : DigestReader) : Type 0 where
   pub all : IsSome (digests_to_come digests)
-  pub within : IsListing (listed name (digests_left digests))
+  pub within : IsListing (listed_record name (digests_left digests))
 
 -- A content has the fields of a record that lists this: a Name, a SegmentCount, then Digests.
 pub record Lists (content : List ℕ) (l : Listed) : Type 0 where

@@ -8,7 +8,7 @@ use Rattle.ndn_tlv.specs.Listing.{◌>>=◌}
 use Rattle.ndn_name.specs.declared.fault.PacketFault.{PacketFault}
 use Rattle.ndn_name.specs.Names.{Component, encoding}
 use Rattle.ndn_sign.specs.Hmac.{hmac}
-use Rattle.ndn_sign.specs.Ring.{Pair, pair}
+use Rattle.ndn_sign.specs.Ring.{NamedKey, pair}
 use Rattle.ndn_packet.specs.SignatureInfo.{SignatureHmacWithSha256}
 use Rattle.ndn_data.specs.Data.{Data, data_of, IsAllSigned}
 use Rattle.repo_object.specs.declared.part_refusal.PartRefusal.{PartRefusal}
@@ -22,8 +22,8 @@ abbrev pub is_all_signed : Data → Bool
 is_all_signed d = bytes_eq d.value (d.signed ++ element types.SignatureValue d.signature)
 
 -- Names are the same exactly where their octets are.
-abbrev pub has_name : List Component → Data → Bool
-has_name name d = bytes_eq (encoding d.name) (encoding name)
+abbrev pub data_has_name : List Component → Data → Bool
+data_has_name name d = bytes_eq (encoding d.name) (encoding name)
 
 -- The octets have the digest, where one is known.
 abbrev pub has_digest : Option (List ℕ) → List ℕ → Bool
@@ -53,7 +53,7 @@ lists_if_record part d = not (part == 0) || is_some (listing_of d.content)
 abbrev pub packet_verdict : WantedPart → List ℕ → List ℕ → List ℕ → Data → Result Data PartRefusal
 packet_verdict want key_name key octets d =
     if not (is_all_signed d) then Err UnsignedOctets
-    else if not (has_name want.name d) then Err OtherName
+    else if not (data_has_name want.name d) then Err OtherName
     else if not (has_digest want.digest octets) then Err OtherDigest
     else if not (names_key key_name d) then Err UnknownKey
     else if not (is_signed_by key d) then Err BadSignature
@@ -96,13 +96,13 @@ abbrev pub IsChecked : CheckedPart → Type 0
 IsChecked c = IsOk (part_verdict c.want c.key_name c.key c.octets)
 
 -- The key of a number in the ring, and so that of the want's publisher.
-abbrev pub key_at : List Pair → ℕ → Pair
+abbrev pub key_at : List NamedKey → ℕ → NamedKey
 key_at ring number = unwrap_or (slice_get ring number) (pair [] [])
 
-abbrev pub publisher_key : List Pair → WantedPart → Pair
+abbrev pub publisher_key : List NamedKey → WantedPart → NamedKey
 publisher_key ring want = key_at ring want.part.publisher
 
-abbrev pub checked_part : WantedPart → List Pair → List ℕ → CheckedPart
+abbrev pub checked_part : WantedPart → List NamedKey → List ℕ → CheckedPart
 checked_part want ring octets =
     record {
       want = want;
@@ -112,7 +112,7 @@ checked_part want ring octets =
     }
 
 -- The verdict under the key that the ring has at the publisher's number.
-abbrev pub ring_verdict : WantedPart → List Pair → List ℕ → Result Data PartRefusal
+abbrev pub ring_verdict : WantedPart → List NamedKey → List ℕ → Result Data PartRefusal
 ring_verdict want ring octets =
     part_verdict want (publisher_key ring want).name (publisher_key ring want).key octets
 

@@ -1,7 +1,6 @@
 -- Parts that are wanted, and the Interests that ask for them.
 use Rattle.std.specs.Prelude.{◌<◌, ◌≤◌, ℕ, ◌-◌, false, List, length, Option, Some, None, slice_get}
-use Rattle.ndn_name.specs.Names.{Component, encoding}
-use Rattle.ndn_data.specs.FullName.{full_name}
+use Rattle.ndn_name.specs.Names.{Component, encoding, full_name}
 use Rattle.ndn_interest.specs.WrittenInterest.{written_plain}
 use Rattle.repo_plan.specs.declared.part.Part.{Part}
 use Rattle.repo_object.specs.Objects.{record_name, segment_name}

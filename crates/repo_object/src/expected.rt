@@ -1,10 +1,10 @@
 ghost use Rattle.std.specs.Prelude.{◌≡◌, ◌-◌, ◌<◌, ◌≤◌, length, option_map, IfOk, IsOk, MatchResult, Some, Err};
 ghost use Rattle.ndn_name.specs.Names.{encoding};
-ghost use Rattle.ndn_data.specs.Data.{packet};
+ghost use Rattle.ndn_data.specs.Data.{data_seen};
 ghost use Rattle.repo_object.specs.Limits.{node_name_limit, object_name_limit};
 ghost use Rattle.repo_object.specs.Objects.{segment_name};
 ghost use Rattle.repo_object.specs.Wants.{want_record, wanted_part};
-ghost use Rattle.repo_object.specs.Verdict.{has_name, has_digest, ring_verdict};
+ghost use Rattle.repo_object.specs.Verdict.{data_has_name, has_digest, ring_verdict};
 
 use crate::names::{asked_name, owned_name, record_name, segment_name};
 use crate::part_refusal::PartRefusal;
@@ -114,7 +114,7 @@ impl Expected {
 
     // Whether the packet has the expected name.
     pub(crate) fn has_name(&self, view: &DataView<'_>) -> bool
-        ensures { result ≡ has_name self.now.name (packet view.now) }
+        ensures { result ≡ data_has_name self.now.name (data_seen view.now) }
     {
         view.name.octets() == self.name.octets()
     }

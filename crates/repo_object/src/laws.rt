@@ -2,10 +2,9 @@ ghost use Rattle.std.specs.Prelude.{◌≡◌, ◌≢◌, ◌+◌, ◌≤◌, �
 ghost use Rattle.std.specs.List.{All};
 ghost use Rattle.sha2.specs.Sha256.{sha256};
 ghost use Rattle.ndn_tlv.specs.Elements.{IsOctets};
-ghost use Rattle.ndn_name.specs.Names.{Component, IsName, encoding};
+ghost use Rattle.ndn_name.specs.Names.{Component, IsName, encoding, full_name};
 ghost use Rattle.ndn_packet.specs.Outer.{packet_limit};
 ghost use Rattle.ndn_data.specs.Data.{Data, Satisfies};
-ghost use Rattle.ndn_data.specs.FullName.{full_name};
 ghost use Rattle.ndn_interest.specs.Interest.{interest_of};
 ghost use Rattle.ndn_interest.specs.WrittenInterest.{read_plain};
 ghost use Rattle.repo_plan.specs.declared.part.Part.{Part};

@@ -1,6 +1,5 @@
 ghost use Rattle.std.specs.Prelude.{◌≡◌, ◌+◌, ◌≤◌, ◌++◌, length, IfOk, OnOk};
-ghost use Rattle.ndn_name.specs.Names.{encoding};
-ghost use Rattle.ndn_data.specs.FullName.{full_name};
+ghost use Rattle.ndn_name.specs.Names.{encoding, full_name};
 ghost use Rattle.repo_object.specs.Limits.{node_name_limit, object_name_limit};
 ghost use Rattle.repo_object.specs.Objects.{key_name, record_name, segment_name};
 

@@ -6,7 +6,7 @@ ghost use Rattle.ndn_data.specs.WrittenData.{written_data};
 ghost use Rattle.repo_object.specs.Limits.{node_name_limit, object_name_limit, segment_limit, content_limit};
 ghost use Rattle.repo_object.specs.Objects.{publisher};
 ghost use Rattle.repo_object.specs.Publication.{record_content, record_packet, packets, packet_at, segment_packet, segment_packets};
-ghost use Rattle.repo_object.specs.Records.{listed};
+ghost use Rattle.repo_object.specs.Records.{listed_record};
 
 use crate::listing::Listing;
 use crate::names::{key_name, record_name, segment_name};
@@ -173,7 +173,7 @@ fn write_record(
     requires few { length digests.now ≤ segment_limit }
     requires key_name { length (encoding key_name.now) ≤ 205 }
     ensures { IfOk result (λ packet. packet.items ≡ written_data name.now None
-        (record_content (listed object.now digests.now)) key_name.now key.now) }
+        (record_content (listed_record object.now digests.now)) key_name.now key.now) }
 {
     let content = record_content(alloc, object, digests)?;
     write_packet(alloc, name, None, &content, key_name, key)
@@ -183,7 +183,7 @@ fn write_record(
 fn record_content(alloc: Global, name: &Name, digests: &[[u8; 32]]) -> Result<Vec<u8>, AllocError>
     requires { length digests.now ≤ segment_limit }
     ensures { IfOk result
-        (λ content. content.items ≡ record_content (listed name.now digests.now)) }
+        (λ content. content.items ≡ record_content (listed_record name.now digests.now)) }
 {
     let octets = name.octets();
     let room = element_len(types::NAME, octets.len()) + DIGEST_ELEMENT_LEN * (1 + digests.len());

@@ -20,13 +20,13 @@ pub struct RecordView<'p> {
 // A record is seen as what it lists.
 impl<'p> Model for RecordView<'p> {
     ghost use Rattle.repo_object.specs.Publication.{Listed};
-    ghost use Rattle.repo_object.specs.Records.{listed, digests_left, IsRead};
+    ghost use Rattle.repo_object.specs.Records.{listed_record, digests_left, RecordIsRead};
 
     ghost Value = { Listed };
 
-    ghost view = { λ r. listed r.name (digests_left r.digests) };
+    ghost view = { λ r. listed_record r.name (digests_left r.digests) };
 
-    ghost invariant = { λ r. IsRead r.name r.digests };
+    ghost invariant = { λ r. RecordIsRead r.name r.digests };
 }
 
 impl<'p> RecordView<'p> {

@@ -1,5 +1,5 @@
 ghost use Rattle.std.specs.Prelude.{◌≡◌, ◌<◌, length, MatchResult, Ok, Err};
-ghost use Rattle.ndn_data.specs.Data.{packet};
+ghost use Rattle.ndn_data.specs.Data.{data_seen};
 ghost use Rattle.repo_object.specs.Verdict.{is_all_signed, locates, names_key, is_signed_by, lists_if_record, packet_verdict, key_at};
 
 use crate::expected::Expected;
@@ -20,9 +20,11 @@ pub(crate) fn judge(
 ) -> Result<(), PartRefusal>
     requires { number < length ring.now }
     ensures { MatchResult result
-        (λ _. packet_verdict expected.now (key_at ring.now number).name (key_at ring.now number).key octets.now (packet view.now)
-        ≡ Ok (packet view.now))
-        (λ refusal. packet_verdict expected.now (key_at ring.now number).name (key_at ring.now number).key octets.now (packet view.now)
+        (λ _. packet_verdict expected.now (key_at ring.now number).name (key_at ring.now number).key octets.now
+        (data_seen view.now)
+        ≡ Ok (data_seen view.now))
+        (λ refusal. packet_verdict expected.now (key_at ring.now number).name (key_at ring.now number).key octets.now
+        (data_seen view.now)
         ≡ Err refusal) }
 {
     if !is_all_signed(view) {
@@ -48,14 +50,14 @@ pub(crate) fn judge(
 
 // Whether the packet has no octets but those that are signed, and the signature behind them.
 fn is_all_signed(view: &DataView<'_>) -> bool
-    ensures { result ≡ is_all_signed (packet view.now) }
+    ensures { result ≡ is_all_signed (data_seen view.now) }
 {
     view.all_signed()
 }
 
 // Whether the packet says that it is signed by HMAC with SHA-256 under the key of that name.
 fn names_key(key_name: &[u8], view: &DataView<'_>) -> bool
-    ensures { result ≡ names_key key_name.now (packet view.now) }
+    ensures { result ≡ names_key key_name.now (data_seen view.now) }
 {
     view.signature_type == SIGNATURE_HMAC_WITH_SHA256 && locates(key_name, &view.locator)
 }
@@ -72,14 +74,14 @@ fn locates(key_name: &[u8], locator: &Option<NameView<'_>>) -> bool
 // Whether the signature is the mac of what is signed, under the key of that number.
 fn is_signed_by(ring: &KeyRing, number: u32, view: &DataView<'_>) -> bool
     requires { number < length ring.now }
-    ensures { result ≡ is_signed_by (key_at ring.now number).key (packet view.now) }
+    ensures { result ≡ is_signed_by (key_at ring.now number).key (data_seen view.now) }
 {
     ring.check_mac(number, view.signed_portion(), &[], view.signature)
 }
 
 // Whether the content is a record, where a record is expected.
 fn lists_if_record(expected: &Expected, view: &DataView<'_>) -> bool
-    ensures { result ≡ lists_if_record expected.now.part.part (packet view.now) }
+    ensures { result ≡ lists_if_record expected.now.part.part (data_seen view.now) }
 {
     expected.part().part != 0 || is_record(view.content)
 }

@@ -10,7 +10,7 @@ use Rattle.repo_plan.specs.declared.runs.Runs.{Runs}
 use Rattle.repo_plan.specs.SortedList.{keys, Rises, contains, insert_key, value_of, in_order}
 use Rattle.repo_plan.specs.Parts.{Pair, Shape, pair_cmp, part_cmp, part_of, pair_of, record_of, numbers_from, parts_of, parts_told}
 use Rattle.repo_plan.specs.Plan.{Holdings, holds, hides, shape_of, is_done, is_complete, is_in, with_shape}
-use Rattle.repo_plan.specs.Sound.{IsSound, CanBeHeld}
+use Rattle.repo_plan.specs.Sound.{PlanIsSound, CanBeHeld}
 use Rattle.repo_plan.specs.Runs.{Run, Number, IsRuns, runs_of, has, has_number, number_cmp}
 use Rattle.repo_plan.specs.PlanFields.{holdings, is_noted, are_noted, held_parts, hidden_pairs, IsRoomy, IsPlan}
 use Rattle.repo_plan.proofs.Orders.{exact_pairs, exact_parts}
@@ -67,7 +67,7 @@ module _ (p : Inside) (i : IsPlan p) where
   -- ---- one more part is held
 
   module _ (t : Part) (can : CanBeHeld (holdings p) t) (fresh : holds (holdings p) t ≡ false) (segments : Option Shape) (told : is_some segments ≡ (t.part == 0)) where
-    sound_more : IsSound (with_part t segments (holdings p))
+    sound_more : PlanIsSound (with_part t segments (holdings p))
     sound_more = sound_part (holdings p) t i.sound can fresh segments told
 
     there : holds (with_part t segments (holdings p)) t ≡ true

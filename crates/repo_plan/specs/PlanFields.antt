@@ -9,7 +9,7 @@ use Rattle.repo_plan.specs.SortedList.{in_order, value_of}
 use Rattle.repo_plan.specs.Parts.{Pair, Shape, pair_cmp, part_cmp, pair_of, part_of, numbers_from, parts_of, parts_behind}
 use Rattle.repo_plan.specs.Runs.{Number, Run, IsRuns, room_of, runs_of, has, has_number, number_cmp}
 use Rattle.repo_plan.specs.Plan.{Holdings, pairs_of, holds, is_done}
-use Rattle.repo_plan.specs.Sound.{IsSound}
+use Rattle.repo_plan.specs.Sound.{PlanIsSound}
 
 -- whether the part of this number is of a publication that is done, or its number is in a run
 abbrev pub is_noted : List (Run ℕ) → List (Run Pair) → Number Pair → Bool
@@ -56,7 +56,7 @@ pub record IsRoomy (p : Inside) : Type 0 where
 
 -- it is sound, the runs of done publications are those of all that are done, and what stands in the other runs is held
 pub record IsPlan (p : Inside) : Type 0 where
-  pub sound : IsSound (holdings p)
+  pub sound : PlanIsSound (holdings p)
   pub done : IsRuns nat_cmp p.done
   pub held : IsRuns pair_cmp p.held
   pub room : IsRoomy p

@@ -2,7 +2,7 @@ ghost use Rattle.std.specs.Prelude.{◌≡◌, ◌+◌, ◌<◌, ◌==◌, false
 ghost use Rattle.repo_plan.specs.Plan.{opening, holds, hides, is_asked, is_claimed, claims_part_in, shape_of};
 ghost use Rattle.repo_plan.specs.Plan.{attempts_of, is_complete, run_ends, raises, holds_too, hides_too, with_attempts};
 ghost use Rattle.repo_plan.specs.Parts.{pair_of};
-ghost use Rattle.repo_plan.specs.Sound.{IsSound};
+ghost use Rattle.repo_plan.specs.Sound.{PlanIsSound};
 
 mod claims;
 mod reserved;
@@ -94,7 +94,7 @@ impl Plan {
     // A caller sees the value alone, so `sound` states what the invariant says of it.
     pub fn holds(&self, part: Part) -> bool
         ensures held { result ≡ holds self.now part }
-        ensures sound { IsSound self.now }
+        ensures sound { PlanIsSound self.now }
     {
         let publication = (part.publisher, part.seq);
         match self.segments(part.publisher, part.seq) {

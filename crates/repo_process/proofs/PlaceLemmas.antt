@@ -10,7 +10,7 @@ use Rattle.repo_process.specs.Processes.{Process, BlockState, is_whole, object_o
 use Rattle.repo_process.specs.Processes.BlockState.{Unknown, Already, Waiting, Whole}
 use Rattle.repo_process.specs.Arrivals.{arrived, whole_object}
 use Rattle.repo_process.specs.Insertions.{Insertions, with_process, with_arrival, with_changed, changes_process}
-use Rattle.repo_process.specs.Fields.{numbered, insertions_of, AreNumbered}
+use Rattle.repo_process.specs.Fields.{numbered_from, insertions_of, ProcessesAreNumbered}
 use Rattle.repo_process.proofs.Numbered.{value_of-below, value_of-numbered, with_value-numbered, with_value-push, slice_get-numbered}
 
 at_place : {A : Type 0} (xs : List A) (n : ℕ) (x : A) → slice_get xs n ≡ Some x → (n < length xs) × ((d : A) → get_or xs n d ≡ x)
@@ -28,11 +28,11 @@ there_is [] n h = absurd (omega arith)
 there_is (x ∷ xs) zero h = (x, refl)
 there_is (x ∷ xs) (suc n) h = there_is xs n (omega arith)
 
-module _ (m : Inside) (i : Insertions) (are : AreNumbered m) (view : insertions_of m ≡ i) where
+module _ (m : Inside) (i : Insertions) (are : ProcessesAreNumbered m) (view : insertions_of m ≡ i) where
   abbrev first : ℕ
   first = m.next - length m.insertions.items
 
-  processes-i : i.processes ≡ numbered first m.insertions.items
+  processes-i : i.processes ≡ numbered_from first m.insertions.items
   processes-i = ap (λ (j : Insertions). j.processes) (sym view)
 
   pub record IsAt (number place : ℕ) : Type 0 where
@@ -43,7 +43,7 @@ module _ (m : Inside) (i : Insertions) (are : AreNumbered m) (view : insertions_
   -- the place that was found
   pub found : (number place : ℕ) → option_map (λ (p : ℕ × Process). p.0) (slice_get i.processes place) ≡ Some number → IsAt number place
   found number place e = by_item (slice_get m.insertions.items place) refl (ap (λ (ps : List (ℕ × Process)). option_map (λ (p : ℕ × Process). p.0) (slice_get ps place)) (sym processes-i) ∙ e) where
-    by_item : (o : Option Process) → slice_get m.insertions.items place ≡ o → option_map (λ (p : ℕ × Process). p.0) (slice_get (numbered first m.insertions.items) place) ≡ Some number → IsAt number place
+    by_item : (o : Option Process) → slice_get m.insertions.items place ≡ o → option_map (λ (p : ℕ × Process). p.0) (slice_get (numbered_from first m.insertions.items) place) ≡ Some number → IsAt number place
     by_item None none h =
         let nothing : option_map {T = ℕ × Process} (λ p. p.0) None ≡ Some number = ap (λ (o : Option (ℕ × Process)). option_map (λ (p : ℕ × Process). p.0) o) (sym (slice_get-numbered first place m.insertions.items ∙ ap (option_map (λ (p : Process). (first + place, p))) none)) ∙ h in
         absurd cc
@@ -52,7 +52,7 @@ module _ (m : Inside) (i : Insertions) (are : AreNumbered m) (view : insertions_
         let at : first + place ≡ number = cc in
         let here = at_place m.insertions.items place p some in
         let value : value_of nat_cmp i.processes number ≡ Some p =
-        ap (λ (ps : List (ℕ × Process)). value_of nat_cmp ps number) processes-i ∙ ap (value_of nat_cmp (numbered first m.insertions.items)) (sym at) ∙ value_of-numbered first place m.insertions.items ∙ some in
+        ap (λ (ps : List (ℕ × Process)). value_of nat_cmp ps number) processes-i ∙ ap (value_of nat_cmp (numbered_from first m.insertions.items)) (sym at) ∙ value_of-numbered first place m.insertions.items ∙ some in
         record { within = here.0; number_is = sym at; there = λ q is. value ∙ ap (λ (r : Process). Some r) (sym (here.1 q) ∙ sym is) }
 
   -- nothing stands under other numbers
@@ -63,7 +63,7 @@ module _ (m : Inside) (i : Insertions) (are : AreNumbered m) (view : insertions_
   past_last number past_ =
       let at : number ≡ first + (number - first) = omega (arith, are.given) in
       ap (λ (ps : List (ℕ × Process)). value_of nat_cmp ps number) processes-i
-      ∙ ap (value_of nat_cmp (numbered first m.insertions.items)) at
+      ∙ ap (value_of nat_cmp (numbered_from first m.insertions.items)) at
       ∙ value_of-numbered first (number - first) m.insertions.items
       ∙ past m.insertions.items (number - first) (omega (arith, are.given))
 
@@ -80,19 +80,19 @@ module _ (m : Inside) (i : Insertions) (are : AreNumbered m) (view : insertions_
   abbrev replaced : ℕ → Process → Insertions
   replaced place p =
       let ps = slice_set m.insertions.items place p in
-      record { processes = numbered (m.next - length ps) ps; next_process = m.next }
+      record { processes = numbered_from (m.next - length ps) ps; next_process = m.next }
 
   -- their numbers stay
-  numbers_stay : (place : ℕ) (p : Process) → replaced place p ≡ record { processes = numbered first (slice_set m.insertions.items place p); next_process = m.next }
+  numbers_stay : (place : ℕ) (p : Process) → replaced place p ≡ record { processes = numbered_from first (slice_set m.insertions.items place p); next_process = m.next }
   numbers_stay place p =
-      ap (λ (n : ℕ). let j : Insertions = record { processes = numbered (m.next - n) (slice_set m.insertions.items place p); next_process = m.next } in j) (length-set m.insertions.items place p)
+      ap (λ (n : ℕ). let j : Insertions = record { processes = numbered_from (m.next - n) (slice_set m.insertions.items place p); next_process = m.next } in j) (length-set m.insertions.items place p)
 
   module _ (number place : ℕ) (at : IsAt number place) where
     pub process_replaced : (p : Process) → replaced place p ≡ with_process number p i
     process_replaced p =
-        let same : numbered first (slice_set m.insertions.items place p) ≡ with_value nat_cmp number p i.processes =
+        let same : numbered_from first (slice_set m.insertions.items place p) ≡ with_value nat_cmp number p i.processes =
         sym (with_value-numbered first place p m.insertions.items at.within)
-        ∙ ap (λ (n : ℕ). with_value nat_cmp n p (numbered first m.insertions.items)) (sym at.number_is)
+        ∙ ap (λ (n : ℕ). with_value nat_cmp n p (numbered_from first m.insertions.items)) (sym at.number_is)
         ∙ ap (with_value nat_cmp number p) (sym processes-i) in
         numbers_stay place p
         ∙ ap (λ (ps : List (ℕ × Process)). let j : Insertions = record { processes = ps; next_process = m.next } in j) same
@@ -101,7 +101,7 @@ module _ (m : Inside) (i : Insertions) (are : AreNumbered m) (view : insertions_
     pub process_kept : (p : Process) → p ≡ get_or m.insertions.items place p → replaced place p ≡ i
     process_kept p is =
         numbers_stay place p
-        ∙ ap (λ (ps : List Process). let j : Insertions = record { processes = numbered first ps; next_process = m.next } in j) (ap (slice_set m.insertions.items place) is ∙ set-get_or m.insertions.items place p)
+        ∙ ap (λ (ps : List Process). let j : Insertions = record { processes = numbered_from first ps; next_process = m.next } in j) (ap (slice_set m.insertions.items place) is ∙ set-get_or m.insertions.items place p)
         ∙ view
 
     -- what a block makes of them
@@ -120,17 +120,17 @@ on_ok (Err e) f h = h
 
 -- ---- one more
 
-pub pushed : (m : Inside) (i : Insertions) (p : Process) (items : List Process) → AreNumbered m → insertions_of m ≡ i → items ≡ m.insertions.items ++ p ∷ []
-    → numbered (m.next + 1 - length items) items ≡ with_value nat_cmp i.next_process p i.processes
+pub pushed : (m : Inside) (i : Insertions) (p : Process) (items : List Process) → ProcessesAreNumbered m → insertions_of m ≡ i → items ≡ m.insertions.items ++ p ∷ []
+    → numbered_from (m.next + 1 - length items) items ≡ with_value nat_cmp i.next_process p i.processes
 pushed m i p items are view more =
     let old = m.insertions.items in
     let front = m.next - length old in
     let same : m.next + 1 - length (old ++ p ∷ []) ≡ front = omega (arith, length-append old (p ∷ []), are.given) in
     let last : front + length old ≡ m.next = omega (arith, are.given) in
-    ap (λ (ps : List Process). numbered (m.next + 1 - length ps) ps) more
-    ∙ ap (λ (n : ℕ). numbered n (old ++ p ∷ [])) same
+    ap (λ (ps : List Process). numbered_from (m.next + 1 - length ps) ps) more
+    ∙ ap (λ (n : ℕ). numbered_from n (old ++ p ∷ [])) same
     ∙ sym (with_value-push front p old)
-    ∙ ap (λ (n : ℕ). with_value nat_cmp n p (numbered front old)) last
+    ∙ ap (λ (n : ℕ). with_value nat_cmp n p (numbered_from front old)) last
     ∙ ap (λ (j : Insertions). with_value nat_cmp j.next_process p j.processes) view
 
 -- ---- a process that is whole

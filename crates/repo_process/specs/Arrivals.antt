@@ -10,11 +10,11 @@ use Rattle.repo_process.specs.Processes.BlockState.{Unknown, Already, Waiting, W
 use Rattle.repo_process.specs.Fields.{blocks_from}
 
 -- What is told of a block.
-abbrev pub told : BlockState → declared_state.BlockState
-told Unknown = state.Unknown
-told Already = state.Complete
-told (Waiting p) = state.Kept (missing p)
-told (Whole p) = state.Complete
+abbrev pub told_of_block : BlockState → declared_state.BlockState
+told_of_block Unknown = state.Unknown
+told_of_block Already = state.Complete
+told_of_block (Waiting p) = state.Kept (missing p)
+told_of_block (Whole p) = state.Complete
 
 -- No block is missing any more.
 abbrev pub is_last : BlockState → Bool

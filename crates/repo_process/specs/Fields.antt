@@ -41,17 +41,17 @@ pub record IsInsertion (m : insertion.Inside) : Type 0 where
 -- ---- all of them
 
 -- Things under numbers from one on.
-abbrev pub numbered : {A : Type 0} → ℕ → List A → List (ℕ × A)
-numbered number [] = []
-numbered number (x ∷ xs) = (number, x) ∷ numbered (number + 1) xs
+abbrev pub numbered_from : {A : Type 0} → ℕ → List A → List (ℕ × A)
+numbered_from number [] = []
+numbered_from number (x ∷ xs) = (number, x) ∷ numbered_from (number + 1) xs
 
 -- They have the last numbers that were given.
 abbrev pub insertions_of : processes.Inside → Insertions
 insertions_of m = record {
-  processes = numbered (m.next - length m.insertions.items) m.insertions.items;
+  processes = numbered_from (m.next - length m.insertions.items) m.insertions.items;
   next_process = m.next;
 }
 
-pub record AreNumbered (m : processes.Inside) : Type 0 where
+pub record ProcessesAreNumbered (m : processes.Inside) : Type 0 where
   pub given : length m.insertions.items < m.next
   pub last : m.next ≤ 2 ^ 32

@@ -4,7 +4,7 @@ ghost use Rattle.std.specs.Ordering.{nat_cmp};
 ghost use Rattle.repo_plan.specs.SortedList.{Rises, keys, value_of};
 ghost use Rattle.repo_object.specs.Objects.{is_object_name, IsContent, IsObject};
 ghost use Rattle.repo_process.specs.Processes.{Process, has_block, present, object_of, closed, block_state, without_block};
-ghost use Rattle.repo_process.specs.Arrivals.{told, is_last, whole_object, lent_object, reopened};
+ghost use Rattle.repo_process.specs.Arrivals.{told_of_block, is_last, whole_object, lent_object, reopened};
 ghost use Rattle.repo_process.specs.Fields.{blocks_from};
 ghost use Rattle.repo_process.specs.Insertions.{next_number, starts, blocks_process, changes_process};
 
@@ -31,11 +31,11 @@ impl Model for Processes {
 
     ghost Value = { Insertions };
 
-    ghost use Rattle.repo_process.specs.Fields.{insertions_of, AreNumbered};
+    ghost use Rattle.repo_process.specs.Fields.{insertions_of, ProcessesAreNumbered};
 
     ghost view = { insertions_of };
 
-    ghost invariant = { AreNumbered };
+    ghost invariant = { ProcessesAreNumbered };
 }
 
 impl Processes {
@@ -86,7 +86,7 @@ impl Processes {
     ) -> Result<BlockState, AllocError>
         requires { IsContent content.now }
         ensures state { IfOk result
-            (λ state. state ≡ told (block_state self.old.processes process index content.now)) }
+            (λ state. state ≡ told_of_block (block_state self.old.processes process index content.now)) }
         ensures ok { OnOk result (self.new ≡ blocks_process process index content.now self.old) }
         ensures err { OnErr result (self.new ≡ self.old) }
     {

@@ -12,11 +12,10 @@ use Rattle.std.proofs.lemmas.Slice.Eq.{slice_eq-Decides, starts_is}
 use Rattle.slab.specs.Slab.{Slab, get}
 use Rattle.sha2.specs.Sha256.{sha256}
 use Rattle.ndn_tlv.specs.Spelling.{element}
-use Rattle.ndn_name.specs.Names.{Component, IsName, encoding}
+use Rattle.ndn_name.specs.Names.{Component, IsName, encoding, full_name}
 use Rattle.ndn_name.specs.CanonicalOrder.{IsPrefix}
 use Rattle.ndn_name.proofs.Encodings.{encoding-same}
 use Rattle.ndn_name.proofs.Prefixes.{prefix-octets, prefix-encoding}
-use Rattle.ndn_data.specs.FullName.{full_name}
 use Rattle.repo_plan.specs.SortedList.{Rises}
 use Rattle.repo_plan.specs.Parts.{part_cmp}
 use Rattle.repo_plan.proofs.Orders.{exact_parts, equal_from_is_eq, greater_back}
@@ -24,7 +23,7 @@ use Rattle.repo_plan.proofs.Sets.{In, each_before, in_map}
 use Rattle.repo_store.specs.declared.index.Held.{Held}
 use Rattle.repo_store.specs.declared.index.Order.TheVariants.{Names}
 use Rattle.repo_store.specs.Served.{satisfies}
-use Rattle.repo_store.specs.Kept.{name_of, octets_at, entries_of}
+use Rattle.repo_store.specs.Kept.{packet_name, octets_at, entries_of}
 use Rattle.repo_store.specs.Places.{IsPacket}
 use Rattle.repo_store.specs.Indexes.{FullName, names_cmp, key_of, has_key, is_full_name, has_full_name, begins_with, lesser, satisfies_held, IsData, IsFirstOf, IsLeastOf}
 use Rattle.repo_store.proofs.NameLemmas.{satisfied, full-octets, octets-full}
@@ -116,7 +115,7 @@ found_is packets test (x ∷ held) r rises first = go (test (octets_at packets x
 
 -- the name of an Interest and a packet, with their octets
 module _ (name : List Component) (asked octets : List ℕ) (packet : IsPacket octets) (is_name : IsName name) (spelled : asked ≡ encoding name) where
-  own_is : name_of octets ≡ encoding packet.packet.name
+  own_is : packet_name octets ≡ encoding packet.packet.name
   own_is = name_of-read octets packet.packet packet.read
 
   -- the full name
@@ -124,40 +123,40 @@ module _ (name : List Component) (asked octets : List ℕ) (packet : IsPacket oc
   is_full =
       let own = packet.packet.name in
       let last = element 1 (sha256 octets) in
-      let decides = slice_eq-Decides unsigned_Decides asked (name_of octets ++ last) (is_full_name asked (Some octets)) refl in
+      let decides = slice_eq-Decides unsigned_Decides asked (packet_name octets ++ last) (is_full_name asked (Some octets)) refl in
       let named = ap (λ (x : List ℕ). x ++ last) own_is in (
         λ t. full-octets name own octets is_name packet.name (sym spelled ∙ decides.0 t ∙ named),
         λ full. decides.1 (spelled ∙ octets-full name own octets full ∙ sym named),
       )
 
   -- the name itself
-  is_own : (is_eq (names_cmp (name_of octets, []) (asked, [])) ≡ true → name ≡ packet.packet.name) × (name ≡ packet.packet.name → is_eq (names_cmp (name_of octets, []) (asked, [])) ≡ true)
+  is_own : (is_eq (names_cmp (packet_name octets, []) (asked, [])) ≡ true → name ≡ packet.packet.name) × (name ≡ packet.packet.name → is_eq (names_cmp (packet_name octets, []) (asked, [])) ≡ true)
   is_own =
-      let own : FullName = (name_of octets, []) in
+      let own : FullName = (packet_name octets, []) in
       let key : FullName = (asked, []) in (
         λ t.
             let same = exact_names.same own key (equal_from_is_eq _ t) in
             encoding-same name packet.packet.name is_name packet.name (sym spelled ∙ sym (ap (λ (k : FullName). k.0) same) ∙ own_is),
         λ e.
-            let octets_same : asked ≡ name_of octets = spelled ∙ ap encoding e ∙ sym own_is in
+            let octets_same : asked ≡ packet_name octets = spelled ∙ ap encoding e ∙ sym own_is in
             let same : own ≡ key = λ i. (sym octets_same i, []) in
             ap is_eq (ap (names_cmp own) (sym same) ∙ exact_names.itself own),
       )
 
   -- a front of the name
-  is_front : (starts_with nat_eq (name_of octets) asked ≡ true → IsPrefix name packet.packet.name) × (IsPrefix name packet.packet.name → starts_with nat_eq (name_of octets) asked ≡ true)
+  is_front : (starts_with nat_eq (packet_name octets) asked ≡ true → IsPrefix name packet.packet.name) × (IsPrefix name packet.packet.name → starts_with nat_eq (packet_name octets) asked ≡ true)
   is_front =
-      let begins = starts_is unsigned_Decides (name_of octets) asked (starts_with nat_eq (name_of octets) asked) refl in (
-        λ t. prefix-octets name packet.packet.name (drop (length asked) (name_of octets)) is_name packet.name (sym own_is ∙ begins.0 t ∙ ap (λ (x : List ℕ). x ++ drop (length asked) (name_of octets)) spelled),
+      let begins = starts_is unsigned_Decides (packet_name octets) asked (starts_with nat_eq (packet_name octets) asked) refl in (
+        λ t. prefix-octets name packet.packet.name (drop (length asked) (packet_name octets)) is_name packet.name (sym own_is ∙ begins.0 t ∙ ap (λ (x : List ℕ). x ++ drop (length asked) (packet_name octets)) spelled),
         λ h. begins.1 (encoding (drop (length name) packet.packet.name)) (own_is ∙ prefix-encoding name packet.packet.name h ∙ ap (λ (x : List ℕ). x ++ encoding (drop (length name) packet.packet.name)) (sym spelled)),
       )
 
-  pub test_plain : (is_eq (names_cmp (name_of octets, []) (asked, [])) || is_full_name asked (Some octets)) ≡ satisfies name false octets
+  pub test_plain : (is_eq (names_cmp (packet_name octets, []) (asked, [])) || is_full_name asked (Some octets)) ≡ satisfies name false octets
   test_plain = satisfied name false octets packet.packet _ packet.read (
-    λ t. elim (or_cases (is_eq (names_cmp (name_of octets, []) (asked, []))) (is_full_name asked (Some octets)) t) [ inl a ↦ inl (is_own.0 a) | inr b ↦ inr (inr (is_full.0 b)) ],
+    λ t. elim (or_cases (is_eq (names_cmp (packet_name octets, []) (asked, []))) (is_full_name asked (Some octets)) t) [ inl a ↦ inl (is_own.0 a) | inr b ↦ inr (inr (is_full.0 b)) ],
     λ h. elim h [
       | inl a ↦ or_left _ (is_full_name asked (Some octets)) (is_own.1 a)
-      | inr b ↦ elim b [ inl f ↦ absurd (true≢false (sym f.0)) | inr g ↦ or_right (is_eq (names_cmp (name_of octets, []) (asked, []))) _ (is_full.1 g) ]
+      | inr b ↦ elim b [ inl f ↦ absurd (true≢false (sym f.0)) | inr g ↦ or_right (is_eq (names_cmp (packet_name octets, []) (asked, []))) _ (is_full.1 g) ]
     ],
   )
 
@@ -165,12 +164,12 @@ module _ (name : List Component) (asked octets : List ℕ) (packet : IsPacket oc
   itself [] = refl
   itself (c ∷ a) = ap (λ (n : List Component). c ∷ n) (itself a)
 
-  pub test_front : (starts_with nat_eq (name_of octets) asked || is_full_name asked (Some octets)) ≡ satisfies name true octets
+  pub test_front : (starts_with nat_eq (packet_name octets) asked || is_full_name asked (Some octets)) ≡ satisfies name true octets
   test_front = satisfied name true octets packet.packet _ packet.read (
-    λ t. elim (or_cases (starts_with nat_eq (name_of octets) asked) (is_full_name asked (Some octets)) t) [ inl a ↦ inr (inl (refl, is_front.0 a)) | inr b ↦ inr (inr (is_full.0 b)) ],
+    λ t. elim (or_cases (starts_with nat_eq (packet_name octets) asked) (is_full_name asked (Some octets)) t) [ inl a ↦ inr (inl (refl, is_front.0 a)) | inr b ↦ inr (inr (is_full.0 b)) ],
     λ h. elim h [
       | inl a ↦ or_left _ (is_full_name asked (Some octets)) (is_front.1 (subst (IsPrefix name) a (itself name)))
-      | inr b ↦ elim b [ inl f ↦ or_left _ (is_full_name asked (Some octets)) (is_front.1 f.1) | inr g ↦ or_right (starts_with nat_eq (name_of octets) asked) _ (is_full.1 g) ]
+      | inr b ↦ elim b [ inl f ↦ or_left _ (is_full_name asked (Some octets)) (is_front.1 f.1) | inr g ↦ or_right (starts_with nat_eq (packet_name octets) asked) _ (is_full.1 g) ]
     ],
   )
 

@@ -22,9 +22,9 @@ use Rattle.repo_plan.specs.Parts.{Pair, part_cmp}
 use Rattle.repo_plan.specs.Plan.{is_in}
 use Rattle.repo_plan.proofs.Orders.{exact_parts, less_back}
 use Rattle.repo_plan.proofs.Sets.{each_before, eq_same, eq_itself, value_of-with_value, keys-with_value, keys-filter, in_contains}
-use Rattle.repo_store.specs.StoreList.{with_packet, packets_outside, IsSound}
+use Rattle.repo_store.specs.StoreList.{with_packet, packets_outside, StoreIsSound}
 use Rattle.repo_store.specs.Served.{asks_for_read, satisfies, first_served, served_entry, served, served_part}
-use Rattle.repo_store.specs.Answers.{IsAnswer}
+use Rattle.repo_store.specs.Answers.{AnswersWith}
 use Rattle.repo_store.proofs.NameLemmas.{asks_for-Decides}
 use Rattle.repo_store.proofs.ServedLemmas.{entry_fresh, entry_found}
 use Rattle.repo_store.proofs.StoreLemmas.{sound_more}
@@ -87,9 +87,9 @@ keys_put part octets packets r = go (contains part_cmp (keys packets) part) refl
   go false h = keys-with_value exact_parts part octets packets
 
 -- a store stays one
-pub sound_put : (part : Part) (octets : List ℕ) (packets : Stores) → IsOk (data_of octets) → IsSound packets → IsSound (with_packet part octets packets)
+pub sound_put : (part : Part) (octets : List ℕ) (packets : Stores) → IsOk (data_of octets) → StoreIsSound packets → StoreIsSound (with_packet part octets packets)
 sound_put part octets packets reads s = go (contains part_cmp (keys packets) part) where
-  go : (c : Bool) → IsSound (cond c packets (with_value part_cmp part octets packets))
+  go : (c : Bool) → StoreIsSound (cond c packets (with_value part_cmp part octets packets))
   go true = s
   go false = sound_more part octets packets reads s
 
@@ -112,7 +112,7 @@ value_all P (e ∷ es) t o all h = elim (value_cases e es t o h) [
   | inr b ↦ value_all P es t o (All-tail P e es all) b
 ]
 
-pub got_data : (packets : Stores) (t : Part) (o : List ℕ) → IsSound packets → value_of part_cmp packets t ≡ Some o → IsOk (data_of o)
+pub got_data : (packets : Stores) (t : Part) (o : List ℕ) → StoreIsSound packets → value_of part_cmp packets t ≡ Some o → IsOk (data_of o)
 got_data packets t o s h = value_all (λ e. IsOk (data_of e.1)) packets t o s.are_data h
 
 later : (e : Part × List ℕ) (es : Stores) (t : Part) (o : List ℕ) → IsBefore part_cmp e.0 (keys es) → value_of part_cmp es t ≡ Some o → part_cmp e.0 t ≡ Less
@@ -166,22 +166,22 @@ octets_in e = Ok (option_map (λ (s : Part × List ℕ). s.1) e)
 abbrev answer : Option (Part × List ℕ) → Result (Option (Part × List ℕ)) PacketFault
 answer e = Ok e
 
-answers : (i : Interest) (packets : Stores) (f : Option (Part × List ℕ)) → i.must_be_fresh ≡ false → First (satisfies i.name i.can_be_prefix) packets f → IsAnswer i packets (option_map (λ s. s.0) f)
+answers : (i : Interest) (packets : Stores) (f : Option (Part × List ℕ)) → i.must_be_fresh ≡ false → First (satisfies i.name i.can_be_prefix) packets f → AnswersWith i packets (option_map (λ s. s.0) f)
 answers i packets None fresh first = λ h. first
 answers i packets (Some e) fresh first = (fresh, record { octets = e.1; stored = first.stored; satisfied = first.passes; least = first.least })
 
-pub served_least : (interest : List ℕ) (packets : Stores) (i : Interest) (part : Option Part) → Rises part_cmp (keys packets) → interest_of interest ≡ Ok i → served_part interest packets ≡ Ok part → IsAnswer i packets part
+pub served_least : (interest : List ℕ) (packets : Stores) (i : Interest) (part : Option Part) → Rises part_cmp (keys packets) → interest_of interest ≡ Ok i → served_part interest packets ≡ Ok part → AnswersWith i packets part
 served_least interest packets i part r read h = go i.must_be_fresh refl where
-  go : (b : Bool) → i.must_be_fresh ≡ b → IsAnswer i packets part
+  go : (b : Bool) → i.must_be_fresh ≡ b → AnswersWith i packets part
   go true fresh =
       let e = sym (ap (λ (x : Result (Option (Part × List ℕ)) PacketFault). x >>= part_in) (entry_fresh interest packets i read fresh)) ∙ h in
       let none : None ≡ part = cc in
-      subst (IsAnswer i packets) none (λ f. absurd (true≢false (sym fresh ∙ f)))
+      subst (AnswersWith i packets) none (λ f. absurd (true≢false (sym fresh ∙ f)))
   go false fresh =
       let found = find (λ (s : Part × List ℕ). satisfies i.name i.can_be_prefix s.1) packets in
       let e = sym (ap (λ (x : Result (Option (Part × List ℕ)) PacketFault). x >>= part_in) (entry_found interest packets i read fresh)) ∙ h in
       let same : option_map (λ s. s.0) found ≡ part = cc in
-      subst (IsAnswer i packets) same (answers i packets found fresh (found_first (satisfies i.name i.can_be_prefix) packets r))
+      subst (AnswersWith i packets) same (answers i packets found fresh (found_first (satisfies i.name i.can_be_prefix) packets r))
 
 entry_stored : (interest : List ℕ) (packets : Stores) (e : Part × List ℕ) → Rises part_cmp (keys packets) → served_entry interest packets ≡ Ok (Some e) → value_of part_cmp packets e.0 ≡ Some e.1
 unfolding served_entry first_served

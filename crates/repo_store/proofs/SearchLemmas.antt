@@ -17,8 +17,8 @@ use Rattle.repo_plan.proofs.Sets.{In}
 use Rattle.repo_store.specs.declared.index.Held.{Held}
 use Rattle.repo_store.specs.declared.index.Order.{Order}
 use Rattle.repo_store.specs.declared.index.Order.TheVariants.{FullNames}
-use Rattle.repo_store.specs.Kept.{name_of}
-use Rattle.repo_store.specs.Indexes.{FullName, digest_in, names_cmp, key_cmp, key_of, key_in, keys_in, has_key, is_full_name, has_full_name, IsFrom, IsFirstOf, IsSlotOf}
+use Rattle.repo_store.specs.Kept.{packet_name}
+use Rattle.repo_store.specs.Indexes.{FullName, digest_behind, names_cmp, key_cmp, key_of, key_in, keys_in, has_key, is_full_name, has_full_name, IsFrom, IsFirstOf, IsSlotOf}
 use Rattle.repo_store.proofs.NameLemmas.{digest_element, append-same}
 use Rattle.repo_store.proofs.IndexLemmas.{exact_names, rises_drop, in_split, in_at, lacks_before, lack_behind}
 
@@ -51,11 +51,11 @@ drop_past (y ∷ ys) (suc i) l = drop_past ys i (omega arith)
 abbrev pub NoneHas : Slab (List ℕ) → List ℕ → List Held → Type 0
 NoneHas packets octets held = (h : Held) → In h held → get packets h.slot ≢ Some octets
 
-module _ (order : Order) (packets : Slab (List ℕ)) (octets name digest : List ℕ) (named : name ≡ name_of octets) (digested : digest ≡ digest_in order octets) where
+module _ (order : Order) (packets : Slab (List ℕ)) (octets name digest : List ℕ) (named : name ≡ packet_name octets) (digested : digest ≡ digest_behind order octets) where
   key_there : (h : Held) → get packets h.slot ≡ Some octets → has_key order packets (name, digest) h ≡ true
   key_there h e =
       let key : FullName = (name, digest) in
-      let own : FullName = (name_of octets, digest_in order octets) in
+      let own : FullName = (packet_name octets, digest_behind order octets) in
       let same : key ≡ own = λ i. (named i, digested i) in
       ap is_eq (ap (λ (o : Option (List ℕ)). names_cmp (key_of order o) key) e ∙ ap (names_cmp own) same ∙ exact_names.itself own)
 
@@ -119,19 +119,19 @@ taken_and_rest n xs front back p q = split n xs ∙ ap (λ (x : List ℕ). x ++ 
   split (suc n) (x ∷ xs) = ap (λ (ys : List ℕ). x ∷ ys) (split n xs)
 
 -- how long a full name is
-full_length : (octets : List ℕ) → length (name_of octets ++ element 1 (sha256 octets)) ≡ length (name_of octets) + 34
+full_length : (octets : List ℕ) → length (packet_name octets ++ element 1 (sha256 octets)) ≡ length (packet_name octets) + 34
 full_length octets =
     let last = ap length (digest_element (sha256 octets) (length-sha256 octets)) in
-    omega (arith, last, length-append (name_of octets) (element 1 (sha256 octets)), length-append (1 ∷ 32 ∷ []) (sha256 octets), length-sha256 octets)
+    omega (arith, last, length-append (packet_name octets) (element 1 (sha256 octets)), length-append (1 ∷ 32 ∷ []) (sha256 octets), length-sha256 octets)
 
-is_full-Decides : (asked octets : List ℕ) → Decides (is_full_name asked (Some octets)) (asked ≡ name_of octets ++ element 1 (sha256 octets))
-is_full-Decides asked octets = slice_eq-Decides unsigned_Decides asked (name_of octets ++ element 1 (sha256 octets)) _ refl
+is_full-Decides : (asked octets : List ℕ) → Decides (is_full_name asked (Some octets)) (asked ≡ packet_name octets ++ element 1 (sha256 octets))
+is_full-Decides asked octets = slice_eq-Decides unsigned_Decides asked (packet_name octets ++ element 1 (sha256 octets)) _ refl
 
 false_where : (b : Bool) → (b ≡ true → ⊥) → b ≡ false
 false_where true h = absurd (h refl)
 false_where false h = refl
 
-no_full_name : (asked : List ℕ) → ((octets : List ℕ) → asked ≢ name_of octets ++ element 1 (sha256 octets)) → (o : Option (List ℕ)) → is_full_name asked o ≡ false
+no_full_name : (asked : List ℕ) → ((octets : List ℕ) → asked ≢ packet_name octets ++ element 1 (sha256 octets)) → (o : Option (List ℕ)) → is_full_name asked o ≡ false
 no_full_name asked none None = refl
 no_full_name asked none (Some octets) = false_where _ (λ t. none octets ((is_full-Decides asked octets).0 t))
 
@@ -142,25 +142,25 @@ short_lacks held packets asked l h i = no_full_name asked (λ octets e. absurd (
 pub other_lacks : (held : List Held) (packets : Slab (List ℕ)) (asked name last : List ℕ) → asked ≡ name ++ last → length last ≡ 34 → ((rest : List ℕ) → last ≢ (1 ∷ 32 ∷ []) ++ rest) → IsFirstOf held (has_full_name packets asked) None
 other_lacks held packets asked name last is l other h i =
     no_full_name asked (λ octets e.
-    let full = e ∙ ap (λ (x : List ℕ). name_of octets ++ x) (digest_element (sha256 octets) (length-sha256 octets)) in
-    let both = append_both name last (name_of octets) ((1 ∷ 32 ∷ []) ++ sha256 octets) (omega (arith, length-append (1 ∷ 32 ∷ []) (sha256 octets), length-sha256 octets)) (sym is ∙ full) in
+    let full = e ∙ ap (λ (x : List ℕ). packet_name octets ++ x) (digest_element (sha256 octets) (length-sha256 octets)) in
+    let both = append_both name last (packet_name octets) ((1 ∷ 32 ∷ []) ++ sha256 octets) (omega (arith, length-append (1 ∷ 32 ∷ []) (sha256 octets), length-sha256 octets)) (sym is ∙ full) in
     other (sha256 octets) both.1) (get packets h.slot)
 
 full_key : (asked name digest : List ℕ) → asked ≡ name ++ ((1 ∷ 32 ∷ []) ++ digest) → length digest ≡ 32 → (o : Option (List ℕ)) → is_eq (names_cmp (key_of FullNames o) (name, digest)) ≡ is_full_name asked o
 full_key asked name digest is l None = false_where _ (λ t. absurd (omega (arith, l, ap (λ (k : FullName). length k.1) (exact_names.same ([], []) (name, digest) (equal_from_is_eq _ t)))))
 full_key asked name digest is l (Some octets) =
-    let own : FullName = (name_of octets, sha256 octets) in
+    let own : FullName = (packet_name octets, sha256 octets) in
     let key : FullName = (name, digest) in
     let spelled = digest_element (sha256 octets) (length-sha256 octets) in
     let decides = is_full-Decides asked octets in
     same_from_decides (is_eq (names_cmp own key)) (is_full_name asked (Some octets)) (
       λ t.
           let same = exact_names.same own key (equal_from_is_eq _ t) in
-          is ∙ sym (ap (λ (k : FullName). k.0 ++ ((1 ∷ 32 ∷ []) ++ k.1)) same) ∙ ap (λ (x : List ℕ). name_of octets ++ x) (sym spelled),
+          is ∙ sym (ap (λ (k : FullName). k.0 ++ ((1 ∷ 32 ∷ []) ++ k.1)) same) ∙ ap (λ (x : List ℕ). packet_name octets ++ x) (sym spelled),
       λ e.
-          let full = sym is ∙ e ∙ ap (λ (x : List ℕ). name_of octets ++ x) spelled in
-          let both = append_both name ((1 ∷ 32 ∷ []) ++ digest) (name_of octets) ((1 ∷ 32 ∷ []) ++ sha256 octets) (omega (arith, length-append (1 ∷ 32 ∷ []) digest, length-append (1 ∷ 32 ∷ []) (sha256 octets), length-sha256 octets, l)) full in
-          let p : name_of octets ≡ name = sym both.0 in
+          let full = sym is ∙ e ∙ ap (λ (x : List ℕ). packet_name octets ++ x) spelled in
+          let both = append_both name ((1 ∷ 32 ∷ []) ++ digest) (packet_name octets) ((1 ∷ 32 ∷ []) ++ sha256 octets) (omega (arith, length-append (1 ∷ 32 ∷ []) digest, length-append (1 ∷ 32 ∷ []) (sha256 octets), length-sha256 octets, l)) full in
+          let p : packet_name octets ≡ name = sym both.0 in
           let q : sha256 octets ≡ digest = sym (append-same (1 ∷ 32 ∷ []) digest (sha256 octets) both.1) in
           let same : own ≡ key = λ i. (p i, q i) in
           ap is_eq (ap (names_cmp own) (sym same) ∙ exact_names.itself own),

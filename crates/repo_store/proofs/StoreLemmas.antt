@@ -18,7 +18,7 @@ use Rattle.repo_plan.proofs.Orders.{exact_pairs, exact_parts, nat_itself, then_s
 use Rattle.repo_plan.proofs.Sets.{In, eq_same, rises_with_value, rises_keys_filter}
 use Rattle.ndn_data.specs.Data.{data_of}
 use Rattle.repo_store.specs.declared.index.Held.{Held}
-use Rattle.repo_store.specs.StoreList.{packets_in, packets_outside, IsSound}
+use Rattle.repo_store.specs.StoreList.{packets_in, packets_outside, StoreIsSound}
 use Rattle.repo_store.specs.Kept.{octets_at, entries_of}
 use Rattle.repo_store.specs.Slots.{held_outside}
 use Rattle.repo_store.specs.StoreFields.{ArePartsSmall}
@@ -29,7 +29,7 @@ pub parts_of_entries : (packets : Slab (List ℕ)) (held : List Held) → keys (
 parts_of_entries packets [] = refl
 parts_of_entries packets (h ∷ held) = ap (λ (ts : List Part). h.part ∷ ts) (parts_of_entries packets held)
 
-pub parts_rise : (packets : Slab (List ℕ)) (held : List Held) → IsSound (entries_of packets held) → Rises part_cmp (map (λ (h : Held). h.part) held)
+pub parts_rise : (packets : Slab (List ℕ)) (held : List Held) → StoreIsSound (entries_of packets held) → Rises part_cmp (map (λ (h : Held). h.part) held)
 parts_rise packets held sound = subst (Rises part_cmp) (parts_of_entries packets held) sound.in_order
 
 pub length-entries_of : (packets : Slab (List ℕ)) (held : List Held) → length (entries_of packets held) ≡ length held
@@ -67,7 +67,7 @@ All-with_value P part octets (e ∷ es) p all = go (All-with_value P part octets
   go h Equal = All-cons P (part, octets) es p (All-tail P e es all)
   go h Greater = All-cons P e (with_value part_cmp part octets es) (All-head P e es all) h
 
-pub sound_more : (part : Part) (octets : List ℕ) (packets : List (Part × List ℕ)) → IsOk (data_of octets) → IsSound packets → IsSound (with_value part_cmp part octets packets)
+pub sound_more : (part : Part) (octets : List ℕ) (packets : List (Part × List ℕ)) → IsOk (data_of octets) → StoreIsSound packets → StoreIsSound (with_value part_cmp part octets packets)
 sound_more part octets packets reads s = record {
   in_order = rises_with_value exact_parts part octets packets s.in_order;
   are_data = All-with_value (λ e. IsOk (data_of e.1)) part octets packets reads s.are_data;
@@ -78,7 +78,7 @@ small_more part octets packets small all = All-with_value (λ e. e.0.part < 2 ^ 
 
 -- ---- the packets of a publication
 
-pub sound_outside : (pair : Pair) (packets : List (Part × List ℕ)) → IsSound packets → IsSound (packets_outside pair packets)
+pub sound_outside : (pair : Pair) (packets : List (Part × List ℕ)) → StoreIsSound packets → StoreIsSound (packets_outside pair packets)
 sound_outside pair packets s = record {
   in_order = rises_keys_filter exact_parts (λ t. not (is_in pair t)) packets s.in_order;
   are_data = All-filter (λ e. not (is_in pair e.0)) (λ e. IsOk (data_of e.1)) packets s.are_data;

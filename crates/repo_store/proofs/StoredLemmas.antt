@@ -12,7 +12,7 @@ use Rattle.repo_store.specs.declared.index.Held.{Held}
 use Rattle.repo_store.specs.declared.index.Order.{Order}
 use Rattle.repo_store.specs.declared.index.Order.TheVariants.{Names, FullNames}
 use Rattle.repo_store.specs.declared.store.Store.TheInside.{Inside}
-use Rattle.repo_store.specs.StoreList.{IsSound}
+use Rattle.repo_store.specs.StoreList.{StoreIsSound}
 use Rattle.repo_store.specs.Kept.{entries_of, held_of}
 use Rattle.repo_store.specs.declared.layers.Layers.{Layers}
 use Rattle.repo_store.specs.Indexes.{IsData, key_cmp, keys_in}
@@ -52,7 +52,7 @@ index_kept order old new held parts index names same p n indexed =
 
 pub stored_same : (s t : Inside) → SameFields s t → HasRooms t → IsStored s → IsStored t
 stored_same s t same rooms stored = record {
-  sound = subst IsSound (sym (entries_kept s t same)) stored.sound;
+  sound = subst StoreIsSound (sym (entries_kept s t same)) stored.sound;
   small = subst ArePartsSmall (sym (entries_kept s t same)) stored.small;
   slots = subst (AreSlots t.packets) (sym same.slots) (slots_same s.packets t.packets (held_of s.slots.entries) same.packets stored.slots);
   names = index_kept Names s.packets t.packets (held_of s.slots.entries) (held_of t.slots.entries) s.names t.names same.packets same.slots same.names stored.names;
@@ -92,7 +92,7 @@ stored_none s none empty no_spare names named room full_names full_named full_ro
     let held : held_of s.slots.entries ≡ [] = ap (λ (es : List (Part × ℕ)). held_of es) none in
     let entries : entries_of s.packets (held_of s.slots.entries) ≡ [] = ap (entries_of s.packets) held in
     record {
-      sound = subst IsSound (sym entries) (record { in_order = tt; are_data = All-nil (λ e. IsOk (data_of e.1)) });
+      sound = subst StoreIsSound (sym entries) (record { in_order = tt; are_data = All-nil (λ e. IsOk (data_of e.1)) });
       small = subst ArePartsSmall (sym entries) (All-nil (λ e. e.0.part < 2 ^ 8));
       slots = subst (AreSlots s.packets) (sym held) (record {
         kept = λ h i. absurd i;

@@ -16,13 +16,13 @@ pub record IsLeast (i : Interest) (packets : List (Part × List ℕ)) (part : Pa
       → satisfies i.name i.can_be_prefix others ≡ true → part_cmp t part ≢ Less
 
 -- No packet satisfies the Interest.
-abbrev pub HasNone : Interest → List (Part × List ℕ) → Type 0
-HasNone i packets =
+abbrev pub NoneSatisfies : Interest → List (Part × List ℕ) → Type 0
+NoneSatisfies i packets =
     (t : Part) (octets : List ℕ) → value_of part_cmp packets t ≡ Some octets
     → satisfies i.name i.can_be_prefix octets ≡ false
 
 -- The part whose packet answers the Interest, where any packet may. Where the packet must be fresh,
 -- none does.
-abbrev pub IsAnswer : Interest → List (Part × List ℕ) → Option Part → Type 0
-IsAnswer i packets None = i.must_be_fresh ≡ false → HasNone i packets
-IsAnswer i packets (Some part) = (i.must_be_fresh ≡ false) × IsLeast i packets part
+abbrev pub AnswersWith : Interest → List (Part × List ℕ) → Option Part → Type 0
+AnswersWith i packets None = i.must_be_fresh ≡ false → NoneSatisfies i packets
+AnswersWith i packets (Some part) = (i.must_be_fresh ≡ false) × IsLeast i packets part

@@ -21,7 +21,7 @@ use Rattle.repo_store.specs.declared.index.Order.{Order}
 use Rattle.repo_store.specs.declared.index.Order.TheVariants.{Names, FullNames}
 use Rattle.repo_store.specs.Served.{satisfies}
 use Rattle.repo_store.specs.Places.{IsPacket}
-use Rattle.repo_store.specs.Kept.{name_of, octets_at}
+use Rattle.repo_store.specs.Kept.{packet_name, octets_at}
 
 -- ---- orders
 
@@ -30,14 +30,14 @@ abbrev pub FullName : Type 0
 FullName = List ℕ × List ℕ
 
 -- The digest behind a packet's name: none in an order of names alone.
-abbrev pub digest_in : Order → List ℕ → List ℕ
-digest_in Names octets = []
-digest_in FullNames octets = sha256 octets
+abbrev pub digest_behind : Order → List ℕ → List ℕ
+digest_behind Names octets = []
+digest_behind FullNames octets = sha256 octets
 
 -- What a packet is found by.
 abbrev pub key_of : Order → Option (List ℕ) → FullName
 key_of order None = ([], [])
-key_of order (Some octets) = (name_of octets, digest_in order octets)
+key_of order (Some octets) = (packet_name octets, digest_behind order octets)
 
 -- By name, then by digest, as octets.
 abbrev pub names_cmp : FullName → FullName → Ordering
@@ -58,8 +58,8 @@ keys_in order packets held = map (key_in order packets) held
 abbrev pub keys_of : Index → List (FullName × Part)
 keys_of i = keys_in i.order i.packets.now i.held.now
 
-abbrev pub IsInOrder : Index → Type 0
-IsInOrder i = Rises key_cmp (keys_of i)
+abbrev pub IndexIsInOrder : Index → Type 0
+IndexIsInOrder i = Rises key_cmp (keys_of i)
 
 -- What is searched for.
 abbrev pub as_full_name : Key → FullName
@@ -109,7 +109,7 @@ lesser (Some a) (Some b) = if is_gt (part_cmp a.part b.part) then Some b else So
 -- Whether a packet's full name has these octets: its name, and a component with its digest.
 abbrev pub is_full_name : List ℕ → Option (List ℕ) → Bool
 is_full_name asked None = false
-is_full_name asked (Some octets) = pointwise nat_eq asked (name_of octets ++ element 1 (sha256 octets))
+is_full_name asked (Some octets) = pointwise nat_eq asked (packet_name octets ++ element 1 (sha256 octets))
 
 -- Whether what is held has these octets as its packet's full name.
 abbrev pub has_full_name : Slab (List ℕ) → List ℕ → Held → Bool

@@ -15,8 +15,8 @@ name_octets (Ok d) = encoding d.name
 name_octets (Err fault) = []
 
 -- The value of a packet's name.
-unfoldable pub name_of : List ℕ → List ℕ
-name_of octets = name_octets (data_of octets)
+unfoldable pub packet_name : List ℕ → List ℕ
+packet_name octets = name_octets (data_of octets)
 
 -- The octets in a slot.
 abbrev pub octets_at : Slab (List ℕ) → ℕ → List ℕ

@@ -6,7 +6,7 @@ use Rattle.slab.specs.Slab.{HasRoomFor}
 use Rattle.repo_plan.specs.declared.part.Part.{Part}
 use Rattle.repo_store.specs.declared.index.Order.TheVariants.{Names, FullNames}
 use Rattle.repo_store.specs.declared.store.Store.TheInside.{Inside}
-use Rattle.repo_store.specs.StoreList.{IsSound}
+use Rattle.repo_store.specs.StoreList.{StoreIsSound}
 use Rattle.repo_store.specs.Kept.{entries_of, held_of}
 use Rattle.repo_store.specs.Layers.{HasRoom, IsIndexOf}
 use Rattle.repo_store.specs.Slots.{AreSlots}
@@ -18,7 +18,7 @@ ArePartsSmall packets = All (λ e. e.0.part < 2 ^ 8) packets
 -- The packets are sound, each in its slot; the indexes hold the same; and there is the room that is
 -- spare.
 pub record IsStored (s : Inside) : Type 0 where
-  pub sound : IsSound (entries_of s.packets (held_of s.slots.entries))
+  pub sound : StoreIsSound (entries_of s.packets (held_of s.slots.entries))
   pub small : ArePartsSmall (entries_of s.packets (held_of s.slots.entries))
   pub slots : AreSlots s.packets (held_of s.slots.entries)
   pub names : IsIndexOf Names s.packets (held_of s.slots.entries) s.names

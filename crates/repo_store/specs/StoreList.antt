@@ -33,6 +33,6 @@ abbrev pub packets_outside : Pair → List (Part × List ℕ) → List (Part × 
 packets_outside pair packets = filter (λ e. not (is_in pair e.0)) packets
 
 -- What every store keeps: its parts are in order, each once, and its packets read as Data.
-pub record IsSound (packets : List (Part × List ℕ)) : Type 0 where
+pub record StoreIsSound (packets : List (Part × List ℕ)) : Type 0 where
   pub in_order : Rises part_cmp (keys packets)
   pub are_data : All (λ e. IsOk (data_of e.1)) packets

@@ -2,8 +2,8 @@ ghost use Rattle.std.specs.Prelude.{◌≡◌, ◌↔◌, ◌+◌, ◌<◌, ◌�
 ghost use Rattle.repo_store.specs.declared.index.Order.TheVariants.{Names, FullNames};
 ghost use Rattle.slab.specs.Slab.{get};
 ghost use Rattle.repo_plan.specs.SortedList.{Rises};
-ghost use Rattle.repo_store.specs.Kept.{name_of};
-ghost use Rattle.repo_store.specs.Indexes.{digest_in, key_of, names_cmp, key_cmp, key_in, keys_in, keys_of, as_full_name, has_key, has_full_name, begins_with, lesser, IsInOrder, IsPlace, IsFrom, IsBehind, IsFirstOf, IsSlotOf, GainsOne, LacksPart};
+ghost use Rattle.repo_store.specs.Kept.{packet_name};
+ghost use Rattle.repo_store.specs.Indexes.{digest_behind, key_of, names_cmp, key_cmp, key_in, keys_in, keys_of, as_full_name, has_key, has_full_name, begins_with, lesser, IndexIsInOrder, IsPlace, IsFrom, IsBehind, IsFirstOf, IsSlotOf, GainsOne, LacksPart};
 
 use crate::packet::{Packet, Packets};
 use repo_plan::Part;
@@ -48,8 +48,8 @@ const FIRST: Part = Part {
 
 impl Order {
     fn key(self, packet: &Packet) -> Key<'_>
-        ensures name { result.name.now ≡ name_of packet.now }
-        ensures digest { result.digest.now ≡ digest_in self packet.now }
+        ensures name { result.name.now ≡ packet_name packet.now }
+        ensures digest { result.digest.now ≡ digest_behind self packet.now }
     {
         let digest: &[u8] = match self {
             Order::Names => &[],
@@ -105,7 +105,7 @@ impl Index<'_> {
 
     // How much of what is held comes before this key and part.
     fn place(&self, key: &Key<'_>, part: Part) -> usize
-        requires { IsInOrder self.now }
+        requires { IndexIsInOrder self.now }
         ensures { IsPlace (keys_of self.now) (as_full_name key.now, part) result }
     {
         self.held
@@ -122,7 +122,7 @@ impl Index<'_> {
 
     // How much of what is held comes before this.
     pub(crate) fn place_of(&self, held: &Held) -> usize
-        requires { IsInOrder self.now }
+        requires { IndexIsInOrder self.now }
         ensures { IsPlace (keys_of self.now)
             (key_in self.now.order self.now.packets.now held.now) result }
     {
@@ -131,7 +131,7 @@ impl Index<'_> {
 
     // What is held from this key on.
     fn from(&self, key: &Key<'_>) -> &[Held]
-        requires { IsInOrder self.now }
+        requires { IndexIsInOrder self.now }
         ensures { IsFrom self.now.order self.now.packets.now self.now.held.now
             (as_full_name key.now) result.now }
     {
@@ -141,7 +141,7 @@ impl Index<'_> {
 
     // What is held of this key, of the least part.
     fn first(&self, key: &Key<'_>) -> Option<Held>
-        requires { IsInOrder self.now }
+        requires { IndexIsInOrder self.now }
         ensures { IsFirstOf self.now.held.now
             (has_key self.now.order self.now.packets.now (as_full_name key.now)) result }
     {
@@ -155,7 +155,7 @@ impl Index<'_> {
 
     // What has this name, of the least part.
     pub(crate) fn first_named(&self, asked: &[u8]) -> Option<Held>
-        requires { IsInOrder self.now }
+        requires { IndexIsInOrder self.now }
         ensures { IsFirstOf self.now.held.now
             (has_key self.now.order self.now.packets.now (asked.now, [])) result }
     {
@@ -168,7 +168,7 @@ impl Index<'_> {
     // What has this full name, of the least part. The octets of a full name end with a component of
     // 34 octets.
     pub(crate) fn first_with_full_name(&self, asked: &[u8]) -> Option<Held>
-        requires in_order { IsInOrder self.now }
+        requires in_order { IndexIsInOrder self.now }
         requires order { self.now.order ≡ FullNames }
         ensures { IsFirstOf self.now.held.now
             (has_full_name self.now.packets.now asked.now) result }
@@ -181,7 +181,7 @@ impl Index<'_> {
     // What has a name that begins with these octets, of the least part. Of each name the first is
     // looked at.
     pub(crate) fn first_below(&self, front: &[u8]) -> Option<Held>
-        requires in_order { IsInOrder self.now }
+        requires in_order { IndexIsInOrder self.now }
         requires order { self.now.order ≡ Names }
         ensures { IsFirstOf self.now.held.now
             (begins_with self.now.packets.now front.now) result }
@@ -218,7 +218,7 @@ impl Index<'_> {
 
     // The slot of the packet that has these octets. Only packets of one digest are looked at.
     pub(crate) fn slot_of(&self, packet: &Packet) -> Option<usize>
-        requires { IsInOrder self.now }
+        requires { IndexIsInOrder self.now }
         ensures { IsSlotOf self.now.held.now self.now.packets.now packet.now result }
     {
         let key = self.order.key(packet);

@@ -12,9 +12,9 @@ ghost use Rattle.repo_plan.specs.declared.part.Part.{Part};
 ghost use Rattle.repo_plan.specs.SortedList.{Rises, keys, contains, value_of, insert_key};
 ghost use Rattle.repo_plan.specs.Parts.{Pair, part_cmp};
 ghost use Rattle.repo_plan.specs.Plan.{is_in};
-ghost use Rattle.repo_store.specs.StoreList.{with_packet, packets_outside, different_octets, IsSound};
+ghost use Rattle.repo_store.specs.StoreList.{with_packet, packets_outside, different_octets, StoreIsSound};
 ghost use Rattle.repo_store.specs.Served.{satisfies, served, served_part};
-ghost use Rattle.repo_store.specs.Answers.{IsAnswer};
+ghost use Rattle.repo_store.specs.Answers.{AnswersWith};
 
 /// The test of a packet is that it is Data that an Interest of the name asks for.
 pub fn satisfying_is_decided()
@@ -29,7 +29,7 @@ pub fn satisfying_is_decided()
 pub fn served_part_is_the_least()
     ensures { (interest : List ℕ) (packets : List (Part × List ℕ)) (i : Interest)
         (part : Option Part) → Rises part_cmp (keys packets) → interest_of interest ≡ Ok i
-        → served_part interest packets ≡ Ok part → IsAnswer i packets part }
+        → served_part interest packets ≡ Ok part → AnswersWith i packets part }
 {}
 
 /// What is served is the packet of the part that is served.
@@ -50,7 +50,7 @@ pub fn put_packet_is_got()
 
 /// Each packet that is got reads as Data.
 pub fn got_packets_are_data()
-    ensures { (packets : List (Part × List ℕ)) (part : Part) (octets : List ℕ) → IsSound packets
+    ensures { (packets : List (Part × List ℕ)) (part : Part) (octets : List ℕ) → StoreIsSound packets
         → value_of part_cmp packets part ≡ Some octets → IsOk (data_of octets) }
 {}
 

@@ -2,7 +2,7 @@ ghost use Rattle.std.specs.Prelude.{◌≡◌, ◌+◌, ◌≤◌, length, IsOk,
 ghost use Rattle.sha2.specs.Sha256.{sha256};
 ghost use Rattle.ndn_data.specs.Data.{data_of};
 ghost use Rattle.repo_store.specs.Places.{StandsIn, IsNamed, IsPacket};
-ghost use Rattle.repo_store.specs.Kept.{name_of, octets_at};
+ghost use Rattle.repo_store.specs.Kept.{packet_name, octets_at};
 
 use ndn_data::DataView;
 use slab::Slab;
@@ -55,7 +55,7 @@ impl Packet {
     }
 
     pub(crate) fn name(&self) -> &[u8]
-        ensures { result.now ≡ name_of self.now }
+        ensures { result.now ≡ packet_name self.now }
     {
         &self.octets[self.name_start..self.name_end]
     }

@@ -9,7 +9,7 @@ ghost use Rattle.repo_plan.specs.Parts.{part_cmp};
 ghost use Rattle.repo_plan.proofs.Sets.{In};
 ghost use Rattle.repo_store.specs.declared.index.Held as declared_held;
 ghost use Rattle.repo_store.specs.declared.index.Order.TheVariants.{Names, FullNames};
-ghost use Rattle.repo_store.specs.StoreList.{with_packet, packets_in, packets_outside, different_octets, IsSound};
+ghost use Rattle.repo_store.specs.StoreList.{with_packet, packets_in, packets_outside, different_octets, StoreIsSound};
 ghost use Rattle.repo_store.specs.Indexes.{satisfies_held, IsData, IsFirstOf};
 ghost use Rattle.repo_store.specs.Layers.{all_of, AreInOrder, IsIndexOf};
 ghost use Rattle.repo_store.specs.Slots.{AreSlots, KeepsOne, IsUsed, held_outside};
@@ -73,7 +73,7 @@ impl Store {
     // A caller sees the value alone, so `sound` states what the invariant says of it.
     pub fn len(&self) -> usize
         ensures number { result ≡ length self.now.packets }
-        ensures sound { IsSound self.now.packets }
+        ensures sound { StoreIsSound self.now.packets }
     {
         table::len(&self.slots)
     }
@@ -89,7 +89,7 @@ impl Store {
     pub fn get(&self, part: Part) -> Option<&[u8]>
         ensures found { option_map (λ octets. octets.now) result
             ≡ value_of part_cmp self.now.packets part }
-        ensures sound { IsSound self.now.packets }
+        ensures sound { StoreIsSound self.now.packets }
     {
         let slot = table::value_of(&self.slots, part)?;
         Some(octets_at(&self.packets, slot))

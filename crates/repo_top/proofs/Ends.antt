@@ -16,19 +16,19 @@ use Rattle.repo_top.specs.Forms.{asked_story}
 use Rattle.repo_top.specs.Inspection.{decoded_story, inspect_story, lines_story, octets_story, without_spaces}
 use Rattle.repo_top.specs.Judging.{Given, State}
 use Rattle.repo_top.specs.Story.{Story, refused, story_of}
-use Rattle.repo_top.specs.Carrying.{EndsIn, Known, Leaves, Leaving, Ran}
+use Rattle.repo_top.specs.Carrying.{EndsIn, Known, LeavesWorld, Leaving, Ran}
 use Rattle.repo_top.proofs.Runs.{ran_as}
 
 same_keys : (left : Option GroupState) (state : State) (s : Story) → s.keys ≡ state.keys → IfSome left (λ world. world.keys ≡ state.keys) → IfSome left (λ world. world.keys ≡ s.keys)
 same_keys None state s e h = tt
 same_keys (Some world) state s e h = h ∙ sym e
 
-leaves : (left : Option GroupState) (state : State) → Leaving state left → (s : Story) → EndsIn state s → Leaves left s
+leaves : (left : Option GroupState) (state : State) → Leaving state left → (s : Story) → EndsIn state s → LeavesWorld left s
 leaves left state l s e = record { world = l.world ∙ sym e.world; keys = same_keys left state s e.keys l.keys }
 
-pub ran_leaves : (given : Given) (a b : Option (List ℕ)) (status : Status) (state : State) (left : Option GroupState) → (status ≡ Done → Leaving state left) → (before now : Option (List ℕ)) → Known before now (Ran given a b status (EndsIn state)) → Known before now (Ran given a b status (Leaves left))
+pub ran_leaves : (given : Given) (a b : Option (List ℕ)) (status : Status) (state : State) (left : Option GroupState) → (status ≡ Done → Leaving state left) → (before now : Option (List ℕ)) → Known before now (Ran given a b status (EndsIn state)) → Known before now (Ran given a b status (LeavesWorld left))
 ran_leaves given a b status state left l before now h =
-    ran_as given a b status (EndsIn state) (Leaves left) (λ done s e. leaves left state (l done) s e) before now h
+    ran_as given a b status (EndsIn state) (LeavesWorld left) (λ done s e. leaves left state (l done) s e) before now h
 
 -- ---- an inspection leaves none
 

@@ -31,7 +31,7 @@ use Rattle.script_lang.proofs.LineTexts.{line_texts}
 use Rattle.repo_member.specs.Groups.{IsPlainNodeName, IsKey}
 use Rattle.bench_world.specs.EventValues.{EventValue}
 use Rattle.bench_world.specs.Steps.{IsReady, NamesClient}
-use Rattle.repo_top.specs.SaidEvents.{number_of, said_by, said_event}
+use Rattle.repo_top.specs.SaidEvents.{party_number, said_by, said_event}
 use Rattle.repo_top.proofs.ReadNames.{read_name_valid}
 
 -- ---- places
@@ -50,7 +50,7 @@ place_within : (n : ℕ) (len : ℕ) → n < len → unwrap_or (if nat_lt n len 
 place_within n len h = grind (arith, nat_tests)
 
 -- a label that is known has the number of a party
-number_within : (label : List ℕ) (a b : List Party) → b ≡ a → has_label label a ≡ true → number_of label b < length b
+number_within : (label : List ℕ) (a b : List Party) → b ≡ a → has_label label a ≡ true → party_number label b < length b
 number_within label a b same known = rw same (
     place_within (prefix_len (λ (p : Party). not (bytes_eq p.label label)) a) (length a)
     (any_within (λ (p : Party). bytes_eq p.label label) a known)
@@ -100,11 +100,11 @@ pub record SameParties (d e : Declared) : Type 0 where
   pub clients : e.clients ≡ d.clients
 
 member_within : (d e : Declared) → SameParties d e → (label : List ℕ) → has_label label d.members ≡ true
-    → number_of label e.members < length e.members
+    → party_number label e.members < length e.members
 member_within d e same label known = number_within label d.members e.members same.members known
 
 client_within : (d e : Declared) → SameParties d e → (label : List ℕ) → has_label label d.clients ≡ true
-    → number_of label e.clients < length e.clients
+    → party_number label e.clients < length e.clients
 client_within d e same label known = number_within label d.clients e.clients same.clients known
 
 -- What a form states fits, whatever its values are.

@@ -20,14 +20,14 @@ use Rattle.group_model.proofs.PublicLaws.{lists_those, lists_in_order}
 use Rattle.script_lang.specs.declared.verb.Verb.TheVariants as verb
 use Rattle.script_lang.specs.Kinds.{Text}
 use Rattle.script_lang.specs.Forms.{said}
-use Rattle.script_lang.specs.Checking.{Declared, Party, has_label, label_of}
+use Rattle.script_lang.specs.Checking.{Declared, Party, has_label, party_label}
 use Rattle.script_lang.proofs.Conditions.{and_left}
 use Rattle.bench_world.specs.EventValues.{EventValue}
-use Rattle.repo_top.specs.SaidEvents.{number_of}
+use Rattle.repo_top.specs.SaidEvents.{party_number}
 use Rattle.repo_top.specs.ToldTexts.{label_at}
 use Rattle.repo_top.specs.Judging.{Given, State, acted_by, found_world, outside_of}
 use Rattle.repo_top.specs.Story.{Reached}
-use Rattle.repo_top.specs.Headline.{HoldsAllOf, IsCatalogueLine, IsCatalogueOf, IsToBeListed, ListExactly, PrintsCatalogues, group_at, labels_at, printed, publication_at}
+use Rattle.repo_top.specs.Headline.{HoldsAllOf, IsCatalogueLine, IsCatalogueOf, IsToBeListed, ListExactly, PrintsCatalogues, group_at, labels_at, printed_entries, publication_at}
 use Rattle.repo_top.proofs.HeadlineGroups.{IsActed, IsEventLine, IsSoundState, StatedTaken, acts_so, event_line, sound_from_start, stated_taken, taken_line}
 
 -- ---- a catalogue
@@ -90,7 +90,7 @@ list_exactly out w m sound there = record {
 -- A number stands for the first member with the label.
 record IsNumberOf (label : List ℕ) (parties : List Party) (n : ℕ) : Type 0 where
   there : n < length parties
-  labelled : label_at (map label_of parties) n ≡ label
+  labelled : label_at (map party_label parties) n ≡ label
 
 abbrev place : List ℕ → List Party → ℕ
 place label parties = prefix_len (λ (p : Party). not (bytes_eq p.label label)) parties
@@ -114,7 +114,7 @@ found_number : (n count : ℕ) → n < count → n ≡ unwrap_or (if nat_lt n co
 found_number n count inside = grind (arith, nat_tests)
 
 named_by : (label : List ℕ) (parties : List Party) → has_label label parties ≡ true
-    → IsNumberOf label parties (number_of label parties)
+    → IsNumberOf label parties (party_number label parties)
 named_by label parties known =
     let found = at_place label parties known in
     subst (IsNumberOf label parties) (found_number (place label parties) (length parties) found.there) found
@@ -123,29 +123,29 @@ named_by label parties known =
 
 module _ (given : Given) (s : State) (sound : IsSoundState given s) (label report : List ℕ) (new : State) where
   catalogue_of : StatedTaken given s (said verb.Catalogue (Text label ∷ [])) report new
-      → IsCatalogueOf (found_world given s) (map label_of s.declared.members) label report
+      → IsCatalogueOf (found_world given s) (map party_label s.declared.members) label report
   unfolding acted_by
   catalogue_of t =
       let line : IsEventLine s.declared t.d (said verb.Catalogue (Text label ∷ [])) =
       event_line s.declared t.d (said verb.Catalogue (Text label ∷ [])) t.after in
       let same : t.d.members ≡ s.declared.members = ap (λ (x : Declared). x.members) line.is in
-      let m : ℕ = number_of label s.declared.members in
+      let m : ℕ = party_number label s.declared.members in
       let w : World = found_world given s in
       let named : IsNumberOf label s.declared.members m =
       named_by label s.declared.members (and_left (has_label label s.declared.members) _ line.known) in
       let there : m < length w.members = omega (arith, named.there, sound.many) in
       let text : List Party → List ℕ = λ ps.
-      let labels : List (List ℕ) = map label_of ps in
-      let entries : List Entry = catalogue_at w (number_of label ps) in
-      printed labels (label_at labels (number_of label ps)) entries in
-      let acts : IsActed given s t.d (EventValue.Catalogue (number_of label t.d.members)) report new =
-      acts_so given s t.d (EventValue.Catalogue (number_of label t.d.members)) report new t.is in
-      let labels : List (List ℕ) = map label_of s.declared.members in
+      let labels : List (List ℕ) = map party_label ps in
+      let entries : List Entry = catalogue_at w (party_number label ps) in
+      printed_entries labels (label_at labels (party_number label ps)) entries in
+      let acts : IsActed given s t.d (EventValue.Catalogue (party_number label t.d.members)) report new =
+      acts_so given s t.d (EventValue.Catalogue (party_number label t.d.members)) report new t.is in
+      let labels : List (List ℕ) = map party_label s.declared.members in
       record {
         number = m;
         there = there;
         named = named.labelled;
-        text = acts.text ∙ ap text same ∙ ap (λ (l : List ℕ). printed labels l (catalogue_at w m)) named.labelled;
+        text = acts.text ∙ ap text same ∙ ap (λ (l : List ℕ). printed_entries labels l (catalogue_at w m)) named.labelled;
         rightly = list_exactly (outside_of given s.keys) w m sound.sound there;
       }
 

@@ -11,7 +11,7 @@ use Rattle.repo_process.specs.Processes.BlockState.{Unknown, Already, Waiting, W
 use Rattle.repo_command.specs.declared.command.Command.{Command}
 use Rattle.repo_command.specs.declared.command.Command.TheVariants.{Insert, Check, Delete}
 use Rattle.group_model.specs.Member.{Member}
-use Rattle.group_model.specs.Changes.{starts}
+use Rattle.group_model.specs.Changes.{member_starts}
 use Rattle.group_model.specs.Events.{SyncInterest, Came, Event}
 use Rattle.group_model.specs.Events.Came.{Nothing, Its, Another}
 use Rattle.group_model.specs.World.{Outside, World, member, no_member, sent_at}
@@ -32,9 +32,9 @@ use Rattle.script_lang.specs.Checking.{Declared, after_by, after_group, after_li
 use Rattle.script_lang.proofs.Conditions.{and_left, and_right}
 use Rattle.bench_world.specs.EventValues.{EventValue, group_event}
 use Rattle.repo_top.specs.SaidEvents.{said_by, said_event}
-use Rattle.repo_top.specs.Judging.{Given, State, acted_by, acted_if, found_world, outside_of, says, taken_by, with_client, with_group, with_member}
+use Rattle.repo_top.specs.Judging.{Given, State, acted_by, acted_if, found_world, outside_of, says, taken_by, with_client, with_group, declaring_member}
 use Rattle.repo_top.specs.Story.{Reached, nothing_reached}
-use Rattle.repo_top.specs.Headline.{AreTaken, HidesByDeletionAlone, deletes, deletes_nothing, group_at}
+use Rattle.repo_top.specs.Headline.{LinesAreTaken, HidesByDeletionAlone, deletes, deletes_nothing, group_at}
 use Rattle.repo_top.proofs.HeadlineGroups.{IsSoundState, LineTaken, acted_said, declares_group, event_line, may, nothing, opened, says_state, sound_beginning, sound_line, stating, taken_line}
 
 -- ---- events
@@ -101,9 +101,9 @@ IsNoDeletion (Delete name) = ⊥
 commanding : (w v : World) (j : ℕ) (command : Command) → v.members ≡ w.members → IsNoDeletion command
     → HidesAsBefore w (after_command v j command)
 commanding w v j (Insert name first last) is spares = go (can_start (member v j)) where
-  go : (b : Bool) → HidesAsBefore w (cond b (world_with v j (starts name first last (member v j))) v)
+  go : (b : Bool) → HidesAsBefore w (cond b (world_with v j (member_starts name first last (member v j))) v)
   go true = λ i inside.
-      one v (world_with v j (starts name first last (member v j))) j _ refl refl i
+      one v (world_with v j (member_starts name first last (member v j))) j _ refl refl i
       (subst (λ (ms : List Member). i < length ms) (sym is) inside)
       ∙ none_changes w v is i inside
   go false = none_changes w v is
@@ -235,7 +235,7 @@ module _ (given : Given) (s : State) (sound : IsSoundState given s) (line : List
   group_declared (Named name ∷ []) is = ap (λ (x : State). x.declared) (says_state report [] new _ is)
   group_declared values is = cc
 
-  member_declared : (values : List Value) → with_member s d values ≡ says report new → new.declared ≡ d
+  member_declared : (values : List Value) → declaring_member s d values ≡ says report new → new.declared ≡ d
   member_declared (Text label ∷ Named node ∷ Octets key ∷ []) is =
       ap (λ (x : State). x.declared) (says_state report [] new _ is)
   member_declared values is = cc
@@ -251,7 +251,7 @@ module _ (given : Given) (s : State) (sound : IsSoundState given s) (line : List
       ap (λ (x : Declared). x.events) declares.is ∙ sound.uneventful declares.first
 
   member_early : (values : List Value) → after_by s.declared stated verb.Member values ≡ Ok d
-      → with_member s d values ≡ says report new → d.events ≡ false
+      → declaring_member s d values ≡ says report new → d.events ≡ false
   member_early (Text label ∷ Named node ∷ Octets key ∷ []) taken is =
       let m = may s.declared d (record s.declared { members = s.declared.members ++ party label node ∷ [] })
       (party label node) (length s.declared.members) taken in
@@ -293,7 +293,7 @@ line_hides given s line report new (stating stated d is after taken) keeps sound
     (stated_keeps (line_of line) stated is keeps) after taken nothing_hidden
 
 lines_hide : (given : Given) (r : Reached) (lines reports : List (List ℕ)) (last : Reached)
-    → AreTaken given r lines reports last → list_all (λ line. deletes_nothing (line_of line)) lines ≡ true
+    → LinesAreTaken given r lines reports last → list_all (λ line. deletes_nothing (line_of line)) lines ≡ true
     → IsSoundState given r.state → NothingHidden (group_at given r) → NothingHidden (group_at given last)
 lines_hide given r [] [] last taken keep sound nothing_hidden =
     subst (λ (x : Reached). NothingHidden (group_at given x)) (sym taken) nothing_hidden

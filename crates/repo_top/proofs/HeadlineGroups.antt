@@ -33,12 +33,12 @@ use Rattle.script_lang.specs.Forms.{Stated}
 use Rattle.script_lang.specs.Lines.{line_of}
 use Rattle.script_lang.specs.Limits.{members_limit}
 use Rattle.script_lang.specs.Checking as checking
-use Rattle.script_lang.specs.Checking.{Declared, Party, Totals, adds, after_by, after_group, after_line, are_known, are_within_limits, declared_then, is_among, is_there, label_of, may_declare, party, with_totals}
+use Rattle.script_lang.specs.Checking.{Declared, Party, LineTotals, adds, after_by, after_group, after_line, are_known, are_within_limits, declared_then, is_party_among, is_there, party_label, may_declare, party, with_totals}
 use Rattle.repo_top.specs.SaidEvents.{said_event}
 use Rattle.repo_top.specs.ToldTexts.{told_text}
-use Rattle.repo_top.specs.Judging.{Given, State, acted, acted_by, acted_if, check_refused, checked, event_refused, found_world, judged, judged_line, line_taken, opening_state, outside_of, read, says, stepped, taken_by, with_client, with_group, with_member}
+use Rattle.repo_top.specs.Judging.{Given, State, acted, acted_by, acted_if, check_refused, checked, event_refused, found_world, judged, judged_line, line_taken, opening_state, outside_of, read, says, stepped, taken_by, with_client, with_group, declaring_member}
 use Rattle.repo_top.specs.Story.{Reached, nothing_reached}
-use Rattle.repo_top.specs.Headline.{AreTaken, AreTakenFirst, IsTaken, ReachSoundGroups}
+use Rattle.repo_top.specs.Headline.{LinesAreTaken, AreTakenFirst, LineIsTaken, ReachSoundGroups}
 use Rattle.repo_top.proofs.Fitting.{event_fits}
 use Rattle.repo_top.proofs.HeadlineLines.{judged_by}
 
@@ -48,7 +48,7 @@ use Rattle.repo_top.proofs.HeadlineLines.{judged_by}
 pub record IsActed (given : Given) (s : State) (d : Declared) (e : EventValue) (report : List ℕ)
     (new : State) : Type 0 where
   pub taken : refusals.refusal (outside_of given s.keys) (found_world given s) (group_event s.keys e) ≡ None
-  pub text : report ≡ told_text (map label_of d.members)
+  pub text : report ≡ told_text (map party_label d.members)
       (telling s.keys (outside_of given s.keys) (found_world given s) e)
   pub next : new ≡ record {
     declared = d;
@@ -121,7 +121,7 @@ says_line given s line report new h = go (line_of line) refl h where
   go (Err line_fault.Limit) is k = cc
   go (Err line_fault.NoMemory) is k = cc
 
-pub taken_line : (given : Given) (r : Reached) (line report : List ℕ) (new : Reached) → IsTaken given r line report new
+pub taken_line : (given : Given) (r : Reached) (line report : List ℕ) (new : Reached) → LineIsTaken given r line report new
     → LineTaken given r.state line report new.state
 taken_line given r line report new t =
     says_line given r.state line report new.state (judged_by given r line report new.state t.verdict)
@@ -160,7 +160,7 @@ pub record IsSoundState (given : Given) (s : State) : Type 0 where
   pub uneventful : s.declared.group ≡ false → s.declared.events ≡ false
   pub begun : s.declared.events ≡ false → s.world ≡ None
   pub names : length s.keys.members.names ≡ length s.declared.members
-  pub labels : IsDistinct bytes_eq (map label_of s.declared.members)
+  pub labels : IsDistinct bytes_eq (map party_label s.declared.members)
   pub sound : IsSoundGroup (found_world given s)
   pub many : length (found_world given s).members ≡ length s.declared.members
 
@@ -246,7 +246,7 @@ bytes_turned a b h = nat_list_eq_equiv.symm a b ∙ h
 
 labelled_apart : (p : Party) (parties : List Party)
     → list_any (λ (q : Party). bytes_eq q.label p.label || bytes_eq (encoding q.node) (encoding p.node)) parties ≡ false
-    → list_any (bytes_eq p.label) (map label_of parties) ≡ false
+    → list_any (bytes_eq p.label) (map party_label parties) ≡ false
 labelled_apart p [] h = refl
 labelled_apart p (q ∷ qs) h =
     let all = or_parts (bytes_eq q.label p.label || bytes_eq (encoding q.node) (encoding p.node)) _ h in
@@ -254,12 +254,12 @@ labelled_apart p (q ∷ qs) h =
     let turned : bytes_eq p.label q.label ≡ false = bytes_turned p.label q.label one.0 in
     rw turned (labelled_apart p qs all.1)
 
-labels_more : (d : Declared) (p : Party) → is_there d p ≡ false → IsDistinct bytes_eq (map label_of d.members)
-    → IsDistinct bytes_eq (map label_of (d.members ++ p ∷ []))
+labels_more : (d : Declared) (p : Party) → is_there d p ≡ false → IsDistinct bytes_eq (map party_label d.members)
+    → IsDistinct bytes_eq (map party_label (d.members ++ p ∷ []))
 labels_more d p apart h =
-    let among = or_parts (is_among p d.members) (is_among p d.clients) apart in
-    subst (IsDistinct bytes_eq) (sym (map-append label_of d.members (p ∷ [])))
-    (IsDistinct-push nat_list_eq_equiv (map label_of d.members) p.label h (labelled_apart p d.members among.0))
+    let among = or_parts (is_party_among p d.members) (is_party_among p d.clients) apart in
+    subst (IsDistinct bytes_eq) (sym (map-append party_label d.members (p ∷ [])))
+    (IsDistinct-push nat_list_eq_equiv (map party_label d.members) p.label h (labelled_apart p d.members among.0))
 
 -- ---- one line
 
@@ -291,7 +291,7 @@ module _ (given : Given) (s : State) (sound : IsSoundState given s) (d : Declare
   after_group_line values after is = cc
 
   after_member_line : (stated : Stated) (values : List Value) → after_by s.declared stated verb.Member values ≡ Ok d
-      → with_member s d values ≡ says report new → IsSoundState given new
+      → declaring_member s d values ≡ says report new → IsSoundState given new
   after_member_line stated (Text label ∷ Named node ∷ Octets key ∷ []) after is =
       let p : Party = party label node in
       let more : Declared = record s.declared { members = s.declared.members ++ p ∷ [] } in
@@ -382,7 +382,7 @@ pub record IsEventLine (d e : Declared) (stated : Stated) : Type 0 where
 
 pub event_line : (d e : Declared) (stated : Stated) → checking.after_event d stated ≡ Ok e → IsEventLine d e stated
 event_line d e stated h = go d.group (are_known d stated) (are_within_limits totals) refl refl h where
-  totals : Totals
+  totals : LineTotals
   totals = with_totals d.totals (adds stated.verb stated.values)
 
   go : (grouped known within : Bool) → d.group ≡ grouped → are_known d stated ≡ known
@@ -413,14 +413,14 @@ module _ (given : Given) (s : State) (sound : IsSoundState given s) (line : List
       let count : length d.members ≡ length s.declared.members = ap length members in
       let fits = event_fits line s.declared d stated e read_as after acts.1 in
       let named : NamesThose w event = named_ready (length d.members) w s.keys e (sound.many ∙ sym count) fits.0 in
-      let ready : refusals.IsTaken out w event = record { named = named; taken = acts.2.taken } in
+      let ready : refusals.EventIsTaken out w event = record { named = named; taken = acts.2.taken } in
       let next : State = record { declared = d; keys = s.keys; world = Some (after_event out w event) } in
       let result : IsSoundState given next = record {
         ungrouped = λ h. absurd (true≢false (sym grouped ∙ h));
         uneventful = λ h. absurd (true≢false (sym grouped ∙ h));
         begun = λ h. absurd (true≢false (sym begun ∙ h));
         names = sound.names ∙ sym count;
-        labels = subst (λ (ps : List Party). IsDistinct bytes_eq (map label_of ps)) (sym members) sound.labels;
+        labels = subst (λ (ps : List Party). IsDistinct bytes_eq (map party_label ps)) (sym members) sound.labels;
         sound = sound_after out w event ready sound.sound;
         many = (lasts out w event ready sound.sound).width ∙ sound.many ∙ sym count;
       } in
@@ -443,7 +443,7 @@ sound_line given s line report new (stating stated d read after is) sound =
     after_stated given s sound line stated d report new read after stated.verb after is
 
 pub sound_lines : (given : Given) (r : Reached) (lines reports : List (List ℕ)) (last : Reached)
-    → AreTaken given r lines reports last → IsSoundState given r.state → IsSoundState given last.state
+    → LinesAreTaken given r lines reports last → IsSoundState given r.state → IsSoundState given last.state
 sound_lines given r [] [] last taken sound = subst (λ (x : Reached). IsSoundState given x.state) (sym taken) sound
 sound_lines given r [] (report ∷ reports) last taken sound = absurd taken
 sound_lines given r (line ∷ lines) [] last taken sound = absurd taken
@@ -460,8 +460,8 @@ sound_from_start given lines reports r taken =
 pub reach_sound : ReachSoundGroups
 reach_sound given lines reports r taken =
     let s : IsSoundState given r.state = sound_from_start given lines reports r taken in
-    let count : length (map label_of r.state.declared.members) ≡ length r.state.declared.members =
-    length-map r.state.declared.members label_of in
+    let count : length (map party_label r.state.declared.members) ≡ length r.state.declared.members =
+    length-map r.state.declared.members party_label in
     record {
       sound = s.sound;
       members = s.many ∙ sym count;

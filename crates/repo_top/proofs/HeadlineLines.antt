@@ -8,8 +8,8 @@ use Rattle.repo_top.specs.declared.refusal.Refusal.TheVariants.{Limit, TooLarge}
 use Rattle.repo_top.specs.Refusals.{refusal_number, refusal_text}
 use Rattle.repo_top.specs.Judging.{Given, State, Verdict, says, foreign, judged}
 use Rattle.repo_top.specs.Judging as verdict
-use Rattle.repo_top.specs.Story.{Reached, Story, after, behind, is_within_script, judged_next, nothing_reached, story_from, told, within_report}
-use Rattle.repo_top.specs.Headline.{AreTaken, BeginsWithReports, EachIsTaken, EndsBy, IsTaken, IsToldBy}
+use Rattle.repo_top.specs.Story.{Reached, Story, reached_behind, behind_text, is_within_script, judged_next, nothing_reached, story_from, story_of_line, within_report}
+use Rattle.repo_top.specs.Headline.{LinesAreTaken, BeginsWithReports, EachIsTaken, EndsBy, LineIsTaken, IsToldBy}
 
 -- ---- one line
 
@@ -36,8 +36,8 @@ judged_by given r line report new h = go (is_within_script r line) h where
 -- ---- stories
 
 more : (given : Given) (r : Reached) (line report : List ℕ) (next : State) (others : List (List ℕ)) (s : Story)
-    → judged_next given r line ≡ says report next → IsToldBy given (after r line report next) others s
-    → IsToldBy given r (line ∷ others) (behind report s)
+    → judged_next given r line ≡ says report next → IsToldBy given (reached_behind r line report next) others s
+    → IsToldBy given r (line ∷ others) (behind_text report s)
 more given r line report next others s is t = record {
   first = line ∷ t.first;
   others = t.others;
@@ -45,7 +45,7 @@ more given r line report next others s is t = record {
   last = t.last;
   end = t.end;
   lines = ap (λ lines. line ∷ lines) t.lines;
-  taken = (after r line report next, record { verdict = is; reached = refl }, t.taken);
+  taken = (reached_behind r line report next, record { verdict = is; reached = refl }, t.taken);
   number = let n : t.last.lines ≡ r.lines + 1 + length t.first = t.number in omega (arith, n);
   ends = t.ends;
   text = ap (λ text. report ++ text) t.text ∙ sym (append_assoc report (concat t.reports) t.end);
@@ -73,10 +73,10 @@ told_by given r [] = record {
 told_by given r (line ∷ others) = go (judged_next given r line) refl (λ next. told_by given next others) where
   go : (v : Verdict) → judged_next given r line ≡ v
       → ((next : Reached) → IsToldBy given next others (story_from given next others))
-      → IsToldBy given r (line ∷ others) (told (λ next. story_from given next others) r line v)
+      → IsToldBy given r (line ∷ others) (story_of_line (λ next. story_from given next others) r line v)
   go (says report next) is rest =
-      more given r line report next others (story_from given (after r line report next) others) is
-      (rest (after r line report next))
+      more given r line report next others (story_from given (reached_behind r line report next) others) is
+      (rest (reached_behind r line report next))
   go (verdict.refused why) is rest = record {
     first = [];
     others = line ∷ others;
@@ -109,22 +109,22 @@ told_by given r (line ∷ others) = go (judged_next given r line) refl (λ next.
   }
 
 begins_from : (given : Given) (r : Reached) (first others reports : List (List ℕ)) (last : Reached)
-    → AreTaken given r first reports last
-    → story_from given r (first ++ others) ≡ behind (concat reports) (story_from given last others)
+    → LinesAreTaken given r first reports last
+    → story_from given r (first ++ others) ≡ behind_text (concat reports) (story_from given last others)
 unfolding story_from
 begins_from given r [] others [] last taken = ap (λ (s : Reached). story_from given s others) (sym taken)
 begins_from given r [] others (report ∷ reports) last taken = absurd taken
 begins_from given r (line ∷ first) others [] last taken = absurd taken
 begins_from given r (line ∷ first) others (report ∷ reports) last taken =
     let next : Reached = taken.0 in
-    let is : IsTaken given r line report next = taken.1 in
+    let is : LineIsTaken given r line report next = taken.1 in
     let rest : List ℕ = concat reports in
     let s : Story = story_from given last others in
     let with_text : List ℕ → Story =
     λ text. record { text = text; ending = s.ending; keys = s.keys; world = s.world } in
-    ap (told (λ (n : Reached). story_from given n (first ++ others)) r line) is.verdict
-    ∙ ap (λ (n : Reached). behind report (story_from given n (first ++ others))) (sym is.reached)
-    ∙ ap (behind report) (begins_from given next first others reports last taken.2)
+    ap (story_of_line (λ (n : Reached). story_from given n (first ++ others)) r line) is.verdict
+    ∙ ap (λ (n : Reached). behind_text report (story_from given n (first ++ others))) (sym is.reached)
+    ∙ ap (behind_text report) (begins_from given next first others reports last taken.2)
     ∙ ap with_text (sym (append_assoc report rest s.text))
 
 pub begins : BeginsWithReports

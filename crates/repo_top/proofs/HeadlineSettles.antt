@@ -15,13 +15,13 @@ use Rattle.script_lang.specs.Kinds.{Value, Text, Number, Octets}
 use Rattle.script_lang.specs.Forms.{Stated, said}
 use Rattle.script_lang.specs.Lines.{line_of}
 use Rattle.script_lang.specs.Checking as checking
-use Rattle.script_lang.specs.Checking.{Declared, Party, after_by, label_of}
+use Rattle.script_lang.specs.Checking.{Declared, Party, after_by, party_label}
 use Rattle.script_lang.proofs.Conditions.{and_left, and_right}
 use Rattle.bench_world.specs.EventValues.{EventValue, group_event}
-use Rattle.repo_top.specs.SaidEvents.{number_of, said_by, said_event}
+use Rattle.repo_top.specs.SaidEvents.{party_number, said_by, said_event}
 use Rattle.repo_top.specs.Judging.{Given, State, acted_by, acted_if, found_world, outside_of, says, taken_by}
 use Rattle.repo_top.specs.Story.{Reached}
-use Rattle.repo_top.specs.Headline.{AreTaken, IsCatalogueOf, IsSameGroup, IsSettleLine, SettlesJoin, TellingChangesNothing, changes_nothing, group_at, labels_at, only_tells, printed}
+use Rattle.repo_top.specs.Headline.{LinesAreTaken, IsCatalogueOf, IsSameGroup, IsSettleLine, SettlesJoin, TellingChangesNothing, changes_nothing, group_at, labels_at, only_tells, printed_entries}
 use Rattle.repo_top.proofs.HeadlineGroups.{IsActed, IsSoundState, LineTaken, acts_so, acted_said, event_line, nothing, sound_from_start, sound_lines, stated_taken, stating, taken_line}
 use Rattle.repo_top.proofs.HeadlineCatalogues.{catalogue_line}
 
@@ -55,13 +55,13 @@ tells : (out : Outside) (w : World) (g : GroupKeys) (form : Verb) (d : Declared)
     → only_tells form ≡ true → said_by form d values ≡ Some e → after_event out w (group_event g e) ≡ w
 tells out w g verb.Sync d (Number k ∷ []) e only is = leaves out w g (EventValue.Sync k) e is refl
 tells out w g verb.Vector d (Text m ∷ []) e only is =
-    leaves out w g (EventValue.Vector (number_of m d.members)) e is refl
+    leaves out w g (EventValue.Vector (party_number m d.members)) e is refl
 tells out w g verb.Catalogue d (Text m ∷ []) e only is =
-    leaves out w g (EventValue.Catalogue (number_of m d.members)) e is refl
+    leaves out w g (EventValue.Catalogue (party_number m d.members)) e is refl
 tells out w g verb.Dump d (Text m ∷ Text p ∷ Number s ∷ Number x ∷ []) e only is =
-    leaves out w g (EventValue.Dump (number_of m d.members) (number_of p d.members) s x) e is refl
+    leaves out w g (EventValue.Dump (party_number m d.members) (party_number p d.members) s x) e is refl
 tells out w g verb.Ask d (Text m ∷ Octets octets ∷ []) e only is =
-    leaves out w g (EventValue.Ask (number_of m d.members) octets) e is refl
+    leaves out w g (EventValue.Ask (party_number m d.members) octets) e is refl
 tells out w g verb.Summary d [] e only is = leaves out w g EventValue.Summary e is refl
 tells out w g verb.Traffic d [] e only is = leaves out w g EventValue.Traffic e is refl
 tells out w g form d values e only is = cc
@@ -77,8 +77,8 @@ event_tells given r stated d report new only after is =
     let line = event_line s.declared d stated after in
     record {
       group = ap (found_world given) acts.2.next ∙ tells out w s.keys stated.verb d stated.values acts.0 only acts.1;
-      labels = ap (λ (x : State). map label_of x.declared.members) acts.2.next
-          ∙ ap (λ (x : Declared). map label_of x.members) line.is;
+      labels = ap (λ (x : State). map party_label x.declared.members) acts.2.next
+          ∙ ap (λ (x : Declared). map party_label x.members) line.is;
     }
 
 form_tells : (given : Given) (r : Reached) (stated : Stated) (d : Declared) (report : List ℕ) (new : Reached)
@@ -100,7 +100,7 @@ line_tells : (given : Given) (r : Reached) (line report : List ℕ) (new : Reach
     → LineTaken given r.state line report new.state → changes_nothing (line_of line) ≡ true → IsSameGroup given r new
 line_tells given r line report new (nothing is same) tell = record {
   group = ap (found_world given) same;
-  labels = ap (λ (x : State). map label_of x.declared.members) same;
+  labels = ap (λ (x : State). map party_label x.declared.members) same;
 }
 line_tells given r line report new (stating stated d is after taken) tell =
     let only : only_tells stated.verb ≡ true = stated_tells (line_of line) stated is tell in
@@ -111,7 +111,7 @@ telling_changes_nothing given r line report new taken tell =
     line_tells given r line report new (taken_line given r line report new taken) tell
 
 lines_tell : (given : Given) (r : Reached) (lines reports : List (List ℕ)) (later : Reached)
-    → AreTaken given r lines reports later → list_all (λ line. changes_nothing (line_of line)) lines ≡ true
+    → LinesAreTaken given r lines reports later → list_all (λ line. changes_nothing (line_of line)) lines ≡ true
     → IsSameGroup given r later
 lines_tell given r [] [] later taken tell =
     record { group = ap (group_at given) taken; labels = ap labels_at taken }
@@ -129,14 +129,14 @@ lines_tell given r (line ∷ lines) (report ∷ reports) later taken tell =
 
 printed_join : (given : Given) (r later : Reached) (label report : List ℕ) → AllJoined (group_at given r)
     → IsSameGroup given r later → IsCatalogueOf (group_at given later) (labels_at later) label report
-    → report ≡ printed (labels_at r) label (join_of (logs (group_at given r)))
+    → report ≡ printed_entries (labels_at r) label (join_of (logs (group_at given r)))
 printed_join given r later label report all same c =
     let there : c.number < length (group_at given r).members =
     subst (λ (w : World). c.number < length w.members) same.group c.there in
     c.text
-    ∙ ap (λ (w : World). printed (labels_at later) label (catalogue_at w c.number)) same.group
-    ∙ ap (λ (labels : List (List ℕ)). printed labels label (catalogue_at (group_at given r) c.number)) same.labels
-    ∙ ap (printed (labels_at r) label) (all c.number there)
+    ∙ ap (λ (w : World). printed_entries (labels_at later) label (catalogue_at w c.number)) same.group
+    ∙ ap (λ (labels : List (List ℕ)). printed_entries labels label (catalogue_at (group_at given r) c.number)) same.labels
+    ∙ ap (printed_entries (labels_at r) label) (all c.number there)
 
 pub settles_join : SettlesJoin
 settles_join given lines reports r taken report new l nothing_hidden =

@@ -18,9 +18,9 @@ use Rattle.script_lang.specs.declared.check_fault.CheckFault.TheVariants as chec
 use Rattle.script_lang.specs.Kinds.{Text, Named, Octets}
 use Rattle.script_lang.specs.Forms.{Stated, said, stated}
 use Rattle.script_lang.specs.Lines.{line_of}
-use Rattle.script_lang.specs.Reading.{Tells}
-use Rattle.script_lang.specs.Checking.{Declared, Party, after_line, after_event, are_known, are_within_limits, with_totals, adds, declared_then, is_among, is_there, label_of, may_declare, party}
-use Rattle.svs_vector.specs.Rosters.{is_same_name, member_of}
+use Rattle.script_lang.specs.Reading.{FaultTells}
+use Rattle.script_lang.specs.Checking.{Declared, Party, after_line, after_event, are_known, are_within_limits, with_totals, adds, declared_then, is_party_among, is_there, party_label, may_declare, party}
+use Rattle.svs_vector.specs.Rosters.{has_same_octets, member_of}
 use Rattle.group_model.specs.World.{Outside, World}
 use Rattle.group_model.specs.Steps.{after_event as after_group_event}
 use Rattle.group_model.specs.Refusals as group
@@ -44,7 +44,7 @@ unfolding judged
 judged_read given s octets found one h is =
     ap (read given s) h ∙ ap (λ (o : Option Line). read given s (Ok (option_map stated o))) is
 
-pub judged_fault : (given : Given) (s : State) (octets : List ℕ) (fault : LineFault) → Tells fault (line_of octets)
+pub judged_fault : (given : Given) (s : State) (octets : List ℕ) (fault : LineFault) → FaultTells fault (line_of octets)
     → IsStop (judged given s octets) (line_stop fault)
 unfolding judged
 judged_fault given s octets line_fault.Syntax h = rw h refl
@@ -163,8 +163,8 @@ flips x y = elim (cases_Bool (bytes_eq x y)) [
 ]
 
 nobody_has : (label : List ℕ) (node : List Component) (parties : List Party)
-    → is_among (party label node) parties ≡ false
-    → list_any (is_same_name node) (map node_of parties) ≡ false
+    → is_party_among (party label node) parties ≡ false
+    → list_any (has_same_octets node) (map node_of parties) ≡ false
 nobody_has label node [] h = refl
 nobody_has label node (q ∷ parties) h =
     let both = or_parts (bytes_eq q.label label || bytes_eq (encoding q.node) (encoding node)) _ h in
@@ -175,11 +175,11 @@ pub is_free : (d : Declared) (keys : GroupKeys) (label : List ℕ) (node : List 
     → map node_of d.members ≡ keys.members.names → map node_of d.clients ≡ keys.clients.names
     → is_there d (party label node) ≡ false → is_name_taken keys node ≡ false
 is_free d keys label node members clients h =
-    let both = or_parts (is_among (party label node) d.members) (is_among (party label node) d.clients) h in
-    let no_member : member_of node keys.members.names ≡ None = none_found (is_same_name node) keys.members.names
-    (ap (list_any (is_same_name node)) (sym members) ∙ nobody_has label node d.members both.0) in
-    let no_client : member_of node keys.clients.names ≡ None = none_found (is_same_name node) keys.clients.names
-    (ap (list_any (is_same_name node)) (sym clients) ∙ nobody_has label node d.clients both.1) in
+    let both = or_parts (is_party_among (party label node) d.members) (is_party_among (party label node) d.clients) h in
+    let no_member : member_of node keys.members.names ≡ None = none_found (has_same_octets node) keys.members.names
+    (ap (list_any (has_same_octets node)) (sym members) ∙ nobody_has label node d.members both.0) in
+    let no_client : member_of node keys.clients.names ≡ None = none_found (has_same_octets node) keys.clients.names
+    (ap (list_any (has_same_octets node)) (sym clients) ∙ nobody_has label node d.clients both.1) in
     ap (λ o. is_some o || is_some (member_of node keys.clients.names)) no_member ∙ ap (λ o. is_some o) no_client
 
 -- ---- events
@@ -246,7 +246,7 @@ acts_not given s d l h = rw (sym h) refl
 
 pub acted_says : (given : Given) (s : State) (d : Declared) (e : EventValue)
     → group.refusal (outside_of given s.keys) (found_world given s) (group_event s.keys e) ≡ None
-    → acted given s d e ≡ says (told_text (map label_of d.members)
+    → acted given s d e ≡ says (told_text (map party_label d.members)
     (telling s.keys (outside_of given s.keys) (found_world given s) e))
     (record {
       declared = d;

@@ -4,11 +4,11 @@ use Rattle.std.specs.List.{concat}
 use Rattle.std.proofs.lemmas.Bool.{or_parts, or_from}
 use Rattle.std.proofs.lemmas.Bool.Decides.{eqb_tells}
 use Rattle.std.proofs.lemmas.List.{append-nil}
-use Rattle.repo_top.specs.Lines.{AreLines, IsOpen, IsWhole, has_feed, in_front, lines}
+use Rattle.repo_top.specs.Lines.{AreLines, IsOpen, IsWhole, has_feed, octet_in_front, lines}
 
 -- ---- joined
 
-joined_in_front : (b : ℕ) (ends : Bool) (others : List (List ℕ)) → concat (in_front b ends others) ≡ b ∷ concat others
+joined_in_front : (b : ℕ) (ends : Bool) (others : List (List ℕ)) → concat (octet_in_front b ends others) ≡ b ∷ concat others
 joined_in_front b true others = refl
 joined_in_front b false [] = refl
 joined_in_front b false (line ∷ others) = refl
@@ -33,7 +33,7 @@ whole_more b line other w = record {
 open_more : (b : ℕ) (line : List ℕ) → b ≢ 10 → has_feed line ≡ false → IsOpen (b ∷ line)
 open_more b line other free = record { some = λ e. cc; free = free_more b line other free }
 
-lines_in_front : (b : ℕ) (ends : Bool) (others : List (List ℕ)) → (ends ≡ true → b ≡ 10) → (ends ≡ false → b ≢ 10) → AreLines others → AreLines (in_front b ends others)
+lines_in_front : (b : ℕ) (ends : Bool) (others : List (List ℕ)) → (ends ≡ true → b ≡ 10) → (ends ≡ false → b ≢ 10) → AreLines others → AreLines (octet_in_front b ends others)
 lines_in_front b true others feed other are = after others are where
   first : IsWhole (b ∷ [])
   first = record { front = []; free = refl; is = ap (λ (t : ℕ). t ∷ []) (feed refl) }
@@ -71,11 +71,11 @@ pub record Begins (front : List ℕ) (ls : List (List ℕ)) : Type 0 where
   pub others : List (List ℕ)
   pub is : ls ≡ (front ++ rest) ∷ others
 
-begins_one : (b : ℕ) (ls : List (List ℕ)) → eqb b 10 ≡ false → Begins (b ∷ []) (in_front b (eqb b 10) ls)
+begins_one : (b : ℕ) (ls : List (List ℕ)) → eqb b 10 ≡ false → Begins (b ∷ []) (octet_in_front b (eqb b 10) ls)
 begins_one b [] test = record { rest = []; others = []; is = rw test refl }
 begins_one b (line ∷ others) test = record { rest = line; others = others; is = rw test refl }
 
-begins_more : (b : ℕ) (front : List ℕ) (ls : List (List ℕ)) → eqb b 10 ≡ false → Begins front ls → Begins (b ∷ front) (in_front b (eqb b 10) ls)
+begins_more : (b : ℕ) (front : List ℕ) (ls : List (List ℕ)) → eqb b 10 ≡ false → Begins front ls → Begins (b ∷ front) (octet_in_front b (eqb b 10) ls)
 begins_more b front ls test f = record { rest = f.rest; others = f.others; is = rw (test, f.is) refl }
 
 -- octets without a line feed are at the front of the first line, whatever follows

@@ -9,7 +9,7 @@ use Rattle.std.proofs.lemmas.Bool.Decides.{nat_tests}
 use Rattle.std.proofs.lemmas.Bool.{false≢true}
 use Rattle.std.proofs.lemmas.Grind.{common_steps}
 use Rattle.std.proofs.Math.Nat.{pow-le-pow_right, pow-suc}
-use Rattle.repo_top.specs.Words.{is_numeral}
+use Rattle.script_lang.specs.Kinds.{is_numeral}
 
 pub is_short : (word : List ℕ) → is_numeral word ≡ true → length word ≤ 18
 is_short [] h = omega arith

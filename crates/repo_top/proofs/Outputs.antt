@@ -4,18 +4,18 @@ use Rattle.std.proofs.KnownBytes.{Appends-nil, Appends-trans}
 use Rattle.std.proofs.lemmas.List.{append-nil, take_all, length-drop, drop-drop, take-append-drop}
 use Rattle.std.proofs.lemmas.Grind.{common_steps}
 use Rattle.std.proofs.Math.Seq.{take-add}
-use Rattle.repo_top.specs.Outside.{Gains, GainsFront}
+use Rattle.repo_top.specs.Outside.{GainsText, GainsFront}
 
-pub front_so_far : (a b : Option (List ℕ)) (x more text : List ℕ) → text ≡ x ++ more → Gains a b x → GainsFront a b text
+pub front_so_far : (a b : Option (List ℕ)) (x more text : List ℕ) → text ≡ x ++ more → GainsText a b x → GainsFront a b text
 front_so_far a b x more text parts p = record { written = x; rest = more; parts = parts; gained = p }
 
-pub front_whole : (a b : Option (List ℕ)) (text : List ℕ) → Gains a b text → GainsFront a b text
+pub front_whole : (a b : Option (List ℕ)) (text : List ℕ) → GainsText a b text → GainsFront a b text
 front_whole a b text p = front_so_far a b text [] text (sym (append-nil text)) p
 
-pub nothing_gained : (a : Option (List ℕ)) → Gains a a []
+pub nothing_gained : (a : Option (List ℕ)) → GainsText a a []
 nothing_gained a = Appends-nil a
 
-pub front_taken : (a b : Option (List ℕ)) (n : ℕ) (text : List ℕ) → Gains a b (take n text) → GainsFront a b text
+pub front_taken : (a b : Option (List ℕ)) (n : ℕ) (text : List ℕ) → GainsText a b (take n text) → GainsFront a b text
 front_taken a b n text p = front_so_far a b (take n text) (drop n text) text (sym (take-append-drop n text)) p
 
 -- a front of a text is one of the text with more behind it
@@ -25,7 +25,7 @@ front_longer a b text more f =
     (ap (λ (t : List ℕ). t ++ more) f.parts ∙ append_assoc f.written f.rest more) f.gained
 
 -- a text was gained, and then a front of another
-pub front_behind : (a b d : Option (List ℕ)) (text more : List ℕ) → Gains a b text → GainsFront b d more → GainsFront a d (text ++ more)
+pub front_behind : (a b d : Option (List ℕ)) (text more : List ℕ) → GainsText a b text → GainsFront b d more → GainsFront a d (text ++ more)
 front_behind a b d text more p f =
     front_so_far a d (text ++ f.written) f.rest (text ++ more)
     (ap (λ (t : List ℕ). text ++ t) f.parts ∙ sym (append_assoc text f.written f.rest))
@@ -39,11 +39,11 @@ pub piece_is : (text : List ℕ) (at : ℕ) → take (length text - at) (drop at
 piece_is text at = take_all (length text - at) (drop at text) (omega (arith, length-drop at text))
 
 -- a front was gained, and then a front of what follows it
-pub more_gained : (a b d : Option (List ℕ)) (text : List ℕ) (at n : ℕ) → Gains a b (take at text) → Gains b d (take n (take (length text - at) (drop at text))) → Gains a d (take (at + n) text)
+pub more_gained : (a b d : Option (List ℕ)) (text : List ℕ) (at n : ℕ) → GainsText a b (take at text) → GainsText b d (take n (take (length text - at) (drop at text))) → GainsText a d (take (at + n) text)
 more_gained a b d text at n p q =
     let joined : take at text ++ take n (take (length text - at) (drop at text)) ≡ take (at + n) text =
     rw (piece_is text at) (sym (take-add at n text)) in
-    subst (Gains a d) joined (Appends-trans a b d (take at text) (take n (take (length text - at) (drop at text))) p q)
+    subst (GainsText a d) joined (Appends-trans a b d (take at text) (take n (take (length text - at) (drop at text))) p q)
 
 -- what was copied to the front of a buffer is what is no longer left
 pub front_left : (octets copied more : List ℕ) (at n : ℕ) → n ≤ length (take (length octets - at) (drop at octets)) → copied ≡ take n (take (length octets - at) (drop at octets)) → drop at octets ≡ take n (copied ++ more) ++ drop (at + n) octets

@@ -12,7 +12,7 @@ use Rattle.script_lang.specs.declared.verb.Verb.{Verb}
 use Rattle.script_lang.specs.declared.verb.Verb.TheVariants as verb
 use Rattle.script_lang.specs.Kinds.{Text, Named, Octets}
 use Rattle.script_lang.specs.Forms.{Stated, said, stated}
-use Rattle.script_lang.specs.Checking.{Declared, after_line, label_of, party}
+use Rattle.script_lang.specs.Checking.{Declared, after_line, party_label, party}
 use Rattle.group_model.specs.World.{World}
 use Rattle.repo_member.specs.Groups.{GroupKeys, IsKey, IsPlainNodeName, is_name_taken}
 use Rattle.group_model.specs.Steps.{after_event}
@@ -21,7 +21,7 @@ use Rattle.bench_world.specs.EventValues.{EventValue, group_event, telling}
 use Rattle.repo_top.specs.declared.progress.Stage.{Stage}
 use Rattle.repo_top.specs.declared.progress.Stage.TheVariants.{Opening, Declaring, Acting}
 use Rattle.repo_top.specs.Judging.{Given, State, Verdict, says, acted, acted_by, acted_if, found_world, group_named, outside_of, judged_line, line_taken, no_group, taken_by, with_client_too, with_member_too}
-use Rattle.repo_top.specs.Progressing.{AreNamed, IsChecked, IsStop, IsStopOf, StatesFit, has_group, has_world, keys_in, node_of, state_of, world_in}
+use Rattle.repo_top.specs.Progressing.{NamesAreDeclared, LineIsChecked, IsStop, IsStopOf, StatesFit, has_group, has_world, stage_keys, node_of, state_of, world_in}
 use Rattle.repo_top.specs.declared.stop.Stop.{Stop}
 use Rattle.repo_top.specs.ToldTexts.{told_text}
 use Rattle.repo_top.specs.SaidEvents.{said_event}
@@ -60,7 +60,7 @@ no_world (Acting world) h = absurd (true≢false h)
 
 -- Nothing is kept before the group's line.
 record IsOpening (stage : Stage) : Type 0 where
-  keys : keys_in stage ≡ no_group
+  keys : stage_keys stage ≡ no_group
   world : world_in stage ≡ None
   early : has_world stage ≡ false
 
@@ -81,34 +81,34 @@ pub record Grouped (given : Given) (labels : List (List ℕ)) (stage : Stage) (e
   pub plain : IsPlainNodeName name
   pub group : e.group ≡ true
   pub early : e.events ≡ false
-  pub named : AreNamed labels (group_named name) e
+  pub named : NamesAreDeclared labels (group_named name) e
   pub says : Says given stage e s (group_named name)
 
 grouped_at : (given : Given) (labels : List (List ℕ)) (stage : Stage) (e : Declared) (name : List Component)
-    → IsChecked labels stage e (said verb.Group (Named name ∷ []))
+    → LineIsChecked labels stage e (said verb.Group (Named name ∷ []))
     → Grouped given labels stage e (said verb.Group (Named name ∷ [])) name
 grouped_at given labels stage e name c =
     let opens = group_declares c.before e name c.after in
     let none = is_opening stage (sym c.stands.group ∙ opens.0) in
-    let empty : AreNamed labels no_group c.before = subst (λ keys. AreNamed labels keys c.before) none.keys
+    let empty : NamesAreDeclared labels no_group c.before = subst (λ keys. NamesAreDeclared labels keys c.before) none.keys
     c.stands.named in
-    let new : AreNamed labels (group_named name) (record c.before { group = true }) =
+    let new : NamesAreDeclared labels (group_named name) (record c.before { group = true }) =
     record { labels = empty.labels; members = empty.members; clients = empty.clients } in
     record {
       plain = group_fits c.line.octets name c.line.read;
       group = ap (λ (x : Declared). x.group) (sym opens.1);
       early = ap (λ (x : Declared). x.events) (sym opens.1) ∙ c.stands.events ∙ none.early;
-      named = subst (AreNamed labels (group_named name)) opens.1 new;
+      named = subst (NamesAreDeclared labels (group_named name)) opens.1 new;
       says = group_says given (state_of stage e) e name
           ∙ ap (λ (w : Option World). says [] (record { declared = e; keys = group_named name; world = w })) none.world;
     }
 
 pub grouped : (given : Given) (labels : List (List ℕ)) (stage : Stage) (e : Declared) (s : Stated)
     (name : List Component)
-    → s ≡ said verb.Group (Named name ∷ []) → IsChecked labels stage e s → Grouped given labels stage e s name
+    → s ≡ said verb.Group (Named name ∷ []) → LineIsChecked labels stage e s → Grouped given labels stage e s name
 grouped given labels stage e s name is c =
     subst (λ (x : Stated). Grouped given labels stage e x name) (sym is)
-    (grouped_at given labels stage e name (subst (IsChecked labels stage e) is c))
+    (grouped_at given labels stage e name (subst (LineIsChecked labels stage e) is c))
 
 -- ---- members and clients
 
@@ -121,19 +121,19 @@ pub record Declares (given : Given) (labels : List (List ℕ)) (stage : Stage) (
   pub early : e.events ≡ false
   pub there : has_group stage ≡ true
   pub unchanged : has_world stage ≡ false
-  pub apart : is_name_taken (keys_in stage) node ≡ false
-  pub named : AreNamed labels keys e
+  pub apart : is_name_taken (stage_keys stage) node ≡ false
+  pub named : NamesAreDeclared labels keys e
   pub says : Says given stage e s keys
 
 abbrev pub MemberDeclares : Given → List (List ℕ) → Stage → Declared → Stated → List ℕ → List Component → List ℕ
     → Type 0
 MemberDeclares given labels stage e s label node key =
-    Declares given (labels ++ label ∷ []) stage e s node key (with_member_too node key (keys_in stage))
-    × (length (keys_in stage).members.names < 16)
+    Declares given (labels ++ label ∷ []) stage e s node key (with_member_too node key (stage_keys stage))
+    × (length (stage_keys stage).members.names < 16)
 
 member_at : (given : Given) (labels : List (List ℕ)) (stage : Stage) (e : Declared) (label : List ℕ)
     (node : List Component) (key : List ℕ)
-    → IsChecked labels stage e (said verb.Member (Text label ∷ Named node ∷ Octets key ∷ []))
+    → LineIsChecked labels stage e (said verb.Member (Text label ∷ Named node ∷ Octets key ∷ []))
     → MemberDeclares given labels stage e (said verb.Member (Text label ∷ Named node ∷ Octets key ∷ [])) label node key
 member_at given labels stage e label node key c =
     let d = c.before in
@@ -142,10 +142,10 @@ member_at given labels stage e label node key c =
     let was = c.stands.named in
     let both_fit = member_fits c.line.octets label node key c.line.read in
     let unchanged = sym c.stands.events ∙ may.early in
-    let new : AreNamed (labels ++ label ∷ []) (with_member_too node key (keys_in stage))
+    let new : NamesAreDeclared (labels ++ label ∷ []) (with_member_too node key (stage_keys stage))
     (record c.before { members = c.before.members ++ party label node ∷ [] }) = record {
       labels = ap (λ (xs : List (List ℕ)). xs ++ label ∷ []) was.labels
-          ∙ sym (map-append label_of d.members (party label node ∷ []));
+          ∙ sym (map-append party_label d.members (party label node ∷ []));
       members = map-append node_of d.members (party label node ∷ [])
           ∙ ap (λ (xs : List (List Component)). xs ++ node ∷ []) was.members;
       clients = was.clients;
@@ -157,12 +157,12 @@ member_at given labels stage e label node key c =
         early = ap (λ (x : Declared). x.events) (sym both.1) ∙ may.early;
         there = sym c.stands.group ∙ may.group;
         unchanged = unchanged;
-        apart = is_free d (keys_in stage) label node was.members was.clients may.apart;
-        named = subst (AreNamed (labels ++ label ∷ []) (with_member_too node key (keys_in stage))) both.1 new;
+        apart = is_free d (stage_keys stage) label node was.members was.clients may.apart;
+        named = subst (NamesAreDeclared (labels ++ label ∷ []) (with_member_too node key (stage_keys stage))) both.1 new;
         says = member_says given (state_of stage e) e label node key
             ∙ ap (λ (w : Option World). says [] (record {
               declared = e;
-              keys = with_member_too node key (keys_in stage);
+              keys = with_member_too node key (stage_keys stage);
               world = w;
             })) (no_world stage unchanged);
       },
@@ -172,21 +172,21 @@ member_at given labels stage e label node key c =
 
 pub member_declared : (given : Given) (labels : List (List ℕ)) (stage : Stage) (e : Declared) (s : Stated)
     (label : List ℕ) (node : List Component) (octets key : List ℕ) → s ≡ said verb.Member (Text label ∷ Named node ∷ Octets octets ∷ [])
-    → key ≡ octets → IsChecked labels stage e s → MemberDeclares given labels stage e s label node key
+    → key ≡ octets → LineIsChecked labels stage e s → MemberDeclares given labels stage e s label node key
 member_declared given labels stage e s label node octets key is same c =
     let is_key : s ≡ said verb.Member (Text label ∷ Named node ∷ Octets key ∷ []) =
     is ∙ ap (λ (k : List ℕ). said verb.Member (Text label ∷ Named node ∷ Octets k ∷ [])) (sym same) in
     subst (λ (x : Stated). MemberDeclares given labels stage e x label node key) (sym is_key)
-    (member_at given labels stage e label node key (subst (IsChecked labels stage e) is_key c))
+    (member_at given labels stage e label node key (subst (LineIsChecked labels stage e) is_key c))
 
 abbrev pub ClientDeclares : Given → List (List ℕ) → Stage → Declared → Stated → List Component → List ℕ → Type 0
 ClientDeclares given labels stage e s node key =
-    Declares given labels stage e s node key (with_client_too node key (keys_in stage))
-    × (length (keys_in stage).clients.names < 16)
+    Declares given labels stage e s node key (with_client_too node key (stage_keys stage))
+    × (length (stage_keys stage).clients.names < 16)
 
 client_at : (given : Given) (labels : List (List ℕ)) (stage : Stage) (e : Declared) (label : List ℕ)
     (node : List Component) (key : List ℕ)
-    → IsChecked labels stage e (said verb.Client (Text label ∷ Named node ∷ Octets key ∷ []))
+    → LineIsChecked labels stage e (said verb.Client (Text label ∷ Named node ∷ Octets key ∷ []))
     → ClientDeclares given labels stage e (said verb.Client (Text label ∷ Named node ∷ Octets key ∷ [])) node key
 client_at given labels stage e label node key c =
     let d = c.before in
@@ -195,7 +195,7 @@ client_at given labels stage e label node key c =
     let was = c.stands.named in
     let both_fit = client_fits c.line.octets label node key c.line.read in
     let unchanged = sym c.stands.events ∙ may.early in
-    let new : AreNamed labels (with_client_too node key (keys_in stage))
+    let new : NamesAreDeclared labels (with_client_too node key (stage_keys stage))
     (record c.before { clients = c.before.clients ++ party label node ∷ [] }) = record {
       labels = was.labels;
       members = was.members;
@@ -209,12 +209,12 @@ client_at given labels stage e label node key c =
         early = ap (λ (x : Declared). x.events) (sym both.1) ∙ may.early;
         there = sym c.stands.group ∙ may.group;
         unchanged = unchanged;
-        apart = is_free d (keys_in stage) label node was.members was.clients may.apart;
-        named = subst (AreNamed labels (with_client_too node key (keys_in stage))) both.1 new;
+        apart = is_free d (stage_keys stage) label node was.members was.clients may.apart;
+        named = subst (NamesAreDeclared labels (with_client_too node key (stage_keys stage))) both.1 new;
         says = client_says given (state_of stage e) e label node key
             ∙ ap (λ (w : Option World). says [] (record {
               declared = e;
-              keys = with_client_too node key (keys_in stage);
+              keys = with_client_too node key (stage_keys stage);
               world = w;
             })) (no_world stage unchanged);
       },
@@ -224,32 +224,32 @@ client_at given labels stage e label node key c =
 
 pub client_declared : (given : Given) (labels : List (List ℕ)) (stage : Stage) (e : Declared) (s : Stated)
     (label : List ℕ) (node : List Component) (octets key : List ℕ) → s ≡ said verb.Client (Text label ∷ Named node ∷ Octets octets ∷ [])
-    → key ≡ octets → IsChecked labels stage e s → ClientDeclares given labels stage e s node key
+    → key ≡ octets → LineIsChecked labels stage e s → ClientDeclares given labels stage e s node key
 client_declared given labels stage e s label node octets key is same c =
     let is_key : s ≡ said verb.Client (Text label ∷ Named node ∷ Octets key ∷ []) =
     is ∙ ap (λ (k : List ℕ). said verb.Client (Text label ∷ Named node ∷ Octets k ∷ [])) (sym same) in
     subst (λ (x : Stated). ClientDeclares given labels stage e x node key) (sym is_key)
-    (client_at given labels stage e label node key (subst (IsChecked labels stage e) is_key c))
+    (client_at given labels stage e label node key (subst (LineIsChecked labels stage e) is_key c))
 
 -- ---- events
 
 pub record Acts (given : Given) (labels : List (List ℕ)) (stage : Stage) (e : Declared) (s : Stated) : Type 0 where
   pub fit : StatesFit e s
-  pub named : AreNamed labels (keys_in stage) e
+  pub named : NamesAreDeclared labels (stage_keys stage) e
   pub group : e.group ≡ true
   pub events : e.events ≡ true
   pub there : has_group stage ≡ true
   pub acts : line_taken given (state_of stage e) e s ≡ acted_by given (state_of stage e) e s
 
 pub event_acts : (given : Given) (labels : List (List ℕ)) (stage : Stage) (e : Declared) (l : Line) → IsEventLine l
-    → IsChecked labels stage e (stated l) → Acts given labels stage e (stated l)
+    → LineIsChecked labels stage e (stated l) → Acts given labels stage e (stated l)
 event_acts given labels stage e l is c =
     let event = event_declares c.before e l is c.after in
     let was = c.stands.named in
     record {
       fit = record { fits = λ v says. event_fits c.line.octets c.before e (stated l) v c.line.read c.after says };
       named = record {
-        labels = was.labels ∙ ap (map label_of) (sym event.members);
+        labels = was.labels ∙ ap (map party_label) (sym event.members);
         members = ap (map node_of) event.members ∙ was.members;
         clients = ap (map node_of) event.clients ∙ was.clients;
       };
@@ -260,16 +260,16 @@ event_acts given labels stage e l is c =
     }
 
 -- There are as many labels as names.
-pub as_many : {X : Type 0} (f : X → List ℕ) (xs : List X) (keys : GroupKeys) (d : Declared) → AreNamed (map f xs) keys d
+pub as_many : {X : Type 0} (f : X → List ℕ) (xs : List X) (keys : GroupKeys) (d : Declared) → NamesAreDeclared (map f xs) keys d
     → length xs ≡ length keys.members.names
 as_many f xs keys d n =
-    sym (length-map xs f) ∙ ap (λ (ls : List (List ℕ)). length ls) n.labels ∙ length-map d.members label_of
+    sym (length-map xs f) ∙ ap (λ (ls : List (List ℕ)). length ls) n.labels ∙ length-map d.members party_label
     ∙ sym (length-map d.members node_of) ∙ ap (λ (names : List (List Component)). length names) n.members
 
 module _ (given : Given) (stage found : Stage) (d : Declared) (e : EventValue) (keys : GroupKeys) (w : World)
-    (is : found ≡ stage) (k : keys ≡ keys_in found) (v : w ≡ found_world given (state_of found d)) where
-  keys_is : keys ≡ keys_in stage
-  keys_is = k ∙ ap keys_in is
+    (is : found ≡ stage) (k : keys ≡ stage_keys found) (v : w ≡ found_world given (state_of found d)) where
+  keys_is : keys ≡ stage_keys stage
+  keys_is = k ∙ ap stage_keys is
 
   world_is : w ≡ found_world given (state_of stage d)
   world_is = v ∙ ap (λ (s : Stage). found_world given (state_of s d)) is
@@ -279,41 +279,41 @@ module _ (given : Given) (stage found : Stage) (d : Declared) (e : EventValue) (
       → group.refusal (outside_of given keys) w (group_event keys e) ≡ None
       → report ≡ told_text labels (telling keys (outside_of given keys) w e)
       → next ≡ after_event (outside_of given keys) w (group_event keys e)
-      → keys_new ≡ keys → labels ≡ map label_of d.members
+      → keys_new ≡ keys → labels ≡ map party_label d.members
       → acted given (state_of stage d) d e ≡ says report (record { declared = d; keys = keys_new; world = Some next })
   carried_says labels report keys_new next taken told after kept named =
-      let taken_so : group.refusal (outside_of given (keys_in stage)) (found_world given (state_of stage d))
-      (group_event (keys_in stage) e) ≡ None =
-      subst (λ (x : World). group.refusal (outside_of given (keys_in stage)) x (group_event (keys_in stage) e) ≡ None)
+      let taken_so : group.refusal (outside_of given (stage_keys stage)) (found_world given (state_of stage d))
+      (group_event (stage_keys stage) e) ≡ None =
+      subst (λ (x : World). group.refusal (outside_of given (stage_keys stage)) x (group_event (stage_keys stage) e) ≡ None)
       world_is
       (subst (λ (x : GroupKeys). group.refusal (outside_of given x) w (group_event x e) ≡ None) keys_is taken) in
-      let told_so : report ≡ told_text (map label_of d.members) (telling (keys_in stage)
-      (outside_of given (keys_in stage))
+      let told_so : report ≡ told_text (map party_label d.members) (telling (stage_keys stage)
+      (outside_of given (stage_keys stage))
       (found_world given (state_of stage d)) e) =
       told ∙ ap (λ (x : List (List ℕ)). told_text x (telling keys (outside_of given keys) w e)) named
-      ∙ ap (λ (x : GroupKeys). told_text (map label_of d.members) (telling x (outside_of given x) w e)) keys_is
-      ∙ ap (λ (x : World). told_text (map label_of d.members)
-      (telling (keys_in stage) (outside_of given (keys_in stage)) x e)) world_is in
-      let after_so : next ≡ after_event (outside_of given (keys_in stage)) (found_world given (state_of stage d))
-      (group_event (keys_in stage) e) =
+      ∙ ap (λ (x : GroupKeys). told_text (map party_label d.members) (telling x (outside_of given x) w e)) keys_is
+      ∙ ap (λ (x : World). told_text (map party_label d.members)
+      (telling (stage_keys stage) (outside_of given (stage_keys stage)) x e)) world_is in
+      let after_so : next ≡ after_event (outside_of given (stage_keys stage)) (found_world given (state_of stage d))
+      (group_event (stage_keys stage) e) =
       after ∙ ap (λ (x : GroupKeys). after_event (outside_of given x) w (group_event x e)) keys_is
-      ∙ ap (λ (x : World). after_event (outside_of given (keys_in stage)) x (group_event (keys_in stage) e)) world_is in
+      ∙ ap (λ (x : World). after_event (outside_of given (stage_keys stage)) x (group_event (stage_keys stage) e)) world_is in
       acted_says given (state_of stage d) d e taken_so
       ∙ ap (λ (x : List ℕ). says x (record {
         declared = d;
-        keys = keys_in stage;
-        world = Some (after_event (outside_of given (keys_in stage)) (found_world given (state_of stage d))
-            (group_event (keys_in stage) e));
+        keys = stage_keys stage;
+        world = Some (after_event (outside_of given (stage_keys stage)) (found_world given (state_of stage d))
+            (group_event (stage_keys stage) e));
       })) (sym told_so)
-      ∙ ap (λ (x : World). says report (record { declared = d; keys = keys_in stage; world = Some x })) (sym after_so)
+      ∙ ap (λ (x : World). says report (record { declared = d; keys = stage_keys stage; world = Some x })) (sym after_so)
       ∙ ap (λ (x : GroupKeys). says report (record { declared = d; keys = x; world = Some next }))
       (sym (kept ∙ keys_is))
 
   pub carried_stops : (stop : Stop) → IsStopOf (group.refusal (outside_of given keys) w (group_event keys e)) stop
       → IsStop (acted given (state_of stage d) d e) stop
   carried_stops stop h = acted_stops given (state_of stage d) d e stop
-      (subst (λ (x : World). IsStopOf (group.refusal (outside_of given (keys_in stage)) x
-      (group_event (keys_in stage) e)) stop)
+      (subst (λ (x : World). IsStopOf (group.refusal (outside_of given (stage_keys stage)) x
+      (group_event (stage_keys stage) e)) stop)
       world_is
       (subst (λ (x : GroupKeys). IsStopOf (group.refusal (outside_of given x) w (group_event x e)) stop) keys_is h))
 

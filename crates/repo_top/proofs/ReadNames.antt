@@ -8,7 +8,7 @@ use Rattle.ndn_tlv.specs.Elements.{IsOctets}
 use Rattle.ndn_tlv.specs.NumberField.{number_field}
 use Rattle.ndn_tlv.specs.Spelling.{head, element}
 use Rattle.ndn_name.specs.Names.{Component, IsComponent, IsName, encoding}
-use Rattle.ndn_name.specs.Uri.{IsOctetText, plain, escape, IsEscaped, are_periods, guarded, IsValueText, IsNumberText, IsComponentText, generic, typed, implicit_digest, parameters_digest, segment, version, sequence, Part, IsPath, IsRooted, IsUri, name_in}
+use Rattle.ndn_name.specs.Uri.{IsOctetText, plain, escape, IsEscaped, are_periods, guarded, IsValueText, IsNumberText, IsComponentText, generic, typed, implicit_digest, parameters_digest, segment, version, sequence, Part, IsPath, IsRooted, IsUri, name_of_parts}
 use Rattle.ndn_name.specs.UriText.{is_digest}
 use Rattle.ndn_name.specs.UriVerdict.{HasUri}
 
@@ -99,26 +99,26 @@ component_valid c text (sequence tail typ e value) above short =
 -- ---- names
 
 path_valid : (at : ℕ) (parts : List Part) (text : List ℕ) → IsPath at parts text
-    → list_any is_digest (name_in parts) ≡ false → length (encoding (name_in parts)) < 2 ^ 64 → IsName (name_in parts)
+    → list_any is_digest (name_of_parts parts) ≡ false → length (encoding (name_of_parts parts)) < 2 ^ 64 → IsName (name_of_parts parts)
 unfolding encoding
 path_valid at [] text h none short = tt
 path_valid at (part ∷ parts) text h none short =
-    let no = or_parts (is_digest part.1) (list_any is_digest (name_in parts)) none in
+    let no = or_parts (is_digest part.1) (list_any is_digest (name_of_parts parts)) none in
     let low : nat_le part.1.0 2 ≡ false = no.0 in
     let above : 2 < part.1.0 = grind (arith, nat_tests) in
-    let joined = length-append (element part.1.0 part.1.1) (encoding (name_in parts)) in
+    let joined = length-append (element part.1.0 part.1.1) (encoding (name_of_parts parts)) in
     let ended = length-append (head part.1.0 (length part.1.1)) part.1.1 in (
       component_valid part.1 h.0 h.4 above (omega (arith, joined, ended)),
       path_valid (at + 1 + length h.0) parts h.1 h.5 no.1 (omega (arith, joined)),
     )
 
 rooted_valid : (at : ℕ) (parts : List Part) (text : List ℕ) → IsRooted at parts text
-    → list_any is_digest (name_in parts) ≡ false → length (encoding (name_in parts)) < 2 ^ 64 → IsName (name_in parts)
+    → list_any is_digest (name_of_parts parts) ≡ false → length (encoding (name_of_parts parts)) < 2 ^ 64 → IsName (name_of_parts parts)
 rooted_valid at [] text h none short = tt
 rooted_valid at (part ∷ parts) text h none short = path_valid at (part ∷ parts) text h none short
 
 uri_valid : (parts : List Part) (text : List ℕ) → IsUri parts text
-    → list_any is_digest (name_in parts) ≡ false → length (encoding (name_in parts)) < 2 ^ 64 → IsName (name_in parts)
+    → list_any is_digest (name_of_parts parts) ≡ false → length (encoding (name_of_parts parts)) < 2 ^ 64 → IsName (name_of_parts parts)
 uri_valid parts text (inl h) none short = rooted_valid 0 parts text h none short
 uri_valid parts text (inr h) none short = rooted_valid 4 parts h.0 h.2 none short
 

@@ -11,7 +11,7 @@ use Rattle.std.proofs.lemmas.List.Folds.{list_any-append}
 use Rattle.std.proofs.lemmas.List.Quantifiers.{position-Some}
 use Rattle.std.proofs.Math.Seq.{take-add, take-append-add, drop-drop}
 use Rattle.repo_top.specs.Lines.{IsWhole, has_feed}
-use Rattle.repo_top.specs.Reading.{HasLine, IsBegun}
+use Rattle.repo_top.specs.Reading.{HasLine, LineIsBegun}
 
 -- ---- octets that are read
 
@@ -85,7 +85,7 @@ too_long held free long = record {
 }
 
 -- without a line feed octets are too long for a line, or none yet
-pub no_line : (held : List ℕ) → has_feed held ≡ false → MatchOption (then_some (ltb 32768 (length held)) (length held)) (IsBegun held) (λ count. HasLine count held)
+pub no_line : (held : List ℕ) → has_feed held ≡ false → MatchOption (then_some (ltb 32768 (length held)) (length held)) (LineIsBegun held) (λ count. HasLine count held)
 no_line held free = elim (cases_Bool (ltb 32768 (length held))) [
   | inl long ↦ rw long (too_long held free (ltb-true 32768 (length held) long))
   | inr short ↦ rw short (record { free = free; short = ltb-false 32768 (length held) short })

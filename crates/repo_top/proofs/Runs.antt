@@ -13,21 +13,21 @@ use Rattle.repo_top.specs.declared.ending.Ending.TheVariants as ending
 use Rattle.repo_top.specs.declared.status.Status.{Status}
 use Rattle.repo_top.specs.declared.status.Status.TheVariants.{Done, Usage, Refused, ReadFault, WriteFault, NoMemory, Foreign}
 use Rattle.repo_top.specs.declared.refusal.Refusal.TheVariants.{Limit}
-use Rattle.repo_top.specs.Outside.{Gains, GainsFront}
+use Rattle.repo_top.specs.Outside.{GainsText, GainsFront}
 use Rattle.repo_top.specs.Lines.{IsWhole, has_feed, lines}
 use Rattle.repo_top.specs.Judging.{Given, Verdict, foreign, refused, says}
-use Rattle.repo_top.specs.Reading.{HasLine, IsBegun, IsTooLong}
-use Rattle.repo_top.specs.Story.{Reached, Story, after, behind, ended, judged_next, nothing_reached, story_from, story_of}
+use Rattle.repo_top.specs.Reading.{HasLine, LineIsBegun, IsTooLong}
+use Rattle.repo_top.specs.Story.{Reached, Story, reached_behind, behind_text, ended, judged_next, nothing_reached, story_from, story_of}
 use Rattle.repo_top.specs.Answers.{IsTold, status_of}
-use Rattle.repo_top.specs.Taken.{IsStoppedAt, IsTakenNear, Lacks, can_be_judged, end_of_line, lines_so_far, lines_taken, report_of, report_through, taken}
-use Rattle.repo_top.specs.Carrying.{Carried, EndsIn, Finishes, IsStopping, Known, Ran, Stops, Tells, Took}
+use Rattle.repo_top.specs.Taken.{IsStoppedAt, IsTakenNear, LacksText, can_be_judged, end_of_line, lines_so_far, lines_taken, report_of, report_through, taken}
+use Rattle.repo_top.specs.Carrying.{Carried, EndsIn, Finishes, IsStopping, Known, Ran, Stops, StatusTells, Took}
 use Rattle.repo_top.proofs.LineLaws.{open_line, whole_first}
 use Rattle.repo_top.proofs.Outputs.{front_behind, front_none, front_so_far, front_whole, nothing_gained}
 use Rattle.repo_top.proofs.Stories.{behind_behind, first_line_story, goes_on, long_refused, no_lines, refused_story}
 
 -- ---- what a status says of a story
 
-lacks_behind : (a b d : Option (List ℕ)) (text more : List ℕ) → Gains a b text → IfSome b (λ _. Lacks b d more) → IfSome a (λ _. Lacks a d (text ++ more))
+lacks_behind : (a b d : Option (List ℕ)) (text more : List ℕ) → GainsText a b text → IfSome b (λ _. LacksText b d more) → IfSome a (λ _. LacksText a d (text ++ more))
 lacks_behind None b d text more p h = tt
 lacks_behind (Some x) None d text more p h = absurd p
 lacks_behind (Some x) (Some y) None text more p h = absurd h
@@ -35,7 +35,7 @@ lacks_behind (Some x) (Some y) (Some z) text more p h =
     let size = ap length p in
     omega (arith, h, size, length-append x text, length-append text more)
 
-pub tells_behind : (s : Story) (a b d : Option (List ℕ)) (text : List ℕ) (status : Status) → Gains a b text → Tells s b d status → Tells (behind text s) a d status
+pub tells_behind : (s : Story) (a b d : Option (List ℕ)) (text : List ℕ) (status : Status) → GainsText a b text → StatusTells s b d status → StatusTells (behind_text text s) a d status
 tells_behind s a b d text status p t = record {
   ending = t.ending;
   text = λ told. Appends-trans a b d text s.text p (t.text told);
@@ -61,7 +61,7 @@ module _ (given : Given) (held : List ℕ) (r : Reached) (a b : Option (List ℕ
     gained = so_far.gained;
   }
 
-  story_is : story_of given input ≡ behind so_far.text (story_from given r (lines (held ++ rest)))
+  story_is : story_of given input ≡ behind_text so_far.text (story_from given r (lines (held ++ rest)))
   story_is = ap (story_of given) so_far.parts ∙ ap (story_from given nothing_reached) (so_far.cut (held ++ rest)) ∙ so_far.goes (lines (held ++ rest))
 
   taken_is : taken input rest ≡ so_far.octets ++ held
@@ -92,7 +92,7 @@ module _ (given : Given) (held : List ℕ) (r next : Reached) (a b d : Option (L
         joined = concat-append so_far.done (line ∷ []) ∙ ap (λ (t : List ℕ). t ++ (line ++ [])) so_far.joined ∙ ap (λ (t : List ℕ). so_far.octets ++ t) (append-nil line);
         count = omega (arith, ap (λ (t : Reached). t.lines) took.then, so_far.count, length-append so_far.done (line ∷ []));
         judged = filter-append can_be_judged so_far.done (line ∷ []) ∙ rw (so_far.judged, judged_whole line whole) refl;
-        goes = λ others. ap (story_from given nothing_reached) (append_assoc so_far.done (line ∷ []) others) ∙ so_far.goes (line ∷ others) ∙ ap (behind so_far.text) (goes_on given r line next b d took others) ∙ behind_behind so_far.text took.report (story_from given next others);
+        goes = λ others. ap (story_from given nothing_reached) (append_assoc so_far.done (line ∷ []) others) ∙ so_far.goes (line ∷ others) ∙ ap (behind_text so_far.text) (goes_on given r line next b d took others) ∙ behind_behind so_far.text took.report (story_from given next others);
         gained = Appends-trans a b d so_far.text took.report so_far.gained took.gained;
       }
 
@@ -113,7 +113,7 @@ fewer_lines given r [] others = let none = ap (λ (s : Story). length s.text) (n
 fewer_lines given r (line ∷ front) others = by_verdict (λ next. fewer_lines given next front others) (judged_next given r line) refl where
   by_verdict : ((next : Reached) → length (story_from given next front).text ≤ length (story_from given next (front ++ others)).text) → (v : Verdict) → judged_next given r line ≡ v → length (story_from given r (line ∷ front)).text ≤ length (story_from given r (line ∷ (front ++ others))).text
   by_verdict fewer (says report next) e =
-      let after_line = after r line report next in
+      let after_line = reached_behind r line report next in
       rw (refused_story given r line (says report next) front e, refused_story given r line (says report next) (front ++ others) e)
       (omega (arith, fewer after_line, length-append report (story_from given after_line front).text, length-append report (story_from given after_line (front ++ others)).text))
   by_verdict fewer (refused why) e =
@@ -123,7 +123,7 @@ fewer_lines given r (line ∷ front) others = by_verdict (λ next. fewer_lines g
 
 -- ---- how a run ends
 
-begun_judged : (held : List ℕ) → IsBegun held → filter can_be_judged (lines held) ≡ []
+begun_judged : (held : List ℕ) → LineIsBegun held → filter can_be_judged (lines held) ≡ []
 unfolding lines
 begun_judged [] h = refl
 begun_judged (o ∷ os) h =
@@ -154,7 +154,7 @@ first_judged held count h = by_line h.line where
         are = ap (filter can_be_judged) (open_line held some long.0.free) ∙ rw now (ap (λ (t : List ℕ). t ∷ []) (sym all));
       }
 
-longer : (a b d : Option (List ℕ)) (text : List ℕ) (n : ℕ) (report more : List ℕ) → Gains a b text → GainsFront b d more → length report ≤ length text → Lacks a d report → ⊥
+longer : (a b d : Option (List ℕ)) (text : List ℕ) (n : ℕ) (report more : List ℕ) → GainsText a b text → GainsFront b d more → length report ≤ length text → LacksText a d report → ⊥
 longer None b d text n report more p f le h = h
 longer (Some x) None d text n report more p f le h = p
 longer (Some x) (Some y) None text n report more p f le h = h
@@ -184,10 +184,10 @@ module _ (given : Given) (held : List ℕ) (r next : Reached) (a b d : Option (L
       let first : take n (lines input) ≡ take n so_far.done = ap (take n) lines_are ∙ take-append-le n so_far.done (lines (held ++ rest)) count in
       let fewer = fewer_lines given nothing_reached (take n so_far.done) (drop n so_far.done) in
       let all : report_of given (take n so_far.done ++ drop n so_far.done) ≡ so_far.text ++ [] =
-      ap (report_of given) (take-append-drop n so_far.done ∙ sym (append-nil so_far.done)) ∙ ap (λ (s : Story). s.text) (so_far.goes [] ∙ ap (behind so_far.text) (no_lines given r)) in
+      ap (report_of given) (take-append-drop n so_far.done ∙ sym (append-nil so_far.done)) ∙ ap (λ (s : Story). s.text) (so_far.goes [] ∙ ap (behind_text so_far.text) (no_lines given r)) in
       omega (arith, fewer, ap length all, length-append {A = ℕ} so_far.text [], ap (λ (t : List (List ℕ)). length (report_of given t)) first)
 
-  near_fault : (more : List ℕ) → GainsFront b d more → length held ≤ 65536 → (n : ℕ) → Lacks a d (report_through given n input) → IsTakenNear n input rest
+  near_fault : (more : List ℕ) → GainsFront b d more → length held ≤ 65536 → (n : ℕ) → LacksText a d (report_through given n input) → IsTakenNear n input rest
   near_fault more f few n lacks = elim (leb_tells r.lines n) [
     | inl le ↦ near n le.1 few
     | inr lt ↦ absurd (longer a b d so_far.text n (report_through given n input) more so_far.gained f (few_reported n (omega (arith, lt.1))) lacks)
@@ -206,16 +206,16 @@ front_taken given a d input [] whole part = whole
 front_taken given a d input (o ∷ os) whole part = part
 
 -- the source failed
-pub ran_unread : (Last : Story → Type 0) (given : Given) (held : List ℕ) (r : Reached) (a b : Option (List ℕ)) (input rest : List ℕ) → Carried given held r a b input rest → IsBegun held → Ran given a b ReadFault Last input rest
+pub ran_unread : (Last : Story → Type 0) (given : Given) (held : List ℕ) (r : Reached) (a b : Option (List ℕ)) (input rest : List ℕ) → Carried given held r a b input rest → LineIsBegun held → Ran given a b ReadFault Last input rest
 ran_unread Last given held r a b input rest so_far begun =
     let story = story_is given held r a b input rest so_far in
     let front : GainsFront a b (story_of given input).text =
     front_so_far a b so_far.text (story_from given r (lines (held ++ rest))).text (story_of given input).text (ap (λ (s : Story). s.text) story) so_far.gained in
     let lines_are_done : lines_so_far (taken input rest) ≡ so_far.done ++ [] = so_far_is given held r a b input rest so_far ∙ ap (λ (t : List (List ℕ)). so_far.done ++ t) (begun_judged held begun) in
     let text : report_of given (lines_so_far (taken input rest)) ≡ so_far.text =
-    ap (report_of given) lines_are_done ∙ ap (λ (s : Story). s.text) (so_far.goes [] ∙ ap (behind so_far.text) (no_lines given r)) ∙ append-nil so_far.text in
-    let P : List ℕ → Type 0 = λ t. Gains a b t in
-    let exact : Gains a b (report_of given (lines_so_far (taken input rest))) = subst P (sym text) so_far.gained in
+    ap (report_of given) lines_are_done ∙ ap (λ (s : Story). s.text) (so_far.goes [] ∙ ap (behind_text so_far.text) (no_lines given r)) ∙ append-nil so_far.text in
+    let P : List ℕ → Type 0 = λ t. GainsText a b t in
+    let exact : GainsText a b (report_of given (lines_so_far (taken input rest))) = subst P (sym text) so_far.gained in
     record {
       tells = record { ending = λ told. absurd told; text = λ told. absurd told; front = front; lacks = λ e. absurd cc };
       read_to_end = λ e. absurd cc;
@@ -235,9 +235,9 @@ module _ (given : Given) (held : List ℕ) (r next : Reached) (a b d : Option (L
   ran_stopped Last =
       let line = take count held in
       let behind_line = lines (drop count held ++ rest) in
-      let story : story_of given input ≡ behind so_far.text (story_from given r (line ∷ behind_line)) =
-      story_is given held r a b input rest so_far ∙ ap (behind so_far.text) (first_line_story given r held rest count h) in
-      let Q : Story → Type 0 = λ s. Tells s a d status in
+      let story : story_of given input ≡ behind_text so_far.text (story_from given r (line ∷ behind_line)) =
+      story_is given held r a b input rest so_far ∙ ap (behind_text so_far.text) (first_line_story given r held rest count h) in
+      let Q : Story → Type 0 = λ s. StatusTells s a d status in
       let tells = subst Q (sym story) (tells_behind (story_from given r (line ∷ behind_line)) a b d so_far.text status so_far.gained (stops.tells behind_line)) in
       let first = first_judged held count h in
       let fronts = stops.tells first.others in
@@ -254,9 +254,9 @@ module _ (given : Given) (held : List ℕ) (r next : Reached) (a b d : Option (L
 -- the run came to the end of its input
 pub ran_finished : (given : Given) (held : List ℕ) (r next : Reached) (a b d : Option (List ℕ)) (input rest : List ℕ) (status : Status) → Carried given held r a b input rest → rest ≡ [] → length held ≤ 65536 → Finishes given r (lines held) next b d status → Ran given a d status (EndsIn next.state) input rest
 ran_finished given held r next a b d input rest status so_far none few f =
-    let story : story_of given input ≡ behind so_far.text (story_from given r (lines held)) =
-    story_is given held r a b input rest so_far ∙ ap (λ (t : List ℕ). behind so_far.text (story_from given r (lines t))) (ap (λ (t : List ℕ). held ++ t) none ∙ append-nil held) in
-    let Q : Story → Type 0 = λ s. Tells s a d status in
+    let story : story_of given input ≡ behind_text so_far.text (story_from given r (lines held)) =
+    story_is given held r a b input rest so_far ∙ ap (λ (t : List ℕ). behind_text so_far.text (story_from given r (lines t))) (ap (λ (t : List ℕ). held ++ t) none ∙ append-nil held) in
+    let Q : Story → Type 0 = λ s. StatusTells s a d status in
     let tells = subst Q (sym story) (tells_behind (story_from given r (lines held)) a b d so_far.text status so_far.gained f.tells) in
     record {
       tells = tells;
@@ -276,7 +276,7 @@ unfolding lines
 finishes_none given r a last none =
     let F : List ℕ → Type 0 = λ t. Finishes given r (lines t) r a a Done in
     let ends = no_lines given r in
-    let T : Story → Type 0 = λ s. Tells s a a Done in
+    let T : Story → Type 0 = λ s. StatusTells s a a Done in
     subst F (sym none) (record {
       tells = subst T (sym ends) (record { ending = λ told. refl; text = λ told. nothing_gained a; front = front_whole a a [] (nothing_gained a); lacks = λ e. absurd cc });
       at = λ number at. absurd at;
@@ -284,17 +284,17 @@ finishes_none given r a last none =
       last = λ e. record { keys = ap (λ (s : Story). s.keys) ends; world = ap (λ (s : Story). s.world) ends };
     })
 
-module _ (given : Given) (r next : Reached) (a b : Option (List ℕ)) (last : List ℕ) (some : last ≢ []) (begun : IsBegun last) where
+module _ (given : Given) (r next : Reached) (a b : Option (List ℕ)) (last : List ℕ) (some : last ≢ []) (begun : LineIsBegun last) where
   one_line : lines last ≡ last ∷ []
   one_line = open_line last some begun.free
 
   pub finishes_line : Took given r last next a b → Finishes given r (lines last) next a b Done
   finishes_line took =
-      let story : story_from given r (lines last) ≡ behind took.report (ended next.state [] ending.Done) =
-      ap (story_from given r) one_line ∙ goes_on given r last next a b took [] ∙ ap (behind took.report) (no_lines given next) in
+      let story : story_from given r (lines last) ≡ behind_text took.report (ended next.state [] ending.Done) =
+      ap (story_from given r) one_line ∙ goes_on given r last next a b took [] ∙ ap (behind_text took.report) (no_lines given next) in
       let all : took.report ≡ took.report ++ [] = sym (append-nil took.report) in
-      let gained = subst (Gains a b) all took.gained in
-      let T : Story → Type 0 = λ s. Tells s a b Done in
+      let gained = subst (GainsText a b) all took.gained in
+      let T : Story → Type 0 = λ s. StatusTells s a b Done in
       record {
         tells = subst T (sym story) (record { ending = λ told. refl; text = λ told. gained; front = front_whole a b (took.report ++ []) gained; lacks = λ e. absurd cc });
         at = λ number at. absurd at;
@@ -305,7 +305,7 @@ module _ (given : Given) (r next : Reached) (a b : Option (List ℕ)) (last : Li
   pub finishes_stopped : (status : Status) → Stops given r last a b status → Finishes given r (lines last) next a b status
   finishes_stopped status stops =
       let never : (other : Status) → (IsStopping other → ⊥) → status ≡ other → ⊥ = λ other not_so e. not_so (subst IsStopping e stops.stops) in
-      let T : List (List ℕ) → Type 0 = λ ls. Tells (story_from given r ls) a b status in
+      let T : List (List ℕ) → Type 0 = λ ls. StatusTells (story_from given r ls) a b status in
       record {
         tells = subst T (sym one_line) (stops.tells []);
         at = stops.at;
@@ -334,7 +334,7 @@ module _ (given : Given) (a : Option (List ℕ)) where
     pub known_stopped : (Last : Story → Type 0) (status : Status) → HasLine count held → length held ≤ 65536 → Stops given r (take count held) b d status → Known before now (Carried given held r a b) → Known before now (Ran given a d status Last)
     known_stopped Last status h few stops = known_map (Carried given held r a b) (Ran given a d status Last) (λ input rest so_far. ran_stopped given held r next a b d input rest count status so_far h few stops Last) before now
 
-  pub known_unread : (Last : Story → Type 0) (held : List ℕ) (r : Reached) (b before now : Option (List ℕ)) → IsBegun held → Known before now (Carried given held r a b) → Known before now (Ran given a b ReadFault Last)
+  pub known_unread : (Last : Story → Type 0) (held : List ℕ) (r : Reached) (b before now : Option (List ℕ)) → LineIsBegun held → Known before now (Carried given held r a b) → Known before now (Ran given a b ReadFault Last)
   known_unread Last held r b before now begun = known_map (Carried given held r a b) (Ran given a b ReadFault Last) (λ input rest so_far. ran_unread Last given held r a b input rest so_far begun) before now
 
   pub known_finished : (held : List ℕ) (r next : Reached) (b d before now : Option (List ℕ)) (status : Status) → IsAtEnd now → length held ≤ 65536 → Finishes given r (lines held) next b d status → Known before now (Carried given held r a b) → Known before now (Ran given a d status (EndsIn next.state))

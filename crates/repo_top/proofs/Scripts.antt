@@ -2,9 +2,9 @@
 use Rattle.std.proofs.Common.{◌≡◌, ℕ, zero, suc, ◌+◌, ◌<◌, ◌≤◌, ◌≢◌, List, [], ◌∷◌, ◌++◌, length, Option, None, refl, sym, subst, arith, inl, inr}
 use Rattle.std.proofs.KnownBytes.{Appends-trans}
 use Rattle.std.proofs.lemmas.Bool.Decides.{leb_tells}
-use Rattle.repo_top.specs.Outside.{Gains, GainsFront}
+use Rattle.repo_top.specs.Outside.{GainsText, GainsFront}
 use Rattle.repo_top.specs.Forms.{gen_of}
-use Rattle.repo_top.specs.Generator.{next_state, state, texts}
+use Rattle.repo_top.specs.Generator.{next_state, generator_state, texts}
 use Rattle.repo_top.proofs.Outputs.{front_behind, front_longer, front_whole, nothing_gained}
 
 -- five texts that are written one after another, and the fronts that faults leave
@@ -34,7 +34,7 @@ front_of_texts a b text k (suc n) le f =
     ]
 
 module _ (text : ℕ → List ℕ) where
-  pub no_texts : (a : Option (List ℕ)) → Gains a a (texts text 0)
+  pub no_texts : (a : Option (List ℕ)) → GainsText a a (texts text 0)
   unfolding texts
   no_texts a = nothing_gained a
 
@@ -42,20 +42,20 @@ module _ (text : ℕ → List ℕ) where
   unfolding texts
   texts_more k = let e : k + 1 ≡ suc k = omega arith in rw e refl
 
-  pub one_text_more : (a b d : Option (List ℕ)) (k : ℕ) → Gains a b (texts text k) → Gains b d (text (k + 1)) → Gains a d (texts text (k + 1))
+  pub one_text_more : (a b d : Option (List ℕ)) (k : ℕ) → GainsText a b (texts text k) → GainsText b d (text (k + 1)) → GainsText a d (texts text (k + 1))
   one_text_more a b d k p q =
-      subst (Gains a d) (sym (texts_more k)) (Appends-trans a b d (texts text k) (text (k + 1)) p q)
+      subst (GainsText a d) (sym (texts_more k)) (Appends-trans a b d (texts text k) (text (k + 1)) p q)
 
-  pub front_so_many : (a b : Option (List ℕ)) (k n : ℕ) → k ≤ n → Gains a b (texts text k) → GainsFront a b (texts text n)
+  pub front_so_many : (a b : Option (List ℕ)) (k n : ℕ) → k ≤ n → GainsText a b (texts text k) → GainsFront a b (texts text n)
   front_so_many a b k n le p = front_of_texts a b text k n le (front_whole a b (texts text k) p)
 
-  pub front_in_next : (a b d : Option (List ℕ)) (k n : ℕ) → k < n → Gains a b (texts text k) → GainsFront b d (text (k + 1)) → GainsFront a d (texts text n)
+  pub front_in_next : (a b d : Option (List ℕ)) (k n : ℕ) → k < n → GainsText a b (texts text k) → GainsFront b d (text (k + 1)) → GainsFront a d (texts text n)
   front_in_next a b d k n lt p f =
       let one = front_behind a b d (texts text k) (text (k + 1)) p f in
       front_of_texts a d text (k + 1) n (omega (arith, lt)) (subst (GainsFront a d) (sym (texts_more k)) one)
 
-pub state_more : (seed k : ℕ) → state seed (k + 1) ≡ next_state (state seed k)
-unfolding state
+pub state_more : (seed k : ℕ) → generator_state seed (k + 1) ≡ next_state (generator_state seed k)
+unfolding generator_state
 state_more seed k = let e : k + 1 ≡ suc k = omega arith in rw e refl
 
 -- words that are not four ask for no script

@@ -5,30 +5,30 @@ use Rattle.repo_top.specs.declared.status.Status.{Status}
 use Rattle.repo_top.specs.declared.status.Status.TheVariants.{Done, Usage, Refused, ReadFault, WriteFault, NoMemory, Foreign}
 use Rattle.repo_top.specs.declared.stop.Stop.{Stop}
 use Rattle.repo_top.specs.declared.stop.Stop.TheVariants as stop
-use Rattle.repo_top.specs.Outside.{Gains, GainsFront}
+use Rattle.repo_top.specs.Outside.{GainsText, GainsFront}
 use Rattle.repo_top.specs.Judging.{Given, State, judged, says}
 use Rattle.repo_top.specs.Progressing.{IsStop}
 use Rattle.repo_top.specs.Refusals.{refusal_number}
-use Rattle.repo_top.specs.Story.{Reached, Story, after, behind, judged_next, story_from}
+use Rattle.repo_top.specs.Story.{Reached, Story, reached_behind, behind_text, judged_next, story_from}
 use Rattle.repo_top.specs.Answers.{IsTold, status_of}
-use Rattle.repo_top.specs.Taken.{IsStoppedAt, Lacks}
-use Rattle.repo_top.specs.Carrying.{Halts, IsStopping, Stops, Tells, stop_status, stop_text}
+use Rattle.repo_top.specs.Taken.{IsStoppedAt, LacksText}
+use Rattle.repo_top.specs.Carrying.{Halts, IsStopping, Stops, StatusTells, stop_status, stop_text}
 use Rattle.repo_top.proofs.Outputs.{front_longer, front_taken}
 use Rattle.repo_top.proofs.Stories.{refused_story, stop_tells}
 
 -- ---- a text that was not written whole
 
-pub lacks_taken : (a b : Option (List ℕ)) (n : ℕ) (text : List ℕ) → Gains a b (take n text) → n < length text → IfSome a (λ _. Lacks a b text)
+pub lacks_taken : (a b : Option (List ℕ)) (n : ℕ) (text : List ℕ) → GainsText a b (take n text) → n < length text → IfSome a (λ _. LacksText a b text)
 lacks_taken None b n text p lt = tt
 lacks_taken (Some x) None n text p lt = absurd p
 lacks_taken (Some x) (Some y) n text p lt = omega (arith, ap length p, length-append x (take n text), length-take n text, lt)
 
-lacks_more : (a b : Option (List ℕ)) (text more : List ℕ) → length text ≤ length more → IfSome a (λ _. Lacks a b text) → IfSome a (λ _. Lacks a b more)
+lacks_more : (a b : Option (List ℕ)) (text more : List ℕ) → length text ≤ length more → IfSome a (λ _. LacksText a b text) → IfSome a (λ _. LacksText a b more)
 lacks_more None b text more le h = tt
 lacks_more (Some x) None text more le h = absurd h
 lacks_more (Some x) (Some y) text more le h = omega (arith, le, h)
 
-pub halts_unwritten : (line : ℕ) (why : Stop) (a b : Option (List ℕ)) (n : ℕ) → Gains a b (take n (stop_text line why)) → n < length (stop_text line why) → Halts line why a b WriteFault
+pub halts_unwritten : (line : ℕ) (why : Stop) (a b : Option (List ℕ)) (n : ℕ) → GainsText a b (take n (stop_text line why)) → n < length (stop_text line why) → Halts line why a b WriteFault
 halts_unwritten line why a b n p lt = record {
   stops = tt;
   same = λ told. absurd told;
@@ -41,14 +41,14 @@ halts_unwritten line why a b n p lt = record {
 
 module _ (given : Given) (r : Reached) (line : List ℕ) (a b : Option (List ℕ)) where
   -- its report was not written whole
-  pub stops_unwritten : (report : List ℕ) (next : State) (n : ℕ) → judged_next given r line ≡ says report next → Gains a b (take n report) → n < length report → Stops given r line a b WriteFault
+  pub stops_unwritten : (report : List ℕ) (next : State) (n : ℕ) → judged_next given r line ≡ says report next → GainsText a b (take n report) → n < length report → Stops given r line a b WriteFault
   stops_unwritten report next n verdict p lt = record {
     stops = tt;
     tells = λ others.
-        let more = (story_from given (after r line report next) others).text in
+        let more = (story_from given (reached_behind r line report next) others).text in
         let text : (story_from given r (line ∷ others)).text ≡ report ++ more = ap (λ (s : Story). s.text) (refused_story given r line (says report next) others verdict) in
         let F : List ℕ → Type 0 = λ t. GainsFront a b t in
-        let L : List ℕ → Type 0 = λ t. IfSome a (λ _. Lacks a b t) in
+        let L : List ℕ → Type 0 = λ t. IfSome a (λ _. LacksText a b t) in
         record {
           ending = λ told. absurd told;
           text = λ told. absurd told;
@@ -77,11 +77,11 @@ module _ (given : Given) (r : Reached) (line : List ℕ) (a b : Option (List ℕ
       let P : Status → Type 0 = λ s. IsStoppedAt s number in
       stopped_there why number (subst P (h.same (told_where status number at)) at)
 
-  by_texts : (why : Stop) (status : Status) (s : Story) → Halts (r.lines + 1) why a b status → s.text ≡ stop_text (r.lines + 1) why → status_of s.ending ≡ stop_status (r.lines + 1) why → Tells s a b status
+  by_texts : (why : Stop) (status : Status) (s : Story) → Halts (r.lines + 1) why a b status → s.text ≡ stop_text (r.lines + 1) why → status_of s.ending ≡ stop_status (r.lines + 1) why → StatusTells s a b status
   by_texts why status s h text ending =
-      let G : List ℕ → Type 0 = λ t. Gains a b t in
+      let G : List ℕ → Type 0 = λ t. GainsText a b t in
       let F : List ℕ → Type 0 = λ t. GainsFront a b t in
-      let L : List ℕ → Type 0 = λ t. IfSome a (λ _. Lacks a b t) in
+      let L : List ℕ → Type 0 = λ t. IfSome a (λ _. LacksText a b t) in
       record {
         ending = λ told. h.same told ∙ sym ending;
         text = λ told. subst G (sym text) (h.text told);
@@ -90,7 +90,7 @@ module _ (given : Given) (r : Reached) (line : List ℕ) (a b : Option (List ℕ
       }
 
   -- nothing was written
-  by_nothing : (status : Status) (s : Story) → Halts (r.lines + 1) stop.NoMemory a b status → Tells s a b status
+  by_nothing : (status : Status) (s : Story) → Halts (r.lines + 1) stop.NoMemory a b status → StatusTells s a b status
   by_nothing status s h =
       let none : IsTold status → ⊥ = λ told. subst IsTold (h.same told) told in
       record {

@@ -4,7 +4,7 @@ use Rattle.std.proofs.lemmas.Bool.{and_right, both_ways, cases_Bool, lt-leb}
 use Rattle.std.proofs.lemmas.List.{append-nil, length-take, take-append-drop, take_all}
 use Rattle.std.proofs.lemmas.List.Folds.{list_any_at}
 use Rattle.script_lang.specs.declared.line_fault.LineFault.TheVariants as line_fault
-use Rattle.script_lang.specs.Lines.{ends_with, line_of, without_last}
+use Rattle.script_lang.specs.Lines.{ends_with, line_of, without_last_octet}
 use Rattle.repo_top.specs.declared.ending.Ending.TheVariants.{Done, Refused}
 use Rattle.repo_top.specs.declared.refusal.Refusal.TheVariants.{Limit}
 use Rattle.repo_top.specs.declared.stop.Stop.{Stop}
@@ -15,11 +15,11 @@ use Rattle.repo_top.specs.Refusals.{refusal_text}
 use Rattle.repo_top.specs.Answers.{status_of}
 use Rattle.repo_top.specs.Lines.{IsWhole, has_feed, lines}
 use Rattle.repo_top.specs.Reading.{HasLine, IsTooLong}
-use Rattle.repo_top.specs.Story.{Reached, Story, behind, ended, is_within_script, judged_next, story_from, told}
+use Rattle.repo_top.specs.Story.{Reached, Story, behind_text, ended, is_within_script, judged_next, story_from, story_of_line}
 use Rattle.repo_top.specs.Carrying.{Took, stop_status, stop_text}
 use Rattle.repo_top.proofs.LineLaws.{long_line, whole_first}
 
-pub behind_behind : (x y : List ℕ) (s : Story) → behind x (behind y s) ≡ behind (x ++ y) s
+pub behind_behind : (x y : List ℕ) (s : Story) → behind_text x (behind_text y s) ≡ behind_text (x ++ y) s
 behind_behind x y s =
     let with_text : List ℕ → Story = λ t. record { text = t; ending = s.ending; keys = s.keys; world = s.world } in
     ap with_text (sym (append_assoc x y s.text))
@@ -30,32 +30,32 @@ module _ (given : Given) (r : Reached) where
   no_lines = refl
 
   module _ (line : List ℕ) where
-    story_line : (others : List (List ℕ)) → story_from given r (line ∷ others) ≡ told (λ next. story_from given next others) r line (judged_next given r line)
+    story_line : (others : List (List ℕ)) → story_from given r (line ∷ others) ≡ story_of_line (λ next. story_from given next others) r line (judged_next given r line)
     unfolding story_from
     story_line others = refl
 
     -- a line that is taken
-    pub goes_on : (next : Reached) (old new : Option (List ℕ)) (t : Took given r line next old new) (others : List (List ℕ)) → story_from given r (line ∷ others) ≡ behind t.report (story_from given next others)
+    pub goes_on : (next : Reached) (old new : Option (List ℕ)) (t : Took given r line next old new) (others : List (List ℕ)) → story_from given r (line ∷ others) ≡ behind_text t.report (story_from given next others)
     goes_on next old new t others =
-        let tell : Verdict → Story = λ v. told (λ n. story_from given n others) r line v in
-        let then : Reached → Story = λ n. behind t.report (story_from given n others) in
+        let tell : Verdict → Story = λ v. story_of_line (λ n. story_from given n others) r line v in
+        let then : Reached → Story = λ n. behind_text t.report (story_from given n others) in
         story_line others ∙ ap tell t.verdict ∙ ap then (sym t.then)
 
     -- a line at which the run stops
     pub stop_tells : (s : Stop) → IsStop (judged_next given r line) s → s ≢ stop.NoMemory → (others : List (List ℕ))
         → ((story_from given r (line ∷ others)).text ≡ stop_text (r.lines + 1) s) × (status_of (story_from given r (line ∷ others)).ending ≡ stop_status (r.lines + 1) s)
     stop_tells (stop.Refused why) is some others =
-        let tell : Verdict → Story = λ v. told (λ n. story_from given n others) r line v in
+        let tell : Verdict → Story = λ v. story_of_line (λ n. story_from given n others) r line v in
         let story = story_line others ∙ ap tell is in
         (ap (λ (t : Story). t.text) story, ap (λ (t : Story). status_of t.ending) story)
     stop_tells stop.Foreign is some others =
-        let tell : Verdict → Story = λ v. told (λ n. story_from given n others) r line v in
+        let tell : Verdict → Story = λ v. story_of_line (λ n. story_from given n others) r line v in
         let story = story_line others ∙ ap tell is in
         (ap (λ (t : Story). t.text) story, ap (λ (t : Story). status_of t.ending) story)
     stop_tells stop.NoMemory is some others = absurd (some refl)
 
-    pub refused_story : (why : Verdict) (others : List (List ℕ)) → judged_next given r line ≡ why → story_from given r (line ∷ others) ≡ told (λ n. story_from given n others) r line why
-    refused_story why others e = let tell : Verdict → Story = λ v. told (λ n. story_from given n others) r line v in story_line others ∙ ap tell e
+    pub refused_story : (why : Verdict) (others : List (List ℕ)) → judged_next given r line ≡ why → story_from given r (line ∷ others) ≡ story_of_line (λ n. story_from given n others) r line why
+    refused_story why others e = let tell : Verdict → Story = λ v. story_of_line (λ n. story_from given n others) r line v in story_line others ∙ ap tell e
 
 -- ---- lines that are too long
 
@@ -67,7 +67,7 @@ not_ended (b ∷ bs) free = elim (cases_Bool (eqb (get_or (b ∷ bs) (length (b 
   | inl feed ↦ absurd (both_ways (has_feed (b ∷ bs)) free (list_any_at (λ octet. eqb octet 10) (b ∷ bs) (length (b ∷ bs) - 1) 0 (omega arith) feed))
 ]
 
-without_feed : (front rest : List ℕ) → has_feed front ≡ false → ends_with 10 (front ++ rest) ≡ true → length front ≤ length (without_last (front ++ rest))
+without_feed : (front rest : List ℕ) → has_feed front ≡ false → ends_with 10 (front ++ rest) ≡ true → length front ≤ length (without_last_octet (front ++ rest))
 without_feed front [] free ends = absurd (both_ways (ends_with 10 front) (not_ended front free) (ap (ends_with 10) (sym (append-nil front)) ∙ ends))
 without_feed front (b ∷ bs) free ends = omega (arith, length-take (length (front ++ b ∷ bs) - 1) (front ++ b ∷ bs), length-append front (b ∷ bs))
 
@@ -75,7 +75,7 @@ long_line_of : (front rest : List ℕ) → IsTooLong front → line_of (front ++
 long_line_of front rest long = elim (cases_Bool (ends_with 10 (front ++ rest))) [
   | inl ended_so ↦
       let more = without_feed front rest long.free ended_so in
-      let test : leb (length (without_last (front ++ rest))) 32768 ≡ false = lt-leb (length (without_last (front ++ rest))) 32768 (omega (arith, more, long.long)) in
+      let test : leb (length (without_last_octet (front ++ rest))) 32768 ≡ false = lt-leb (length (without_last_octet (front ++ rest))) 32768 (omega (arith, more, long.long)) in
       rw (ended_so, test) refl
   | inr open_ ↦
       let test : leb (length (front ++ rest)) 32768 ≡ false = lt-leb (length (front ++ rest)) 32768 (omega (arith, length-append front rest, long.long)) in

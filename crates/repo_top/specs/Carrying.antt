@@ -10,20 +10,20 @@ use Rattle.repo_top.specs.declared.status.Status.{Status}
 use Rattle.repo_top.specs.declared.status.Status.TheVariants.{Done, Usage, Refused, ReadFault, WriteFault, NoMemory, Foreign}
 use Rattle.repo_top.specs.declared.stop.Stop.{Stop}
 use Rattle.repo_top.specs.declared.stop.Stop.TheVariants as stop
-use Rattle.repo_top.specs.Outside.{Gains, GainsFront}
+use Rattle.repo_top.specs.Outside.{GainsText, GainsFront}
 use Rattle.repo_top.specs.Refusals.{refusal_number, refusal_text}
 use Rattle.repo_top.specs.Lines.{lines}
 use Rattle.bench_world.specs.Worlds.{GroupState, world_of}
 use Rattle.repo_top.specs.Judging.{Given, State, says}
-use Rattle.repo_top.specs.Progressing.{IsProgress, state, steps}
-use Rattle.repo_top.specs.Story.{Reached, Story, after, behind, judged_next, nothing_reached, story_from, story_of}
+use Rattle.repo_top.specs.Progressing.{IsProgress, progress_state, steps}
+use Rattle.repo_top.specs.Story.{Reached, Story, reached_behind, behind_text, judged_next, nothing_reached, story_from, story_of}
 use Rattle.repo_top.specs.Answers.{IsTold, status_of}
-use Rattle.repo_top.specs.Taken.{IsStoppedAt, IsTakenNear, Lacks, can_be_judged, lines_so_far, lines_taken, report_of, report_through, taken}
+use Rattle.repo_top.specs.Taken.{IsStoppedAt, IsTakenNear, LacksText, can_be_judged, lines_so_far, lines_taken, report_of, report_through, taken}
 
 -- ---- a script so far
 
 abbrev pub reached : Script → Reached
-reached s = record { lines = s.lines; octets = s.octets; reported = s.reported; state = state s.progress }
+reached s = record { lines = s.lines; octets = s.octets; reported = s.reported; state = progress_state s.progress }
 
 pub record IsScript (s : Script) : Type 0 where
   pub progress : IsProgress s.progress
@@ -39,8 +39,8 @@ pub record Took (given : Given) (r : Reached) (line : List ℕ) (next : Reached)
     (List ℕ)) : Type 0 where
   pub report : List ℕ
   pub verdict : judged_next given r line ≡ says report next.state
-  pub then : next ≡ after r line report next.state
-  pub gained : Gains old new report
+  pub then : next ≡ reached_behind r line report next.state
+  pub gained : GainsText old new report
 
 -- The status and the text of a run that stops so at the line of this number.
 abbrev pub stop_status : ℕ → Stop → Status
@@ -54,11 +54,11 @@ stop_text line stop.Foreign = foreign_text line
 stop_text line stop.NoMemory = []
 
 -- What a status says of a story whose text an output was to gain.
-pub record Tells (s : Story) (old new : Option (List ℕ)) (status : Status) : Type 0 where
+pub record StatusTells (s : Story) (old new : Option (List ℕ)) (status : Status) : Type 0 where
   pub ending : IsTold status → status ≡ status_of s.ending
-  pub text : IsTold status → Gains old new s.text
+  pub text : IsTold status → GainsText old new s.text
   pub front : GainsFront old new s.text
-  pub lacks : status ≡ WriteFault → IfSome old (λ _. Lacks old new s.text)
+  pub lacks : status ≡ WriteFault → IfSome old (λ _. LacksText old new s.text)
 
 -- The statuses with which a run stops at a line.
 abbrev pub IsStopping : Status → Type 0
@@ -74,36 +74,36 @@ IsStopping (Foreign line) = ⊤
 pub record Halts (line : ℕ) (why : Stop) (old new : Option (List ℕ)) (status : Status) : Type 0 where
   pub stops : IsStopping status
   pub same : IsTold status → status ≡ stop_status line why
-  pub text : IsTold status → Gains old new (stop_text line why)
+  pub text : IsTold status → GainsText old new (stop_text line why)
   pub front : GainsFront old new (stop_text line why)
-  pub lacks : status ≡ WriteFault → IfSome old (λ _. Lacks old new (stop_text line why))
+  pub lacks : status ≡ WriteFault → IfSome old (λ _. LacksText old new (stop_text line why))
 
 -- A run stopped at a line, whatever lines follow it.
 pub record Stops (given : Given) (r : Reached) (line : List ℕ) (old new : Option (List ℕ))
     (status : Status) : Type 0 where
   pub stops : IsStopping status
-  pub tells : (others : List (List ℕ)) → Tells (story_from given r (line ∷ others)) old new status
+  pub tells : (others : List (List ℕ)) → StatusTells (story_from given r (line ∷ others)) old new status
   pub at : (number : ℕ) → IsStoppedAt status number → number ≡ r.lines + 1
 
 -- A story leaves this group behind.
 pub record EndsIn (state : State) (s : Story) : Type 0 where
-  pub keys : s.keys ≡ state.keys
-  pub world : s.world ≡ state.world
+  pub keys : s.keys ≡ progress_state.keys
+  pub world : s.world ≡ progress_state.world
 
 -- The world that is left is that of the group.
 pub record Leaving (state : State) (end : Option GroupState) : Type 0 where
-  pub world : option_map world_of end ≡ state.world
-  pub keys : IfSome end (λ world. world.keys ≡ state.keys)
+  pub world : option_map world_of end ≡ progress_state.world
+  pub keys : IfSome end (λ world. world.keys ≡ progress_state.keys)
 
 -- The world that is left is that of the story.
-pub record Leaves (end : Option GroupState) (s : Story) : Type 0 where
+pub record LeavesWorld (end : Option GroupState) (s : Story) : Type 0 where
   pub world : option_map world_of end ≡ s.world
   pub keys : IfSome end (λ world. world.keys ≡ s.keys)
 
 -- A run ended with the last line, or before it where there is none.
 pub record Finishes (given : Given) (r : Reached) (lines_left : List (List ℕ)) (next : Reached)
     (old new : Option (List ℕ)) (status : Status) : Type 0 where
-  pub tells : Tells (story_from given r lines_left) old new status
+  pub tells : StatusTells (story_from given r lines_left) old new status
   pub at : (number : ℕ) → IsStoppedAt status number → number ≡ r.lines + 1
   pub read : (status ≡ ReadFault) → ⊥
   pub last : status ≡ Done → EndsIn next.state (story_from given r lines_left)
@@ -128,17 +128,17 @@ pub record Carried (given : Given) (held : List ℕ) (r : Reached) (old new : Op
   pub count : r.lines ≡ length done
   pub judged : filter can_be_judged done ≡ done
   pub goes : (others : List (List ℕ))
-      → story_from given nothing_reached (done ++ others) ≡ behind text (story_from given r others)
-  pub gained : Gains old new text
+      → story_from given nothing_reached (done ++ others) ≡ behind_text text (story_from given r others)
+  pub gained : GainsText old new text
 
 -- What a run over a known input comes to.
 pub record Ran (given : Given) (old new : Option (List ℕ)) (status : Status) (Last : Story → Type 0)
     (input rest : List ℕ) : Type 0 where
-  pub tells : Tells (story_of given input) old new status
+  pub tells : StatusTells (story_of given input) old new status
   pub read_to_end : status ≡ Done → rest ≡ []
   pub front_of_taken : GainsFront old new (report_of given (lines_taken input rest))
   pub near_line : (line : ℕ) → IsStoppedAt status line → IsTakenNear line input rest
   pub near_fault : status ≡ WriteFault → (line : ℕ)
-      → Lacks old new (report_through given line input) → IsTakenNear line input rest
-  pub exact : status ≡ ReadFault → Gains old new (report_of given (lines_so_far (taken input rest)))
+      → LacksText old new (report_through given line input) → IsTakenNear line input rest
+  pub exact : status ≡ ReadFault → GainsText old new (report_of given (lines_so_far (taken input rest)))
   pub last : status ≡ Done → Last (story_of given input)

@@ -60,11 +60,11 @@ IsGenerated (Some Inspect) = ⊥
 IsGenerated (Some (Gen measures)) = ⊤
 
 -- The input is read.
-abbrev pub IsRead : Option Asked → Type 0
-IsRead None = ⊥
-IsRead (Some Run) = ⊤
-IsRead (Some Inspect) = ⊤
-IsRead (Some (Gen measures)) = ⊥
+abbrev pub InputIsRead : Option Asked → Type 0
+InputIsRead None = ⊥
+InputIsRead (Some Run) = ⊤
+InputIsRead (Some Inspect) = ⊤
+InputIsRead (Some (Gen measures)) = ⊥
 
 -- What comes of the words over an input, where it is known or not needed.
 abbrev pub asked_story : Given → Option Asked → Option (List ℕ) → Option Story

@@ -10,9 +10,9 @@ abbrev pub next_state : ℕ → ℕ
 next_state state = (state * 6364136223846793005 + 1442695040888963407) % 18446744073709551616
 
 -- The state behind so many others; the seed is the first.
-unfoldable pub state : ℕ → ℕ → ℕ
-state seed zero = seed
-state seed (suc n) = next_state (state seed n)
+unfoldable pub generator_state : ℕ → ℕ → ℕ
+generator_state seed zero = seed
+generator_state seed (suc n) = next_state (generator_state seed n)
 
 -- The upper 31 bits of a state decide on an object.
 abbrev pub drawn : ℕ → ℕ
@@ -34,8 +34,8 @@ member_text member =
     ++ octet_text member ++ codes "\n"
 
 -- One of so many members publishes the `object`th object, of 100 to 500 equal octets.
-unfoldable pub publish_text : ℕ → ℕ → ℕ → List ℕ
-publish_text members object draw =
+unfoldable pub publish_line : ℕ → ℕ → ℕ → List ℕ
+publish_line members object draw =
     codes "publish m" ++ decimal (1 + draw % members) ++ codes " /o/" ++ decimal object
     ++ codes " 100 fill:" ++ decimal (100 * (1 + draw / 16 % 5)) ++ codes ":"
     ++ decimal (draw / 128 % 256) ++ codes "\n"
@@ -45,11 +45,11 @@ unfoldable pub deliver_text : ℕ → ℕ → List ℕ
 deliver_text object member =
     codes "deliver " ++ decimal object ++ codes " m" ++ decimal member ++ codes "\n"
 
-unfoldable pub fetch_text : ℕ → List ℕ
-fetch_text member = codes "fetch m" ++ decimal member ++ codes " 4 3 200\n"
+unfoldable pub fetch_line : ℕ → List ℕ
+fetch_line member = codes "fetch m" ++ decimal member ++ codes " 4 3 200\n"
 
 abbrev pub turn_text : ℕ → ℕ → List ℕ
-turn_text object member = deliver_text object member ++ fetch_text member
+turn_text object member = deliver_text object member ++ fetch_line member
 
 -- So do all members at every tenth object.
 abbrev pub turns_text : ℕ → ℕ → List ℕ
@@ -57,7 +57,7 @@ turns_text members object = if object % 10 == 0 then texts (turn_text object) me
 
 abbrev pub object_text : ℕ → ℕ → ℕ → List ℕ
 object_text members seed object =
-    publish_text members object (drawn (state seed object)) ++ turns_text members object
+    publish_line members object (drawn (generator_state seed object)) ++ turns_text members object
 
 -- The script of so many members and objects: the group and its members, the objects, and a settle at
 -- the end.

@@ -18,7 +18,7 @@ use Rattle.script_lang.specs.declared.verb.Verb.TheVariants as verb
 use Rattle.script_lang.specs.Kinds.{Text, Number}
 use Rattle.script_lang.specs.Forms.{Stated, said}
 use Rattle.script_lang.specs.Lines.{line_of}
-use Rattle.script_lang.specs.Checking.{label_of}
+use Rattle.script_lang.specs.Checking.{party_label}
 use Rattle.script_report.specs.Texts.{catalogue_text, foreign_text}
 use Rattle.repo_top.specs.declared.ending.Ending.{Ending}
 use Rattle.repo_top.specs.declared.ending.Ending.TheVariants.{Done, Refused, Foreign}
@@ -26,25 +26,25 @@ use Rattle.repo_top.specs.Refusals.{refusal_number, refusal_text}
 use Rattle.repo_top.specs.ToldTexts.{label_at, publisher_label}
 use Rattle.repo_top.specs.Judging.{Given, State, Verdict, says, foreign, found_world}
 use Rattle.repo_top.specs.Judging as verdict
-use Rattle.repo_top.specs.Story.{Reached, Story, after, behind, judged_next, nothing_reached, story_from}
+use Rattle.repo_top.specs.Story.{Reached, Story, reached_behind, behind_text, judged_next, nothing_reached, story_from}
 
 -- ---- lines that are taken
 
 -- A line is taken: it has this report, and this is reached behind it.
-pub record IsTaken (given : Given) (r : Reached) (line report : List ℕ) (new : Reached) : Type 0 where
+pub record LineIsTaken (given : Given) (r : Reached) (line report : List ℕ) (new : Reached) : Type 0 where
   pub verdict : judged_next given r line ≡ says report new.state
-  pub reached : new ≡ after r line report new.state
+  pub reached : new ≡ reached_behind r line report new.state
 
 -- Lines are taken one after the other: these are their reports, line by line, and this is reached behind the last.
-abbrev pub AreTaken : Given → Reached → List (List ℕ) → List (List ℕ) → Reached → Type 0
-AreTaken given r [] [] last = last ≡ r
-AreTaken given r (line ∷ lines) (report ∷ reports) last =
-    (next : Reached) × IsTaken given r line report next × AreTaken given next lines reports last
-AreTaken given r lines reports last = ⊥
+abbrev pub LinesAreTaken : Given → Reached → List (List ℕ) → List (List ℕ) → Reached → Type 0
+LinesAreTaken given r [] [] last = last ≡ r
+LinesAreTaken given r (line ∷ lines) (report ∷ reports) last =
+    (next : Reached) × LineIsTaken given r line report next × LinesAreTaken given next lines reports last
+LinesAreTaken given r lines reports last = ⊥
 
 -- The same of the first lines of a script.
 abbrev pub AreTakenFirst : Given → List (List ℕ) → List (List ℕ) → Reached → Type 0
-AreTakenFirst given lines reports last = AreTaken given nothing_reached lines reports last
+AreTakenFirst given lines reports last = LinesAreTaken given nothing_reached lines reports last
 
 -- One line amid those that are taken: what was reached and reported before it, and what comes behind it.
 pub record IsTakenAmid (given : Given) (r : Reached) (before : List (List ℕ)) (line : List ℕ)
@@ -55,9 +55,9 @@ pub record IsTakenAmid (given : Given) (r : Reached) (before : List (List ℕ)) 
   pub report : List ℕ
   pub later : List (List ℕ)
   pub reports_are : reports ≡ told ++ report ∷ later
-  pub before_it : AreTaken given r before told here
-  pub it : IsTaken given here line report new
-  pub behind_it : AreTaken given new others later last
+  pub before_it : LinesAreTaken given r before told here
+  pub it : LineIsTaken given here line report new
+  pub behind_it : LinesAreTaken given new others later last
 
 -- ---- stories
 
@@ -83,7 +83,7 @@ pub record IsToldBy (given : Given) (r : Reached) (script : List (List ℕ)) (s 
   pub last : Reached
   pub end : List ℕ
   pub lines : script ≡ first ++ others
-  pub taken : AreTaken given r first reports last
+  pub taken : LinesAreTaken given r first reports last
   pub number : last.lines ≡ r.lines + length first
   pub ends : EndsWith given last others end s.ending
   pub text : s.text ≡ concat reports ++ end
@@ -98,7 +98,7 @@ group_at given r = found_world given r.state
 
 -- The labels of the members, in the order of their numbers.
 abbrev pub labels_at : Reached → List (List ℕ)
-labels_at r = map label_of r.state.declared.members
+labels_at r = map party_label r.state.declared.members
 
 -- A sound group of the declared members, no two under one label.
 pub record IsGroupOfLines (given : Given) (r : Reached) : Type 0 where
@@ -134,15 +134,16 @@ pub record ListExactly (w : World) (m : ℕ) (entries : List Entry) : Type 0 whe
   pub told : All (λ e. e ≡ published_entry (publication_at (logs w) (publication_of e))) entries
 
 -- Entries are printed under the label of a member, each with the label of its publisher.
-abbrev pub printed : List (List ℕ) → List ℕ → List Entry → List ℕ
-printed labels label entries = catalogue_text label (length entries) (map (publisher_label labels) entries) entries
+abbrev pub printed_entries : List (List ℕ) → List ℕ → List Entry → List ℕ
+printed_entries labels label entries =
+    catalogue_text label (length entries) (map (publisher_label labels) entries) entries
 
 -- The report is the catalogue of the member with this label.
 pub record IsCatalogueOf (w : World) (labels : List (List ℕ)) (label report : List ℕ) : Type 0 where
   pub number : ℕ
   pub there : number < length w.members
   pub named : label_at labels number ≡ label
-  pub text : report ≡ printed labels label (catalogue_at w number)
+  pub text : report ≡ printed_entries labels label (catalogue_at w number)
   pub rightly : ListExactly w number (catalogue_at w number)
 
 -- ---- forms of line
@@ -151,14 +152,14 @@ pub record IsCatalogueOf (w : World) (labels : List (List ℕ)) (label report : 
 pub record IsCatalogueLine (given : Given) (r : Reached) (label report : List ℕ) (new : Reached) : Type 0 where
   pub line : List ℕ
   pub stated : Says line (said verb.Catalogue (Text label ∷ []))
-  pub taken : IsTaken given r line report new
+  pub taken : LineIsTaken given r line report new
 
 -- A `settle` line that is taken.
 pub record IsSettleLine (given : Given) (r : Reached) (report : List ℕ) (new : Reached) : Type 0 where
   pub line : List ℕ
   pub workers : ℕ
   pub stated : Says line (said verb.Settle (Number workers ∷ []))
-  pub taken : IsTaken given r line report new
+  pub taken : LineIsTaken given r line report new
 
 -- These forms tell of the group and change nothing.
 abbrev pub only_tells : Verb → Bool
@@ -199,12 +200,12 @@ deletes_nothing (Err fault) = true
 abbrev pub BeginsWithReports : Type 0
 BeginsWithReports = (given : Given) (first others reports : List (List ℕ)) (r : Reached)
     → AreTakenFirst given first reports r
-    → story_from given nothing_reached (first ++ others) ≡ behind (concat reports) (story_from given r others)
+    → story_from given nothing_reached (first ++ others) ≡ behind_text (concat reports) (story_from given r others)
 
 -- Each of the lines that are taken has its report at its place.
 abbrev pub EachIsTaken : Type 0
 EachIsTaken = (given : Given) (r : Reached) (before : List (List ℕ)) (line : List ℕ) (others reports : List (List ℕ))
-    (last : Reached) → AreTaken given r (before ++ line ∷ others) reports last
+    (last : Reached) → LinesAreTaken given r (before ++ line ∷ others) reports last
     → IsTakenAmid given r before line others reports last
 
 -- Whatever lines are taken, the group is sound then.
@@ -215,7 +216,7 @@ ReachSoundGroups = (given : Given) (lines reports : List (List ℕ)) (r : Reache
 -- The lines that change nothing leave the group as it is.
 abbrev pub TellingChangesNothing : Type 0
 TellingChangesNothing = (given : Given) (r : Reached) (line report : List ℕ) (new : Reached)
-    → IsTaken given r line report new → changes_nothing (line_of line) ≡ true → IsSameGroup given r new
+    → LineIsTaken given r line report new → changes_nothing (line_of line) ≡ true → IsSameGroup given r new
 
 -- A `catalogue` line prints exactly the undeleted objects that the member published or wholly holds.
 abbrev pub PrintsCatalogues : Type 0
@@ -227,10 +228,10 @@ PrintsCatalogues = (given : Given) (lines reports : List (List ℕ)) (r : Reache
 -- that change nothing.
 pub record IsJoined (given : Given) (r : Reached) : Type 0 where
   pub all : AllJoined (group_at given r)
-  pub shown : (lines reports : List (List ℕ)) (later : Reached) → AreTaken given r lines reports later
+  pub shown : (lines reports : List (List ℕ)) (later : Reached) → LinesAreTaken given r lines reports later
       → list_all (λ line. changes_nothing (line_of line)) lines ≡ true
       → (label report : List ℕ) (new : Reached) → IsCatalogueLine given later label report new
-      → report ≡ printed (labels_at r) label (join_of (logs (group_at given r)))
+      → report ≡ printed_entries (labels_at r) label (join_of (logs (group_at given r)))
 
 -- So it is right after a `settle` line, where nothing is hidden.
 abbrev pub SettlesJoin : Type 0

@@ -4,7 +4,7 @@ use Rattle.std.specs.List.{filter}
 use Rattle.hex.specs.Hex.{decode_of}
 use Rattle.hex.specs.declared.error.FromHexError.{FromHexError}
 use Rattle.ndn_tlv.specs.declared.tlv_fault.TlvFault.{TlvFault}
-use Rattle.ndn_inspect.specs.Inspection.{Lines, inspected, printed}
+use Rattle.ndn_inspect.specs.Inspection.{Lines, inspected, printed_with_fault}
 use Rattle.repo_top.specs.declared.ending.Ending.{Ending}
 use Rattle.repo_top.specs.declared.ending.Ending.TheVariants.{Done, Refused}
 use Rattle.repo_top.specs.declared.refusal.Refusal.TheVariants.{Syntax, Limit, BadPacket}
@@ -25,7 +25,7 @@ sound_ending None = Done
 sound_ending (Some fault) = Refused 1 (refusal_number BadPacket)
 
 abbrev pub lines_story : Lines → Story
-lines_story lines = plain_story (printed lines.text lines.fault) (sound_ending lines.fault)
+lines_story lines = plain_story (printed_with_fault lines.text lines.fault) (sound_ending lines.fault)
 
 -- The octets are inspected, where a packet may have so many.
 abbrev pub octets_story : List ℕ → Story

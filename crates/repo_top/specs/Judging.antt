@@ -10,7 +10,7 @@ use Rattle.ndn_name.specs.Names.{Component}
 use Rattle.script_lang.specs.Kinds.{Value, Text, Named, Octets}
 use Rattle.script_lang.specs.Forms.{Stated}
 use Rattle.script_lang.specs.Lines.{line_of}
-use Rattle.script_lang.specs.Checking.{Declared, nothing_declared, after_line, label_of}
+use Rattle.script_lang.specs.Checking.{Declared, nothing_declared, after_line, party_label}
 use Rattle.group_model.specs.World.{World, Outside, opening_world}
 use Rattle.group_model.specs.Steps.{after_event}
 use Rattle.group_model.specs.Refusals as group
@@ -69,7 +69,7 @@ event_refused group.Refusal.Foreign = foreign
 -- An event that is taken is a step of the group, and its report is what is told of it.
 abbrev pub stepped : Outside → GroupKeys → Declared → World → EventValue → Option group.Refusal → Verdict
 stepped out keys d w e (Some why) = event_refused why
-stepped out keys d w e None = says (told_text (map label_of d.members) (telling keys out w e))
+stepped out keys d w e None = says (told_text (map party_label d.members) (telling keys out w e))
     (record { declared = d; keys = keys; world = Some (after_event out w (group_event keys e)) })
 
 -- The event is carried out where the lines declare so much.
@@ -94,10 +94,10 @@ abbrev pub with_group : State → Declared → List Value → Verdict
 with_group s d (Named name ∷ []) = says [] (record { declared = d; keys = group_named name; world = s.world })
 with_group s d _ = refused refusal.Syntax
 
-abbrev pub with_member : State → Declared → List Value → Verdict
-with_member s d (Text label ∷ Named node ∷ Octets key ∷ []) =
+abbrev pub declaring_member : State → Declared → List Value → Verdict
+declaring_member s d (Text label ∷ Named node ∷ Octets key ∷ []) =
     says [] (record { declared = d; keys = with_member_too node key s.keys; world = s.world })
-with_member s d _ = refused refusal.Syntax
+declaring_member s d _ = refused refusal.Syntax
 
 abbrev pub with_client : State → Declared → List Value → Verdict
 with_client s d (Text label ∷ Named node ∷ Octets key ∷ []) =
@@ -114,7 +114,7 @@ acted_by given s d line = acted_if given s d (said_event d line)
 -- What a line does that nothing before it refuses.
 abbrev pub taken_by : Verb → Given → State → Declared → Stated → Verdict
 taken_by verb.Group given s d line = with_group s d line.values
-taken_by verb.Member given s d line = with_member s d line.values
+taken_by verb.Member given s d line = declaring_member s d line.values
 taken_by verb.Client given s d line = with_client s d line.values
 taken_by _ given s d line = acted_by given s d line
 

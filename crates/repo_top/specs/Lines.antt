@@ -3,16 +3,16 @@ use Rattle.std.specs.Prelude.{◌≡◌, ◌≢◌, ℕ, Bool, true, false, ⊤,
 use Rattle.std.specs.List.{list_any}
 
 -- An octet in front of lines. A line feed is the last octet of its line.
-abbrev pub in_front : ℕ → Bool → List (List ℕ) → List (List ℕ)
-in_front octet true others = (octet ∷ []) ∷ others
-in_front octet false [] = (octet ∷ []) ∷ []
-in_front octet false (line ∷ others) = (octet ∷ line) ∷ others
+abbrev pub octet_in_front : ℕ → Bool → List (List ℕ) → List (List ℕ)
+octet_in_front octet true others = (octet ∷ []) ∷ others
+octet_in_front octet false [] = (octet ∷ []) ∷ []
+octet_in_front octet false (line ∷ others) = (octet ∷ line) ∷ others
 
 -- The lines of an input, each with the line feed that ends it. What stands behind the last line feed is a line too, unless
 -- nothing does.
 unfoldable pub lines : List ℕ → List (List ℕ)
 lines [] = []
-lines (octet ∷ octets) = in_front octet (octet == 10) (lines octets)
+lines (octet ∷ octets) = octet_in_front octet (octet == 10) (lines octets)
 
 -- ---- what a line is
 

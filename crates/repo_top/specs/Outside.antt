@@ -7,12 +7,12 @@ abbrev pub HasRisen : ℕ → ℕ → Type 0
 HasRisen old new = (old < new) ⊎ (new ≡ 18446744073709551615)
 
 -- An output gained a text at its end, where it is known.
-abbrev pub Gains : Option (List ℕ) → Option (List ℕ) → List ℕ → Type 0
-Gains old new text = Appends old new text
+abbrev pub GainsText : Option (List ℕ) → Option (List ℕ) → List ℕ → Type 0
+GainsText old new text = Appends old new text
 
 -- An output gained a front of the text, and nothing else.
 pub record GainsFront (old new : Option (List ℕ)) (text : List ℕ) : Type 0 where
   pub written : List ℕ
   pub rest : List ℕ
   pub parts : text ≡ written ++ rest
-  pub gained : Gains old new written
+  pub gained : GainsText old new written

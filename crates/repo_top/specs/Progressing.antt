@@ -3,7 +3,7 @@ use Rattle.std.specs.Prelude.{ℕ, ◌≡◌, zero, Bool, true, false, List, map
 use Rattle.ndn_name.specs.Names.{Component}
 use Rattle.script_lang.specs.Forms.{Stated}
 use Rattle.script_lang.specs.Lines.{line_of}
-use Rattle.script_lang.specs.Checking.{Declared, Party, after_line, label_of}
+use Rattle.script_lang.specs.Checking.{Declared, Party, after_line, party_label}
 use Rattle.group_model.specs.World.{World}
 use Rattle.group_model.specs.Refusals as group
 use Rattle.repo_member.specs.Groups.{GroupKeys}
@@ -18,10 +18,10 @@ use Rattle.repo_top.specs.declared.stop.Stop.TheVariants as stop
 use Rattle.repo_top.specs.SaidEvents.{said_event}
 use Rattle.repo_top.specs.Judging.{State, Verdict, no_group, refused, foreign, event_refused}
 
-abbrev pub keys_in : Stage → GroupKeys
-keys_in Opening = no_group
-keys_in (Declaring group) = group
-keys_in (Acting world) = world.keys
+abbrev pub stage_keys : Stage → GroupKeys
+stage_keys Opening = no_group
+stage_keys (Declaring group) = group
+stage_keys (Acting world) = world.keys
 
 abbrev pub world_in : Stage → Option World
 world_in Opening = None
@@ -34,10 +34,10 @@ steps_in (Declaring group) = zero
 steps_in (Acting world) = world.steps
 
 abbrev pub state_of : Stage → Declared → State
-state_of stage d = record { declared = d; keys = keys_in stage; world = world_in stage }
+state_of stage d = record { declared = d; keys = stage_keys stage; world = world_in stage }
 
-abbrev pub state : Progress → State
-state p = state_of p.stage p.words
+abbrev pub progress_state : Progress → State
+progress_state p = state_of p.stage p.words
 
 abbrev pub has_group : Stage → Bool
 has_group Opening = false
@@ -57,14 +57,14 @@ abbrev pub steps : Progress → ℕ
 steps p = steps_in p.stage
 
 -- The labels and the group's names are those that lines declare.
-pub record AreNamed (kept : List (List ℕ)) (keys : GroupKeys) (d : Declared) : Type 0 where
-  pub labels : kept ≡ map label_of d.members
+pub record NamesAreDeclared (kept : List (List ℕ)) (keys : GroupKeys) (d : Declared) : Type 0 where
+  pub labels : kept ≡ map party_label d.members
   pub members : map node_of d.members ≡ keys.members.names
   pub clients : map node_of d.clients ≡ keys.clients.names
 
 -- What is kept is what lines declare: the group stands from its line on, the world from the first event on.
 pub record Stands (labels : List (List ℕ)) (stage : Stage) (d : Declared) : Type 0 where
-  pub named : AreNamed labels (keys_in stage) d
+  pub named : NamesAreDeclared labels (stage_keys stage) d
   pub group : d.group ≡ has_group stage
   pub events : d.events ≡ has_world stage
 
@@ -79,7 +79,7 @@ pub record IsLine (line : Stated) : Type 0 where
   pub read : line_of octets ≡ Ok (Some line)
 
 -- The line is taken behind those whose labels and stage are kept, and so much is declared behind it.
-pub record IsChecked (labels : List (List ℕ)) (stage : Stage) (d : Declared) (s : Stated) : Type 0 where
+pub record LineIsChecked (labels : List (List ℕ)) (stage : Stage) (d : Declared) (s : Stated) : Type 0 where
   pub line : IsLine s
   pub before : Declared
   pub stands : Stands labels stage before

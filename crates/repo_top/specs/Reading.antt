@@ -11,7 +11,7 @@ pub record IsTooLong (octets : List ℕ) : Type 0 where
   pub long : line_octets < length octets
 
 -- No line yet, or the last one.
-pub record IsBegun (held : List ℕ) : Type 0 where
+pub record LineIsBegun (held : List ℕ) : Type 0 where
   pub free : has_feed held ≡ false
   pub short : length held ≤ line_octets
 
@@ -22,7 +22,7 @@ pub record HasLine (count : ℕ) (held : List ℕ) : Type 0 where
 
 abbrev pub IsNext : List ℕ → Next → Type 0
 IsNext held (Line count) = HasLine count held
-IsNext held Last = IsBegun held
+IsNext held Last = LineIsBegun held
 
 -- What is held stands in the room between two places, and was searched for a line feed up to a third.
 pub record IsReader (room : List ℕ) (start end searched : ℕ) : Type 0 where

@@ -27,8 +27,8 @@ abbrev pub nothing_reached : Reached
 nothing_reached = record { lines = 0; octets = 0; reported = 0; state = opening_state }
 
 -- The same behind one more line, which had this report.
-abbrev pub after : Reached → List ℕ → List ℕ → State → Reached
-after r line report next = record {
+abbrev pub reached_behind : Reached → List ℕ → List ℕ → State → Reached
+reached_behind r line report next = record {
   lines = r.lines + 1;
   octets = r.octets + length line;
   reported = r.reported + length report;
@@ -64,25 +64,25 @@ pub record Story : Type 0 where
   pub world : Option World
 
 -- A text, and then a story.
-abbrev pub behind : List ℕ → Story → Story
-behind text s = record { text = text ++ s.text; ending = s.ending; keys = s.keys; world = s.world }
+abbrev pub behind_text : List ℕ → Story → Story
+behind_text text s = record { text = text ++ s.text; ending = s.ending; keys = s.keys; world = s.world }
 
 -- A story that ends here, with this text.
 abbrev pub ended : State → List ℕ → Ending → Story
 ended s text ending = record { text = text; ending = ending; keys = s.keys; world = s.world }
 
 -- The story of a line and of those behind it. A line that is refused or foreign ends it.
-abbrev pub told : (Reached → Story) → Reached → List ℕ → Verdict → Story
-told others r line (says report next) = behind report (others (after r line report next))
-told others r line (verdict.refused why) =
+abbrev pub story_of_line : (Reached → Story) → Reached → List ℕ → Verdict → Story
+story_of_line others r line (says report next) = behind_text report (others (reached_behind r line report next))
+story_of_line others r line (verdict.refused why) =
     ended r.state (refusal_text (r.lines + 1) why) (Refused (r.lines + 1) (refusal_number why))
-told others r line foreign = ended r.state (foreign_text (r.lines + 1)) (Foreign (r.lines + 1))
+story_of_line others r line foreign = ended r.state (foreign_text (r.lines + 1)) (Foreign (r.lines + 1))
 
 -- The story of lines that follow those so far.
 unfoldable pub story_from : Given → Reached → List (List ℕ) → Story
 story_from given r [] = ended r.state [] Done
 story_from given r (line ∷ others) =
-    told (λ next. story_from given next others) r line (judged_next given r line)
+    story_of_line (λ next. story_from given next others) r line (judged_next given r line)
 
 -- The story of an input.
 abbrev pub story_of : Given → List ℕ → Story

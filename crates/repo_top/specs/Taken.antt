@@ -37,10 +37,10 @@ abbrev pub report_through : Given → ℕ → List ℕ → List ℕ
 report_through given line input = report_of given (take line (lines input))
 
 -- An output lacks octets of a text that it was to gain.
-abbrev pub Lacks : Option (List ℕ) → Option (List ℕ) → List ℕ → Type 0
-Lacks (Some old) (Some new) text = length new < length old + length text
-Lacks (Some old) None text = ⊥
-Lacks None new text = ⊥
+abbrev pub LacksText : Option (List ℕ) → Option (List ℕ) → List ℕ → Type 0
+LacksText (Some old) (Some new) text = length new < length old + length text
+LacksText (Some old) None text = ⊥
+LacksText None new text = ⊥
 
 -- ---- bounds
 

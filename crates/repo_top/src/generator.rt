@@ -1,7 +1,7 @@
 ghost use Rattle.std.specs.Prelude.{◌≡◌, ◌<◌, ◌≤◌, ◌++◌, Err, OnOk, string_bytes};
 ghost use Rattle.repo_top.specs.declared.generator.Unwritten.TheVariants.{Failed, NoMemory};
-ghost use Rattle.repo_top.specs.Generator.{deliver_text, drawn, fetch_text, gen_text, member_text, next_state, object_text, octet_text, publish_text, texts, turn_text, turns_text};
-ghost use Rattle.repo_top.specs.Outside.{Gains, GainsFront, HasRisen};
+ghost use Rattle.repo_top.specs.Generator.{deliver_text, drawn, fetch_line, gen_text, member_text, next_state, object_text, octet_text, publish_line, texts, turn_text, turns_text};
+ghost use Rattle.repo_top.specs.Outside.{GainsText, GainsFront, HasRisen};
 
 use crate::sink::Sink;
 use crate::writing::{WriteFault, write_whole};
@@ -47,7 +47,7 @@ pub(crate) fn write_script<K: Sink>(
     measures: Measures,
 ) -> Result<(), Unwritten>
     requires { 0 < measures.members }
-    ensures whole { OnOk result (Gains (K.out sink.old) (K.out sink.new) (gen_text measures)) }
+    ensures whole { OnOk result (GainsText (K.out sink.old) (K.out sink.new) (gen_text measures)) }
     ensures front { GainsFront (K.out sink.old) (K.out sink.new) (gen_text measures) }
     ensures risen { result ≡ Err Failed → HasRisen (K.faults sink.old) (K.faults sink.new) }
 {
@@ -61,7 +61,7 @@ pub(crate) fn write_script<K: Sink>(
 }
 
 fn write_members<K: Sink>(sink: &mut K, line: &mut String, members: u64) -> Result<(), Unwritten>
-    ensures whole { OnOk result (Gains (K.out sink.old) (K.out sink.new) (texts member_text members)) }
+    ensures whole { OnOk result (GainsText (K.out sink.old) (K.out sink.new) (texts member_text members)) }
     ensures front { GainsFront (K.out sink.old) (K.out sink.new) (texts member_text members) }
     ensures risen { result ≡ Err Failed → HasRisen (K.faults sink.old) (K.faults sink.new) }
     ensures faults { K.faults sink.old ≤ K.faults sink.new }
@@ -79,7 +79,7 @@ fn write_objects<K: Sink>(
     measures: Measures,
 ) -> Result<(), Unwritten>
     requires { 0 < measures.members }
-    ensures whole { OnOk result (Gains (K.out sink.old) (K.out sink.new)
+    ensures whole { OnOk result (GainsText (K.out sink.old) (K.out sink.new)
         (texts (object_text measures.members measures.seed) measures.objects)) }
     ensures front { GainsFront (K.out sink.old) (K.out sink.new)
         (texts (object_text measures.members measures.seed) measures.objects) }
@@ -110,10 +110,10 @@ fn write_object<K: Sink>(
     draw: u64,
 ) -> Result<(), Unwritten>
     requires { 0 < members }
-    ensures whole { OnOk result (Gains (K.out sink.old) (K.out sink.new)
-        (publish_text members object draw ++ turns_text members object)) }
+    ensures whole { OnOk result (GainsText (K.out sink.old) (K.out sink.new)
+        (publish_line members object draw ++ turns_text members object)) }
     ensures front { GainsFront (K.out sink.old) (K.out sink.new)
-        (publish_text members object draw ++ turns_text members object) }
+        (publish_line members object draw ++ turns_text members object) }
     ensures risen { result ≡ Err Failed → HasRisen (K.faults sink.old) (K.faults sink.new) }
     ensures faults { K.faults sink.old ≤ K.faults sink.new }
 {
@@ -128,7 +128,7 @@ fn write_turns<K: Sink>(
     members: u64,
     object: u64,
 ) -> Result<(), Unwritten>
-    ensures whole { OnOk result (Gains (K.out sink.old) (K.out sink.new) (turns_text members object)) }
+    ensures whole { OnOk result (GainsText (K.out sink.old) (K.out sink.new) (turns_text members object)) }
     ensures front { GainsFront (K.out sink.old) (K.out sink.new) (turns_text members object) }
     ensures risen { result ≡ Err Failed → HasRisen (K.faults sink.old) (K.faults sink.new) }
     ensures faults { K.faults sink.old ≤ K.faults sink.new }
@@ -148,7 +148,7 @@ fn write_turn<K: Sink>(
     object: u64,
     member: u64,
 ) -> Result<(), Unwritten>
-    ensures whole { OnOk result (Gains (K.out sink.old) (K.out sink.new) (turn_text object member)) }
+    ensures whole { OnOk result (GainsText (K.out sink.old) (K.out sink.new) (turn_text object member)) }
     ensures front { GainsFront (K.out sink.old) (K.out sink.new) (turn_text object member) }
     ensures risen { result ≡ Err Failed → HasRisen (K.faults sink.old) (K.faults sink.new) }
     ensures faults { K.faults sink.old ≤ K.faults sink.new }
@@ -161,7 +161,7 @@ fn write_turn<K: Sink>(
 
 #[tactic(auto, using(crate::proofs::Outputs::front_taken))]
 fn write_line<K: Sink>(sink: &mut K, line: &str) -> Result<(), Unwritten>
-    ensures whole { OnOk result (Gains (K.out sink.old) (K.out sink.new) line.now) }
+    ensures whole { OnOk result (GainsText (K.out sink.old) (K.out sink.new) line.now) }
     ensures front { GainsFront (K.out sink.old) (K.out sink.new) line.now }
     ensures risen { result ≡ Err Failed → HasRisen (K.faults sink.old) (K.faults sink.new) }
     ensures faults { K.faults sink.old ≤ K.faults sink.new }
@@ -195,7 +195,7 @@ fn put_octet(line: &mut String, octet: u64) -> Result<(), AllocError>
 #[tactic(auto, unfolding(crate::specs::Generator::publish_text))]
 fn put_publish(line: &mut String, members: u64, object: u64, draw: u64) -> Result<(), AllocError>
     requires { 0 < members }
-    ensures { OnOk result (string_bytes line.new ≡ publish_text members object draw) }
+    ensures { OnOk result (string_bytes line.new ≡ publish_line members object draw) }
 {
     let publisher = 1 + draw % members;
     let octets = 100 * (1 + draw / 16 % 5);
@@ -217,7 +217,7 @@ fn put_deliver(line: &mut String, object: u64, member: u64) -> Result<(), AllocE
 
 #[tactic(auto, unfolding(crate::specs::Generator::fetch_text))]
 fn put_fetch(line: &mut String, member: u64) -> Result<(), AllocError>
-    ensures { OnOk result (string_bytes line.new ≡ fetch_text member) }
+    ensures { OnOk result (string_bytes line.new ≡ fetch_line member) }
 {
     line.clear();
     write!(line, "fetch m{member} 4 3 200\n")

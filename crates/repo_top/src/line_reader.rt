@@ -2,7 +2,7 @@ ghost use Rattle.std.specs.Prelude.{◌≡◌, ◌<◌, ◌≤◌, ◌+◌, ◌-
 ghost use Rattle.std.specs.Io.KnownBytes.{IsAtEnd, Keeps, prepend_known};
 ghost use Rattle.repo_top.specs.Lines.{has_feed};
 ghost use Rattle.repo_top.specs.Outside.{HasRisen};
-ghost use Rattle.repo_top.specs.Reading.{HasLine, IsBegun, IsNext};
+ghost use Rattle.repo_top.specs.Reading.{HasLine, LineIsBegun, IsNext};
 
 use crate::failed::Failed;
 use crate::source::Source;
@@ -88,7 +88,7 @@ impl LineReader {
         ensures few { length self.new ≤ 65536 }
         ensures next { IfOk result (IsNext self.new) }
         ensures last { IfOk result (λ next. next ≡ Next.Last → IsAtEnd (S.left source.new)) }
-        ensures failed { OnErr result (IsBegun self.new) }
+        ensures failed { OnErr result (LineIsBegun self.new) }
         ensures risen { OnErr result (HasRisen (S.faults source.old) (S.faults source.new)) }
         ensures faults { S.faults source.old ≤ S.faults source.new }
     {
@@ -106,7 +106,7 @@ impl LineReader {
     fn line(&mut self) -> Option<usize>
         ensures held { self.new ≡ self.old }
         ensures few { length self.new ≤ 65536 }
-        ensures line { MatchOption result (IsBegun self.new) (λ count. HasLine count self.new) }
+        ensures line { MatchOption result (LineIsBegun self.new) (λ count. HasLine count self.new) }
     {
         let held = &self.room[self.start..self.end];
         let found = find_line(held, self.searched - self.start);
@@ -118,7 +118,7 @@ impl LineReader {
 
     // Reads as many octets as one call gives, and tells how many.
     fn read<S: Source>(&mut self, source: &mut S) -> Result<usize, Failed>
-        requires { IsBegun self.old }
+        requires { LineIsBegun self.old }
         ensures kept { Keeps (prepend_known self.old (S.left source.old)) (prepend_known self.new (S.left source.new)) }
         ensures count { IfOk result (λ n. length self.new ≡ length self.old + n) }
         ensures few { length self.new ≤ 65536 }
@@ -142,7 +142,7 @@ impl LineReader {
 fn find_line(held: &[u8], searched: usize) -> Option<usize>
     requires within { searched ≤ length held.now }
     requires free { has_feed (take searched held.now) ≡ false }
-    ensures { MatchOption result (IsBegun held.now) (λ count. HasLine count held.now) }
+    ensures { MatchOption result (LineIsBegun held.now) (λ count. HasLine count held.now) }
 {
     let (_, unsearched) = held.split_at(searched);
     match find_feed(unsearched) {

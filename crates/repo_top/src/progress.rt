@@ -11,7 +11,7 @@ ghost use Rattle.bench_world.specs.Steps.{IsReady, NamesClient};
 ghost use Rattle.bench_world.specs.Worlds.{drawing, world_of};
 ghost use Rattle.repo_top.specs.ToldTexts.{told_text};
 ghost use Rattle.repo_top.specs.Judging.{acted, acted_by, given_by, group_named, judged, judged_line, line_taken, opening_state, says, with_client_too, with_member_too};
-ghost use Rattle.repo_top.specs.Progressing.{AreNamed, IsChecked, IsLine, IsProgress, IsStop, IsStopOf, StatesFit, has_group, has_world, keys_in, state, steps, steps_in, world_in};
+ghost use Rattle.repo_top.specs.Progressing.{NamesAreDeclared, LineIsChecked, IsLine, IsProgress, IsStop, IsStopOf, StatesFit, has_group, has_world, stage_keys, progress_state, steps, steps_in, world_in};
 
 use crate::refusal::Refusal;
 use crate::said::said;
@@ -47,7 +47,7 @@ pub(crate) struct Progress {
 impl Progress {
     // Nothing was taken.
     pub(crate) fn new(alloc: Global) -> Progress
-        ensures opening { state result ≡ opening_state }
+        ensures opening { progress_state result ≡ opening_state }
         ensures steps { steps result ≡ 0 }
         ensures is { IsProgress result }
     {
@@ -71,10 +71,11 @@ impl Progress {
         requires is { IsProgress self.old }
         requires few { steps self.old < 100000 }
         requires empty { report.old.items ≡ [] }
-        ensures taken { OnOk result (judged (given_by (D.draw draws.now) (N.passes net.now)) (state self.old) line.now
-            ≡ says report.new.items (state self.new)) }
+        ensures taken { OnOk result
+            (judged (given_by (D.draw draws.now) (N.passes net.now)) (progress_state self.old) line.now
+            ≡ says report.new.items (progress_state self.new)) }
         ensures stopped { IfErr result
-            (IsStop (judged (given_by (D.draw draws.now) (N.passes net.now)) (state self.old) line.now)) }
+            (IsStop (judged (given_by (D.draw draws.now) (N.passes net.now)) (progress_state self.old) line.now)) }
         ensures is { OnOk result (IsProgress self.new) }
         ensures steps { OnOk result (steps self.new ≤ steps self.old + 1) }
     {
@@ -96,10 +97,11 @@ impl Progress {
         requires is { IsProgress self.old }
         requires few { steps self.old < 100000 }
         requires empty { report.old.items ≡ [] }
-        ensures taken { OnOk result (judged_line (given_by (D.draw draws.now) (N.passes net.now)) (state self.old)
-            (stated line) ≡ says report.new.items (state self.new)) }
+        ensures taken { OnOk result
+            (judged_line (given_by (D.draw draws.now) (N.passes net.now)) (progress_state self.old)
+            (stated line) ≡ says report.new.items (progress_state self.new)) }
         ensures stopped { IfErr result
-            (IsStop (judged_line (given_by (D.draw draws.now) (N.passes net.now)) (state self.old)
+            (IsStop (judged_line (given_by (D.draw draws.now) (N.passes net.now)) (progress_state self.old)
             (stated line))) }
         ensures is { OnOk result (IsProgress self.new) }
         ensures steps { OnOk result (steps self.new ≤ steps self.old + 1) }
@@ -117,14 +119,15 @@ impl Progress {
         net: &N,
         draws: &D,
     ) -> Result<(), Stop>
-        requires checked { IsChecked (map string_bytes self.old.labels.items) self.old.stage self.old.words
+        requires checked { LineIsChecked (map string_bytes self.old.labels.items) self.old.stage self.old.words
             (stated line) }
         requires few { steps self.old < 100000 }
         requires empty { report.old.items ≡ [] }
-        ensures taken { OnOk result (line_taken (given_by (D.draw draws.now) (N.passes net.now)) (state self.old)
-            self.old.words (stated line) ≡ says report.new.items (state self.new)) }
+        ensures taken { OnOk result
+            (line_taken (given_by (D.draw draws.now) (N.passes net.now)) (progress_state self.old)
+            self.old.words (stated line) ≡ says report.new.items (progress_state self.new)) }
         ensures stopped { IfErr result
-            (IsStop (line_taken (given_by (D.draw draws.now) (N.passes net.now)) (state self.old)
+            (IsStop (line_taken (given_by (D.draw draws.now) (N.passes net.now)) (progress_state self.old)
             self.old.words (stated line))) }
         ensures is { OnOk result (IsProgress self.new) }
         ensures steps { OnOk result (steps self.new ≤ steps self.old + 1) }
@@ -145,8 +148,9 @@ impl Progress {
         requires name { IsPlainNodeName name.now }
         requires group { self.old.words.group ≡ true }
         requires early { self.old.words.events ≡ false }
-        requires named { AreNamed (map string_bytes self.old.labels.items) (group_named name.now) self.old.words }
-        ensures state { OnOk result (state self.new
+        requires named { NamesAreDeclared (map string_bytes self.old.labels.items)
+            (group_named name.now) self.old.words }
+        ensures state { OnOk result (progress_state self.new
             ≡ record { declared = self.old.words; keys = group_named name.now; world = None }) }
         ensures is { OnOk result (IsProgress self.new) }
         ensures steps { OnOk result (steps self.new ≡ 0) }
@@ -163,13 +167,13 @@ impl Progress {
         requires early { self.old.words.events ≡ false }
         requires there { has_group self.old.stage ≡ true }
         requires unchanged { has_world self.old.stage ≡ false }
-        requires apart { is_name_taken (keys_in self.old.stage) node.now ≡ false }
-        requires few { length (keys_in self.old.stage).members.names < node_limit }
-        requires named { AreNamed (map string_bytes self.old.labels.items ++ string_bytes label ∷ [])
-            (with_member_too node.now key.now (keys_in self.old.stage)) self.old.words }
-        ensures state { OnOk result (state self.new ≡ record {
+        requires apart { is_name_taken (stage_keys self.old.stage) node.now ≡ false }
+        requires few { length (stage_keys self.old.stage).members.names < node_limit }
+        requires named { NamesAreDeclared (map string_bytes self.old.labels.items ++ string_bytes label ∷ [])
+            (with_member_too node.now key.now (stage_keys self.old.stage)) self.old.words }
+        ensures state { OnOk result (progress_state self.new ≡ record {
           declared = self.old.words;
-          keys = with_member_too node.now key.now (keys_in self.old.stage);
+          keys = with_member_too node.now key.now (stage_keys self.old.stage);
           world = None;
         }) }
         ensures is { OnOk result (IsProgress self.new) }
@@ -188,13 +192,13 @@ impl Progress {
         requires early { self.old.words.events ≡ false }
         requires there { has_group self.old.stage ≡ true }
         requires unchanged { has_world self.old.stage ≡ false }
-        requires apart { is_name_taken (keys_in self.old.stage) node.now ≡ false }
-        requires few { length (keys_in self.old.stage).clients.names < node_limit }
-        requires named { AreNamed (map string_bytes self.old.labels.items)
-            (with_client_too node.now key.now (keys_in self.old.stage)) self.old.words }
-        ensures state { OnOk result (state self.new ≡ record {
+        requires apart { is_name_taken (stage_keys self.old.stage) node.now ≡ false }
+        requires few { length (stage_keys self.old.stage).clients.names < node_limit }
+        requires named { NamesAreDeclared (map string_bytes self.old.labels.items)
+            (with_client_too node.now key.now (stage_keys self.old.stage)) self.old.words }
+        ensures state { OnOk result (progress_state self.new ≡ record {
           declared = self.old.words;
-          keys = with_client_too node.now key.now (keys_in self.old.stage);
+          keys = with_client_too node.now key.now (stage_keys self.old.stage);
           world = None;
         }) }
         ensures is { OnOk result (IsProgress self.new) }
@@ -214,16 +218,17 @@ impl Progress {
         draws: &D,
     ) -> Result<(), Stop>
         requires fit { StatesFit self.old.words (stated line) }
-        requires named { AreNamed (map string_bytes self.old.labels.items) (keys_in self.old.stage) self.old.words }
+        requires named { NamesAreDeclared (map string_bytes self.old.labels.items)
+            (stage_keys self.old.stage) self.old.words }
         requires group { self.old.words.group ≡ true }
         requires events { self.old.words.events ≡ true }
         requires there { has_group self.old.stage ≡ true }
         requires few { steps self.old < 100000 }
         requires empty { report.old.items ≡ [] }
-        ensures taken { OnOk result (acted_by (given_by (D.draw draws.now) (N.passes net.now)) (state self.old)
-            self.old.words (stated line) ≡ says report.new.items (state self.new)) }
+        ensures taken { OnOk result (acted_by (given_by (D.draw draws.now) (N.passes net.now)) (progress_state self.old)
+            self.old.words (stated line) ≡ says report.new.items (progress_state self.new)) }
         ensures stopped { IfErr result
-            (IsStop (acted_by (given_by (D.draw draws.now) (N.passes net.now)) (state self.old)
+            (IsStop (acted_by (given_by (D.draw draws.now) (N.passes net.now)) (progress_state self.old)
             self.old.words (stated line))) }
         ensures is { OnOk result (IsProgress self.new) }
         ensures steps { OnOk result (steps self.new ≤ steps self.old + 1) }
@@ -245,16 +250,17 @@ impl Progress {
     ) -> Result<(), Stop>
         requires ready { IsReady (length self.old.words.members) (event_value event.now) }
         requires clients { NamesClient (length self.old.words.clients) (event_value event.now) }
-        requires named { AreNamed (map string_bytes self.old.labels.items) (keys_in self.old.stage) self.old.words }
+        requires named { NamesAreDeclared (map string_bytes self.old.labels.items)
+            (stage_keys self.old.stage) self.old.words }
         requires group { self.old.words.group ≡ true }
         requires events { self.old.words.events ≡ true }
         requires there { has_group self.old.stage ≡ true }
         requires few { steps self.old < 100000 }
         requires empty { report.old.items ≡ [] }
-        ensures taken { OnOk result (acted (given_by (D.draw draws.now) (N.passes net.now)) (state self.old)
-            self.old.words (event_value event.now) ≡ says report.new.items (state self.new)) }
+        ensures taken { OnOk result (acted (given_by (D.draw draws.now) (N.passes net.now)) (progress_state self.old)
+            self.old.words (event_value event.now) ≡ says report.new.items (progress_state self.new)) }
         ensures stopped { IfErr result
-            (IsStop (acted (given_by (D.draw draws.now) (N.passes net.now)) (state self.old)
+            (IsStop (acted (given_by (D.draw draws.now) (N.passes net.now)) (progress_state self.old)
             self.old.words (event_value event.now))) }
         ensures is { OnOk result (IsProgress self.new) }
         ensures steps { OnOk result (steps self.new ≤ steps self.old + 1) }
@@ -268,8 +274,8 @@ impl Progress {
 
     // The world that the events made, if there was one.
     pub(crate) fn into_world(self) -> Option<World>
-        ensures world { option_map world_of result ≡ (state self).world }
-        ensures keys { IfSome result (λ world. world.keys ≡ (state self).keys) }
+        ensures world { option_map world_of result ≡ (progress_state self).world }
+        ensures keys { IfSome result (λ world. world.keys ≡ (progress_state self).keys) }
     {
         let Progress { stage, .. } = self;
         match stage {
@@ -285,9 +291,9 @@ impl Stage {
         requires key { IsKey key.now }
         requires there { has_group self.old ≡ true }
         requires unchanged { has_world self.old ≡ false }
-        requires apart { is_name_taken (keys_in self.old) node.now ≡ false }
-        requires few { length (keys_in self.old).members.names < node_limit }
-        ensures keys { OnOk result (keys_in self.new ≡ with_member_too node.now key.now (keys_in self.old)) }
+        requires apart { is_name_taken (stage_keys self.old) node.now ≡ false }
+        requires few { length (stage_keys self.old).members.names < node_limit }
+        ensures keys { OnOk result (stage_keys self.new ≡ with_member_too node.now key.now (stage_keys self.old)) }
         ensures there { OnOk result (has_group self.new ≡ true) }
         ensures world { OnOk result (world_in self.new ≡ None) }
         ensures unchanged { OnOk result (has_world self.new ≡ false) }
@@ -309,9 +315,9 @@ impl Stage {
         requires key { IsKey key.now }
         requires there { has_group self.old ≡ true }
         requires unchanged { has_world self.old ≡ false }
-        requires apart { is_name_taken (keys_in self.old) node.now ≡ false }
-        requires few { length (keys_in self.old).clients.names < node_limit }
-        ensures keys { OnOk result (keys_in self.new ≡ with_client_too node.now key.now (keys_in self.old)) }
+        requires apart { is_name_taken (stage_keys self.old) node.now ≡ false }
+        requires few { length (stage_keys self.old).clients.names < node_limit }
+        ensures keys { OnOk result (stage_keys self.new ≡ with_client_too node.now key.now (stage_keys self.old)) }
         ensures there { OnOk result (has_group self.new ≡ true) }
         ensures world { OnOk result (world_in self.new ≡ None) }
         ensures unchanged { OnOk result (has_world self.new ≡ false) }
@@ -332,8 +338,8 @@ impl Stage {
     fn begin<D: Draws>(self, alloc: Global, draws: &D) -> Result<World, Stop>
         requires there { has_group self ≡ true }
         ensures world { IfOk result (λ world. world_of world ≡ unwrap_or (world_in self)
-            (opening_world (drawing (D.draw draws.now)) (length (keys_in self).members.names))) }
-        ensures keys { IfOk result (λ world. world.keys ≡ keys_in self) }
+            (opening_world (drawing (D.draw draws.now)) (length (stage_keys self).members.names))) }
+        ensures keys { IfOk result (λ world. world.keys ≡ stage_keys self) }
         ensures steps { IfOk result (λ world. world.steps ≡ steps_in self) }
         ensures err { IfErr result (λ stop. stop ≡ Stop.NoMemory) }
     {

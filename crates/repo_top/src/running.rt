@@ -3,8 +3,8 @@ ghost use Rattle.repo_top.specs.Outside.{HasRisen};
 ghost use Rattle.repo_top.specs.Judging.{given_by};
 ghost use Rattle.repo_top.specs.Lines.{lines};
 ghost use Rattle.repo_top.specs.Story.{nothing_reached};
-ghost use Rattle.repo_top.specs.Reading.{IsBegun};
-ghost use Rattle.repo_top.specs.Carrying.{EndsIn, Finishes, IsScript, Known, Leaves, Leaving, Ran, reached};
+ghost use Rattle.repo_top.specs.Reading.{LineIsBegun};
+ghost use Rattle.repo_top.specs.Carrying.{EndsIn, Finishes, IsScript, Known, LeavesWorld, Leaving, Ran, reached};
 
 use crate::line_reader::{LineReader, Next};
 use crate::script::Script;
@@ -29,7 +29,7 @@ pub(crate) fn run_script<R: Threads + Sync, S: Source, K: Sink, N: Net + Sync, D
     requires { end.old ≡ None }
     ensures ran { Known (S.left source.old) (S.left source.new)
         (Ran (given_by (D.draw draws.now) (N.passes net.now)) (K.out sink.old) (K.out sink.new) result
-        (Leaves end.new)) }
+        (LeavesWorld end.new)) }
     ensures no_world { result ≢ Status.Done → end.new ≡ None }
     ensures read_fault { result ≡ Status.ReadFault
         → HasRisen (S.faults source.old) (S.faults source.new) }
@@ -103,7 +103,7 @@ fn run_last<R: Threads + Sync, K: Sink, N: Net + Sync, D: Draws>(
     draws: &D,
 ) -> Status
     requires is { IsScript script.old }
-    requires last { IsBegun line.now }
+    requires last { LineIsBegun line.now }
     ensures finishes { Finishes (given_by (D.draw draws.now) (N.passes net.now)) (reached script.old)
         (lines line.now) (reached script.new) (K.out sink.old) (K.out sink.new) result }
     ensures write_fault { result ≡ Status.WriteFault

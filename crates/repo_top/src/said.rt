@@ -2,7 +2,7 @@ ghost use Rattle.std.specs.Prelude.{◌≡◌};
 ghost use Rattle.std.specs.Option.{option_map};
 ghost use Rattle.script_lang.specs.Forms.{stated};
 ghost use Rattle.bench_world.specs.EventValues.{event_value};
-ghost use Rattle.repo_top.specs.SaidEvents.{number_of, said_event};
+ghost use Rattle.repo_top.specs.SaidEvents.{party_number, said_event};
 
 use bench_world::Event;
 use script_lang::{Line, Words};
@@ -140,14 +140,14 @@ pub(crate) fn said(words: &Words, line: Line) -> Option<Event>
 
 // The number of the member with this label.
 fn member(words: &Words, label: &str) -> u32
-    ensures { result ≡ number_of label.now words.now.members }
+    ensures { result ≡ party_number label.now words.now.members }
 {
     words.member(label).unwrap_or(0)
 }
 
 // The number of the client with this label.
 fn client(words: &Words, label: &str) -> u32
-    ensures { result ≡ number_of label.now words.now.clients }
+    ensures { result ≡ party_number label.now words.now.clients }
 {
     words.client(label).unwrap_or(0)
 }

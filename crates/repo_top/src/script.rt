@@ -4,7 +4,7 @@ ghost use Rattle.bench_world.specs.Worlds.{world_of};
 ghost use Rattle.repo_top.specs.Outside.{HasRisen};
 ghost use Rattle.repo_top.specs.Judging.{given_by, says};
 ghost use Rattle.repo_top.specs.Progressing.{IsStop};
-ghost use Rattle.repo_top.specs.Story.{after, judged_next, nothing_reached};
+ghost use Rattle.repo_top.specs.Story.{reached_behind, judged_next, nothing_reached};
 ghost use Rattle.repo_top.specs.Carrying.{Halts, IsScript, Stops, Took, reached, stop_status, stop_text};
 
 use crate::progress::Progress;
@@ -87,7 +87,7 @@ impl Script {
         ensures taken { OnOk result (judged_next (given_by (D.draw draws.now) (N.passes net.now))
             (reached self.old) line.now ≡ says self.new.report.items (reached self.new).state) }
         ensures reached { OnOk result (reached self.new
-            ≡ after (reached self.old) line.now self.new.report.items (reached self.new).state) }
+            ≡ reached_behind (reached self.old) line.now self.new.report.items (reached self.new).state) }
         ensures stopped { IfErr result (IsStop
             (judged_next (given_by (D.draw draws.now) (N.passes net.now)) (reached self.old) line.now)) }
         ensures lines { OnErr result (self.new.lines ≡ self.old.lines) }

@@ -2,12 +2,12 @@ ghost use Rattle.std.specs.Prelude.{◌≡◌, ◌≢◌, ◌↔◌, ◌⊎◌, 
 ghost use Rattle.std.specs.Option.{option_map};
 ghost use Rattle.bench_world.specs.Worlds.{world_of};
 ghost use Rattle.repo_top.specs.Answers.{IsTold, status_of};
-ghost use Rattle.repo_top.specs.Forms.{IsGenerated, IsInspected, IsRead, IsRun, asked_of, asked_story};
+ghost use Rattle.repo_top.specs.Forms.{IsGenerated, IsInspected, InputIsRead, IsRun, asked_of, asked_story};
 ghost use Rattle.repo_top.specs.Generator.{gen_text};
 ghost use Rattle.repo_top.specs.Inspection.{inspect_story};
 ghost use Rattle.repo_top.specs.Judging.{given_by};
-ghost use Rattle.repo_top.specs.Outside.{Gains, GainsFront, HasRisen};
-ghost use Rattle.repo_top.specs.Taken.{IsStoppedAt, IsTakenNear, Lacks, lines_so_far, lines_taken, report_of, report_through, taken};
+ghost use Rattle.repo_top.specs.Outside.{GainsText, GainsFront, HasRisen};
+ghost use Rattle.repo_top.specs.Taken.{IsStoppedAt, IsTakenNear, LacksText, lines_so_far, lines_taken, report_of, report_through, taken};
 
 use crate::asked::{Asked, asked_of};
 use crate::generator::{Measures, Unwritten, write_script};
@@ -55,8 +55,8 @@ pub fn run<R: Threads + Sync, S: Source, K: Sink, N: Net + Sync, D: Draws>(
     ensures text { IsTold result
         → IfSome (asked_story (given_by (D.draw draws.now) (N.passes net.now))
         (asked_of (map string_bytes words.now)) (S.left source.old))
-        (λ story. Gains (K.out sink.old) (K.out sink.new) story.text) }
-    ensures read_to_end { result ≡ Status.Done → IsRead (asked_of (map string_bytes words.now))
+        (λ story. GainsText (K.out sink.old) (K.out sink.new) story.text) }
+    ensures read_to_end { result ≡ Status.Done → InputIsRead (asked_of (map string_bytes words.now))
         → IfSome (S.left source.old) (λ input. S.left source.new ≡ Some []) }
 
     // On `Done` the world that is left is the story's, and there is none in any other case.
@@ -101,7 +101,7 @@ pub fn run<R: Threads + Sync, S: Source, K: Sink, N: Net + Sync, D: Draws>(
         (report_of (given_by (D.draw draws.now) (N.passes net.now)) (lines_taken input rest)))) }
     ensures exact_after_read_fault { IsRun (asked_of (map string_bytes words.now))
         → result ≡ Status.ReadFault → IfSome (S.left source.old)
-        (λ input. IfSome (S.left source.new) (λ rest. Gains (K.out sink.old) (K.out sink.new)
+        (λ input. IfSome (S.left source.new) (λ rest. GainsText (K.out sink.old) (K.out sink.new)
         (report_of (given_by (D.draw draws.now) (N.passes net.now)) (lines_so_far (taken input rest))))) }
 
     // At most 65,536 octets are taken past the end of the line that is refused or foreign, and after `WriteFault` past the
@@ -111,7 +111,7 @@ pub fn run<R: Threads + Sync, S: Source, K: Sink, N: Net + Sync, D: Draws>(
         (λ rest. IsTakenNear line input rest)) }
     ensures bounded_after_write_fault { IsRun (asked_of (map string_bytes words.now))
         → result ≡ Status.WriteFault → IfSome (S.left source.old) (λ input. IfSome (S.left source.new)
-        (λ rest. (line : ℕ) → Lacks (K.out sink.old) (K.out sink.new)
+        (λ rest. (line : ℕ) → LacksText (K.out sink.old) (K.out sink.new)
         (report_through (given_by (D.draw draws.now) (N.passes net.now)) line input)
         → IsTakenNear line input rest)) }
 {
@@ -127,7 +127,7 @@ pub fn run<R: Threads + Sync, S: Source, K: Sink, N: Net + Sync, D: Draws>(
 fn generate<K: Sink>(measures: Measures, alloc: Global, sink: &mut K) -> Status
     requires { 0 < measures.members }
     ensures ends { (result ≡ Status.Done) ⊎ ((result ≡ Status.NoMemory) ⊎ (result ≡ Status.WriteFault)) }
-    ensures text { result ≡ Status.Done → Gains (K.out sink.old) (K.out sink.new) (gen_text measures) }
+    ensures text { result ≡ Status.Done → GainsText (K.out sink.old) (K.out sink.new) (gen_text measures) }
     ensures write_fault { result ≡ Status.WriteFault
         → HasRisen (K.faults sink.old) (K.faults sink.new) }
     ensures front { GainsFront (K.out sink.old) (K.out sink.new) (gen_text measures) }
@@ -144,7 +144,7 @@ fn inspect<S: Source, K: Sink>(alloc: Global, source: &mut S, sink: &mut K) -> S
     ensures end { IsTold result
         → IfSome (option_map inspect_story (S.left source.old)) (λ story. result ≡ status_of story.ending) }
     ensures text { IsTold result → IfSome (option_map inspect_story (S.left source.old))
-        (λ story. Gains (K.out sink.old) (K.out sink.new) story.text) }
+        (λ story. GainsText (K.out sink.old) (K.out sink.new) story.text) }
     ensures read_to_end { result ≡ Status.Done
         → IfSome (S.left source.old) (λ input. S.left source.new ≡ Some []) }
     ensures read_fault { result ≡ Status.ReadFault
@@ -176,7 +176,7 @@ fn write_inspection<K: Sink>(alloc: Global, input: Vec<u8>, sink: &mut K) -> Sta
     ensures ends { (result ≡ status_of (inspect_story input.items).ending)
         ⊎ ((result ≡ Status.NoMemory) ⊎ (result ≡ Status.WriteFault)) }
     ensures text { IsTold result
-        → Gains (K.out sink.old) (K.out sink.new) (inspect_story input.items).text }
+        → GainsText (K.out sink.old) (K.out sink.new) (inspect_story input.items).text }
     ensures write_fault { result ≡ Status.WriteFault
         → HasRisen (K.faults sink.old) (K.faults sink.new) }
     ensures never_foreign { (line : ℕ) → result ≢ Status.Foreign line }

@@ -2,7 +2,8 @@ ghost use Rattle.std.specs.Prelude.{◌≡◌, true};
 ghost use Rattle.std.specs.List.{list_all};
 ghost use Rattle.std.specs.Str.Parse.{digits_value};
 ghost use Rattle.std.specs.Char.{is_ascii_digit};
-ghost use Rattle.repo_top.specs.Words.{is_numeral, number_within};
+ghost use Rattle.script_lang.specs.Kinds.{is_numeral};
+ghost use Rattle.repo_top.specs.Words.{number_within};
 
 // The number that the word is, where it is in this range: decimal digits without a zero in front of others.
 pub(crate) fn number_within(least: u64, most: u64, word: &[u8]) -> Option<u64>

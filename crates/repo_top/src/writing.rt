@@ -1,5 +1,5 @@
 ghost use Rattle.std.specs.Prelude.{◌<◌, ◌≤◌, length, take, IfErr, OnOk, OnErr};
-ghost use Rattle.repo_top.specs.Outside.{Gains, HasRisen};
+ghost use Rattle.repo_top.specs.Outside.{GainsText, HasRisen};
 
 use crate::sink::Sink;
 
@@ -11,9 +11,9 @@ pub(crate) struct WriteFault {
 
 // Writes the text whole, or a front of it.
 pub(crate) fn write_whole<K: Sink>(sink: &mut K, text: &[u8]) -> Result<(), WriteFault>
-    ensures whole { OnOk result (Gains (K.out sink.old) (K.out sink.new) text.now) }
+    ensures whole { OnOk result (GainsText (K.out sink.old) (K.out sink.new) text.now) }
     ensures front { IfErr result (λ fault.
-        Gains (K.out sink.old) (K.out sink.new) (take fault.written text.now)) }
+        GainsText (K.out sink.old) (K.out sink.new) (take fault.written text.now)) }
     ensures missing { IfErr result (λ fault. fault.written < length text.now) }
     ensures risen { OnErr result (HasRisen (K.faults sink.old) (K.faults sink.new)) }
     ensures faults { K.faults sink.old ≤ K.faults sink.new }

@@ -4,16 +4,16 @@ use Rattle.std.proofs.lemmas.Bool.Decides.{eqb_tells}
 use Rattle.std.specs.Option.{option_copied, option_map}
 use Rattle.std.specs.Str.Pattern.{FindsTextPrefix, StripsPrefix}
 use Rattle.std.proofs.lemmas.Str.Pattern.{split_parts, IsSplitOnceResult}
-use Rattle.ndn_name.specs.UriText.{behind, cut_at}
+use Rattle.ndn_name.specs.UriText.{behind_word, cut_at}
 use Rattle.script_lang.proofs.Conditions.{other_test}
 
-pub behind_front : (front text : List ℕ) → behind front (front ++ text) ≡ Some text
-unfolding behind
+pub behind_front : (front text : List ℕ) → behind_word front (front ++ text) ≡ Some text
+unfolding behind_word
 behind_front [] text = refl
 behind_front (c ∷ front) text = rw (eq-eqb c c refl) (behind_front front text)
 
-pub front_of : (front text rest : List ℕ) → behind front text ≡ Some rest → text ≡ front ++ rest
-unfolding behind
+pub front_of : (front text rest : List ℕ) → behind_word front text ≡ Some rest → text ≡ front ++ rest
+unfolding behind_word
 front_of [] text rest h = cc
 front_of (c ∷ front) [] rest h = cc
 front_of (c ∷ front) (d ∷ text) rest h = elim (eqb_tells c d) [
@@ -49,12 +49,12 @@ cut_none c (x ∷ xs) lacks = rw (
 -- `strip_prefix` and `split_once`
 pub stripped : (front text : List ℕ) (r : Option (Bor (List ℕ)))
     → MatchOption r (FindsTextPrefix front text None) (λ x. StripsPrefix (FindsTextPrefix front) text x.now)
-    → option_copied r ≡ behind front text
-stripped front text None lacks = go (behind front text) refl where
-  go : (o : Option (List ℕ)) → behind front text ≡ o → None ≡ behind front text
+    → option_copied r ≡ behind_word front text
+stripped front text None lacks = go (behind_word front text) refl where
+  go : (o : Option (List ℕ)) → behind_word front text ≡ o → None ≡ behind_word front text
   go None e = sym e
   go (Some rest) e = absurd (lacks rest (front_of front text rest e))
-stripped front text (Some x) h = rw h.2 (sym (ap (behind front) h.1.1 ∙ behind_front front (drop h.0 text)))
+stripped front text (Some x) h = rw h.2 (sym (ap (behind_word front) h.1.1 ∙ behind_front front (drop h.0 text)))
 
 pub cut_once : (c : ℕ) (bs : List ℕ) (r : Option (Bor (List ℕ) × Bor (List ℕ))) → IsSplitOnceResult c bs
     r → c < 128

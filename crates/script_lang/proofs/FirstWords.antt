@@ -5,11 +5,11 @@ use Rattle.std.proofs.lemmas.Slice.Eq.{bytes_eq-Decides}
 use Rattle.script_lang.specs.declared.verb.Verb.{Verb}
 use Rattle.script_lang.specs.declared.verb.Verb.TheVariants.{Group, Member, Client, Publish, Deliver, Sync, Advance, Fire, Restart, Vector, Catalogue, Claim, Lose, Answer, Fetch, Settle, Dump, Hear, Order, Ask, Feed, Insert, Block, Status, Delete, Summary, Traffic}
 use Rattle.script_lang.specs.Forms.{form}
-use Rattle.script_lang.specs.Lines.{named, verb_of, verbs, says_nothing}
+use Rattle.script_lang.specs.Lines.{verb_named, verb_of_word, verbs, says_nothing}
 use Rattle.script_lang.specs.Texts.{IsWord}
 
-pub verb_back : (verb : Verb) → verb_of (form verb).word ≡ Some verb
-unfolding named
+pub verb_back : (verb : Verb) → verb_of_word (form verb).word ≡ Some verb
+unfolding verb_named
 verb_back Group = refl
 verb_back Member = refl
 verb_back Client = refl
@@ -101,18 +101,18 @@ speaks Traffic rest = refl
 same_word : (a b : List ℕ) → bytes_eq a b ≡ true → a ≡ b
 same_word a b h = (bytes_eq-Decides a b).0 h
 
-one_of : (vs : List Verb) (word : List ℕ) (verb : Verb) → named
+one_of : (vs : List Verb) (word : List ℕ) (verb : Verb) → verb_named
     (map (λ v. ((form v).word, v)) vs) word ≡ Some verb
     → word ≡ (form verb).word
-unfolding named
+unfolding verb_named
 one_of [] word verb h = cc
 one_of (v ∷ vs) word verb h = go (bytes_eq (form v).word word) refl h (one_of vs word verb) where
   go : (b : Bool) → bytes_eq (form v).word word ≡ b
-      → (if b then Some v else named (map (λ x. ((form x).word, x)) vs) word) ≡ Some verb
-      → (named (map (λ x. ((form x).word, x)) vs) word ≡ Some verb → word ≡ (form verb).word)
+      → (if b then Some v else verb_named (map (λ x. ((form x).word, x)) vs) word) ≡ Some verb
+      → (verb_named (map (λ x. ((form x).word, x)) vs) word ≡ Some verb → word ≡ (form verb).word)
       → word ≡ (form verb).word
   go true e k others = (let s : v ≡ verb = cc in sym (same_word (form v).word word e) ∙ ap (λ x. (form x).word) s)
   go false e k others = others k
 
-pub verb_word : (word : List ℕ) (verb : Verb) → verb_of word ≡ Some verb → word ≡ (form verb).word
+pub verb_word : (word : List ℕ) (verb : Verb) → verb_of_word word ≡ Some verb → word ≡ (form verb).word
 verb_word word verb h = one_of verbs word verb h

@@ -10,7 +10,7 @@ use Rattle.script_lang.specs.declared.verb.Verb.{Verb}
 use Rattle.script_lang.specs.Limits.{line_octets}
 use Rattle.script_lang.specs.Kinds.{Kind, Value, word_of}
 use Rattle.script_lang.specs.Forms.{Stated, form, said}
-use Rattle.script_lang.specs.Lines.{word_then, values_of, are_within, stated_of, verb_of, line_by, line_in_words, spaced, says_nothing, is_printable, mapped_line, line_in, line_within, ends_with, without_last, without_return, line_of}
+use Rattle.script_lang.specs.Lines.{word_then, values_of, are_within, stated_of, verb_of_word, line_by, line_in_words, spaced_words, says_nothing, is_printable, mapped_line, line_in, line_within, ends_with, without_last_octet, without_return, line_of}
 use Rattle.script_lang.specs.Texts.{AreOf, AreWordTexts, IsSpaced, IsEnded, by_input, by_feed, by_return, IsLineText}
 use Rattle.script_lang.proofs.Conditions.{and_both, chosen, never, same_ok, and_left, and_right, le_test, le_tested, same_tested, some_test}
 use Rattle.script_lang.proofs.Spaces.{spaced_is, spaced_printable, is_spaced}
@@ -61,8 +61,8 @@ record AreWordsOf (s : Stated) (words : List (List ℕ)) : Type 0 where
 
 words_ok : (words : List (List ℕ)) (s : Stated) → line_in_words words ≡ Ok s → AreWordsOf s words
 words_ok [] s h = never Syntax s h
-words_ok (word ∷ words) s h = by_verb (verb_of word) refl h where
-  by_values : (verb : Verb) → verb_of word ≡ Some verb → (r : Result (List Value) LineFault)
+words_ok (word ∷ words) s h = by_verb (verb_of_word word) refl h where
+  by_values : (verb : Verb) → verb_of_word word ≡ Some verb → (r : Result (List Value) LineFault)
       → values_of (form verb).kinds words ≡ r → stated_of verb r ≡ Ok s → AreWordsOf s (word ∷ words)
   by_values verb e (Err fault) f k = never fault s k
   by_values verb e (Ok values) f k = chosen (are_within verb values) (Ok (said verb values)) (Err Limit) s k
@@ -79,7 +79,7 @@ words_ok (word ∷ words) s h = by_verb (verb_of word) refl h where
       subst (λ (x : Stated). AreWordsOf x (word ∷ words)) same here))
       (λ w q. never Limit s q)
 
-  by_verb : (o : Option Verb) → verb_of word ≡ o → line_by words o ≡ Ok s → AreWordsOf s (word ∷ words)
+  by_verb : (o : Option Verb) → verb_of_word word ≡ o → line_by words o ≡ Ok s → AreWordsOf s (word ∷ words)
   by_verb None e k = never Syntax s k
   by_verb (Some verb) e k = by_values verb e (values_of (form verb).kinds words) refl k
 
@@ -98,7 +98,7 @@ words_back s others texts ranges within = rw (
 record IsRead (s : Stated) (octets body : List ℕ) : Type 0 where
   fits : length octets ≤ line_octets
   printable : list_all is_printable body ≡ true
-  words : line_in_words (spaced body) ≡ Ok s
+  words : line_in_words (spaced_words body) ≡ Ok s
 
 line_ok : (r : Result Stated LineFault) (s : Stated) → mapped_line r ≡ Ok (Some s) → r ≡ Ok s
 line_ok (Ok x) s h = (let e : x ≡ s = cc in ap (λ y. Ok y) e)
@@ -111,14 +111,14 @@ body_ok : (octets body : List ℕ) (s : Stated) → line_within octets body ≡ 
 body_ok octets body s h =
     chosen (nat_le (length octets) line_octets) (line_in body) (Err Limit) (Some s) h
     (λ fits q. chosen (says_nothing body) (Ok None)
-    (if list_all is_printable body then mapped_line (line_in_words (spaced body)) else Err Syntax) (Some s) q
+    (if list_all is_printable body then mapped_line (line_in_words (spaced_words body)) else Err Syntax) (Some s) q
     (λ _ r. none_read s r)
-    (λ _ r. chosen (list_all is_printable body) (mapped_line (line_in_words (spaced body))) (Err Syntax) (Some s) r
+    (λ _ r. chosen (list_all is_printable body) (mapped_line (line_in_words (spaced_words body))) (Err Syntax) (Some s) r
     (λ p x. record {
       fits = le_tested (length octets) line_octets fits;
       printable = p;
       words = line_ok
-          (line_in_words (spaced body)) s x;
+          (line_in_words (spaced_words body)) s x;
     })
     (λ _ x. never Syntax (Some s) x)))
     (λ _ q. never Limit (Some s) q)
@@ -126,7 +126,7 @@ body_ok octets body s h =
 line_text : (s : Stated) (octets line body : List ℕ) → IsRead s line body → IsEnded body octets →
     IsLineText s octets
 line_text s octets line body read ended =
-    let w = words_ok (spaced body) s read.words in
+    let w = words_ok (spaced_words body) s read.words in
     record {
       body = body;
       words = w.others;
@@ -142,7 +142,7 @@ line_text s octets line body read ended =
 some_length : (n : ℕ) → not (eqb n 0) ≡ true → 0 < n
 some_length n h = grind (arith, nat_tests)
 
-ends_is : (c : ℕ) (octets : List ℕ) → ends_with c octets ≡ true → octets ≡ without_last octets ++ c ∷ []
+ends_is : (c : ℕ) (octets : List ℕ) → ends_with c octets ≡ true → octets ≡ without_last_octet octets ++ c ∷ []
 ends_is c octets h =
     let some = and_left (not (eqb (length octets) 0)) _ h in
     let last : slice_index octets (length octets - 1) ≡ c =
@@ -155,23 +155,23 @@ ends_is c octets h =
 
 line_is_text : (s : Stated) (octets : List ℕ) → line_of octets ≡ Ok (Some s) → IsLineText s octets
 line_is_text s octets h =
-    chosen (ends_with 10 octets) (line_within (without_last octets)
-    (without_return (without_last octets))) (line_within octets octets) (Some s) h
-    (λ feed q. with_feed feed (ends_with 13 (without_last octets)) refl q)
+    chosen (ends_with 10 octets) (line_within (without_last_octet octets)
+    (without_return (without_last_octet octets))) (line_within octets octets) (Some s) h
+    (λ feed q. with_feed feed (ends_with 13 (without_last_octet octets)) refl q)
     (λ _ q. (let r = body_ok octets octets s q in line_text s octets octets octets r (by_input refl r.fits)))
   where
-    with_feed : ends_with 10 octets ≡ true → (b : Bool) → ends_with 13 (without_last octets) ≡ b
-        → line_within (without_last octets) (if b then without_last
-        (without_last octets) else without_last octets) ≡ Ok (Some s) → IsLineText s octets
+    with_feed : ends_with 10 octets ≡ true → (b : Bool) → ends_with 13 (without_last_octet octets) ≡ b
+        → line_within (without_last_octet octets) (if b then without_last_octet
+        (without_last_octet octets) else without_last_octet octets) ≡ Ok (Some s) → IsLineText s octets
     with_feed feed false e q =
-        let r = body_ok (without_last octets) (without_last octets) s q in
-        line_text s octets (without_last octets) (without_last octets) r (by_feed (ends_is 10 octets feed) r.fits)
+        let r = body_ok (without_last_octet octets) (without_last_octet octets) s q in
+        line_text s octets (without_last_octet octets) (without_last_octet octets) r (by_feed (ends_is 10 octets feed) r.fits)
     with_feed feed true e q =
-        let r = body_ok (without_last octets) (without_last (without_last octets)) s q in
-        let is = ends_is 13 (without_last octets) e in
-        let long : length (without_last (without_last octets)) + 1 ≤ line_octets = omega
-        (arith, ap length is, length-append (without_last (without_last octets)) (13 ∷ []), r.fits) in
-        line_text s octets (without_last octets) (without_last (without_last octets)) r
+        let r = body_ok (without_last_octet octets) (without_last_octet (without_last_octet octets)) s q in
+        let is = ends_is 13 (without_last_octet octets) e in
+        let long : length (without_last_octet (without_last_octet octets)) + 1 ≤ line_octets = omega
+        (arith, ap length is, length-append (without_last_octet (without_last_octet octets)) (13 ∷ []), r.fits) in
+        line_text s octets (without_last_octet octets) (without_last_octet (without_last_octet octets)) r
         (by_return (ends_is 10 octets feed ∙ ap (λ (t : List ℕ). t ++ 10 ∷ []) is) long)
 
 -- ---- and back
@@ -186,7 +186,7 @@ at_end c front =
     (eq-eqb (slice_index (front ++ c ∷ []) (length (front ++ c ∷ []) - 1)) c
     (ap (slice_index (front ++ c ∷ [])) (one_shorter c front) ∙ get_or-append_seam front c [] 0))
 
-gone : (c : ℕ) (front : List ℕ) → without_last (front ++ c ∷ []) ≡ front
+gone : (c : ℕ) (front : List ℕ) → without_last_octet (front ++ c ∷ []) ≡ front
 gone c front = ap (λ n. take n (front ++ c ∷ [])) (one_shorter c front) ∙ take-append_seam front (c ∷ [])
 
 element_at : (p : ℕ → Bool) (xs : List ℕ) (i : ℕ) → list_all p xs ≡ true → i < length xs → p
@@ -213,7 +213,7 @@ body_back : (s : Stated) (octets : List ℕ) → (h : IsLineText s octets) → l
 body_back s octets h =
     let quiet : says_nothing h.body ≡ false = ap says_nothing h.spaced.2 ∙ loud h.spaced.0 s.verb h.spaced.1 in
     let printable = spaced_printable ((form s.verb).word ∷ h.words) h.body h.spaced in
-    let words : spaced h.body ≡ (form s.verb).word ∷ h.words = spaced_is
+    let words : spaced_words h.body ≡ (form s.verb).word ∷ h.words = spaced_is
     ((form s.verb).word ∷ h.words) h.body h.spaced in
     let line : line_in_words ((form s.verb).word ∷ h.words) ≡ Ok s = words_back s h.words h.texts
     h.ranges h.within in

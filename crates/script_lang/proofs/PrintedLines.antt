@@ -16,7 +16,7 @@ use Rattle.script_lang.specs.Limits.{line_octets}
 use Rattle.script_lang.specs.Kinds.{Kind, LABEL, N, URI, HEX, CONTENT, Value, Text, Number, Named, Octets, is_label, is_label_octet}
 use Rattle.script_lang.specs.Forms.{Stated, form}
 use Rattle.script_lang.specs.Lines.{are_within, line_of}
-use Rattle.script_lang.specs.Texts.{IsOf, IsWordText, digits, AreOf, AreWordTexts, is_graphic, IsWord, IsSpaced, by_input, word_text, words_text, printed, IsPlainValue, ArePlainValues}
+use Rattle.script_lang.specs.Texts.{IsOfKind, IsWordText, digits, AreOf, AreWordTexts, is_graphic, IsWord, IsSpaced, by_input, word_text, words_text, printed_line, IsPlainValue, ArePlainValues}
 use Rattle.script_lang.proofs.Conditions.{and_left, and_right, and_both, or_left, weaker}
 use Rattle.script_lang.proofs.Numerals.{decimal_digits}
 use Rattle.script_lang.proofs.HexTexts.{decoded_digits}
@@ -68,7 +68,7 @@ hex_graphic (b ∷ bs) bytes =
 printed_uri : (name : List Component) → IsName name → HasUri name (uri name)
 printed_uri name h = (parts_at 0 name, uri-is name h, parts-name 0 name)
 
-printed_is_word : (kind : Kind) (value : Value) → IsPlainValue value → IsOf kind value → IsWord
+printed_is_word : (kind : Kind) (value : Value) → IsPlainValue value → IsOfKind kind value → IsWord
     (word_text kind value)
 printed_is_word LABEL (Text label) plain of = label_is_word label of
 printed_is_word (N least most) (Number n) plain of =
@@ -93,7 +93,7 @@ printed_is_word kind value plain of = absurd of
 
 -- ---- and a text of its value
 
-printed_is_text : (kind : Kind) (value : Value) → IsPlainValue value → IsOf kind value
+printed_is_text : (kind : Kind) (value : Value) → IsPlainValue value → IsOfKind kind value
     → IsWordText kind value (word_text kind value)
 printed_is_text LABEL (Text label) plain of = refl
 printed_is_text (N least most) (Number n) plain of = (plain, refl)
@@ -137,10 +137,10 @@ words_of word [] (value ∷ values) is plain of = absurd of
 words_of word (kind ∷ kinds) [] is plain of = absurd of
 
 pub printed_is_read : (s : Stated) → ArePlainValues s.values → AreOf (form s.verb).kinds s.values
-    → are_within s.verb s.values ≡ true → length (printed s) ≤ line_octets → line_of (printed s) ≡ Ok
+    → are_within s.verb s.values ≡ true → length (printed_line s) ≤ line_octets → line_of (printed_line s) ≡ Ok
     (Some s)
-printed_is_read s plain of within fits = (line_texts s (printed s)).1 (record {
-  body = printed s;
+printed_is_read s plain of within fits = (line_texts s (printed_line s)).1 (record {
+  body = printed_line s;
   words = each (form s.verb).kinds s.values;
   ended = by_input refl fits;
   spaced = words_of (form s.verb).word (form s.verb).kinds s.values (verb_is_word s.verb) plain of;

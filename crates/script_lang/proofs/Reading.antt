@@ -4,7 +4,7 @@ use Rattle.script_lang.specs.declared.line_fault.LineFault.{LineFault}
 use Rattle.script_lang.specs.declared.line_fault.LineFault.TheVariants.{Syntax, Limit, NoMemory}
 use Rattle.script_lang.specs.Kinds.{Kind, Value, word_of, mapped}
 use Rattle.script_lang.specs.Lines.{with_value, without_value, values_of, stated_of}
-use Rattle.script_lang.specs.Reading.{Gives, Tells, Unread, left_of, Keeps, Reads, with_all}
+use Rattle.script_lang.specs.Reading.{Gives, FaultTells, Unread, left_of, KeepsValue, ReadsWord, with_all}
 use Rattle.script_lang.specs.declared.verb.Verb.{Verb}
 
 -- words as they are left
@@ -50,8 +50,8 @@ took_none false kind kinds = refl
 pub reads : {X : Type 0} (view : X → Value) (kind : Kind) (word : List ℕ)
     (before between behind : Unread) (instead : X)
     (read result : Result X LineFault) → before ≡ at between.over
-    (word ∷ between.words) → Gives view read (word_of kind word) → Keeps instead read between behind
-    result → Reads view kind before behind result
+    (word ∷ between.words) → Gives view read (word_of kind word) → KeepsValue instead read between behind
+    result → ReadsWord view kind before behind result
 reads view kind word before between behind instead (Ok x) result at_word gives keeps =
     rw (keeps.0, keeps.1, at_word) (λ kinds. took_value between.over kind kinds word between.words (view x) gives)
 reads view kind word before between behind instead (Err Limit) result at_word gives keeps =
@@ -76,8 +76,8 @@ all_fault (value ∷ values) fault = rw (all_fault values fault) refl
 
 -- the fault behind the last word is the line's
 pub told_at_end : (fault : LineFault) (verb : Verb) (values : List Value)
-    (read behind : Result (List Value) LineFault) → read ≡ with_all values behind → Tells fault behind →
-    Tells fault (stated_of verb read)
+    (read behind : Result (List Value) LineFault) → read ≡ with_all values behind → FaultTells fault behind →
+    FaultTells fault (stated_of verb read)
 told_at_end Syntax verb values read behind h tells = rw (h, tells, all_fault values Syntax) refl
 told_at_end Limit verb values read behind h tells = rw (h, tells, all_fault values Limit) refl
 told_at_end NoMemory verb values read behind h tells = tt

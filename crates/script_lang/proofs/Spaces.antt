@@ -4,7 +4,7 @@ use Rattle.std.specs.Prelude.{replicate}
 use Rattle.std.specs.List.{list_all, slice_split}
 use Rattle.std.proofs.lemmas.Bool.Decides.{nat_tests, eqb_tells}
 use Rattle.std.proofs.lemmas.List.Folds.{list_all-append}
-use Rattle.script_lang.specs.Lines.{spaced, is_printable}
+use Rattle.script_lang.specs.Lines.{spaced_words, is_printable}
 use Rattle.script_lang.specs.Texts.{is_graphic, IsSpaced}
 use Rattle.script_lang.proofs.Conditions.{and_left, and_right, and_both, some_test, weaker}
 
@@ -45,14 +45,14 @@ split_last (c ∷ cs) h = rw (
 
 -- ---- words with spaces are split into the words
 
-behind_spaces : (n : ℕ) (text : List ℕ) → spaced (replicate n 32 ++ text) ≡ spaced text
+behind_spaces : (n : ℕ) (text : List ℕ) → spaced_words (replicate n 32 ++ text) ≡ spaced_words text
 behind_spaces zero text = refl
 behind_spaces (suc n) text = behind_spaces n text
 
-pub spaced_is : (words : List (List ℕ)) (text : List ℕ) → IsSpaced words text → spaced text ≡ words
-spaced_is [] text h = ap spaced (h.1 ∙ sym (append-nil (replicate h.0 32))) ∙ behind_spaces h.0 []
+pub spaced_is : (words : List (List ℕ)) (text : List ℕ) → IsSpaced words text → spaced_words text ≡ words
+spaced_is [] text h = ap spaced_words (h.1 ∙ sym (append-nil (replicate h.0 32))) ∙ behind_spaces h.0 []
 spaced_is (word ∷ words) text h =
-    ap spaced h.2 ∙ behind_spaces h.0 (word ++ h.1)
+    ap spaced_words h.2 ∙ behind_spaces h.0 (word ++ h.1)
     ∙ elim h.4 [
       | inl end ↦ rw (
         end.0,
@@ -164,6 +164,6 @@ split_text (c ∷ cs) h = elim (eqb_tells c 32) [
     };
   }
 
-pub is_spaced : (text : List ℕ) → list_all is_printable text ≡ true → IsSpaced (spaced text) text
+pub is_spaced : (text : List ℕ) → list_all is_printable text ≡ true → IsSpaced (spaced_words text) text
 is_spaced text h = let s = split_text text h in subst (λ ws. IsSpaced (some_words ws) text)
     (sym s.split) (begun text s.first s.parts s.begins)

@@ -10,12 +10,12 @@ use Rattle.std.specs.Str.Parse.{digits_value}
 use Rattle.hex.specs.Hex.{decode_of}
 use Rattle.hex.specs.declared.error.FromHexError.{FromHexError}
 use Rattle.ndn_name.specs.Names.{Component, encoding}
-use Rattle.ndn_name.specs.UriText.{behind, cut_at, is_digest, name_of_text, plain_name, plain_name_of_text}
+use Rattle.ndn_name.specs.UriText.{behind_word, cut_at, is_digest, name_of_text, plain_name, plain_name_of_text}
 use Rattle.ndn_name.specs.Uri.{IsDigits}
 use Rattle.script_lang.specs.declared.line_fault.LineFault.{LineFault}
 use Rattle.script_lang.specs.declared.line_fault.LineFault.TheVariants.{Syntax, Limit}
-use Rattle.script_lang.specs.Kinds.{Kind, LABEL, N, URI, HEX, CONTENT, Value, Text, Number, Named, Octets, word_of, mapped, is_label, label_of, is_numeral, number_of, octets_within, decoded_within, hex_of, filled, filled_of, content_by, content_of, name_within, name_of}
-use Rattle.script_lang.specs.Texts.{IsOf, IsWordText, IsContentText, plain, digits, filled as fills}
+use Rattle.script_lang.specs.Kinds.{Kind, LABEL, N, URI, HEX, CONTENT, Value, Text, Number, Named, Octets, word_of, mapped, is_label, label_of, is_numeral, numeral_of, octets_within, decoded_within, hex_of, filled, filled_of, content_by, content_of, name_within, uri_of}
+use Rattle.script_lang.specs.Texts.{IsOfKind, IsWordText, IsContentText, plain, digits, filled as fills}
 use Rattle.script_lang.proofs.Conditions.{chosen, never, same_ok, and_left, and_right, le_test, le_tested}
 use Rattle.script_lang.proofs.Numerals.{decimal_digits, below_limit, printed_again, decimal_numeral, decimal_value}
 use Rattle.script_lang.proofs.HexTexts.{digits_decoded, decoded_digits}
@@ -35,7 +35,7 @@ label_ok word label h = chosen (is_label word) (Ok word) (Err Syntax) label h
     (λ p q. (p, sym (same_ok word label q))) (λ p q. never Syntax label q)
 
 read_label : (word : List ℕ) (value : Value) → word_of LABEL word ≡ Ok value
-    → IsOf LABEL value × IsWordText LABEL value word
+    → IsOfKind LABEL value × IsWordText LABEL value word
 read_label word value h =
     let m = mapped_ok Text (label_of word) value h in
     let l = label_ok word m.0 m.1 in
@@ -43,10 +43,10 @@ read_label word value h =
 
 -- ---- numbers
 
-number_ok : (least most : ℕ) (word : List ℕ) (n : ℕ) → number_of least most word ≡ Ok n
+number_ok : (least most : ℕ) (word : List ℕ) (n : ℕ) → numeral_of least most word ≡ Ok n
     → (is_numeral word ≡ true) × (least ≤ digits_value 10 word) × (digits_value 10 word ≤ most) ×
     (n ≡ digits_value 10 word)
-unfolding number_of
+unfolding numeral_of
 number_ok least most word n h =
     chosen (is_numeral word) (if nat_le least (digits_value 10 word) && nat_le
     (digits_value 10 word) most then Ok (digits_value 10 word) else Err Limit) (Err Syntax) n h
@@ -63,9 +63,9 @@ number_ok least most word n h =
     (λ p q. never Syntax n q)
 
 read_number : (least most : ℕ) (word : List ℕ) (value : Value) → word_of (N least most) word ≡ Ok value
-    → IsOf (N least most) value × IsWordText (N least most) value word
+    → IsOfKind (N least most) value × IsWordText (N least most) value word
 read_number least most word value h =
-    let m = mapped_ok Number (number_of least most word) value h in
+    let m = mapped_ok Number (numeral_of least most word) value h in
     let l = number_ok least most word m.0 m.1 in
     rw (m.2, l.3) ((l.1, l.2), (below_limit word l.0, sym (printed_again word l.0)))
 
@@ -99,10 +99,10 @@ within_ok most (Some n) name h =
     (λ r s. never Limit name s)
 
 read_name : (most : ℕ) (word : List ℕ) (value : Value) → word_of (URI most) word ≡ Ok value
-    → IsOf (URI most) value × IsWordText (URI most) value word
-unfolding name_of
+    → IsOfKind (URI most) value × IsWordText (URI most) value word
+unfolding uri_of
 read_name most word value h =
-    let m = mapped_ok Named (name_of most word) value h in
+    let m = mapped_ok Named (uri_of most word) value h in
     let w = within_ok most (plain_name_of_text word) m.0 m.1 in
     let p = plain_ok word m.0 w.0 in
     rw m.2 ((p.1, w.1, w.2), (texts-computed word m.0).0 p.0)
@@ -136,7 +136,7 @@ hex_ok least most word octets h =
     (decoded_digits word octets d.0, d.1, d.2)
 
 read_hex : (most : ℕ) (word : List ℕ) (value : Value) → word_of (HEX most) word ≡ Ok value
-    → IsOf (HEX most) value × IsWordText (HEX most) value word
+    → IsOfKind (HEX most) value × IsWordText (HEX most) value word
 read_hex most word value h =
     let m = mapped_ok Octets (hex_of 1 most word) value h in
     let x = hex_ok 1 most word m.0 m.1 in
@@ -176,10 +176,10 @@ filled_ok least most (Some x) octets counts cut h =
 content_ok : (least most : ℕ) (word octets : List ℕ) → content_of least most word ≡ Ok octets
     → IsContentText octets word × (least ≤ length octets) × (length octets ≤ most)
 unfolding content_of filled_of
-content_ok least most word octets h = go (behind (codes "text:") word) refl
-    (behind (codes "hex:") word) refl (behind (codes "fill:") word) refl h where
-      go : (a : Option (List ℕ)) → behind (codes "text:") word ≡ a → (b : Option (List ℕ))
-          → behind (codes "hex:") word ≡ b → (c : Option (List ℕ)) → behind (codes "fill:") word ≡ c
+content_ok least most word octets h = go (behind_word (codes "text:") word) refl
+    (behind_word (codes "hex:") word) refl (behind_word (codes "fill:") word) refl h where
+      go : (a : Option (List ℕ)) → behind_word (codes "text:") word ≡ a → (b : Option (List ℕ))
+          → behind_word (codes "hex:") word ≡ b → (c : Option (List ℕ)) → behind_word (codes "fill:") word ≡ c
           → content_by least most a b c ≡ Ok octets
           → IsContentText octets word × (least ≤ length octets) × (length octets ≤ most)
       go (Some text) p b q c r k =
@@ -195,14 +195,14 @@ content_ok least most word octets h = go (behind (codes "text:") word) refl
       go None p None q None r k = never Syntax octets k
 
 read_content : (least most : ℕ) (word : List ℕ) (value : Value) → word_of (CONTENT least most) word ≡ Ok value
-    → IsOf (CONTENT least most) value × IsWordText (CONTENT least most) value word
+    → IsOfKind (CONTENT least most) value × IsWordText (CONTENT least most) value word
 read_content least most word value h =
     let m = mapped_ok Octets (content_of least most word) value h in
     let x = content_ok least most word m.0 m.1 in
     rw m.2 ((x.1, x.2), x.0)
 
 pub word_is_text : (kind : Kind) (value : Value) (word : List ℕ) → word_of kind word ≡ Ok value
-    → IsOf kind value × IsWordText kind value word
+    → IsOfKind kind value × IsWordText kind value word
 word_is_text LABEL value word h = read_label word value h
 word_is_text (N least most) value word h = read_number least most word value h
 word_is_text (URI most) value word h = read_name most word value h
@@ -242,7 +242,7 @@ filled_text least most count octet small byte low high =
 
 content_is : (least most : ℕ) (octets word : List ℕ) → IsContentText octets word → least ≤ length octets
     → length octets ≤ most → content_of least most word ≡ Ok octets
-unfolding content_of behind hex_of
+unfolding content_of behind_word hex_of
 content_is least most octets word (plain e) low high = rw
     (e, le_test least (length octets) low, le_test (length octets) most high) refl
 content_is least most octets word (digits tail e d) low high = rw
@@ -253,9 +253,9 @@ content_is least most octets word (fills count octet small byte is e) low high =
     let b : count ≤ most = omega arith in
     rw (e, is) (filled_text least most count octet small byte a b)
 
-pub text_is_word : (kind : Kind) (value : Value) (word : List ℕ) → IsOf kind value → IsWordText kind value word
+pub text_is_word : (kind : Kind) (value : Value) (word : List ℕ) → IsOfKind kind value → IsWordText kind value word
     → word_of kind word ≡ Ok value
-unfolding label_of number_of name_of hex_of
+unfolding label_of numeral_of uri_of hex_of
 text_is_word LABEL (Text label) word of text = rw (text, of) refl
 text_is_word (N least most) (Number n) word of text = rw
     (text.1, decimal_numeral n text.0, decimal_value n text.0, le_test least n of.0, le_test n most of.1) refl
@@ -273,5 +273,5 @@ text_is_word (CONTENT least most) (Octets octets) word of text = ap (mapped Octe
 text_is_word kind value word of text = absurd of
 
 pub word_texts : (kind : Kind) (value : Value) (word : List ℕ)
-    → (word_of kind word ≡ Ok value) ↔ (IsOf kind value × IsWordText kind value word)
+    → (word_of kind word ≡ Ok value) ↔ (IsOfKind kind value × IsWordText kind value word)
 word_texts kind value word = (word_is_text kind value word, λ h. text_is_word kind value word h.0 h.1)

@@ -20,13 +20,13 @@ pub record Party : Type 0 where
   pub node : List Component
 
 -- Totals over the lines: octets of contents, parts, settles.
-pub record Totals : Type 0 where
+pub record LineTotals : Type 0 where
   pub contents : ℕ
   pub parts : ℕ
   pub settles : ℕ
 
-abbrev pub totals_of : Sums → Totals
-totals_of s = record { contents = s.contents; parts = s.parts; settles = s.settles }
+abbrev pub line_totals : Sums → LineTotals
+line_totals s = record { contents = s.contents; parts = s.parts; settles = s.settles }
 
 -- What the lines so far have declared.
 pub record Declared : Type 0 where
@@ -34,7 +34,7 @@ pub record Declared : Type 0 where
   pub members : List Party
   pub clients : List Party
   pub events : Bool
-  pub totals : Totals
+  pub totals : LineTotals
 
 abbrev pub party_of : Declaration → Party
 party_of d = record { label = string_bytes d.label; node = d.node }
@@ -42,12 +42,12 @@ party_of d = record { label = string_bytes d.label; node = d.node }
 abbrev pub parties_of : List Declaration → List Party
 parties_of ds = map party_of ds
 
-abbrev pub label_of : Party → List ℕ
-label_of p = p.label
+abbrev pub party_label : Party → List ℕ
+party_label p = p.label
 
 -- The place of the first with this label.
-abbrev pub place_of : List ℕ → List Party → Option ℕ
-place_of label parties = position (λ (p : Party). bytes_eq p.label label) parties
+abbrev pub party_place : List ℕ → List Party → Option ℕ
+party_place label parties = position (λ (p : Party). bytes_eq p.label label) parties
 
 abbrev pub has_label : List ℕ → List Party → Bool
 has_label label parties = list_any (λ (p : Party). bytes_eq p.label label) parties
@@ -82,7 +82,7 @@ abbrev pub segments : ℕ → ℕ → ℕ
 segments len size = (len + size - 1) / size
 
 -- What a line adds to the totals.
-abbrev pub adds : Verb → List Value → Totals
+abbrev pub adds : Verb → List Value → LineTotals
 adds Publish (m ∷ name ∷ Number size ∷ Octets content ∷ []) = record {
   contents = length content;
   parts = 1 + segments (length content) size;
@@ -95,7 +95,7 @@ adds Order values = record { contents = 0; parts = 1; settles = 0 }
 adds Settle values = record { contents = 0; parts = 0; settles = 1 }
 adds verb values = record { contents = 0; parts = 0; settles = 0 }
 
-abbrev pub with_totals : Totals → Totals → Totals
+abbrev pub with_totals : LineTotals → LineTotals → LineTotals
 with_totals a b = record {
   contents = a.contents + b.contents;
   parts = a.parts + b.parts;
@@ -103,7 +103,7 @@ with_totals a b = record {
 }
 
 -- A total that is reached is not passed.
-abbrev pub are_within_limits : Totals → Bool
+abbrev pub are_within_limits : LineTotals → Bool
 are_within_limits t =
     nat_le t.contents contents_limit && nat_le t.parts parts_limit && nat_le t.settles settles_limit
 
@@ -112,13 +112,13 @@ are_within_limits t =
 abbrev pub after_group : Declared → Result Declared CheckFault
 after_group d = if d.group then Err Duplicate else Ok (record d { group = true })
 
-abbrev pub is_among : Party → List Party → Bool
-is_among p parties =
+abbrev pub is_party_among : Party → List Party → Bool
+is_party_among p parties =
     list_any (λ (q : Party). bytes_eq q.label p.label || bytes_eq (encoding q.node) (encoding p.node))
     parties
 
 abbrev pub is_there : Declared → Party → Bool
-is_there d p = is_among p d.members || is_among p d.clients
+is_there d p = is_party_among p d.members || is_party_among p d.clients
 
 -- Whether a member or client may be declared, where so many of its kind are there.
 abbrev pub may_declare : Declared → Party → ℕ → Result (Unit {0}) CheckFault

@@ -6,7 +6,7 @@ use Rattle.std.specs.Str.Parse.{digits_value}
 use Rattle.hex.specs.Hex.{decode_of}
 use Rattle.hex.specs.declared.error.FromHexError.{FromHexError}
 use Rattle.ndn_name.specs.Names.{Component, encoding}
-use Rattle.ndn_name.specs.UriText.{behind, cut_at, plain_name_of_text}
+use Rattle.ndn_name.specs.UriText.{behind_word, cut_at, plain_name_of_text}
 use Rattle.script_lang.specs.declared.line_fault.LineFault.{LineFault}
 use Rattle.script_lang.specs.declared.line_fault.LineFault.TheVariants.{Syntax, Limit}
 
@@ -45,8 +45,8 @@ is_numeral (first ∷ others) =
     nat_le (length others) 17 && (not (first == 48) || length others == 0)
     && list_all is_ascii_digit (first ∷ others)
 
-unfoldable pub number_of : ℕ → ℕ → List ℕ → Result ℕ LineFault
-number_of least most word =
+unfoldable pub numeral_of : ℕ → ℕ → List ℕ → Result ℕ LineFault
+numeral_of least most word =
     if is_numeral word
     then if nat_le least (digits_value 10 word) && nat_le (digits_value 10 word) most
     then Ok (digits_value 10 word) else Err Limit else Err Syntax
@@ -87,8 +87,8 @@ content_by least most None None None = Err Syntax
 
 unfoldable pub content_of : ℕ → ℕ → List ℕ → Result (List ℕ) LineFault
 content_of least most word =
-    content_by least most (behind (codes "text:") word) (behind (codes "hex:") word)
-    (behind (codes "fill:") word)
+    content_by least most (behind_word (codes "text:") word) (behind_word (codes "hex:") word)
+    (behind_word (codes "fill:") word)
 
 -- A URI is the text of a name without components of type 1 or 2 (`plain_name_of_text`), whose value has
 -- 1 to so many octets.
@@ -98,8 +98,8 @@ name_within most (Some name) =
     if nat_le 1 (length (encoding name)) && nat_le (length (encoding name)) most
     then Ok name else Err Limit
 
-unfoldable pub name_of : ℕ → List ℕ → Result (List Component) LineFault
-name_of most word = name_within most (plain_name_of_text word)
+unfoldable pub uri_of : ℕ → List ℕ → Result (List Component) LineFault
+uri_of most word = name_within most (plain_name_of_text word)
 
 -- ---- a word
 
@@ -110,7 +110,7 @@ mapped f (Err fault) = Err fault
 -- What a word is as one of this kind.
 abbrev pub word_of : Kind → List ℕ → Result Value LineFault
 word_of LABEL word = mapped Text (label_of word)
-word_of (N least most) word = mapped Number (number_of least most word)
-word_of (URI most) word = mapped Named (name_of most word)
+word_of (N least most) word = mapped Number (numeral_of least most word)
+word_of (URI most) word = mapped Named (uri_of most word)
 word_of (HEX most) word = mapped Octets (hex_of 1 most word)
 word_of (CONTENT least most) word = mapped Octets (content_of least most word)

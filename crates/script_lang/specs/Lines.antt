@@ -53,9 +53,9 @@ stated_of verb (Ok values) =
 stated_of verb (Err fault) = Err fault
 
 -- The verb that a word is.
-unfoldable pub named : List (List ℕ × Verb) → List ℕ → Option Verb
-named [] word = None
-named (first ∷ others) word = if bytes_eq first.0 word then Some first.1 else named others word
+unfoldable pub verb_named : List (List ℕ × Verb) → List ℕ → Option Verb
+verb_named [] word = None
+verb_named (first ∷ others) word = if bytes_eq first.0 word then Some first.1 else verb_named others word
 
 abbrev pub verbs : List Verb
 verbs =
@@ -66,8 +66,8 @@ verbs =
 abbrev pub first_words : List (List ℕ × Verb)
 first_words = map (λ verb. ((form verb).word, verb)) verbs
 
-abbrev pub verb_of : List ℕ → Option Verb
-verb_of word = named first_words word
+abbrev pub verb_of_word : List ℕ → Option Verb
+verb_of_word word = verb_named first_words word
 
 abbrev pub line_by : List (List ℕ) → Option Verb → Result Stated LineFault
 line_by words None = Err Syntax
@@ -75,11 +75,11 @@ line_by words (Some verb) = stated_of verb (values_of (form verb).kinds words)
 
 abbrev pub line_in_words : List (List ℕ) → Result Stated LineFault
 line_in_words [] = Err Syntax
-line_in_words (verb ∷ words) = line_by words (verb_of verb)
+line_in_words (verb ∷ words) = line_by words (verb_of_word verb)
 
 -- Words are separated by one or more spaces.
-abbrev pub spaced : List ℕ → List (List ℕ)
-spaced octets =
+abbrev pub spaced_words : List ℕ → List (List ℕ)
+spaced_words octets =
     filter (λ word. not (length word == 0)) (slice_split (λ octet. octet == 32) octets)
 
 -- Spaces alone, or a comment.
@@ -100,7 +100,7 @@ mapped_line (Err fault) = Err fault
 abbrev pub line_in : List ℕ → Result (Option Stated) LineFault
 line_in octets =
     if says_nothing octets then Ok None
-    else if list_all is_printable octets then mapped_line (line_in_words (spaced octets))
+    else if list_all is_printable octets then mapped_line (line_in_words (spaced_words octets))
     else Err Syntax
 
 -- A line is too long beyond 32,768 octets, its carriage return among them.
@@ -111,15 +111,15 @@ abbrev pub ends_with : ℕ → List ℕ → Bool
 ends_with octet octets =
     not (length octets == 0) && slice_index octets (length octets - 1) == octet
 
-abbrev pub without_last : List ℕ → List ℕ
-without_last octets = take (length octets - 1) octets
+abbrev pub without_last_octet : List ℕ → List ℕ
+without_last_octet octets = take (length octets - 1) octets
 
 abbrev pub without_return : List ℕ → List ℕ
-without_return octets = if ends_with 13 octets then without_last octets else octets
+without_return octets = if ends_with 13 octets then without_last_octet octets else octets
 
 -- The line that octets are, which end with their line feed or with the input. One carriage return
 -- right before the line feed is dropped.
 abbrev pub line_of : List ℕ → Result (Option Stated) LineFault
 line_of octets =
-    if ends_with 10 octets then line_within (without_last octets) (without_return (without_last octets))
+    if ends_with 10 octets then line_within (without_last_octet octets) (without_return (without_last_octet octets))
     else line_within octets octets

@@ -38,18 +38,18 @@ AreWordTexts (kind ∷ kinds) (value ∷ values) (text ∷ texts) =
 AreWordTexts kinds values texts = ⊥
 
 -- A value is one of this kind, in its range.
-abbrev pub IsOf : Kind → Value → Type 0
-IsOf LABEL (Text label) = is_label label ≡ true
-IsOf (N least most) (Number n) = (least ≤ n) × (n ≤ most)
-IsOf (URI most) (Named name) =
+abbrev pub IsOfKind : Kind → Value → Type 0
+IsOfKind LABEL (Text label) = is_label label ≡ true
+IsOfKind (N least most) (Number n) = (least ≤ n) × (n ≤ most)
+IsOfKind (URI most) (Named name) =
     (list_any is_digest name ≡ false) × (1 ≤ length (encoding name)) × (length (encoding name) ≤ most)
-IsOf (HEX most) (Octets octets) = (1 ≤ length octets) × (length octets ≤ most)
-IsOf (CONTENT least most) (Octets octets) = (least ≤ length octets) × (length octets ≤ most)
-IsOf kind value = ⊥
+IsOfKind (HEX most) (Octets octets) = (1 ≤ length octets) × (length octets ≤ most)
+IsOfKind (CONTENT least most) (Octets octets) = (least ≤ length octets) × (length octets ≤ most)
+IsOfKind kind value = ⊥
 
 abbrev pub AreOf : List Kind → List Value → Type 0
 AreOf [] [] = Unit {0}
-AreOf (kind ∷ kinds) (value ∷ values) = IsOf kind value × AreOf kinds values
+AreOf (kind ∷ kinds) (value ∷ values) = IsOfKind kind value × AreOf kinds values
 AreOf kinds values = ⊥
 
 -- ---- lines
@@ -100,8 +100,8 @@ abbrev pub words_text : List Kind → List Value → List ℕ
 words_text (kind ∷ kinds) (value ∷ values) = 32 ∷ (word_text kind value ++ words_text kinds values)
 words_text kinds values = []
 
-abbrev pub printed : Stated → List ℕ
-printed s = (form s.verb).word ++ words_text (form s.verb).kinds s.values
+abbrev pub printed_line : Stated → List ℕ
+printed_line s = (form s.verb).word ++ words_text (form s.verb).kinds s.values
 
 -- Values that can be printed: numbers of at most 18 digits, names, and octets.
 abbrev pub IsPlainValue : Value → Type 0

@@ -1,7 +1,7 @@
 ghost use Rattle.std.specs.Prelude.{◌≡◌, ◌≤◌, List, ◌∷◌, [], map, false, IfOk, IfErr, Ok};
 ghost use Rattle.std.specs.String.{string_bytes};
 ghost use Rattle.script_lang.specs.Kinds.{URI, CONTENT, Named, Kind, LABEL, N, HEX, Text, Number, Octets};
-ghost use Rattle.script_lang.specs.Reading.{left_of, Keeps, Reads, Tells};
+ghost use Rattle.script_lang.specs.Reading.{left_of, KeepsValue, ReadsWord, FaultTells};
 
 use crate::line_fault::LineFault;
 use crate::word::{content_in, hex_in, label_in, name_in, number_in, small_in};
@@ -44,7 +44,7 @@ impl<'a> Cursor<'a> {
         ensures ok { IfOk result (λ word. self.old
             ≡ record { over = self.new.over; words = word.now ∷ self.new.words }) }
         ensures err { IfErr result (λ fault. (kind : Kind) (kinds : List Kind)
-            → Tells fault (left_of (kind ∷ kinds) self.old)) }
+            → FaultTells fault (left_of (kind ∷ kinds) self.old)) }
     {
         let [word, rest @ ..] = self.rest else {
             return Err(LineFault::Syntax);
@@ -55,7 +55,7 @@ impl<'a> Cursor<'a> {
 
     // What is kept of a word that was read.
     fn kept<T: Drop>(&mut self, read: Result<T, LineFault>, instead: T) -> Result<T, LineFault>
-        ensures { Keeps instead read self.old self.new result }
+        ensures { KeepsValue instead read self.old self.new result }
     {
         match read {
             Err(LineFault::Limit) => {
@@ -68,7 +68,7 @@ impl<'a> Cursor<'a> {
 
     // The next word as a label.
     pub(crate) fn label(&mut self, alloc: Global) -> Result<String, LineFault>
-        ensures { Reads (λ value. Text (string_bytes value)) (LABEL) self.old self.new result }
+        ensures { ReadsWord (λ value. Text (string_bytes value)) (LABEL) self.old self.new result }
     {
         let word = self.next()?;
         self.kept(label_in(alloc, word), String::new(alloc))
@@ -76,7 +76,7 @@ impl<'a> Cursor<'a> {
 
     // The next word as a number in this range.
     pub(crate) fn number(&mut self, least: u64, most: u64) -> Result<u64, LineFault>
-        ensures { Reads (λ value. Number value) (N least most) self.old self.new result }
+        ensures { ReadsWord (λ value. Number value) (N least most) self.old self.new result }
     {
         let word = self.next()?;
         self.kept(number_in(least, most, word), 0)
@@ -84,7 +84,7 @@ impl<'a> Cursor<'a> {
 
     // The next word as a number in this range, below 2 ^ 32.
     pub(crate) fn small(&mut self, least: u32, most: u32) -> Result<u32, LineFault>
-        ensures { Reads (λ value. Number value) (N least most) self.old self.new result }
+        ensures { ReadsWord (λ value. Number value) (N least most) self.old self.new result }
     {
         let word = self.next()?;
         self.kept(small_in(least, most, word), 0)
@@ -92,7 +92,7 @@ impl<'a> Cursor<'a> {
 
     // The next word as hexadecimal text of 1 to so many octets.
     pub(crate) fn hex(&mut self, alloc: Global, most: u64) -> Result<Vec<u8>, LineFault>
-        ensures { Reads (λ value. Octets value.items) (HEX most) self.old self.new result }
+        ensures { ReadsWord (λ value. Octets value.items) (HEX most) self.old self.new result }
     {
         let word = self.next()?;
         self.kept(hex_in(alloc, 1, most, word), Vec::new(alloc))
@@ -101,7 +101,7 @@ impl<'a> Cursor<'a> {
     // The next word as the text of a name with 1 to so many octets of value.
     pub(crate) fn name(&mut self, alloc: Global, most: u64) -> Result<Name, LineFault>
         requires { most ≤ 1000 }
-        ensures { Reads (λ value. Named value) (URI most) self.old self.new result }
+        ensures { ReadsWord (λ value. Named value) (URI most) self.old self.new result }
     {
         let word = self.next()?;
         self.kept(name_in(alloc, most, word), Name::new(alloc))
@@ -114,7 +114,7 @@ impl<'a> Cursor<'a> {
         least: u64,
         most: u64,
     ) -> Result<Vec<u8>, LineFault>
-        ensures { Reads (λ value. Octets value.items) (CONTENT least most) self.old self.new result }
+        ensures { ReadsWord (λ value. Octets value.items) (CONTENT least most) self.old self.new result }
     {
         let word = self.next()?;
         self.kept(content_in(alloc, least, most, word), Vec::new(alloc))
@@ -124,7 +124,7 @@ impl<'a> Cursor<'a> {
     #[tactic(auto, unfolding(crate::specs::Lines::values_of))]
     pub(crate) fn end(&self) -> Result<(), LineFault>
         ensures ok { IfOk result (λ _. left_of [] self.now ≡ Ok []) }
-        ensures err { IfErr result (λ fault. Tells fault (left_of [] self.now)) }
+        ensures err { IfErr result (λ fault. FaultTells fault (left_of [] self.now)) }
     {
         if !self.rest.is_empty() {
             return Err(LineFault::Syntax);

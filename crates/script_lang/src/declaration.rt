@@ -1,6 +1,6 @@
 ghost use Rattle.std.specs.Prelude.{◌≡◌, IfOk, IfErr};
 ghost use Rattle.std.specs.String.{string_bytes};
-ghost use Rattle.script_lang.specs.Checking.{has_label, is_among, parties_of, party, party_of, place_of};
+ghost use Rattle.script_lang.specs.Checking.{has_label, is_party_among, parties_of, party, party_of, party_place};
 
 use crate::check_fault::CheckFault;
 use ndn_name::Name;
@@ -26,7 +26,7 @@ impl Declaration {
 
 // The place of the one with this label.
 pub(crate) fn place_of(label: &str, parties: &[Declaration]) -> Option<usize>
-    ensures { result ≡ place_of label.now (parties_of parties.now) }
+    ensures { result ≡ party_place label.now (parties_of parties.now) }
 {
     parties.iter().position(|one| one.label.as_str() == label)
 }
@@ -40,7 +40,7 @@ pub(crate) fn has_label(label: &str, parties: &[Declaration]) -> bool
 
 // Whether the label or the node name is one of these.
 pub(crate) fn is_among(label: &str, node: &Name, parties: &[Declaration]) -> bool
-    ensures { result ≡ is_among (party label.now node.now) (parties_of parties.now) }
+    ensures { result ≡ is_party_among (party label.now node.now) (parties_of parties.now) }
 {
     parties.iter().any(|one| one.label.as_str() == label || one.node.octets() == node.octets())
 }

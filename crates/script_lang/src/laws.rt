@@ -8,7 +8,7 @@ ghost use Rattle.script_lang.specs.Kinds.{Kind, Named, Number, Octets, Text, Val
 ghost use Rattle.script_lang.specs.Forms.{Stated, form, said};
 ghost use Rattle.script_lang.specs.Lines.{are_within, line_of};
 ghost use Rattle.script_lang.specs.Checking.{Declared, after_line, are_within_limits, names_packet_or_fetcher};
-ghost use Rattle.script_lang.specs.Texts.{AreOf, ArePlainValues, IsLineText, IsOf, IsWordText, printed};
+ghost use Rattle.script_lang.specs.Texts.{AreOf, ArePlainValues, IsLineText, IsOfKind, IsWordText, printed_line};
 
 use crate::limits::{
     CONTENTS_LIMIT, LINE_LIMIT, LINES_LIMIT, MEMBERS_LIMIT, PARTS_LIMIT, SCRIPT_LIMIT,
@@ -29,7 +29,7 @@ pub fn limits_are_these()
 /// A word is read as a value just where the value is in its range and the word is a text of it.
 pub fn words_are_their_texts()
     ensures { (kind : Kind) (value : Value) (word : List ℕ)
-        → (word_of kind word ≡ Ok value) ↔ (IsOf kind value × IsWordText kind value word) }
+        → (word_of kind word ≡ Ok value) ↔ (IsOfKind kind value × IsWordText kind value word) }
 {}
 
 /// Octets are read as a line just where they are a text of it: one has its values but for spaces, the
@@ -41,8 +41,8 @@ pub fn lines_are_their_texts()
 /// A line that is printed from its values is read back.
 pub fn printed_lines_are_read()
     ensures { (s : Stated) → ArePlainValues s.values → AreOf (form s.verb).kinds s.values
-        → are_within s.verb s.values ≡ true → length (printed s) ≤ line_octets
-        → line_of (printed s) ≡ Ok (Some s) }
+        → are_within s.verb s.values ≡ true → length (printed_line s) ≤ line_octets
+        → line_of (printed_line s) ≡ Ok (Some s) }
 {}
 
 /// A line that names a packet's number or a fetcher passes no total, so it is all the same whether a

@@ -2,7 +2,7 @@ ghost use Rattle.std.specs.Prelude.{◌≡◌, not, ◌==◌, map, true, IfOk};
 ghost use Rattle.std.specs.List.{list_all, find};
 ghost use Rattle.std.specs.Option.{option_map, option_copied};
 ghost use Rattle.script_lang.specs.Forms.{stated};
-ghost use Rattle.script_lang.specs.Lines.{line_of, line_within, line_in, line_in_words, says_nothing, is_printable, spaced, without_return};
+ghost use Rattle.script_lang.specs.Lines.{line_of, line_within, line_in, line_in_words, says_nothing, is_printable, spaced_words, without_return};
 ghost use Rattle.script_lang.specs.Reading.{Gives};
 
 use crate::cursor::Cursor;
@@ -83,7 +83,7 @@ fn are_printable(octets: &[u8]) -> bool
 
 // The words of a text, which spaces separate.
 fn spaced(alloc: Global, text: &str) -> Result<Vec<&str>, AllocError>
-    ensures { IfOk result (λ words. map (λ word. word.now) words.items ≡ spaced text.now) }
+    ensures { IfOk result (λ words. map (λ word. word.now) words.items ≡ spaced_words text.now) }
 {
     text.split(' ')
         .filter(|word| !word.is_empty())

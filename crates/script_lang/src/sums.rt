@@ -1,6 +1,6 @@
 ghost use Rattle.std.specs.Prelude.{◌≡◌, ◌<◌, ◌≤◌, ◌^◌, IfNone, IfSome, true, false};
 ghost use Rattle.script_lang.specs.Forms.{stated};
-ghost use Rattle.script_lang.specs.Checking.{adds, are_within_limits, segments, totals_of, with_totals};
+ghost use Rattle.script_lang.specs.Checking.{adds, are_within_limits, segments, line_totals, with_totals};
 
 use crate::limits::{CONTENTS_LIMIT, PARTS_LIMIT, SETTLES_LIMIT};
 use crate::line::Line;
@@ -15,7 +15,7 @@ pub(crate) struct Sums {
 
 impl Sums {
     pub(crate) fn none() -> Sums
-        ensures { totals_of result ≡ record { contents = 0; parts = 0; settles = 0 } }
+        ensures { line_totals result ≡ record { contents = 0; parts = 0; settles = 0 } }
     {
         Sums {
             contents: 0,
@@ -26,7 +26,7 @@ impl Sums {
 
     // What a line adds.
     pub(crate) fn of_line(line: &Line) -> Sums
-        ensures adds { totals_of result ≡ adds (stated line.now).verb (stated line.now).values }
+        ensures adds { line_totals result ≡ adds (stated line.now).verb (stated line.now).values }
         ensures contents { result.contents < 2 ^ 63 }
         ensures parts { result.parts ≤ 2 ^ 63 }
         ensures settles { result.settles ≤ 1 }
@@ -56,15 +56,15 @@ impl Sums {
 
     // These and those of one more line, where no limit is passed.
     pub(crate) fn with(self, added: Sums) -> Option<Sums>
-        requires within { are_within_limits (totals_of self) ≡ true }
+        requires within { are_within_limits (line_totals self) ≡ true }
         requires contents { added.contents < 2 ^ 63 }
         requires parts { added.parts ≤ 2 ^ 63 }
         requires settles { added.settles ≤ 1 }
         ensures some { IfSome result
-            (λ sums. totals_of sums ≡ with_totals (totals_of self) (totals_of added)) }
-        ensures within { IfSome result (λ sums. are_within_limits (totals_of sums) ≡ true) }
+            (λ sums. line_totals sums ≡ with_totals (line_totals self) (line_totals added)) }
+        ensures within { IfSome result (λ sums. are_within_limits (line_totals sums) ≡ true) }
         ensures none { IfNone result
-            (are_within_limits (with_totals (totals_of self) (totals_of added)) ≡ false) }
+            (are_within_limits (with_totals (line_totals self) (line_totals added)) ≡ false) }
     {
         let sums = Sums {
             contents: self.contents + added.contents,
@@ -79,7 +79,7 @@ impl Sums {
     }
 
     fn are_within_limits(&self) -> bool
-        ensures { result ≡ are_within_limits (totals_of self.now) }
+        ensures { result ≡ are_within_limits (line_totals self.now) }
     {
         self.contents <= CONTENTS_LIMIT
             && self.parts <= PARTS_LIMIT

@@ -1,5 +1,5 @@
 ghost use Rattle.std.specs.Prelude.{◌≡◌, map};
-ghost use Rattle.script_lang.specs.Lines.{named, verb_of};
+ghost use Rattle.script_lang.specs.Lines.{verb_named, verb_of_word};
 
 /// The first word of a line, which says what the line is for.
 #[derive(Clone, Copy, Debug, PartialEq, Eq)]
@@ -66,7 +66,7 @@ const VERBS: [(&str, Verb); 27] = [
 impl Verb {
     // The verb that a word is.
     pub(crate) fn of(word: &str) -> Option<Verb>
-        ensures { result ≡ verb_of word.now }
+        ensures { result ≡ verb_of_word word.now }
     {
         named(&VERBS, word)
     }
@@ -75,7 +75,7 @@ impl Verb {
 // The verb that stands beside the word.
 #[tactic(auto, unfolding(crate::specs::Lines::named))]
 fn named(rows: &[(&str, Verb)], word: &str) -> Option<Verb>
-    ensures { result ≡ named (map (λ row. (row.0.now, row.1)) rows.now) word.now }
+    ensures { result ≡ verb_named (map (λ row. (row.0.now, row.1)) rows.now) word.now }
 {
     let mut rest = rows;
     while let [(text, verb), others @ ..] = rest {

@@ -3,7 +3,7 @@ ghost use Rattle.std.specs.List.{list_all, slice_split};
 ghost use Rattle.std.specs.Option.{option_copied, option_map};
 ghost use Rattle.std.specs.Char.{is_ascii_digit};
 ghost use Rattle.std.specs.String.{string_bytes};
-ghost use Rattle.ndn_name.specs.UriText.{behind, cut_at};
+ghost use Rattle.ndn_name.specs.UriText.{behind_word, cut_at};
 ghost use Rattle.script_lang.specs.Kinds.{CONTENT, LABEL, N, Named, Number, Octets, Text, URI, filled_of, hex_of, is_label, is_label_octet, is_numeral, mapped, octets_within, word_of};
 ghost use Rattle.script_lang.specs.Reading.{Gives};
 
@@ -106,7 +106,7 @@ pub(crate) fn hex_in(alloc: Global, least: u64, most: u64, word: &str) -> Result
 
 // What stands behind a front, where the text has it.
 fn behind<'a>(front: &str, text: &'a str) -> Option<&'a str>
-    ensures { option_copied result ≡ behind front.now text.now }
+    ensures { option_copied result ≡ behind_word front.now text.now }
 {
     text.strip_prefix(front)
 }

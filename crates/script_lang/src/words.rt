@@ -1,6 +1,6 @@
 ghost use Rattle.std.specs.Prelude.{◌≡◌, ◌<◌, ◌⊎◌, map, length, slice_get, IfErr, IfSome, OnOk, OnErr, Ok, Err, Some};
 ghost use Rattle.script_lang.specs.Forms.{stated};
-ghost use Rattle.script_lang.specs.Checking.{Declared, after_event, after_line, label_of, may_declare, nothing_declared, party, place_of};
+ghost use Rattle.script_lang.specs.Checking.{Declared, after_event, after_line, party_label, may_declare, nothing_declared, party, party_place};
 
 use crate::check_fault::CheckFault;
 use crate::declaration::{Declaration, is_among, place_of};
@@ -27,7 +27,7 @@ pub struct Words {
 // It is seen as what is declared.
 impl Model for Words {
     ghost use Rattle.std.specs.Prelude.{◌≡◌, ◌≤◌, length, true};
-    ghost use Rattle.script_lang.specs.Checking.{Declared, are_within_limits, parties_of, totals_of};
+    ghost use Rattle.script_lang.specs.Checking.{Declared, are_within_limits, parties_of, line_totals};
 
     ghost Value = { Declared };
 
@@ -36,10 +36,10 @@ impl Model for Words {
       members = parties_of w.members.items;
       clients = parties_of w.clients.items;
       events = w.events;
-      totals = totals_of w.sums;
+      totals = line_totals w.sums;
     } };
 
-    ghost invariant = { λ w. (are_within_limits (totals_of w.sums) ≡ true)
+    ghost invariant = { λ w. (are_within_limits (line_totals w.sums) ≡ true)
         × (length w.members.items ≤ 16) × (length w.clients.items ≤ 16) };
 }
 
@@ -128,18 +128,18 @@ impl Words {
 
     /// The number of the member with this label, in the order of their declarations from 0.
     pub fn member(&self, label: &str) -> Option<u32>
-        ensures value { result ≡ place_of label.now self.now.members }
+        ensures value { result ≡ party_place label.now self.now.members }
         ensures named { IfSome result
-            (λ n. slice_get (map label_of self.now.members) n ≡ Some label.now) }
+            (λ n. slice_get (map party_label self.now.members) n ≡ Some label.now) }
     {
         place_of(label, &self.members).map(|place| place as u32)
     }
 
     /// The number of the client with this label, in the order of their declarations from 0.
     pub fn client(&self, label: &str) -> Option<u32>
-        ensures value { result ≡ place_of label.now self.now.clients }
+        ensures value { result ≡ party_place label.now self.now.clients }
         ensures named { IfSome result
-            (λ n. slice_get (map label_of self.now.clients) n ≡ Some label.now) }
+            (λ n. slice_get (map party_label self.now.clients) n ≡ Some label.now) }
     {
         place_of(label, &self.clients).map(|place| place as u32)
     }
@@ -147,7 +147,7 @@ impl Words {
     /// The label of a member.
     pub fn label(&self, member: u32) -> &str
         requires { member < length self.now.members }
-        ensures { slice_get (map label_of self.now.members) member ≡ Some result.now }
+        ensures { slice_get (map party_label self.now.members) member ≡ Some result.now }
     {
         self.members[member as usize].label.as_str()
     }

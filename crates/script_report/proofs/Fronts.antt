@@ -2,18 +2,18 @@
 use Rattle.std.proofs.Common.{◌≡◌, ◌≤◌, ℕ, List, ◌++◌, length, take, drop, sym, ap, ◌∙◌, arith}
 use Rattle.std.proofs.Math.Seq.{take-append_seam, take-length}
 use Rattle.std.proofs.lemmas.List.{take-append-le, take-append-drop, length-take}
-use Rattle.script_report.specs.Pieces.{Keeps}
+use Rattle.script_report.specs.Pieces.{KeepsFront}
 
-pub keeps_same : (a : List ℕ) → Keeps a a
+pub keeps_same : (a : List ℕ) → KeepsFront a a
 keeps_same a = record { front = take-length a }
 
-pub keeps_more : (a b : List ℕ) → Keeps a (a ++ b)
+pub keeps_more : (a b : List ℕ) → KeepsFront a (a ++ b)
 keeps_more a b = record { front = take-append_seam a b }
 
 is_shorter : (a b : List ℕ) → take (length a) b ≡ a → length a ≤ length b
 is_shorter a b h = omega (arith, length-take (length a) b, ap length h)
 
-pub keeps_then : (a b c : List ℕ) → Keeps a b → Keeps b c → Keeps a c
+pub keeps_then : (a b c : List ℕ) → KeepsFront a b → KeepsFront b c → KeepsFront a c
 keeps_then a b c p q = record {
   front = ap (take (length a)) (sym (take-append-drop (length b) c) ∙ ap (λ x. x ++ drop (length b) c) q.front)
       ∙ take-append-le (length a) b (drop (length b) c) (is_shorter a b p.front) ∙ p.front;

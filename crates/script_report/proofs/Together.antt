@@ -4,15 +4,15 @@ use Rattle.std.proofs.lemmas.Bool.{cases_lt}
 use Rattle.std.proofs.lemmas.List.{drop_more, drop_all}
 use Rattle.std.specs.Fmt.{decimal}
 use Rattle.repo_catalog.specs.declared.entry.Entry.{Entry}
-use Rattle.script_report.specs.Pieces.{Keeps}
-use Rattle.script_report.specs.Texts.{spaced, numbered, entry_text, entries_text, totals_text, summary_text}
+use Rattle.script_report.specs.Pieces.{KeepsFront}
+use Rattle.script_report.specs.Texts.{behind_spaces, labelled_numbers, entry_text, entries_text, totals_text, summary_text}
 use Rattle.script_report.proofs.Fronts.{keeps_same, keeps_then}
 
 -- what is written of the first places of both lists is written, and what was there stands in front
 pub record Writes {A B : Type 0} (F : List A → List B → List ℕ) (xs : List A) (ys : List B) (n : ℕ)
     (old new : List ℕ) : Type 0 where
   pub written : new ++ F (drop n xs) (drop n ys) ≡ old ++ F xs ys
-  pub kept : Keeps old new
+  pub kept : KeepsFront old new
 
 -- a text of both lists is that of their first places, and of the others
 pub record IsText {A B : Type 0} (F : List A → List B → List ℕ) (f : A → B → List ℕ) : Type 0 where
@@ -44,7 +44,7 @@ pub writes_more : {A B : Type 0} (F : List A → List B → List ℕ) (f : A →
     (old mid new : List ℕ) → n < length xs → n < length ys
     → x ≡ get_or xs n x → y ≡ get_or ys n y → m ≡ n + 1 → Writes F xs ys n old mid → new ≡ mid ++ f x
     y
-    → Keeps mid new → Writes F xs ys m old new
+    → KeepsFront mid new → Writes F xs ys m old new
 writes_more F f text xs ys n m x y old mid new lt lu p q next w more kept = rw next (record {
   written =
       one_more (old ++ F xs ys) mid new (f x y) (F (drop n xs) (drop n ys))
@@ -72,13 +72,13 @@ writes_all F f text xs ys n old new all w =
 -- ---- the words of counts, and the lines of entries
 
 abbrev pub counts : List (String Global) → List ℕ → List ℕ
-counts labels numbers = spaced (numbered (map string_bytes labels) numbers)
+counts labels numbers = behind_spaces (labelled_numbers (map string_bytes labels) numbers)
 
 abbrev pub count : String Global → ℕ → List ℕ
 count label n = 32 ∷ (string_bytes label ++ (61 ∷ []) ++ decimal n)
 
 pub counts_text : IsText counts count
-unfolding numbered
+unfolding labelled_numbers
 counts_text = record {
   left = λ ys. refl;
   right = nothing;

@@ -8,7 +8,7 @@ use Rattle.hex.specs.Hex.{encode_lower}
 use Rattle.ndn_name.specs.Uri.{uri}
 use Rattle.script_report.specs.declared.piece.Piece.{Piece}
 use Rattle.script_report.specs.declared.piece.Piece.TheVariants.{Word, Number, Hex, Uri, Field, Counts}
-use Rattle.script_report.specs.Texts.{field, numbered}
+use Rattle.script_report.specs.Texts.{field, labelled_numbers}
 
 -- The text stands behind what was there; or, where memory ran out, nothing changed.
 abbrev pub Appends : List ℕ → List ℕ → List ℕ → Result (Unit {0}) AllocError → Type 0
@@ -16,7 +16,7 @@ Appends text old new (Ok x) = new ≡ old ++ text
 Appends text old new (Err e) = new ≡ old
 
 -- What was there stands in front still.
-pub record Keeps (old new : List ℕ) : Type 0 where
+pub record KeepsFront (old new : List ℕ) : Type 0 where
   pub front : take (length old) new ≡ old
 
 -- The words of a piece.
@@ -26,7 +26,7 @@ words_of (Number n) = decimal n ∷ []
 words_of (Hex octets) = encode_lower octets.now ∷ []
 words_of (Uri name) = uri name.now ∷ []
 words_of (Field word n) = field word.now n
-words_of (Counts labels numbers) = numbered (map string_bytes labels.now) numbers.now
+words_of (Counts labels numbers) = labelled_numbers (map string_bytes labels.now) numbers.now
 
 abbrev pub words_in : List Piece → List (List ℕ)
 words_in pieces = flat_map words_of pieces

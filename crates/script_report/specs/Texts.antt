@@ -9,12 +9,12 @@ use Rattle.repo_catalog.specs.declared.entry.Entry.{Entry}
 -- ---- a line
 
 -- Words, each behind a space.
-abbrev pub spaced : List (List ℕ) → List ℕ
-spaced words = flat_map (λ word. 32 ∷ word) words
+abbrev pub behind_spaces : List (List ℕ) → List ℕ
+behind_spaces words = flat_map (λ word. 32 ∷ word) words
 
 -- A line is its first word, the others, and a line feed.
 unfoldable pub line : List ℕ → List (List ℕ) → List ℕ
-line first words = first ++ (spaced words ++ 10 ∷ [])
+line first words = first ++ (behind_spaces words ++ 10 ∷ [])
 
 -- ---- events
 
@@ -132,13 +132,13 @@ block_published_text m seq sync = line (codes "block")
 -- ---- readings
 
 -- `LABEL=N` for each member
-unfoldable pub numbered : List (List ℕ) → List ℕ → List (List ℕ)
-numbered [] numbers = []
-numbered (label ∷ labels) [] = []
-numbered (label ∷ labels) (n ∷ numbers) = (label ++ codes "=" ++ decimal n) ∷ numbered labels numbers
+unfoldable pub labelled_numbers : List (List ℕ) → List ℕ → List (List ℕ)
+labelled_numbers [] numbers = []
+labelled_numbers (label ∷ labels) [] = []
+labelled_numbers (label ∷ labels) (n ∷ numbers) = (label ++ codes "=" ++ decimal n) ∷ labelled_numbers labels numbers
 
 abbrev pub vector_text : List ℕ → List (List ℕ) → List ℕ → List ℕ
-vector_text m labels numbers = line (codes "vector") (m ∷ numbered labels numbers)
+vector_text m labels numbers = line (codes "vector") (m ∷ labelled_numbers labels numbers)
 
 -- An entry of a catalogue, under its publisher's label.
 abbrev pub entry_text : List ℕ → Entry → List ℕ

@@ -1,6 +1,6 @@
 ghost use Rattle.std.specs.Prelude.{◌≡◌, ◌++◌, take, OnOk, MatchResult};
 ghost use Rattle.script_report.specs.Texts.{line};
-ghost use Rattle.script_report.specs.Pieces.{Appends, Keeps, words_in};
+ghost use Rattle.script_report.specs.Pieces.{Appends, KeepsFront, words_in};
 
 use crate::piece::{Piece, put_pieces};
 use std::alloc::AllocError;
@@ -26,7 +26,7 @@ pub(crate) fn write_line(
     pieces: &[Piece<'_>],
 ) -> Result<(), AllocError>
     ensures ok { OnOk result (out.new.items ≡ out.old.items ++ line first.now (words_in pieces.now)) }
-    ensures kept { Keeps out.old.items out.new.items }
+    ensures kept { KeepsFront out.old.items out.new.items }
 {
     out.extend_from_slice(first.as_bytes())?;
     put_pieces(out, pieces)?;

@@ -2,8 +2,8 @@ ghost use Rattle.std.specs.Prelude.{◌≡◌, ◌∷◌, ◌++◌, codes, map, 
 ghost use Rattle.std.specs.Fmt.{decimal};
 ghost use Rattle.hex.specs.Hex.{encode_lower};
 ghost use Rattle.ndn_name.specs.Uri.{uri};
-ghost use Rattle.script_report.specs.Texts.{field, numbered, spaced};
-ghost use Rattle.script_report.specs.Pieces.{Keeps, words_in, words_of};
+ghost use Rattle.script_report.specs.Texts.{field, labelled_numbers, behind_spaces};
+ghost use Rattle.script_report.specs.Pieces.{KeepsFront, words_in, words_of};
 
 use itoa::Buffer;
 use ndn_name::Name;
@@ -27,8 +27,8 @@ pub(crate) enum Piece<'a> {
 // still.
 
 pub(crate) fn put_pieces(out: &mut Vec<u8>, pieces: &[Piece<'_>]) -> Result<(), AllocError>
-    ensures ok { OnOk result (out.new.items ≡ out.old.items ++ spaced (words_in pieces.now)) }
-    ensures kept { Keeps out.old.items out.new.items }
+    ensures ok { OnOk result (out.new.items ≡ out.old.items ++ behind_spaces (words_in pieces.now)) }
+    ensures kept { KeepsFront out.old.items out.new.items }
 {
     for piece in pieces {
         put_piece(out, piece)?;
@@ -37,8 +37,8 @@ pub(crate) fn put_pieces(out: &mut Vec<u8>, pieces: &[Piece<'_>]) -> Result<(), 
 }
 
 fn put_piece(out: &mut Vec<u8>, piece: &Piece<'_>) -> Result<(), AllocError>
-    ensures ok { OnOk result (out.new.items ≡ out.old.items ++ spaced (words_of piece.now)) }
-    ensures kept { Keeps out.old.items out.new.items }
+    ensures ok { OnOk result (out.new.items ≡ out.old.items ++ behind_spaces (words_of piece.now)) }
+    ensures kept { KeepsFront out.old.items out.new.items }
 {
     match piece {
         Piece::Word(word) => put_word(out, word.as_bytes()),
@@ -52,7 +52,7 @@ fn put_piece(out: &mut Vec<u8>, piece: &Piece<'_>) -> Result<(), AllocError>
 
 fn put_word(out: &mut Vec<u8>, word: &[u8]) -> Result<(), AllocError>
     ensures ok { OnOk result (out.new.items ≡ out.old.items ++ (32 ∷ word.now)) }
-    ensures kept { Keeps out.old.items out.new.items }
+    ensures kept { KeepsFront out.old.items out.new.items }
 {
     out.push(b' ')?;
     out.extend_from_slice(word)
@@ -60,7 +60,7 @@ fn put_word(out: &mut Vec<u8>, word: &[u8]) -> Result<(), AllocError>
 
 fn put_hex(out: &mut Vec<u8>, octets: &[u8]) -> Result<(), AllocError>
     ensures ok { OnOk result (out.new.items ≡ out.old.items ++ (32 ∷ encode_lower octets.now)) }
-    ensures kept { Keeps out.old.items out.new.items }
+    ensures kept { KeepsFront out.old.items out.new.items }
 {
     out.push(b' ')?;
     let before = out.len();
@@ -74,15 +74,15 @@ fn put_hex(out: &mut Vec<u8>, octets: &[u8]) -> Result<(), AllocError>
 #[tactic(auto, using(crate::proofs::Fronts::keeps_more, crate::proofs::Fronts::keeps_same))]
 fn put_uri(out: &mut Vec<u8>, name: &Name) -> Result<(), AllocError>
     ensures ok { OnOk result (out.new.items ≡ out.old.items ++ (32 ∷ uri name.now)) }
-    ensures kept { Keeps out.old.items out.new.items }
+    ensures kept { KeepsFront out.old.items out.new.items }
 {
     out.push(b' ')?;
     name.view().put_uri(out)
 }
 
 fn put_field(out: &mut Vec<u8>, word: &str, number: Option<u64>) -> Result<(), AllocError>
-    ensures ok { OnOk result (out.new.items ≡ out.old.items ++ spaced (field word.now number)) }
-    ensures kept { Keeps out.old.items out.new.items }
+    ensures ok { OnOk result (out.new.items ≡ out.old.items ++ behind_spaces (field word.now number)) }
+    ensures kept { KeepsFront out.old.items out.new.items }
 {
     let Some(number) = number else {
         return Ok(());
@@ -93,8 +93,8 @@ fn put_field(out: &mut Vec<u8>, word: &str, number: Option<u64>) -> Result<(), A
 
 fn put_counts(out: &mut Vec<u8>, labels: &[String], numbers: &[u64]) -> Result<(), AllocError>
     ensures ok { OnOk result (out.new.items ≡ out.old.items
-        ++ spaced (numbered (map string_bytes labels.now) numbers.now)) }
-    ensures kept { Keeps out.old.items out.new.items }
+        ++ behind_spaces (labelled_numbers (map string_bytes labels.now) numbers.now)) }
+    ensures kept { KeepsFront out.old.items out.new.items }
 {
     for (label, number) in labels.iter().zip(numbers) {
         put_count(out, label, *number)?;
@@ -106,7 +106,7 @@ fn put_counts(out: &mut Vec<u8>, labels: &[String], numbers: &[u64]) -> Result<(
 fn put_count(out: &mut Vec<u8>, label: &str, number: u64) -> Result<(), AllocError>
     ensures ok { OnOk result (out.new.items
         ≡ out.old.items ++ (32 ∷ label.now ++ codes "=" ++ decimal number)) }
-    ensures kept { Keeps out.old.items out.new.items }
+    ensures kept { KeepsFront out.old.items out.new.items }
 {
     put_word(out, label.as_bytes())?;
     out.push(b'=')?;

@@ -1,6 +1,6 @@
 ghost use Rattle.std.specs.Prelude.{◌≡◌, ◌++◌, map, length, string_bytes, OnOk};
 ghost use Rattle.script_report.specs.Texts.{catalogue_text, entries_text, entry_text, summary_text, totals_text, traffic_text, vector_text};
-ghost use Rattle.script_report.specs.Pieces.{Appends, Keeps};
+ghost use Rattle.script_report.specs.Pieces.{Appends, KeepsFront};
 
 use crate::line::{put_line, whole, write_line};
 use crate::piece::Piece::{Counts, Hex, Number, Uri, Word};
@@ -47,7 +47,7 @@ fn write_catalogue(
 ) -> Result<(), AllocError>
     ensures ok { OnOk result (out.new.items ≡ out.old.items
         ++ catalogue_text m.now count (map string_bytes labels.now) entries.now) }
-    ensures kept { Keeps out.old.items out.new.items }
+    ensures kept { KeepsFront out.old.items out.new.items }
 {
     write_line(out, "catalogue", &[Word(m), Number(count)])?;
     write_entries(out, labels, entries)
@@ -56,7 +56,7 @@ fn write_catalogue(
 fn write_entries(out: &mut Vec<u8>, labels: &[String], entries: &[Entry]) -> Result<(), AllocError>
     ensures ok { OnOk result (out.new.items ≡ out.old.items
         ++ entries_text (map string_bytes labels.now) entries.now) }
-    ensures kept { Keeps out.old.items out.new.items }
+    ensures kept { KeepsFront out.old.items out.new.items }
 {
     for (label, entry) in labels.iter().zip(entries) {
         write_entry(out, label, entry)?;
@@ -66,7 +66,7 @@ fn write_entries(out: &mut Vec<u8>, labels: &[String], entries: &[Entry]) -> Res
 
 fn write_entry<'a>(out: &mut Vec<u8>, label: &'a str, entry: &'a Entry) -> Result<(), AllocError>
     ensures ok { OnOk result (out.new.items ≡ out.old.items ++ entry_text label.now entry.now) }
-    ensures kept { Keeps out.old.items out.new.items }
+    ensures kept { KeepsFront out.old.items out.new.items }
 {
     write_line(
         out,
@@ -116,7 +116,7 @@ fn write_summary(
     requires octets { length labels.now ≡ length octets.now }
     ensures ok { OnOk result (out.new.items ≡ out.old.items
         ++ summary_text (map string_bytes labels.now) entries.now segments.now octets.now) }
-    ensures kept { Keeps out.old.items out.new.items }
+    ensures kept { KeepsFront out.old.items out.new.items }
 {
     for (i, label) in labels.iter().enumerate() {
         write_totals(out, label, entries[i], segments[i], octets[i])?;
@@ -132,7 +132,7 @@ fn write_totals(
     octets: u64,
 ) -> Result<(), AllocError>
     ensures ok { OnOk result (out.new.items ≡ out.old.items ++ totals_text member.now entries segments octets) }
-    ensures kept { Keeps out.old.items out.new.items }
+    ensures kept { KeepsFront out.old.items out.new.items }
 {
     write_line(
         out,

@@ -5,8 +5,8 @@ use Rattle.svs_vector.specs.Vectors.{join, covers, join_all}
 use Rattle.svs_vector.proofs.JoinLemmas.{join-[], join_assoc}
 use Rattle.svs_sync.specs.declared.fired.Fired.{Fired}
 use Rattle.svs_sync.specs.declared.fired.Fired.TheVariants.{Early}
-use Rattle.svs_sync.specs.Suppression.{Event, Member, suppression, steady, hears, due, fires, after, after_all, mode_of}
-use Rattle.svs_sync.specs.Suppression.Event.{published, heard, fired, reset}
+use Rattle.svs_sync.specs.Suppression.{SyncEvent, SyncMember, suppression, steady, hears, due, fires, after_sync_event, after_sync_events, mode_of}
+use Rattle.svs_sync.specs.Suppression.SyncEvent.{published, heard, fired, reset}
 use Rattle.svs_sync.specs.KeptVector.{Keeper, kept, steady_kept, hears_kept, due_kept, fires_kept, after_kept, after_all_kept}
 
 join_all-push : (vs : List (List ℕ)) (w : List ℕ) → join_all (vs ++ w ∷ []) ≡ join (join_all vs) w
@@ -18,42 +18,42 @@ join_all-one : (w : List ℕ) → join_all (w ∷ []) ≡ w
 unfolding join_all
 join_all-one w = join-[] w
 
-kept_if : (n : ℕ) (b : Bool) (x y : Member) → kept n (if b then x else y) ≡ (if b then kept n x else kept n y)
+kept_if : (n : ℕ) (b : Bool) (x y : SyncMember) → kept n (if b then x else y) ≡ (if b then kept n x else kept n y)
 kept_if n true x y = refl
 kept_if n false x y = refl
 
-hears_same : (n now : ℕ) (told known : List ℕ) (draw : ℕ) (m : Member) (h : Option (List (List ℕ)))
+hears_same : (n now : ℕ) (told known : List ℕ) (draw : ℕ) (m : SyncMember) (h : Option (List (List ℕ)))
     → hears_kept now told known draw (kept n m) (option_map join_all h) ≡ kept n (hears now told known draw m h)
 hears_same n now told known draw m None =
-    let alone : Member = record { heard = Some (told ∷ []); deadline = now + suppression draw; draws = m.draws + 1 } in
+    let alone : SyncMember = record { heard = Some (told ∷ []); deadline = now + suppression draw; draws = m.draws + 1 } in
     let one : Keeper = record { members = n; heard = Some told; deadline = now + suppression draw; draws = m.draws + 1 } in
     let same : one ≡ kept n alone = ap (λ (v : List ℕ). let k : Keeper = record { members = n; heard = Some v; deadline = now + suppression draw; draws = m.draws + 1 } in k) (sym (join_all-one told)) in
     ap (λ (k : Keeper). if covers told known then steady_kept now draw (kept n m) else k) same ∙ sym (kept_if n (covers told known) (steady now draw m) alone)
 hears_same n now told known draw m (Some vectors) =
     ap (λ (v : List ℕ). let k : Keeper = record { members = n; heard = Some v; deadline = m.deadline; draws = m.draws } in k) (sym (join_all-push vectors told))
 
-after_same : (n : ℕ) (e : Event) (m : Member) → after_kept e (kept n m) ≡ kept n (after e m)
-unfolding after_kept after
+after_same : (n : ℕ) (e : SyncEvent) (m : SyncMember) → after_kept e (kept n m) ≡ kept n (after_sync_event e m)
+unfolding after_kept after_sync_event
 after_same n (published now draw) m = refl
 after_same n (heard now told known draw) m = hears_same n now told known draw m m.heard
 after_same n (fired now known draw) m = sym (kept_if n (ltb now m.deadline) m (steady now draw m))
 after_same n (reset now draw) m = refl
 
-pub after_all_same : (n : ℕ) (events : List Event) (m : Member) → after_all_kept events (kept n m) ≡ kept n (after_all events m)
-unfolding after_all_kept after_all
+pub after_all_same : (n : ℕ) (events : List SyncEvent) (m : SyncMember) → after_all_kept events (kept n m) ≡ kept n (after_sync_events events m)
+unfolding after_all_kept after_sync_events
 after_all_same n [] m = refl
-after_all_same n (e ∷ es) m = ap (after_all_kept es) (after_same n e m) ∙ after_all_same n es (after e m)
+after_all_same n (e ∷ es) m = ap (after_all_kept es) (after_same n e m) ∙ after_all_same n es (after_sync_event e m)
 
 due_same : (known : List ℕ) (h : Option (List (List ℕ))) → due_kept known (option_map join_all h) ≡ due known h
 due_same known None = refl
 due_same known (Some vectors) = refl
 
-pub fires_same : (n now : ℕ) (known : List ℕ) (m : Member) → fires_kept now known (kept n m) ≡ fires now known m
+pub fires_same : (n now : ℕ) (known : List ℕ) (m : SyncMember) → fires_kept now known (kept n m) ≡ fires now known m
 fires_same n now known m = ap (λ (f : Fired). if ltb now m.deadline then Early else f) (due_same known m.heard)
 
 mode_same : (h : Option (List (List ℕ))) → mode_of (option_map join_all h) ≡ mode_of h
 mode_same None = refl
 mode_same (Some vectors) = refl
 
-pub modes_same : (n : ℕ) (m : Member) → mode_of (kept n m).heard ≡ mode_of m.heard
+pub modes_same : (n : ℕ) (m : SyncMember) → mode_of (kept n m).heard ≡ mode_of m.heard
 modes_same n m = mode_same m.heard

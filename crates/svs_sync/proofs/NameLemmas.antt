@@ -9,7 +9,7 @@ use Rattle.ndn_name.specs.Names.{Component, IsComponent, IsName, encoding}
 use Rattle.ndn_name.proofs.Encodings.{encoding-push, encoding-same, IsName-append, IsOctets-behind}
 use Rattle.ndn_interest.specs.Interest.{without_last, ends_in_digest}
 use Rattle.ndn_interest.proofs.LastLemmas.{digest_ends, without-push, ends-push}
-use Rattle.svs_vector.specs.Rosters.{is_same_name}
+use Rattle.svs_vector.specs.Rosters.{has_same_octets}
 use Rattle.svs_sync.proofs.OctetLemmas.{IsOctets-encoding}
 use Rattle.svs_sync.specs.SyncInterest.{sync_name, is_sync_name}
 
@@ -47,7 +47,7 @@ pub is_sync_name-made : (group : List Component) (digest : List ℕ) → is_sync
 is_sync_name-made group digest =
     let front = sync_name group in
     let last : Component = (2, digest) in
-    and_from (is_same_name (without_last (front ++ last ∷ [])) front) (ends_in_digest (front ++ last ∷ []))
+    and_from (has_same_octets (without_last (front ++ last ∷ [])) front) (ends_in_digest (front ++ last ∷ []))
     (rw (without-push front last) ((bytes_eq-Decides (encoding front) (encoding front)).1 refl)) (ends-push front digest)
 
 -- ---- the test of the octets
@@ -73,7 +73,7 @@ pub record HasDigest (group name : List Component) : Type 0 where
 
 pub has_digest : (group name : List Component) → IsName name → is_sync_name group name ≡ true → HasDigest group name
 has_digest group name valid h =
-    let tests = and_parts (is_same_name (without_last name) (sync_name group)) (ends_in_digest name) h in
+    let tests = and_parts (has_same_octets (without_last name) (sync_name group)) (ends_in_digest name) h in
     let ends = digest_ends name valid tests.1 in
     let front : encoding (without_last name) ≡ encoding (sync_name group) = (bytes_eq-Decides (encoding (without_last name)) (encoding (sync_name group))).0 tests.0 in
     record {

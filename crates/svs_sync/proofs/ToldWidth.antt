@@ -6,16 +6,16 @@ use Rattle.ndn_tlv.specs.Listing.{gather, ◌>>=◌}
 use Rattle.ndn_tlv.specs.Elements.{elements}
 use Rattle.ndn_name.specs.Names.{Component}
 use Rattle.ndn_name.proofs.Encodings.{bind_ok}
-use Rattle.ndn_sign.specs.Ring.{Pair}
+use Rattle.ndn_sign.specs.Ring.{NamedKey}
 use Rattle.ndn_interest.specs.Interest.{Interest, interest_of}
 use Rattle.ndn_interest.specs.Signer.{ensured, signer_of}
 use Rattle.svs_vector.specs.declared.vector_fault.VectorFault.{VectorFault}
 use Rattle.svs_vector.specs.declared.vector_fault.VectorFault.TheVariants.{NumberTooLarge}
 use Rattle.svs_vector.specs.Rosters.{member_of}
-use Rattle.svs_vector.specs.StateVector.{entry_in, counted, with_entry, vector_in, vector_among, vector_of, fault_in}
+use Rattle.svs_vector.specs.StateVector.{entry_in, counted, with_vector_entry, vector_in, vector_among, vector_of, fault_in}
 use Rattle.svs_sync.specs.declared.sync_refusal.SyncRefusal.{SyncRefusal}
 use Rattle.svs_sync.specs.declared.sync_refusal.SyncRefusal.TheVariants.{WrongGroup}
-use Rattle.svs_sync.specs.SyncInterest.{packet_or, signed_or, vector_or, is_sync_name, interest_verdict, sync_verdict}
+use Rattle.svs_sync.specs.SyncInterest.{packet_or, signed_or, vector_or, is_sync_name, sync_interest_verdict, sync_verdict}
 
 counted_wide : (v : List ℕ) (n : ℕ) (member : Option ℕ) (w : List ℕ) → counted v n member ≡ Ok w → length w ≡ length v
 counted_wide v n None w h = let same : v ≡ w = cc in ap (λ (u : List ℕ). length u) (sym same)
@@ -43,7 +43,7 @@ module _ (roster : List (List Component)) where
   vector_wide : (octets w : List ℕ) → vector_of roster octets ≡ Ok w → length w ≡ length roster
   vector_wide octets w h =
       let step = bind_ok (vector_among (elements 0 octets).items) (vector_in roster) w h in
-      gathered_wide (with_entry roster) (fault_in step.0) (λ v field w h.
+      gathered_wide (with_vector_entry roster) (fault_in step.0) (λ v field w h.
       let entry = bind_ok (entry_in field.1) (λ entry. counted v entry.1 (member_of entry.0 roster)) w h in
       counted_wide v entry.0.1 (member_of entry.0.0 roster) w entry.2) (replicate (length roster) 0) _ _ w step.2
       ∙ length-replicate (length roster) 0
@@ -52,7 +52,7 @@ module _ (roster : List (List Component)) where
   vector_or_ok (Ok v) w h = let same : v ≡ w = cc in ap (λ (u : List ℕ). Ok u) same
   vector_or_ok (Err fault) w h = absurd cc
 
-  module _ (group : List Component) (ring : List Pair) (i : Interest) where
+  module _ (group : List Component) (ring : List NamedKey) (i : Interest) where
     abbrev read : Result (List ℕ) SyncRefusal
     read = vector_or (vector_of roster (unwrap_or i.parameters []))
 
@@ -65,13 +65,13 @@ module _ (roster : List (List Component)) where
         let same : vector.0 ≡ told.1 = ap (λ r. vector_in_it r vector.0) vector.2 in
         ap (λ (u : List ℕ). length u) (sym same) ∙ vector_wide (unwrap_or i.parameters []) vector.0 (vector_or_ok (vector_of roster (unwrap_or i.parameters [])) vector.0 vector.1)
 
-    interest_wide : (told : ℕ × List ℕ) → interest_verdict group roster ring i ≡ Ok told → length told.1 ≡ length roster
+    interest_wide : (told : ℕ × List ℕ) → sync_interest_verdict group roster ring i ≡ Ok told → length told.1 ≡ length roster
     interest_wide told h =
         let named = bind_ok (ensured (is_sync_name group i.name) WrongGroup) (λ u. signed_or (signer_of ring i) >>= with_signer) told h in
         let signed = bind_ok (signed_or (signer_of ring i)) with_signer told named.2 in
         vector_told signed.0 told signed.2
 
-  pub told_wide : (group : List Component) (ring : List Pair) (octets : List ℕ) (told : ℕ × List ℕ) → sync_verdict group roster ring octets ≡ Ok told → length told.1 ≡ length roster
+  pub told_wide : (group : List Component) (ring : List NamedKey) (octets : List ℕ) (told : ℕ × List ℕ) → sync_verdict group roster ring octets ≡ Ok told → length told.1 ≡ length roster
   told_wide group ring octets told h =
-      let step = bind_ok (packet_or (interest_of octets)) (interest_verdict group roster ring) told h in
+      let step = bind_ok (packet_or (interest_of octets)) (sync_interest_verdict group roster ring) told h in
       interest_wide group ring step.0 told step.2

@@ -4,8 +4,8 @@ use Rattle.std.specs.Option.{option_map}
 use Rattle.svs_vector.specs.Vectors.{join, covers, join_all}
 use Rattle.svs_sync.specs.declared.fired.Fired.{Fired}
 use Rattle.svs_sync.specs.declared.fired.Fired.TheVariants.{Early, Quiet, Send}
-use Rattle.svs_sync.specs.Suppression.{Event, Member, periodic, suppression}
-use Rattle.svs_sync.specs.Suppression.Event.{published, heard, fired, reset}
+use Rattle.svs_sync.specs.Suppression.{SyncEvent, SyncMember, periodic, suppression}
+use Rattle.svs_sync.specs.Suppression.SyncEvent.{published, heard, fired, reset}
 
 -- Nothing where the member is Steady, and where it is Suppressed the join of the vectors that were heard since; its
 -- deadline; how many draws it has used; and of how many members its vectors are.
@@ -16,7 +16,7 @@ pub record Keeper : Type 0 where
   pub draws : ℕ
 
 -- What is kept of a member.
-abbrev pub kept : ℕ → Member → Keeper
+abbrev pub kept : ℕ → SyncMember → Keeper
 kept members m =
     record {
       members = members;
@@ -45,12 +45,12 @@ abbrev pub fired_kept : ℕ → ℕ → Keeper → Keeper
 fired_kept now draw k = if nat_lt now k.deadline then k else steady_kept now draw k
 
 -- What is kept after each event, and after a list of them.
-unfoldable pub after_kept : Event → Keeper → Keeper
+unfoldable pub after_kept : SyncEvent → Keeper → Keeper
 after_kept (published now draw) k = steady_kept now draw k
 after_kept (heard now told known draw) k = hears_kept now told known draw k k.heard
 after_kept (fired now known draw) k = fired_kept now draw k
 after_kept (reset now draw) k = steady_kept now draw k
 
-unfoldable pub after_all_kept : List Event → Keeper → Keeper
+unfoldable pub after_all_kept : List SyncEvent → Keeper → Keeper
 after_all_kept [] k = k
 after_all_kept (e ∷ es) k = after_all_kept es (after_kept e k)

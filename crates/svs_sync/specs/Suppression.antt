@@ -16,26 +16,26 @@ abbrev pub suppression : ℕ → ℕ
 suppression draw = draw % 201
 
 -- What happens to a member. Each comes with the draw that is next, whether it is used or not.
-pub data Event : Type 0 where
-  published : (now draw : ℕ) → Event
-  heard : (now : ℕ) (told known : List ℕ) (draw : ℕ) → Event
-  fired : (now : ℕ) (known : List ℕ) (draw : ℕ) → Event
-  reset : (now draw : ℕ) → Event
+pub data SyncEvent : Type 0 where
+  published : (now draw : ℕ) → SyncEvent
+  heard : (now : ℕ) (told known : List ℕ) (draw : ℕ) → SyncEvent
+  fired : (now : ℕ) (known : List ℕ) (draw : ℕ) → SyncEvent
+  reset : (now draw : ℕ) → SyncEvent
 
 -- A member: nothing where it is Steady, and where it is Suppressed the vectors that were heard since, in order; its
 -- deadline; and how many draws it has used.
-pub record Member : Type 0 where
+pub record SyncMember : Type 0 where
   pub heard : Option (List (List ℕ))
   pub deadline : ℕ
   pub draws : ℕ
 
 -- Steady, with a periodic deadline and one draw used.
-abbrev pub steady : ℕ → ℕ → Member → Member
+abbrev pub steady : ℕ → ℕ → SyncMember → SyncMember
 steady now draw m = record { heard = None; deadline = now + periodic draw; draws = m.draws + 1 }
 
 -- A vector is heard. A Steady member stays so where the vector covers the one that is known before, and is Suppressed
 -- where it doesn't. A Suppressed one adds it to those heard, uses no draw, and keeps its deadline.
-abbrev pub hears : ℕ → List ℕ → List ℕ → ℕ → Member → Option (List (List ℕ)) → Member
+abbrev pub hears : ℕ → List ℕ → List ℕ → ℕ → SyncMember → Option (List (List ℕ)) → SyncMember
 hears now told known draw m None =
     if covers told known then steady now draw m
     else record { heard = Some (told ∷ []); deadline = now + suppression draw; draws = m.draws + 1 }
@@ -48,20 +48,20 @@ due known None = Send
 due known (Some vectors) = if covers (join_all vectors) known then Quiet else Send
 
 -- What a member does that fires: nothing before its deadline.
-abbrev pub fires : ℕ → List ℕ → Member → Fired
+abbrev pub fires : ℕ → List ℕ → SyncMember → Fired
 fires now known m = if nat_lt now m.deadline then Early else due known m.heard
 
 -- The member after each event.
-unfoldable pub after : Event → Member → Member
-after (published now draw) m = steady now draw m
-after (heard now told known draw) m = hears now told known draw m m.heard
-after (fired now known draw) m = if nat_lt now m.deadline then m else steady now draw m
-after (reset now draw) m = steady now draw m
+unfoldable pub after_sync_event : SyncEvent → SyncMember → SyncMember
+after_sync_event (published now draw) m = steady now draw m
+after_sync_event (heard now told known draw) m = hears now told known draw m m.heard
+after_sync_event (fired now known draw) m = if nat_lt now m.deadline then m else steady now draw m
+after_sync_event (reset now draw) m = steady now draw m
 
 -- And after a list of them.
-unfoldable pub after_all : List Event → Member → Member
-after_all [] m = m
-after_all (e ∷ es) m = after_all es (after e m)
+unfoldable pub after_sync_events : List SyncEvent → SyncMember → SyncMember
+after_sync_events [] m = m
+after_sync_events (e ∷ es) m = after_sync_events es (after_sync_event e m)
 
 -- The mode that the vectors heard say.
 abbrev pub mode_of : {A : Type 0} → Option A → Mode

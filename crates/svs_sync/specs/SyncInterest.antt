@@ -5,14 +5,14 @@ use Rattle.ndn_tlv.specs.Types as types
 use Rattle.ndn_tlv.specs.Listing.{◌>>=◌}
 use Rattle.ndn_name.specs.declared.fault.PacketFault.{PacketFault}
 use Rattle.ndn_name.specs.Names.{Component, encoding}
-use Rattle.ndn_sign.specs.Ring.{Pair}
+use Rattle.ndn_sign.specs.Ring.{NamedKey}
 use Rattle.ndn_interest.specs.declared.signature_refusal.SignatureRefusal.{SignatureRefusal}
 use Rattle.ndn_interest.specs.declared.signature_refusal.SignatureRefusal.TheVariants as signature
 use Rattle.ndn_interest.specs.Interest.{Interest, interest_of, without_last, ends_in_digest}
 use Rattle.ndn_interest.specs.Signer.{ensured, signer_of}
 use Rattle.ndn_interest.specs.WrittenInterest.{written_interest}
 use Rattle.svs_vector.specs.declared.vector_fault.VectorFault.{VectorFault}
-use Rattle.svs_vector.specs.Rosters.{is_same_name}
+use Rattle.svs_vector.specs.Rosters.{has_same_octets}
 use Rattle.svs_vector.specs.StateVector.{vector_of}
 use Rattle.svs_vector.specs.WrittenVector.{written_vector}
 use Rattle.svs_sync.specs.declared.sync_refusal.SyncRefusal.{SyncRefusal}
@@ -69,19 +69,19 @@ vector_or (Err fault) = Err (Vector fault)
 
 -- The name is that of the group's sync Interests, with a parameters digest behind it.
 abbrev pub is_sync_name : List Component → List Component → Bool
-is_sync_name group name = is_same_name (without_last name) (sync_name group) && ends_in_digest name
+is_sync_name group name = has_same_octets (without_last name) (sync_name group) && ends_in_digest name
 
 -- The number of the key that signed an Interest, and the vector that it tells; or the first refusal.
-abbrev pub interest_verdict : List Component → List (List Component) → List Pair → Interest
+abbrev pub sync_interest_verdict : List Component → List (List Component) → List NamedKey → Interest
     → Result (ℕ × List ℕ) SyncRefusal
-interest_verdict group roster ring i = do
+sync_interest_verdict group roster ring i = do
   _ ← ensured (is_sync_name group i.name) WrongGroup
   signer ← signed_or (signer_of ring i)
   vector ← vector_or (vector_of roster (unwrap_or i.parameters []))
   Ok (signer, vector)
 
 -- The same of octets.
-abbrev pub sync_verdict : List Component → List (List Component) → List Pair → List ℕ
+abbrev pub sync_verdict : List Component → List (List Component) → List NamedKey → List ℕ
     → Result (ℕ × List ℕ) SyncRefusal
 sync_verdict group roster ring octets =
-    packet_or (interest_of octets) >>= interest_verdict group roster ring
+    packet_or (interest_of octets) >>= sync_interest_verdict group roster ring

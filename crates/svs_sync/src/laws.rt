@@ -1,9 +1,9 @@
 ghost use Rattle.std.specs.Prelude.{◌≡◌, ◌^◌, ◌<◌, ◌↔◌, ◌++◌, ◌∷◌, [], ℕ, List, Ok, Some, length, slice_get, IsTrue};
 ghost use Rattle.std.specs.List.{All};
 ghost use Rattle.ndn_name.specs.Names.{Component, IsName, encoding};
-ghost use Rattle.ndn_sign.specs.Ring.{Pair, number_of, pair};
+ghost use Rattle.ndn_sign.specs.Ring.{NamedKey, key_number, pair};
 ghost use Rattle.svs_vector.specs.Rosters.{IsRoster};
-ghost use Rattle.svs_sync.specs.Suppression.{Event, Member, after_all, fires, mode_of};
+ghost use Rattle.svs_sync.specs.Suppression.{SyncEvent, SyncMember, after_sync_events, fires, mode_of};
 ghost use Rattle.ndn_tlv.specs.Types as types;
 ghost use Rattle.svs_sync.specs.SyncInterest.{sync_interest, sync_verdict, is_sync_name, IsNodeName, IsKeyName};
 ghost use Rattle.svs_sync.specs.KeptVector.{kept, after_all_kept, fires_kept};
@@ -11,22 +11,22 @@ ghost use Rattle.svs_sync.specs.KeptVector.{kept, after_all_kept, fires_kept};
 /// After any list of events, what is kept is what the table says over the list of vectors heard since the member was last
 /// Steady, with their join for the list.
 pub fn what_is_kept_is_the_join()
-    ensures after { (members : ℕ) (events : List Event) (m : Member)
-        → after_all_kept events (kept members m) ≡ kept members (after_all events m) }
-    ensures fires { (members now : ℕ) (known : List ℕ) (m : Member)
+    ensures after { (members : ℕ) (events : List SyncEvent) (m : SyncMember)
+        → after_all_kept events (kept members m) ≡ kept members (after_sync_events events m) }
+    ensures fires { (members now : ℕ) (known : List ℕ) (m : SyncMember)
         → fires_kept now known (kept members m) ≡ fires now known m }
-    ensures mode { (members : ℕ) (m : Member) → mode_of (kept members m).heard ≡ mode_of m.heard }
+    ensures mode { (members : ℕ) (m : SyncMember) → mode_of (kept members m).heard ≡ mode_of m.heard }
 {}
 
 /// The sync Interest that was made is checked: it tells the vector that was given, and its signer
 /// is the number of the key in the ring.
 pub fn made_sync_interests_are_checked()
     ensures { (group key_name : List Component) (roster : List (List Component))
-        (vector key : List ℕ) (ring : List Pair) (signer : ℕ)
+        (vector key : List ℕ) (ring : List NamedKey) (signer : ℕ)
         → IsName group → IsNodeName group → IsRoster roster → All IsNodeName roster
         → length vector ≡ length roster → All (λ n. n < 2 ^ 16) vector
         → IsName key_name → IsKeyName key_name
-        → number_of (encoding key_name) ring ≡ Some signer
+        → key_number (encoding key_name) ring ≡ Some signer
         → slice_get ring signer ≡ Some (pair (encoding key_name) key)
         → sync_verdict group roster ring (sync_interest group vector roster key_name key)
         ≡ Ok (signer, vector) }
@@ -42,7 +42,7 @@ pub fn sync_interests_are_tested()
 
 /// The vector that a sync Interest tells has a number for each member.
 pub fn told_vectors_have_all_members()
-    ensures { (group : List Component) (roster : List (List Component)) (ring : List Pair)
+    ensures { (group : List Component) (roster : List (List Component)) (ring : List NamedKey)
         (octets : List ℕ) (told : ℕ × List ℕ)
         → sync_verdict group roster ring octets ≡ Ok told → length told.1 ≡ length roster }
 {}

@@ -27,8 +27,8 @@ use Rattle.svs_vector.specs.Format.{entry_table}
 use Rattle.svs_vector.specs.declared.read.VectorField.TheVariants as vector_field
 use Rattle.svs_vector.specs.Format.{state_vector_table}
 use Rattle.svs_vector.specs.Vectors.{join}
-use Rattle.svs_vector.specs.Rosters.{is_same_name, member_of, IsOwnName, IsRoster}
-use Rattle.svs_vector.specs.StateVector.{Entry, EntrySoFar, good_name, good_number, with_entry_field, entry_fields, entry_in, both, fault_in, counted, with_entry, vector_in, vector_among, vector_of}
+use Rattle.svs_vector.specs.Rosters.{has_same_octets, member_of, IsOwnName, IsRoster}
+use Rattle.svs_vector.specs.StateVector.{Entry, EntrySoFar, entry_name, good_number, with_entry_field, entry_fields, entry_in, both, fault_in, counted, with_vector_entry, vector_in, vector_among, vector_of}
 use Rattle.svs_vector.specs.ToldVector.{number_told, greatest_told, vector_told, HaveSameEntries}
 use Rattle.svs_vector.specs.WrittenVector.{in_canonical_order, known_entries, entry_value, written_entry, written_vector}
 use Rattle.svs_vector.proofs.JoinLemmas.{join_assoc, join_zeros}
@@ -47,8 +47,8 @@ entry_places : (a b : Item) → a.typ ≡ 7 → b.typ ≡ 204 → fields entry_t
 unfolding fields_among place_of
 entry_places a b h k = rw (h, k) refl
 
-name_again : (e : Item) (name : List Component) → e.value ≡ encoding name → IsName name → good_name e (name_of e.value_start e.value) ≡ Ok name
-name_again e name is valid = ap (good_name e) (ap (name_of e.value_start) is ∙ name_of-encoding e.value_start name valid)
+name_again : (e : Item) (name : List Component) → e.value ≡ encoding name → IsName name → entry_name e (name_of e.value_start e.value) ≡ Ok name
+name_again e name is valid = ap (entry_name e) (ap (name_of e.value_start) is ∙ name_of-encoding e.value_start name valid)
 
 -- an entry that may be written
 pub record IsWritten (entry : Entry) : Type 0 where
@@ -96,13 +96,13 @@ counted_small v n (Some m) h = rw (le-ltb 65535 n (omega (arith, h))) refl
 
 module _ (roster : List (List Component)) (named : FieldFault → VectorFault) where
   entries_again : (o : ℕ) (v : List ℕ) (es : List Entry) → All IsOwnName (keys_of es) → All (λ n. n < 2 ^ 16) (values_of es)
-      → gathered (with_entry roster) named v (fields state_vector_table (elements o (flat_map written_entry es))) ≡ Ok (taken roster v es)
+      → gathered (with_vector_entry roster) named v (fields state_vector_table (elements o (flat_map written_entry es))) ≡ Ok (taken roster v es)
   entries_again o v [] names numbers =
-      ap (λ (l : Listing Item TlvFault). gathered (with_entry roster) named v (fields state_vector_table l)) (elements-nil o [] refl)
-      ∙ ap (gathered (with_entry roster) named v) (fields-nothing state_vector_table)
-      ∙ gathered-nothing (with_entry roster) named v
+      ap (λ (l : Listing Item TlvFault). gathered (with_vector_entry roster) named v (fields state_vector_table l)) (elements-nil o [] refl)
+      ∙ ap (gathered (with_vector_entry roster) named v) (fields-nothing state_vector_table)
+      ∙ gathered-nothing (with_vector_entry roster) named v
   entries_again o v (e ∷ es) names numbers =
-      let take = with_entry roster in
+      let take = with_vector_entry roster in
       let is : IsWritten e = record { name = All-head IsOwnName e.0 (keys_of es) names; small = All-head (λ n. n < 2 ^ 16) e.1 (values_of es) numbers } in
       let item = placed o 202 (entry_value e) in
       let p = o + length (written_entry e) in
@@ -136,44 +136,44 @@ module _ (roster : List (List Component)) (are : IsRoster roster) where
 
 -- ---- what the known entries tell
 
-stranger_told : (name : List Component) (es : List Entry) → All (λ other. is_same_name other name ≡ false) (keys_of es) → greatest_told name es ≡ 0
+stranger_told : (name : List Component) (es : List Entry) → All (λ other. has_same_octets other name ≡ false) (keys_of es) → greatest_told name es ≡ 0
 stranger_told name [] h = refl
 stranger_told name (e ∷ es) h =
-    let P : List Component → Type 0 = λ other. is_same_name other name ≡ false in
+    let P : List Component → Type 0 = λ other. has_same_octets other name ≡ false in
     rw (All-head P e.0 (keys_of es) h, stranger_told name es (All-tail P e.0 (keys_of es) h)) refl
 
 first_told : (b : Bool) (name : List Component) (n : ℕ) (es : List Entry) → eqb n 0 ≡ b → greatest_told name es ≡ 0
     → greatest_told name (cond (not b) ((name, n) ∷ es) es) ≡ n
 first_told true name n es spent none = none ∙ sym (eqb-true n 0 spent)
 first_told false name n es some none =
-    let same : is_same_name name name ≡ true = (bytes_eq-Decides (encoding name) (encoding name)).1 refl in
+    let same : has_same_octets name name ≡ true = (bytes_eq-Decides (encoding name) (encoding name)).1 refl in
     let most : max n 0 ≡ n = omega arith in
     rw (same, none) most
 
-other_told : (b : Bool) (other name : List Component) (n : ℕ) (es : List Entry) → is_same_name name other ≡ false
+other_told : (b : Bool) (other name : List Component) (n : ℕ) (es : List Entry) → has_same_octets name other ≡ false
     → greatest_told other (cond b ((name, n) ∷ es) es) ≡ greatest_told other es
 other_told true other name n es apart = let most : max 0 (greatest_told other es) ≡ greatest_told other es = omega arith in rw apart most
 other_told false other name n es apart = refl
 
 others_told : (b : Bool) (names : List (List Component)) (name : List Component) (n : ℕ) (es : List Entry)
-    → AllByRecursion (λ other. is_same_name name other ≡ false) names
+    → AllByRecursion (λ other. has_same_octets name other ≡ false) names
     → vector_told names (cond b ((name, n) ∷ es) es) ≡ vector_told names es
 others_told b [] name n es apart = refl
 others_told b (other ∷ names) name n es apart = let h = other_told b other name n es apart.0 in let t = others_told b names name n es apart.1 in cc
 
-names_apart : (name : List Component) (names : List (List Component)) → AllByRecursion (λ other. is_same_name name other ≡ false) names
-    → AllByRecursion (λ other. is_same_name other name ≡ false) names
+names_apart : (name : List Component) (names : List (List Component)) → AllByRecursion (λ other. has_same_octets name other ≡ false) names
+    → AllByRecursion (λ other. has_same_octets other name ≡ false) names
 names_apart name [] apart = apart
 names_apart name (other ∷ names) apart = (other_way name other apart.0, names_apart name names apart.1)
 
-known_told : (names : List (List Component)) (ns : List ℕ) → IsDistinct is_same_name names → length ns ≡ length names
+known_told : (names : List (List Component)) (ns : List ℕ) → IsDistinct has_same_octets names → length ns ≡ length names
     → vector_told names (known_entries names ns) ≡ ns
 unfolding IsDistinct
 known_told [] [] apart long = refl
 known_told [] (n ∷ ns) apart long = absurd (omega arith)
 known_told (name ∷ names) [] apart long = absurd (omega arith)
 known_told (name ∷ names) (n ∷ ns) apart long =
-    let P : List Component → Type 0 = λ other. is_same_name other name ≡ false in
+    let P : List Component → Type 0 = λ other. has_same_octets other name ≡ false in
     let es = known_entries names ns in
     let none = stranger_told name es (names_known P names ns (All-from_recursion P names (names_apart name names apart.0))) in
     let here = first_told (eqb n 0) name n es refl none in

@@ -7,7 +7,7 @@ use Rattle.std.proofs.lemmas.List.Elements.{All-head, All-tail, All-map, All-pus
 use Rattle.indexmap.specs.IndexMap.{insert_entry}
 use Rattle.indexmap.proofs.MapLemmas.{Missing-position, insert_entry-absent}
 use Rattle.ndn_name.specs.Names.{Component, encoding}
-use Rattle.svs_vector.specs.Rosters.{is_same_name, member_of, IsOwnName, IsRoster, AreMembers}
+use Rattle.svs_vector.specs.Rosters.{has_same_octets, member_of, IsOwnName, IsRoster, AreMembers}
 
 abbrev Entry : Type 0 → Type 0
 Entry A = Vec ℕ A × List Component
@@ -51,7 +51,7 @@ module _ {A : Type 0} (k : Vec ℕ A) (name : List Component) (es more : List (E
 
 differ_from : {A : Type 0} (k : Vec ℕ A) (name : List Component) (es : List (Entry A)) → k.items ≡ encoding name → All StandsUnderIt es
     → AllByRecursion (λ (y : Vec ℕ A). bytes_eq k.items y.items ≡ false) (map (λ e. e.0) es)
-    → AllByRecursion (λ y. is_same_name name y ≡ false) (map (λ e. e.1) es)
+    → AllByRecursion (λ y. has_same_octets name y ≡ false) (map (λ e. e.1) es)
 differ_from k name [] same all apart = apart
 differ_from k name (e ∷ es) same all apart =
     let here : e.0.items ≡ encoding e.1 = All-head StandsUnderIt e es all in
@@ -59,7 +59,7 @@ differ_from k name (e ∷ es) same all apart =
     (first, differ_from k name es same (All-tail StandsUnderIt e es all) apart.1)
 
 pub names_differ : {A : Type 0} (es : List (Entry A)) → All StandsUnderIt es
-    → IsDistinct (λ (x y : Vec ℕ A). bytes_eq x.items y.items) (map (λ e. e.0) es) → IsDistinct is_same_name (map (λ e. e.1) es)
+    → IsDistinct (λ (x y : Vec ℕ A). bytes_eq x.items y.items) (map (λ e. e.0) es) → IsDistinct has_same_octets (map (λ e. e.1) es)
 unfolding IsDistinct
 names_differ [] all apart = apart
 names_differ (e ∷ es) all apart =

@@ -15,7 +15,7 @@ use Rattle.std.proofs.lemmas.Map.Views.{All-keys-insert_entry}
 use Rattle.ndn_name.specs.Names.{Component, encoding}
 use Rattle.ndn_name.specs.CanonicalOrder.{canonical_cmp, canonical_cmp_total}
 use Rattle.ndn_name.proofs.Prefixes.{canonical_cmp-equal}
-use Rattle.svs_vector.specs.Rosters.{is_same_name, IsRoster}
+use Rattle.svs_vector.specs.Rosters.{has_same_octets, IsRoster}
 use Rattle.svs_vector.specs.StateVector.{Entry}
 use Rattle.svs_vector.specs.WrittenVector.{in_canonical_order, known_entries}
 use Rattle.svs_vector.proofs.OrderLemmas.{put, names_known}
@@ -57,21 +57,21 @@ names_rise es = rises_placed [] es tt
 
 -- ---- the entries are those that were given, where their names differ
 
-other_name : (a b : List Component) → is_same_name a b ≡ false → canonical_cmp a b ≡ Equal → ⊥
+other_name : (a b : List Component) → has_same_octets a b ≡ false → canonical_cmp a b ≡ Equal → ⊥
 other_name a b other equal =
-    let same : is_same_name a b ≡ true = (bytes_eq-Decides (encoding a) (encoding b)).1 (ap encoding (canonical_cmp-equal a b equal)) in
+    let same : has_same_octets a b ≡ true = (bytes_eq-Decides (encoding a) (encoding b)).1 (ap encoding (canonical_cmp-equal a b equal)) in
     true≢false (sym same ∙ other)
 
-pub other_way : (a b : List Component) → is_same_name a b ≡ false → is_same_name b a ≡ false
-other_way a b other = by (is_same_name b a) refl where
-  by : (r : Bool) → is_same_name b a ≡ r → r ≡ false
+pub other_way : (a b : List Component) → has_same_octets a b ≡ false → has_same_octets b a ≡ false
+other_way a b other = by (has_same_octets b a) refl where
+  by : (r : Bool) → has_same_octets b a ≡ r → r ≡ false
   by true h = absurd (true≢false (sym ((bytes_eq-Decides (encoding a) (encoding b)).1 (sym ((bytes_eq-Decides (encoding b) (encoding a)).0 h))) ∙ other))
   by false h = refl
 
 abbrev Differs : List Component → List Entry → Type 0
-Differs name es = All (λ other. is_same_name name other ≡ false) (keys_of es)
+Differs name es = All (λ other. has_same_octets name other ≡ false) (keys_of es)
 
-module _ (e x : Entry) (es : List Entry) (other : is_same_name e.0 x.0 ≡ false) (rest : IsPermutation (e ∷ es) (put es e)) where
+module _ (e x : Entry) (es : List Entry) (other : has_same_octets e.0 x.0 ≡ false) (rest : IsPermutation (e ∷ es) (put es e)) where
   same_match : (o : Ordering) → canonical_cmp e.0 x.0 ≡ o → IsPermutation (e ∷ x ∷ es) (match_ordering o (e ∷ x ∷ es) ((x.0, e.1) ∷ es) (x ∷ put es e))
   same_match Less h = IsPermutation-refl (e ∷ x ∷ es)
   same_match Equal h = absurd (other_name e.0 x.0 other h)
@@ -81,21 +81,21 @@ module _ (e x : Entry) (es : List Entry) (other : is_same_name e.0 x.0 ≡ false
 same_put : (e : Entry) (es : List Entry) → Differs e.0 es → IsPermutation (e ∷ es) (put es e)
 same_put e [] differs = IsPermutation-refl (e ∷ [])
 same_put e (x ∷ es) differs =
-    let P : List Component → Type 0 = λ other. is_same_name e.0 other ≡ false in
+    let P : List Component → Type 0 = λ other. has_same_octets e.0 other ≡ false in
     same_match e x es (All-head P x.0 (keys_of es) differs) (same_put e es (All-tail P x.0 (keys_of es) differs)) (canonical_cmp e.0 x.0) refl
 
 -- each differs from those before it
 abbrev Differ : List Entry → List Entry → Type 0
 Differ so_far es = AllByRecursion (λ e. Differs e.0 so_far) es
 
-differ_more : (so_far : List Entry) (e : Entry) (es : List Entry) → Differ so_far es → AllByRecursion (λ name. is_same_name e.0 name ≡ false) (keys_of es)
+differ_more : (so_far : List Entry) (e : Entry) (es : List Entry) → Differ so_far es → AllByRecursion (λ name. has_same_octets e.0 name ≡ false) (keys_of es)
     → Differ (put so_far e) es
 differ_more so_far e [] differ apart = tt
 differ_more so_far e (x ∷ es) differ apart =
-    let P : List Component → Type 0 = λ other. is_same_name x.0 other ≡ false in
+    let P : List Component → Type 0 = λ other. has_same_octets x.0 other ≡ false in
     (All-keys-insert_entry canonical_cmp e.0 e.1 P so_far differ.0 (other_way e.0 x.0 apart.0), differ_more so_far e es differ.1 apart.1)
 
-same_placed : (so_far es : List Entry) → Differ so_far es → IsDistinct is_same_name (keys_of es) → IsPermutation (es ++ so_far) (fold put so_far es)
+same_placed : (so_far es : List Entry) → Differ so_far es → IsDistinct has_same_octets (keys_of es) → IsPermutation (es ++ so_far) (fold put so_far es)
 unfolding IsDistinct
 same_placed so_far [] differ apart = IsPermutation-refl so_far
 same_placed so_far (e ∷ es) differ apart =
@@ -107,26 +107,26 @@ same_placed so_far (e ∷ es) differ apart =
 
 differ_first : (es : List Entry) → Differ [] es
 differ_first [] = tt
-differ_first (e ∷ es) = (All-nil (λ other. is_same_name e.0 other ≡ false), differ_first es)
+differ_first (e ∷ es) = (All-nil (λ other. has_same_octets e.0 other ≡ false), differ_first es)
 
-pub same_entries : (es : List Entry) → IsDistinct is_same_name (keys_of es) → IsPermutation es (in_canonical_order es)
+pub same_entries : (es : List Entry) → IsDistinct has_same_octets (keys_of es) → IsPermutation es (in_canonical_order es)
 same_entries es apart =
     subst (λ (l : List Entry). IsPermutation l (in_canonical_order es)) (append-nil es) (same_placed [] es (differ_first es) apart)
 
 -- ---- the known entries of a roster
 
-distinct_cond : (b : Bool) (e : Entry) (es : List Entry) → AllByRecursion (λ name. is_same_name e.0 name ≡ false) (keys_of es)
-    → IsDistinct is_same_name (keys_of es) → IsDistinct is_same_name (keys_of (cond b (e ∷ es) es))
+distinct_cond : (b : Bool) (e : Entry) (es : List Entry) → AllByRecursion (λ name. has_same_octets e.0 name ≡ false) (keys_of es)
+    → IsDistinct has_same_octets (keys_of es) → IsDistinct has_same_octets (keys_of (cond b (e ∷ es) es))
 unfolding IsDistinct
 distinct_cond true e es here apart = (here, apart)
 distinct_cond false e es here apart = apart
 
-distinct_known : (roster : List (List Component)) (vector : List ℕ) → IsDistinct is_same_name roster → IsDistinct is_same_name (keys_of (known_entries roster vector))
+distinct_known : (roster : List (List Component)) (vector : List ℕ) → IsDistinct has_same_octets roster → IsDistinct has_same_octets (keys_of (known_entries roster vector))
 unfolding IsDistinct
 distinct_known [] vector apart = tt
 distinct_known (name ∷ names) [] apart = tt
 distinct_known (name ∷ names) (n ∷ ns) apart =
-    let P : List Component → Type 0 = λ other. is_same_name name other ≡ false in
+    let P : List Component → Type 0 = λ other. has_same_octets name other ≡ false in
     let here = recursion_from_All P (keys_of (known_entries names ns)) (names_known P names ns (All-from_recursion P names apart.0)) in
     distinct_cond (not (eqb n 0)) (name, n) (known_entries names ns) here (distinct_known names ns apart.1)
 

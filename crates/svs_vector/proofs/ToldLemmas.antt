@@ -16,10 +16,10 @@ use Rattle.svs_vector.specs.declared.vector_fault.VectorFault.TheVariants.{BadVe
 use Rattle.svs_vector.specs.declared.read.VectorField.{VectorField}
 use Rattle.svs_vector.specs.Format.{state_vector_table}
 use Rattle.svs_vector.specs.Vectors.{join}
-use Rattle.svs_vector.specs.Rosters.{is_same_name, member_of, IsRoster}
-use Rattle.svs_vector.specs.StateVector.{Entry, entry_in, fault_in, counted, with_entry, vector_in, vector_among, vector_of}
-use Rattle.svs_vector.specs.ToldVector.{number_told, greatest_told, vector_told, IsCounted, Tells, IsVector, IsFault}
-use Rattle.svs_vector.specs.ToldVector.Tells.{ended, broken, no_entry, too_large, one, later}
+use Rattle.svs_vector.specs.Rosters.{has_same_octets, member_of, IsRoster}
+use Rattle.svs_vector.specs.StateVector.{Entry, entry_in, fault_in, counted, with_vector_entry, vector_in, vector_among, vector_of}
+use Rattle.svs_vector.specs.ToldVector.{number_told, greatest_told, vector_told, IsCounted, FieldsTell, IsVector, IsFault}
+use Rattle.svs_vector.specs.ToldVector.FieldsTell.{ended, broken, no_entry, too_large, one, later}
 use Rattle.svs_vector.proofs.JoinLemmas.{join-[], join_assoc, join_zeros}
 
 -- ---- one entry
@@ -29,7 +29,7 @@ abbrev pub told_by : List (List Component) → Entry → List ℕ
 told_by roster entry = map (λ name. number_told name entry) roster
 
 abbrev Other : Entry → List (List Component) → Type 0
-Other entry names = AllByRecursion (λ name. is_same_name entry.0 name ≡ false) names
+Other entry names = AllByRecursion (λ name. has_same_octets entry.0 name ≡ false) names
 
 pub join_zeros_behind : (v : List ℕ) (n : ℕ) → n ≤ length v → join v (replicate n 0) ≡ v
 unfolding join
@@ -42,8 +42,8 @@ tells_others_nothing entry [] h = refl
 tells_others_nothing entry (name ∷ names) h = rw (h.0, tells_others_nothing entry names h.1) refl
 
 -- who has the entry's name is no other
-same_name_apart : (entry : Entry) (name : List Component) (names : List (List Component)) → is_same_name entry.0 name ≡ true
-    → AllByRecursion (λ other. is_same_name name other ≡ false) names → Other entry names
+same_name_apart : (entry : Entry) (name : List Component) (names : List (List Component)) → has_same_octets entry.0 name ≡ true
+    → AllByRecursion (λ other. has_same_octets name other ≡ false) names → Other entry names
 same_name_apart entry name [] same apart = apart
 same_name_apart entry name (other ∷ names) same apart =
     let octets : encoding entry.0 ≡ encoding name = (bytes_eq-Decides (encoding entry.0) (encoding name)).0 same in
@@ -58,10 +58,10 @@ found_here true i m more h = inl (refl, cc)
 found_here false i m more h = inr (refl, h)
 
 -- a node that is no member
-not_found : (entry : Entry) (i : ℕ) (names : List (List Component)) → position_from (is_same_name entry.0) i names ≡ None → Other entry names
+not_found : (entry : Entry) (i : ℕ) (names : List (List Component)) → position_from (has_same_octets entry.0) i names ≡ None → Other entry names
 not_found entry i [] h = tt
 not_found entry i (name ∷ names) h =
-    let f = not_found_here (is_same_name entry.0 name) i (position_from (is_same_name entry.0) (i + 1) names) h in
+    let f = not_found_here (has_same_octets entry.0 name) i (position_from (has_same_octets entry.0) (i + 1) names) h in
     (f.0, not_found entry (i + 1) names f.1)
 
 -- a member: its number in the vector becomes the greater
@@ -72,7 +72,7 @@ record Raises (entry : Entry) (names : List (List Component)) (v : List ℕ) (i 
   raised : slice_set v place (max (slice_index v place) entry.1) ≡ join v (told_by names entry)
 
 raises_first : (entry : Entry) (name : List Component) (names : List (List Component)) (k : ℕ) (v : List ℕ) (i : ℕ)
-    → IsDistinct is_same_name (name ∷ names) → length v ≡ length names → is_same_name entry.0 name ≡ true → Raises entry (name ∷ names) (k ∷ v) i i
+    → IsDistinct has_same_octets (name ∷ names) → length v ≡ length names → has_same_octets entry.0 name ≡ true → Raises entry (name ∷ names) (k ∷ v) i i
 unfolding IsDistinct join
 raises_first entry name names k v i apart long same =
     let others = tells_others_nothing entry names (same_name_apart entry name names same apart.0) in
@@ -80,19 +80,19 @@ raises_first entry name names k v i apart long same =
     record { place = 0; is = omega arith; within = omega arith; raised = rw (same, rest) refl }
 
 raises_later : (entry : Entry) (name : List Component) (names : List (List Component)) (k : ℕ) (v : List ℕ) (i m : ℕ)
-    → is_same_name entry.0 name ≡ false → Raises entry names v (i + 1) m → Raises entry (name ∷ names) (k ∷ v) i m
+    → has_same_octets entry.0 name ≡ false → Raises entry names v (i + 1) m → Raises entry (name ∷ names) (k ∷ v) i m
 unfolding join
 raises_later entry name names k v i m other r =
     let e : max k 0 ≡ k = omega arith in
     record { place = suc r.place; is = omega (arith, r.is); within = omega (arith, r.within); raised = rw (other, e) (ap (λ (l : List ℕ). k ∷ l) r.raised) }
 
-raises : (entry : Entry) (names : List (List Component)) (v : List ℕ) (i m : ℕ) → IsDistinct is_same_name names → length v ≡ length names
-    → position_from (is_same_name entry.0) i names ≡ Some m → Raises entry names v i m
+raises : (entry : Entry) (names : List (List Component)) (v : List ℕ) (i m : ℕ) → IsDistinct has_same_octets names → length v ≡ length names
+    → position_from (has_same_octets entry.0) i names ≡ Some m → Raises entry names v i m
 unfolding IsDistinct
 raises entry [] v i m apart long h = absurd cc
 raises entry (name ∷ names) [] i m apart long h = absurd (omega arith)
 raises entry (name ∷ names) (k ∷ v) i m apart long h =
-    elim (found_here (is_same_name entry.0 name) i m (position_from (is_same_name entry.0) (i + 1) names) h) [
+    elim (found_here (has_same_octets entry.0 name) i m (position_from (has_same_octets entry.0) (i + 1) names) h) [
       | inl f ↦ subst (λ (n : ℕ). Raises entry (name ∷ names) (k ∷ v) i n) (sym f.1) (raises_first entry name names k v i apart (omega arith) f.0)
       | inr f ↦ raises_later entry name names k v i m f.0 (raises entry names v (i + 1) m apart.1 (omega arith) f.1)
     ]
@@ -116,13 +116,13 @@ module _ (roster : List (List Component)) (are : IsRoster roster) where
 
   pub stranger_counts : (v : List ℕ) (entry : Entry) → length v ≡ length roster → member_of entry.0 roster ≡ None → Counts v entry v
   stranger_counts v entry long none =
-      let others = tells_others_nothing entry roster (not_found entry 0 roster (sym (position_from-zero (is_same_name entry.0) roster) ∙ none)) in
+      let others = tells_others_nothing entry roster (not_found entry 0 roster (sym (position_from-zero (has_same_octets entry.0) roster) ∙ none)) in
       record { long = long; joined = sym (ap (join v) others ∙ join_zeros_behind v (length roster) (omega (arith, long))) }
 
   pub member_counts : (v : List ℕ) (entry : Entry) (m : ℕ) → length v ≡ length roster → member_of entry.0 roster ≡ Some m
       → Counts v entry (slice_set v m (max (slice_index v m) entry.1))
   member_counts v entry m long found =
-      let r = raises entry roster v 0 m are.different long (sym (position_from-zero (is_same_name entry.0) roster) ∙ found) in
+      let r = raises entry roster v 0 m are.different long (sym (position_from-zero (has_same_octets entry.0) roster) ∙ found) in
       let same : m ≡ r.place = omega (arith, r.is) in
       record { long = length-set v m (max (slice_index v m) entry.1) ∙ long; joined = rw same r.raised }
 
@@ -134,12 +134,12 @@ Fields = Listing (VectorField × Item) FieldFault
 -- what they tell, and what that makes of the vector so far
 abbrev Outcome : List (List Component) → Item → List ℕ → Fields → Result (List ℕ) VectorFault → Type 0
 Outcome roster e v read (Ok w) =
-    (es : List Entry) × Tells roster e read (Ok es) × (IsRoster roster → length v ≡ length roster → w ≡ join v (vector_told roster es))
-Outcome roster e v read (Err fault) = Tells roster e read (Err fault)
+    (es : List Entry) × FieldsTell roster e read (Ok es) × (IsRoster roster → length v ≡ length roster → w ≡ join v (vector_told roster es))
+Outcome roster e v read (Err fault) = FieldsTell roster e read (Err fault)
 
 module _ (roster : List (List Component)) (e : Item) where
   abbrev reads : List ℕ → Fields → Result (List ℕ) VectorFault
-  reads v read = gathered (with_entry roster) (fault_in e) v read
+  reads v read = gathered (with_vector_entry roster) (fault_in e) v read
 
   module _ (v : List ℕ) (x : VectorField × Item) (rest : Fields) (entry : Entry) (is : entry_in x.1 ≡ Ok entry) where
     counted_then : (t : List ℕ) → IsCounted roster entry → ((are : IsRoster roster) → length v ≡ length roster → Counts roster are v entry t)

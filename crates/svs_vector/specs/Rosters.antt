@@ -6,12 +6,12 @@ use Rattle.ndn_name.specs.Names.{Component, IsName, encoding, name_limit}
 use Rattle.svs_vector.specs.Format.{member_limit}
 
 -- Names are the same exactly where their octets are.
-abbrev pub is_same_name : List Component → List Component → Bool
-is_same_name a b = bytes_eq (encoding a) (encoding b)
+abbrev pub has_same_octets : List Component → List Component → Bool
+has_same_octets a b = bytes_eq (encoding a) (encoding b)
 
 -- The number of the member of this name.
 abbrev pub member_of : List Component → List (List Component) → Option ℕ
-member_of name roster = position (is_same_name name) roster
+member_of name roster = position (has_same_octets name) roster
 
 -- A name that may be owned.
 abbrev pub IsOwnName : List Component → Type 0
@@ -21,7 +21,7 @@ IsOwnName name = IsName name × (length (encoding name) ≤ name_limit)
 pub record IsRoster (roster : List (List Component)) : Type 0 where
   pub few : length roster ≤ member_limit
   pub names : All IsOwnName roster
-  pub different : IsDistinct is_same_name roster
+  pub different : IsDistinct has_same_octets roster
 
 -- Each name stands under its octets, and there are 16 at most.
 pub record AreMembers {A : Type 0} (entries : List (Vec ℕ A × List Component)) : Type 0 where

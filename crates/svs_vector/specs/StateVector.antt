@@ -41,9 +41,9 @@ pub record EntrySoFar : Type 0 where
   pub name : Option (List Component)
   pub number : Option ℕ
 
-abbrev pub good_name : Item → Result (List Component) NameFault → Result (List Component) VectorFault
-good_name e (Ok name) = Ok name
-good_name e (Err f) = Err (BadVector e.start)
+abbrev pub entry_name : Item → Result (List Component) NameFault → Result (List Component) VectorFault
+entry_name e (Ok name) = Ok name
+entry_name e (Err f) = Err (BadVector e.start)
 
 abbrev pub good_number : Item → Option ℕ → Result ℕ VectorFault
 good_number e (Some n) = Ok n
@@ -51,7 +51,7 @@ good_number e None = Err (BadVector e.start)
 
 abbrev pub with_entry_field : EntrySoFar → EntryField × Item → Result EntrySoFar VectorFault
 with_entry_field s (entry_field.Name, e) =
-    good_name e (name_of e.value_start e.value) >>= λ name. Ok (record s { name = Some name })
+    entry_name e (name_of e.value_start e.value) >>= λ name. Ok (record s { name = Some name })
 with_entry_field s (entry_field.SeqNo, e) =
     good_number e (number_of e.value) >>= λ n. Ok (record s { number = Some n })
 
@@ -81,13 +81,13 @@ counted vector n (Some member) =
     if nat_lt number_limit n then Err (NumberTooLarge member n)
     else Ok (slice_set vector member (max (slice_index vector member) n))
 
-abbrev pub with_entry : List (List Component) → List ℕ → VectorField × Item → Result (List ℕ) VectorFault
-with_entry roster vector field =
+abbrev pub with_vector_entry : List (List Component) → List ℕ → VectorField × Item → Result (List ℕ) VectorFault
+with_vector_entry roster vector field =
     entry_in field.1 >>= λ entry. counted vector entry.1 (member_of entry.0 roster)
 
 abbrev pub vector_in : List (List Component) → Item → Result (List ℕ) VectorFault
 vector_in roster e =
-    gathered (with_entry roster) (fault_in e) (replicate (length roster) 0)
+    gathered (with_vector_entry roster) (fault_in e) (replicate (length roster) 0)
     (fields state_vector_table (elements e.value_start e.value))
 
 -- The first element is the vector. What follows it is not looked at.

@@ -11,12 +11,12 @@ use Rattle.svs_vector.specs.declared.vector_fault.VectorFault.TheVariants.{BadVe
 use Rattle.svs_vector.specs.declared.read.VectorField.{VectorField}
 use Rattle.svs_vector.specs.Format as format
 use Rattle.svs_vector.specs.Format.{state_vector_table, number_limit}
-use Rattle.svs_vector.specs.Rosters.{is_same_name, member_of}
+use Rattle.svs_vector.specs.Rosters.{has_same_octets, member_of}
 use Rattle.svs_vector.specs.StateVector.{Entry, entry_in, fault_in}
 
 -- What an entry tells of a node: its number where it is that node's, and nothing where it is not.
 abbrev pub number_told : List Component → Entry → ℕ
-number_told name entry = if is_same_name entry.0 name then entry.1 else 0
+number_told name entry = if has_same_octets entry.0 name then entry.1 else 0
 
 -- The greatest number that entries tell of a node, 0 where they tell none.
 abbrev pub greatest_told : List Component → List Entry → ℕ
@@ -37,22 +37,23 @@ IsCounted roster entry = IfSome (member_of entry.0 roster) (λ member. entry.1 �
 
 -- What the fields of a state vector's element tell: the entries that they are, or the first fault in reading order.
 -- That is an element that is no entry, a member's number above the greatest, or a fault of the fields behind the last of them.
-pub data Tells (roster : List (List Component)) (vector : Item) : Listing (VectorField × Item) FieldFault
+pub data FieldsTell (roster : List (List Component)) (vector : Item) : Listing (VectorField × Item) FieldFault
     → Result (List Entry) VectorFault → Type 0 where
-  ended : Tells roster vector nothing (Ok [])
-  broken : {f : FieldFault} → Tells roster vector (only_fault f) (Err (fault_in vector f))
+  ended : FieldsTell roster vector nothing (Ok [])
+  broken : {f : FieldFault} → FieldsTell roster vector (only_fault f) (Err (fault_in vector f))
   no_entry : {field : VectorField × Item} {rest : Listing (VectorField × Item) FieldFault} {fault : VectorFault}
-      → entry_in field.1 ≡ Err fault → Tells roster vector (field then rest) (Err fault)
+      → entry_in field.1 ≡ Err fault → FieldsTell roster vector (field then rest) (Err fault)
   too_large : {field : VectorField × Item} {rest : Listing (VectorField × Item) FieldFault}
       (entry : Entry) (member : ℕ) → entry_in field.1 ≡ Ok entry
       → member_of entry.0 roster ≡ Some member → number_limit < entry.1
-      → Tells roster vector (field then rest) (Err (NumberTooLarge member entry.1))
+      → FieldsTell roster vector (field then rest) (Err (NumberTooLarge member entry.1))
   one : {field : VectorField × Item} {rest : Listing (VectorField × Item) FieldFault} {entries : List Entry}
-      (entry : Entry) → entry_in field.1 ≡ Ok entry → IsCounted roster entry → Tells roster vector rest (Ok entries)
-      → Tells roster vector (field then rest) (Ok (entry ∷ entries))
+      (entry : Entry) → entry_in field.1 ≡ Ok entry → IsCounted roster entry
+      → FieldsTell roster vector rest (Ok entries)
+      → FieldsTell roster vector (field then rest) (Ok (entry ∷ entries))
   later : {field : VectorField × Item} {rest : Listing (VectorField × Item) FieldFault} {fault : VectorFault}
-      (entry : Entry) → entry_in field.1 ≡ Ok entry → IsCounted roster entry → Tells roster vector rest (Err fault)
-      → Tells roster vector (field then rest) (Err fault)
+      (entry : Entry) → entry_in field.1 ≡ Ok entry → IsCounted roster entry → FieldsTell roster vector rest (Err fault)
+      → FieldsTell roster vector (field then rest) (Err fault)
 
 -- The StateVector that octets begin with, and what its fields tell.
 pub record Begins (roster : List (List Component)) (octets : List ℕ) (told : Result (List Entry) VectorFault)
@@ -61,11 +62,12 @@ pub record Begins (roster : List (List Component)) (octets : List ℕ) (told : R
   pub behind : List Item
   pub first : (elements 0 octets).items ≡ vector ∷ behind
   pub typ : vector.typ ≡ format.StateVector
-  pub tells : Tells roster vector (fields state_vector_table (elements vector.value_start vector.value)) told
+  pub tells : FieldsTell roster vector (fields state_vector_table (elements vector.value_start vector.value)) told
 
 -- Octets do not begin with a StateVector.
-abbrev pub BeginsOtherwise : List ℕ → Type 0
-BeginsOtherwise octets = (e : Item) (es : List Item) → (elements 0 octets).items ≡ e ∷ es → e.typ ≡ format.StateVector → ⊥
+abbrev pub BeginsWithoutVector : List ℕ → Type 0
+BeginsWithoutVector octets = (e : Item) (es : List Item) → (elements 0 octets).items ≡ e ∷ es → e.typ
+    ≡ format.StateVector → ⊥
 
 -- The octets are a state vector, and this is the vector that its entries tell.
 pub record IsVector (roster : List (List Component)) (octets vector : List ℕ) : Type 0 where
@@ -75,4 +77,4 @@ pub record IsVector (roster : List (List Component)) (octets vector : List ℕ) 
 
 -- The first fault of octets that are none.
 abbrev pub IsFault : List (List Component) → List ℕ → VectorFault → Type 0
-IsFault roster octets fault = (BeginsOtherwise octets × (fault ≡ BadVector 0)) ⊎ Begins roster octets (Err fault)
+IsFault roster octets fault = (BeginsWithoutVector octets × (fault ≡ BadVector 0)) ⊎ Begins roster octets (Err fault)

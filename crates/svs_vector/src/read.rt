@@ -1,6 +1,6 @@
 ghost use Rattle.std.specs.Prelude.{◌≡◌, ◌+◌, ◌^◌, ◌<◌, ◌⊎◌, length, replicate, MatchResult, IfOk, IfErr, OnOk, Ok, Err};
 ghost use Rattle.ndn_tlv.specs.Elements.{item, elements};
-ghost use Rattle.svs_vector.specs.StateVector.{with_entry, vector_in, vector_among, vector_of};
+ghost use Rattle.svs_vector.specs.StateVector.{with_vector_entry, vector_in, vector_among, vector_of};
 
 use crate::entry::{entry_in, fault_in};
 use crate::roster::Roster;
@@ -75,8 +75,8 @@ impl Vector {
         requires fits { element.value_start + length element.value.now < 2 ^ 64 }
         requires width { length self.old ≡ length roster.now }
         ensures taken { MatchResult result
-            (λ _. with_entry roster.now self.old (field, item element.entry) ≡ Ok self.new)
-            (λ fault. with_entry roster.now self.old (field, item element.entry) ≡ Err fault) }
+            (λ _. with_vector_entry roster.now self.old (field, item element.entry) ≡ Ok self.new)
+            (λ fault. with_vector_entry roster.now self.old (field, item element.entry) ≡ Err fault) }
         ensures width { length self.new ≡ length self.old }
     {
         let (name, number) = entry_in(element)?;

@@ -1,11 +1,12 @@
 // Commands.
 ghost use Rattle.std.specs.Prelude.{◌≡◌, ◌⊎◌, ◌+◌, ◌<◌, ◌≤◌, true, None, IsTrue, length, map, IfOk, IfErr, OnOk, OnErr, option_map};
 ghost use Rattle.repo_object.specs.Objects.{key_name, is_object_name};
-ghost use Rattle.repo_command.specs.Commands.{is_command, IsSpelled};
-ghost use Rattle.group_model.specs.Commands.{is_equal_name, is_equal_command};
+ghost use Rattle.repo_command.specs.Commands.{is_command, CommandIsSpelled};
+ghost use Rattle.ndn_name.specs.CanonicalOrder.{is_same_name};
+ghost use Rattle.group_model.specs.Commands.{is_equal_command};
 ghost use Rattle.group_model.specs.Limits.{IsShortInsertion};
 ghost use Rattle.group_model.specs.Refusals.{refusal};
-ghost use Rattle.group_model.specs.Steps.{after_event, after_issue, answer_of};
+ghost use Rattle.group_model.specs.Steps.{after_event, after_issue, command_answer};
 ghost use Rattle.repo_member.specs.Groups.{client_at};
 ghost use Rattle.repo_member.specs.Commanded.{order_of, order_made};
 ghost use Rattle.bench_world.specs.Serving.{keyed};
@@ -27,12 +28,12 @@ impl World {
     fn issue(&mut self, m: u32, client: u32, command: Command) -> Result<Answer, AllocError>
         requires there { m < length self.old.members }
         requires client { client < length self.old.keys.clients.names }
-        requires spelled { IsSpelled command }
+        requires spelled { CommandIsSpelled command }
         requires command { is_command command ≡ true }
         requires short { IsShortInsertion command }
         requires few { self.old.steps < 100000 }
         ensures world { OnOk result (world_of self.new ≡ after_issue (world_of self.old) m client command) }
-        ensures answer { IfOk result (λ answer. answer ≡ answer_of (world_of self.old) m command) }
+        ensures answer { IfOk result (λ answer. answer ≡ command_answer (world_of self.old) m command) }
         ensures steps { OnOk result (self.new.steps ≡ self.old.steps + 1) }
         ensures keys { self.new.keys ≡ self.old.keys }
         ensures err { OnErr result (self.new ≡ self.old) }
@@ -330,7 +331,7 @@ fn is_deletion(command: &Command, name: &Name) -> bool
 }
 
 fn is_same_name(a: &Name, b: &Name) -> bool
-    ensures { result ≡ is_equal_name a.now b.now }
+    ensures { result ≡ is_same_name a.now b.now }
 {
     a.view().compare(&b.view()).is_eq()
 }

@@ -2,7 +2,7 @@
 ghost use Rattle.std.specs.Prelude.{◌≡◌, ◌+◌, ◌<◌, ◌≤◌, None, length, IfOk, IfErr, OnOk, OnErr, option_map};
 ghost use Rattle.group_model.specs.Steps.{after_event};
 ghost use Rattle.group_model.specs.Refusals.{refusal};
-ghost use Rattle.bench_net.specs.SentList.{octets_of};
+ghost use Rattle.bench_net.specs.SentList.{sent_octets};
 ghost use Rattle.bench_world.specs.Worlds.{world_of, drawing};
 ghost use Rattle.bench_world.specs.Timers.{after_firing, fire_told};
 ghost use Rattle.bench_world.specs.EventValues.{EventValue, group_event, told_value, telling, delivered_told};

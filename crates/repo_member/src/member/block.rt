@@ -1,7 +1,7 @@
 ghost use Rattle.std.specs.Prelude.{◌≡◌, ◌<◌, ◌≤◌, ◌^◌, ◌↔◌, ℕ, Err, IfOk, OnOk, OnErr, IsTrue, length};
 ghost use Rattle.repo_object.specs.Objects.{IsContent};
 ghost use Rattle.repo_process.specs.Arrivals.{is_last};
-ghost use Rattle.repo_member.specs.Alone.{IsOf, publication_limit};
+ghost use Rattle.repo_member.specs.Alone.{IsOfGroup, publication_limit};
 ghost use Rattle.repo_member.specs.Blocks.{alone_block, alone_blocks, CompletesAnObject, TellsBlock};
 
 use super::Member;
@@ -36,7 +36,7 @@ impl Member {
         now: u64,
         draw: u32,
     ) -> Result<Blocked, PublishRefusal>
-        requires group { IsOf g.now self.old }
+        requires group { IsOfGroup g.now self.old }
         requires content { IsContent content.now }
         requires early { now < 2 ^ 62 }
         requires draws { self.old.machine.draws < 2 ^ 62 }

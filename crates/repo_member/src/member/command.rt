@@ -4,13 +4,13 @@ ghost use Rattle.std.specs.Ordering.{nat_cmp};
 ghost use Rattle.repo_object.specs.Objects.{is_object_name};
 ghost use Rattle.repo_plan.specs.SortedList.{value_of};
 ghost use Rattle.repo_plan.specs.Plan.{knows, claims_part_in};
-ghost use Rattle.repo_command.specs.Commands.{is_command, IsSpelled};
+ghost use Rattle.repo_command.specs.Commands.{is_command, CommandIsSpelled};
 ghost use Rattle.repo_process.specs.Insertions.{next_number};
 ghost use Rattle.group_model.specs.Steps.{check_answer};
 ghost use Rattle.repo_member.specs.Gaining.{AreKept};
-ghost use Rattle.repo_member.specs.Alone.{IsOf, alone_plan};
-ghost use Rattle.repo_member.specs.Deleting.{catalogued, alone_deletes, dropped, outside_all, IsHiding};
-ghost use Rattle.repo_member.specs.Commanded.{order_of, after_order, order_answer, alone_obeys, alone_starts, answer_to, start_answer, delete_answer, reply_to, reply_named};
+ghost use Rattle.repo_member.specs.Alone.{IsOfGroup, alone_plan};
+ghost use Rattle.repo_member.specs.Deleting.{catalogued_named, alone_deletes, alone_drops, outside_all, IsHiding};
+ghost use Rattle.repo_member.specs.Commanded.{order_of, alone_after_order, alone_order_answer, alone_obeys, alone_starts, answer_to, start_answer, delete_answer, reply_to_octets, reply_named};
 
 use super::Member;
 use crate::group::Group;
@@ -49,15 +49,15 @@ impl Member {
     /// Answers a command of the repo protocol, and does what it asks for, if it is one that a client of the group signed for
     /// this member.
     pub fn command(&mut self, g: &Group, octets: &[u8]) -> Result<Answered, AllocError>
-        requires group { IsOf g.now self.old }
+        requires group { IsOfGroup g.now self.old }
         ensures answer { IfOk result (λ answered. answered.answer
-            ≡ order_answer (order_of g.now self.old.number octets.now) self.old) }
+            ≡ alone_order_answer (order_of g.now self.old.number octets.now) self.old) }
         ensures reply { IfOk result (λ answered. option_map (λ r. r.items) answered.reply
-            ≡ reply_to g.now self.old.number answered.answer octets.now) }
+            ≡ reply_to_octets g.now self.old.number answered.answer octets.now) }
         ensures ok { OnOk result
-            (self.new ≡ after_order (order_of g.now self.old.number octets.now) self.old) }
+            (self.new ≡ alone_after_order (order_of g.now self.old.number octets.now) self.old) }
         ensures spelled { OnOk result
-            (IfOk (order_of g.now self.old.number octets.now) (λ order. IsSpelled order.1)) }
+            (IfOk (order_of g.now self.old.number octets.now) (λ order. CommandIsSpelled order.1)) }
         ensures err { OnErr result (self.new ≡ self.old) }
     {
         let alloc = *self.log.allocator();
@@ -70,11 +70,11 @@ impl Member {
 
     // Does what a client asks for, and answers.
     fn obey(&mut self, g: &Group, octets: &[u8], command: Command) -> Result<Answered, AllocError>
-        requires group { IsOf g.now self.old }
+        requires group { IsOfGroup g.now self.old }
         requires command { IsTrue (is_command command) }
         ensures answer { IfOk result (λ answered. answered.answer ≡ answer_to command self.old) }
         ensures reply { IfOk result (λ answered. option_map (λ r. r.items) answered.reply
-            ≡ reply_to g.now self.old.number answered.answer octets.now) }
+            ≡ reply_to_octets g.now self.old.number answered.answer octets.now) }
         ensures ok { OnOk result (self.new ≡ alone_obeys command self.old) }
         ensures err { OnErr result (self.new ≡ self.old) }
     {
@@ -94,14 +94,14 @@ impl Member {
         first: u64,
         last: u64,
     ) -> Result<Answered, AllocError>
-        requires group { IsOf g.now self.old }
+        requires group { IsOfGroup g.now self.old }
         requires name { IsTrue (is_object_name name.now) }
         requires order { first ≤ last }
         requires few { last - first < 200 }
         ensures answer { IfOk result (λ answered. answered.answer
             ≡ start_answer (next_number self.old.insertions)) }
         ensures reply { IfOk result (λ answered. option_map (λ r. r.items) answered.reply
-            ≡ reply_to g.now self.old.number answered.answer octets.now) }
+            ≡ reply_to_octets g.now self.old.number answered.answer octets.now) }
         ensures ok { OnOk result
             (self.new ≡ alone_starts name.now first last self.old (next_number self.old.insertions)) }
         ensures err { OnErr result (self.new ≡ self.old) }
@@ -139,10 +139,10 @@ impl Member {
 
     // Hides the catalogued publications of the objects of a name for good.
     fn delete(&mut self, g: &Group, octets: &[u8], name: &Name) -> Result<Answered, AllocError>
-        requires group { IsOf g.now self.old }
+        requires group { IsOfGroup g.now self.old }
         ensures answer { IfOk result (λ answered. answered.answer ≡ delete_answer name.now self.old) }
         ensures reply { IfOk result (λ answered. option_map (λ r. r.items) answered.reply
-            ≡ reply_to g.now self.old.number answered.answer octets.now) }
+            ≡ reply_to_octets g.now self.old.number answered.answer octets.now) }
         ensures ok { OnOk result (self.new ≡ alone_deletes name.now self.old) }
         ensures err { OnErr result (self.new ≡ self.old) }
     {
@@ -167,8 +167,8 @@ impl Member {
 
     // The catalogued publications of the objects of a name. Their parts are held, so that no fetcher claims one.
     fn found(&self, name: &Name) -> Result<Found, AllocError>
-        ensures publications { IfOk result (λ found. found.publications.items ≡ catalogued name.now self.now) }
-        ensures packets { IfOk result (λ found. found.packets ≡ dropped name.now self.now) }
+        ensures publications { IfOk result (λ found. found.publications.items ≡ catalogued_named name.now self.now) }
+        ensures packets { IfOk result (λ found. found.packets ≡ alone_drops name.now self.now) }
         ensures known { IfOk result (λ found.
             All (λ pair. knows (alone_plan self.now) pair ≡ true) found.publications.items) }
         ensures unclaimed { IfOk result (λ found.
@@ -197,10 +197,10 @@ impl Member {
 
     // The answer, with the packet that says it.
     fn answered(&self, g: &Group, octets: &[u8], answer: Answer) -> Result<Answered, AllocError>
-        requires group { IsOf g.now self.now }
+        requires group { IsOfGroup g.now self.now }
         ensures answer { IfOk result (λ answered. answered.answer ≡ answer) }
         ensures reply { IfOk result (λ answered. option_map (λ r. r.items) answered.reply
-            ≡ reply_to g.now self.now.number answer octets.now) }
+            ≡ reply_to_octets g.now self.now.number answer octets.now) }
     {
         let reply = match InterestView::read(octets) {
             Ok(interest) => self.reply(g, &interest.name, &answer)?,
@@ -216,7 +216,7 @@ impl Member {
         name: &NameView<'_>,
         answer: &Answer,
     ) -> Result<Option<Vec<u8>>, AllocError>
-        requires group { IsOf g.now self.now }
+        requires group { IsOfGroup g.now self.now }
         ensures { IfOk result (λ reply. option_map (λ r. r.items) reply
             ≡ reply_named g.now self.now.number answer.now name.now) }
     {

@@ -6,7 +6,7 @@ ghost use Rattle.repo_plan.specs.Calls.{IsFetcher};
 ghost use Rattle.sha2.specs.Sha256.{sha256};
 ghost use Rattle.ndn_data.specs.Data.{data_of};
 ghost use Rattle.repo_object.specs.Verdict.{listing_in, ring_verdict};
-ghost use Rattle.repo_member.specs.Alone.{IsOf, alone_plan, alone_claims, want_of, alone_accepts};
+ghost use Rattle.repo_member.specs.Alone.{IsOfGroup, alone_plan, alone_claims, want_of, alone_accepts};
 ghost use Rattle.repo_member.specs.Verdicts.{passed, accept_verdict};
 ghost use Rattle.repo_member.specs.Gaining.{IsArrival};
 ghost use Rattle.repo_member.specs.Listed.{listing_at};
@@ -49,7 +49,7 @@ impl Member {
     /// The want of the fetcher's part, with the Interest that asks for it.
     pub fn want(&self, alloc: Global, g: &Group, f: u8) -> Result<Want, WantFault>
         requires fetcher { IsFetcher f }
-        requires group { IsOf g.now self.now }
+        requires group { IsOfGroup g.now self.now }
         ensures want { IfOk result (λ want. IsSomeAnd (claim_of (alone_plan self.now) f)
             (λ part. want ≡ want_of g.now self.now.store part)) }
         ensures idle { (result ≡ Err WantFault.FetcherIdle) ↔ (claim_of (alone_plan self.now) f ≡ None) }
@@ -64,7 +64,7 @@ impl Member {
     /// claim is over, and an object of which no part is missing any more is catalogued.
     pub fn accept(&mut self, g: &Group, f: u8, octets: &[u8]) -> Result<Part, AcceptRefusal>
         requires fetcher { IsFetcher f }
-        requires group { IsOf g.now self.old }
+        requires group { IsOfGroup g.now self.old }
         ensures part { IfOk result (λ part. accept_verdict g.now self.old f octets.now ≡ Ok part) }
         ensures ok { IfOk result (λ part. self.new ≡ alone_accepts f part octets.now self.old) }
         ensures refused { IfErr result (λ refusal. (refusal ≡ AcceptRefusal.NoMemory)
@@ -88,7 +88,7 @@ impl Member {
         checked: &Checked<'_>,
     ) -> Result<Part, AcceptRefusal>
         requires fetcher { IsFetcher f }
-        requires group { IsOf g.now self.old }
+        requires group { IsOfGroup g.now self.old }
         requires checked { IfSome (claim_of (alone_plan self.old) f)
             (λ part. IsCheckedFor g.now (want_of g.now self.old.store part) checked.now) }
         ensures part { IfOk result (λ part. claim_of (alone_plan self.old) f ≡ Some part) }
@@ -136,7 +136,7 @@ impl Member {
         after: Option<Part>,
         most: usize,
     ) -> Result<Vec<Job>, AllocError>
-        requires { IsOf g.now self.now }
+        requires { IsOfGroup g.now self.now }
         ensures { IfOk result (λ jobs. jobs.items ≡ map (job_for g.now self.now)
             (take most (filter (is_after after) (unclaimed (alone_plan self.now))))) }
     {
@@ -158,7 +158,7 @@ impl Member {
 
     // The jobs of these parts.
     fn jobs(&self, alloc: Global, g: &Group, parts: &[Part]) -> Result<Vec<Job>, AllocError>
-        requires group { IsOf g.now self.now }
+        requires group { IsOfGroup g.now self.now }
         requires asked { All (λ part. is_asked (alone_plan self.now) part ≡ true) parts.now }
         ensures { IfOk result (λ jobs. jobs.items ≡ map (job_for g.now self.now) parts.now) }
     {
@@ -173,7 +173,7 @@ impl Member {
 
     // The want of a part that is asked for.
     fn want_of(&self, alloc: Global, g: &Group, part: Part) -> Result<Want, AllocError>
-        requires group { IsOf g.now self.now }
+        requires group { IsOfGroup g.now self.now }
         requires asked { is_asked (alone_plan self.now) part ≡ true }
         ensures { IfOk result (λ want. want ≡ want_of g.now self.now.store part) }
     {
@@ -182,7 +182,7 @@ impl Member {
 
     // What is expected for a part that is asked for: of a segment the stored record tells it.
     fn expected(&self, alloc: Global, g: &Group, part: Part) -> Result<Expected, AllocError>
-        requires group { IsOf g.now self.now }
+        requires group { IsOfGroup g.now self.now }
         requires asked { is_asked (alone_plan self.now) part ≡ true }
         ensures { IfOk result (λ expected. expected ≡ want_of g.now self.now.store part) }
     {
@@ -213,7 +213,7 @@ impl Member {
 
     // The packet that came for a part, if the octets pass for it.
     fn arrival(&self, g: &Group, part: Part, octets: &[u8]) -> Result<Arrival, AcceptRefusal>
-        requires group { IsOf g.now self.now }
+        requires group { IsOfGroup g.now self.now }
         requires asked { is_asked (alone_plan self.now) part ≡ true }
         ensures passed { IfOk result (λ _. passed part (ring_verdict (want_of g.now self.now.store part)
             g.now.members.ring octets.now) ≡ Ok part) }

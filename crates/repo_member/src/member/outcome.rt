@@ -1,6 +1,6 @@
 ghost use Rattle.std.specs.Prelude.{◌≡◌, ◌+◌, ◌<◌, ◌^◌, ℕ, count_by, sum_by, is_some, option_map, length, IfOk, OnOk, OnErr, map, vec_len};
 ghost use Rattle.group_model.specs.Member.{with_tries};
-ghost use Rattle.repo_member.specs.Alone.{IsOf, alone_plan, alone_takes, with_fetched};
+ghost use Rattle.repo_member.specs.Alone.{IsOfGroup, alone_plan, alone_takes, with_fetched};
 ghost use Rattle.repo_member.specs.Gaining.{AreKept, HaveRoom};
 ghost use Rattle.repo_member.specs.Outcomes.{IsOutcome, outcome_of, came, octets_in, arrival_octets, CanBeTaken, AreTakable};
 ghost use Rattle.repo_member.specs.Outcomes.{KeepsButTries, with_all_fetched, with_all_tries};
@@ -39,7 +39,7 @@ impl Member {
         parts: &[Option<Checked<'_>>],
         attempts: &[u32],
     ) -> Result<Kept, AllocError>
-        requires group { IsOf g.now self.old }
+        requires group { IsOfGroup g.now self.old }
         requires outcome { IsOutcome g.now self.old jobs.now parts.now attempts.now }
         ensures ok { OnOk result (self.new ≡ alone_takes (outcome_of jobs.now parts.now attempts.now) self.old) }
         ensures parts { IfOk result (λ kept. kept.parts ≡ count_by is_some parts.now) }
@@ -64,7 +64,7 @@ impl Member {
         parts: &[Option<Checked<'_>>],
         attempts: &[u32],
     ) -> Result<Vec<Tried>, AllocError>
-        requires group { IsOf g.now self.now }
+        requires group { IsOfGroup g.now self.now }
         requires outcome { IsOutcome g.now self.now jobs.now parts.now attempts.now }
         ensures came { IfOk result (λ all. map came all.items ≡ outcome_of jobs.now parts.now attempts.now) }
         ensures takable { IfOk result (λ all. AreTakable (alone_plan self.now) self.now.store all.items) }

@@ -2,7 +2,7 @@ ghost use Rattle.std.specs.Prelude.{◌≡◌, ◌<◌, ◌≤◌, ◌^◌, ◌�
 ghost use Rattle.std.specs.List.{All};
 ghost use Rattle.repo_object.specs.Objects.{is_object_name, IsContent, IsObject, IsPublisher};
 ghost use Rattle.repo_member.specs.Groups.{publisher_at};
-ghost use Rattle.repo_member.specs.Alone.{IsOf, publication_limit, as_parts, with_packets, next_seq, alone_publishes, logged};
+ghost use Rattle.repo_member.specs.Alone.{IsOfGroup, publication_limit, as_parts, with_packets, next_seq, alone_publishes, logged};
 ghost use Rattle.repo_member.specs.Gaining.{AreTied, KeepsOthers};
 ghost use Rattle.repo_member.specs.Verdicts.{sync_of};
 ghost use Rattle.repo_member.specs.Publishing.{IsPrepared, ArePackets, IsNew};
@@ -49,7 +49,7 @@ impl Member {
         now: u64,
         draw: u32,
     ) -> Result<Published, PublishRefusal>
-        requires group { IsOf g.now self.old }
+        requires group { IsOfGroup g.now self.old }
         requires name { IsTrue (is_object_name name.now) }
         requires few { length contents.now ≤ 200 }
         requires contents { All (λ c. IsContent c.items) contents.now }
@@ -85,7 +85,7 @@ impl Member {
         now: u64,
         draw: u32,
     ) -> Result<Published, Object>
-        requires group { IsOf g.now self.old }
+        requires group { IsOfGroup g.now self.old }
         requires numbers { length self.old.log < publication_limit }
         requires early { now < 2 ^ 62 }
         requires draws { self.old.machine.draws < 2 ^ 62 }
@@ -147,7 +147,7 @@ impl Member {
 
     /// The packet of an own part, whether it is still held or not; `None` where no such part was published.
     pub fn logged(&self, g: &Group, part: Part) -> Result<Option<Vec<u8>>, AllocError>
-        requires { IsOf g.now self.now }
+        requires { IsOfGroup g.now self.now }
         ensures { IfOk result (λ packet. option_map (λ p. p.items) packet ≡ logged g.now self.now part) }
     {
         if part.publisher != self.number || part.seq == 0 {
@@ -164,7 +164,7 @@ impl Member {
 
     // All that the publication of an object makes.
     fn prepared(&self, g: &Group, seq: u16, object: &Object) -> Result<Prepared, AllocError>
-        requires group { IsOf g.now self.now }
+        requires group { IsOfGroup g.now self.now }
         requires seq { seq ≡ next_seq self.now }
         ensures within { IfOk result (λ _. IsObject object.now) }
         ensures publisher { IfOk result (λ _. IsPublisher (publisher_at g.now self.now.number)) }

@@ -3,7 +3,7 @@ ghost use Rattle.svs_vector.specs.Vectors.{join};
 ghost use Rattle.svs_sync.specs.Suppression.{mode_of};
 ghost use Rattle.svs_sync.specs.KeptVector.{fires_kept};
 ghost use Rattle.repo_member.specs.Groups.{node_limit};
-ghost use Rattle.repo_member.specs.Alone.{IsOf, alone_learns, alone_hears, alone_fires};
+ghost use Rattle.repo_member.specs.Alone.{IsOfGroup, alone_learns, alone_hears, alone_fires};
 ghost use Rattle.repo_member.specs.Verdicts.{sync_of, vector_verdict, hear_verdict};
 ghost use Rattle.repo_member.specs.Fires.{TellsFire};
 
@@ -37,7 +37,7 @@ impl Member {
         now: u64,
         draw: u32,
     ) -> Result<Mode, HearRefusal>
-        requires group { IsOf g.now self.old }
+        requires group { IsOfGroup g.now self.old }
         requires early { now < 2 ^ 62 }
         requires few { self.old.machine.draws < 2 ^ 62 }
         ensures ok { OnOk result (IsOkAnd (hear_verdict g.now self.old octets.now)
@@ -73,7 +73,7 @@ impl Member {
     ///
     /// The answer is whether the member knows of more than before.
     pub fn join_from(&mut self, g: &Group, octets: &[u8]) -> Result<bool, HearRefusal>
-        requires group { IsOf g.now self.old }
+        requires group { IsOfGroup g.now self.old }
         ensures ok { OnOk result (IsOkAnd (hear_verdict g.now self.old octets.now)
             (λ told. self.new ≡ alone_learns told self.old)) }
         ensures changed { IfOk result (λ changed. IsFalse changed ↔ (self.new.known ≡ self.old.known)) }
@@ -102,7 +102,7 @@ impl Member {
 
     /// The member's timer fires.
     pub fn fire(&mut self, g: &Group, now: u64, draw: u32) -> Result<Fire, AllocError>
-        requires group { IsOf g.now self.old }
+        requires group { IsOfGroup g.now self.old }
         requires early { now < 2 ^ 62 }
         requires few { self.old.machine.draws < 2 ^ 62 }
         ensures fire { IfOk result (TellsFire (fires_kept now self.old.known self.old.machine)
@@ -121,7 +121,7 @@ impl Member {
 
     /// The sync Interest that tells what the member knows now.
     pub fn sync(&self, alloc: Global, g: &Group) -> Result<Vec<u8>, AllocError>
-        requires { IsOf g.now self.now }
+        requires { IsOfGroup g.now self.now }
         ensures { IfOk result (λ sync. sync.items ≡ sync_of g.now self.now.number self.now.known) }
     {
         sync_of(alloc, g, self.number, &self.vector)
@@ -129,7 +129,7 @@ impl Member {
 
     // The vector that octets tell, if they are a sync Interest of the group.
     fn told(&self, g: &Group, octets: &[u8]) -> Result<Vector, HearRefusal>
-        requires { IsOf g.now self.now }
+        requires { IsOfGroup g.now self.now }
         ensures told { IfOk result (λ told.
             hear_verdict g.now self.now octets.now ≡ vector_verdict self.now told) }
         ensures width { IfOk result (λ told. length told ≡ length self.now.known) }

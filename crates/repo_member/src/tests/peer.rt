@@ -3,7 +3,7 @@ ghost use Rattle.std.specs.List.{All};
 ghost use Rattle.repo_object.specs.Objects.{IsContent};
 ghost use Rattle.repo_plan.specs.Calls.{IsFetcher};
 ghost use Rattle.repo_member.specs.Groups.{HaveKeys};
-ghost use Rattle.repo_member.specs.Alone.{IsOf};
+ghost use Rattle.repo_member.specs.Alone.{IsOfGroup};
 ghost use Rattle.repo_member.specs.Outcomes.{IsCheckedFor};
 
 use super::{ALICE, BOB, CAROL};
@@ -206,7 +206,7 @@ impl<'g> Peer<'g> {
 
     // What calls ask for: the group is the member's, and few draws were used.
     fn ready(&self, rt: &impl Abort)
-        ensures group { IsOf self.now.g.now self.now.member }
+        ensures group { IsOfGroup self.now.g.now self.now.member }
         ensures keys { HaveKeys self.now.g.now.members }
         ensures draws { self.now.member.machine.draws < 100000 }
     {

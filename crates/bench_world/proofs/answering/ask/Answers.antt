@@ -5,7 +5,7 @@ use Rattle.repo_plan.specs.declared.part.Part.{Part}
 use Rattle.repo_plan.specs.Plan.{claim_of}
 use Rattle.repo_member.specs.Alone.{Alone, alone_plan}
 use Rattle.bench_world.specs.Worlds.{nobody, alone_at}
-use Rattle.bench_world.specs.Others.{place_of}
+use Rattle.bench_world.specs.Others.{place_among_others}
 use Rattle.bench_world.specs.Answering.{lender_of}
 use Rattle.bench_world.proofs.TakenOut.{others_at, lender_is}
 use Rattle.bench_world.proofs.Asked.{publisher_in, publisher_other, can_ask, served_is, kept_so, refused_so, busy_so, members_so, still_so}
@@ -37,7 +37,7 @@ ask_one-kept-requires g c =
     let claim = ap (λ (a : Alone). claim_of (alone_plan a) c.args.f) (sym (c.index.ensures ∙ get_or_default ms c.args.m c.index.result.now nobody there)) ∙ c.in_ok-want.ensures.claim in
     let asker = c.remove-asker.ensures.value ∙ get_or_default ms c.args.m c.remove-asker.result nobody there in
     let others = c.as_slice.ensures.value ∙ c.remove-asker.ensures.items in
-    let publisher = c.publisher-publisher.ensures ∙ ap (λ (t : Part). alone_at c.as_slice.result.now (place_of c.args.m t.publisher)) c.part.ensures
+    let publisher = c.publisher-publisher.ensures ∙ ap (λ (t : Part). alone_at c.as_slice.result.now (place_among_others c.args.m t.publisher)) c.part.ensures
     ∙ others_at ms c.as_slice.result.now c.args.m there others c.in_ok-want.want.part.publisher (publisher_other c.args.g.now g.logs ms r.0 r.1.0 r.1.1.0 r.1.1.1.0 c.args.m there c.args.f c.in_ok-want.want claim) in
     can_ask c.args.g.now g.logs ms r.0 r.1.0 r.1.1.0 r.1.1.1.0 c.args.m there c.args.f c.in_ok-want.want claim c.in_ok-want.ensures.want r.1.1.1.1.1.0 c.remove-asker.result c.publisher-publisher.result.now asker publisher
 

@@ -5,12 +5,12 @@ use Rattle.group_model.specs.World.{logs}
 use Rattle.repo_member.specs.Alone.{Fetched, alone_takes}
 use Rattle.repo_member.specs.InGroup.{that_came}
 use Rattle.repo_member.specs.TrueMembers.{IsTrueMember}
-use Rattle.bench_world.specs.Lending.{comes}
+use Rattle.bench_world.specs.Lending.{attempt_comes}
 use Rattle.bench_world.specs.Gathering.{next_parts}
 use Rattle.bench_world.specs.Fetching.{fetched_all}
 use Rattle.bench_world.specs.Sizes.{size_of}
 use Rattle.bench_world.specs.Truth.{TriedFew}
-use Rattle.bench_world.specs.Worlds.{nobody, alone_at, others_than, AreTrueMembers, AreNumbered}
+use Rattle.bench_world.specs.Worlds.{nobody, alone_at, others_than, AreTrueMembers, MembersAreNumbered}
 use Rattle.bench_world.proofs.PutBack.{others_true}
 use Rattle.bench_world.proofs.TakenOut.{put_in, put_back}
 use Rattle.bench_world.proofs.GroupFetches.{planned_are, came_are, attempts_are, members_are, fetched_all_truly, fetched_numbers}
@@ -53,7 +53,7 @@ returns-in-Ok-fetched-clause-members g c =
     let others : c.as_slice.result.now ≡ others_than c.args.j ms = c.as_slice.ensures.value ∙ c.remove-member.ensures.items in
     let old : c.remove-member.result ≡ alone_at ms c.args.j = c.remove-member.ensures.value ∙ get_or_default ms c.args.j c.remove-member.result nobody c.requires.1.1.1.1.1.1.0 in
     let new_is = put_in ms c.remove-member.new.self.items c.insert.new.self.items c.args.j c.fetch-fetched.new.member c.requires.1.1.1.1.1.1.0 c.remove-member.ensures.items c.in-Ok.ensures.items
-    ∙ ap (set ms c.args.j) (c.in-Ok-fetched.ensures.new ∙ (λ i. alone_takes (fetched_all (comes (g.N.Net.passes c.args.net.now) c.args.j (Some c.args.loss)) (others i) c.args.tries (old i) (next_parts None (old i))) (old i))) in
+    ∙ ap (set ms c.args.j) (c.in-Ok-fetched.ensures.new ∙ (λ i. alone_takes (fetched_all (attempt_comes (g.N.Net.passes c.args.net.now) c.args.j (Some c.args.loss)) (others i) c.args.tries (old i) (next_parts None (old i))) (old i))) in
     members_are (g.N.Net.passes c.args.net.now) (λ _ _. 0) c.args.g.now g.begun c.requires.1.1.1.1.1.1.1.0.are c.args.members.now.items c.requires.1.1.1.1.1.1.1.1.0 c.requires.1.1.1.1.1.1.1.1.1.0 c.requires.1.1.1.1.1.1.1.1.1.1.0 c.args.j c.requires.1.1.1.1.1.1.0 c.args.tries c.args.loss c.insert.new.self.items new_is
 
 pub returns-in-Ok-fetched-clause-truly : goal.returns-in-Ok-fetched-clause-truly
@@ -62,7 +62,7 @@ returns-in-Ok-fetched-clause-truly g c =
     let others : c.as_slice.result.now ≡ others_than c.args.j ms = c.as_slice.ensures.value ∙ c.remove-member.ensures.items in
     let old : c.remove-member.result ≡ alone_at ms c.args.j = c.remove-member.ensures.value ∙ get_or_default ms c.args.j c.remove-member.result nobody c.requires.1.1.1.1.1.1.0 in
     let new_is = put_in ms c.remove-member.new.self.items c.insert.new.self.items c.args.j c.fetch-fetched.new.member c.requires.1.1.1.1.1.1.0 c.remove-member.ensures.items c.in-Ok.ensures.items
-    ∙ ap (set ms c.args.j) (c.in-Ok-fetched.ensures.new ∙ (λ i. alone_takes (fetched_all (comes (g.N.Net.passes c.args.net.now) c.args.j (Some c.args.loss)) (others i) c.args.tries (old i) (next_parts None (old i))) (old i))) in
+    ∙ ap (set ms c.args.j) (c.in-Ok-fetched.ensures.new ∙ (λ i. alone_takes (fetched_all (attempt_comes (g.N.Net.passes c.args.net.now) c.args.j (Some c.args.loss)) (others i) c.args.tries (old i) (next_parts None (old i))) (old i))) in
     fetched_all_truly (g.N.Net.passes c.args.net.now) (λ _ _. 0) c.args.g.now g.begun c.requires.1.1.1.1.1.1.1.0.are c.args.members.now.items c.requires.1.1.1.1.1.1.1.1.0 c.requires.1.1.1.1.1.1.1.1.1.0 c.requires.1.1.1.1.1.1.1.1.1.1.0 c.args.j c.requires.1.1.1.1.1.1.0 c.args.tries c.args.loss c.insert.new.self.items new_is
 
 pub returns-in-Ok-fetched-clause-numbers : goal.returns-in-Ok-fetched-clause-numbers
@@ -71,7 +71,7 @@ returns-in-Ok-fetched-clause-numbers g c =
     let others : c.as_slice.result.now ≡ others_than c.args.j ms = c.as_slice.ensures.value ∙ c.remove-member.ensures.items in
     let old : c.remove-member.result ≡ alone_at ms c.args.j = c.remove-member.ensures.value ∙ get_or_default ms c.args.j c.remove-member.result nobody c.requires.1.1.1.1.1.1.0 in
     let new_is = put_in ms c.remove-member.new.self.items c.insert.new.self.items c.args.j c.fetch-fetched.new.member c.requires.1.1.1.1.1.1.0 c.remove-member.ensures.items c.in-Ok.ensures.items
-    ∙ ap (set ms c.args.j) (c.in-Ok-fetched.ensures.new ∙ (λ i. alone_takes (fetched_all (comes (g.N.Net.passes c.args.net.now) c.args.j (Some c.args.loss)) (others i) c.args.tries (old i) (next_parts None (old i))) (old i))) in
+    ∙ ap (set ms c.args.j) (c.in-Ok-fetched.ensures.new ∙ (λ i. alone_takes (fetched_all (attempt_comes (g.N.Net.passes c.args.net.now) c.args.j (Some c.args.loss)) (others i) c.args.tries (old i) (next_parts None (old i))) (old i))) in
     fetched_numbers (g.N.Net.passes c.args.net.now) (λ _ _. 0) c.args.g.now g.begun c.requires.1.1.1.1.1.1.1.0.are c.args.members.now.items c.requires.1.1.1.1.1.1.1.1.0 c.requires.1.1.1.1.1.1.1.1.1.0 c.requires.1.1.1.1.1.1.1.1.1.1.0 c.args.j c.requires.1.1.1.1.1.1.0 c.args.tries c.args.loss c.insert.new.self.items new_is
 
 pub returns-in-Ok-fetched-clause-planned : goal.returns-in-Ok-fetched-clause-planned
@@ -86,21 +86,21 @@ returns-in-Ok-fetched-clause-parts g c =
     let ms = c.args.members.now.items in
     let others : c.as_slice.result.now ≡ others_than c.args.j ms = c.as_slice.ensures.value ∙ c.remove-member.ensures.items in
     let old : c.remove-member.result ≡ alone_at ms c.args.j = c.remove-member.ensures.value ∙ get_or_default ms c.args.j c.remove-member.result nobody c.requires.1.1.1.1.1.1.0 in
-    c.in-Ok-fetched.ensures.parts ∙ (λ i. length (that_came (fetched_all (comes (g.N.Net.passes c.args.net.now) c.args.j (Some c.args.loss)) (others i) c.args.tries (old i) (next_parts None (old i))))) ∙ ap length (came_are (g.N.Net.passes c.args.net.now) (λ _ _. 0) c.args.g.now g.begun c.requires.1.1.1.1.1.1.1.0.are c.args.members.now.items c.requires.1.1.1.1.1.1.1.1.0 c.requires.1.1.1.1.1.1.1.1.1.0 c.requires.1.1.1.1.1.1.1.1.1.1.0 c.args.j c.requires.1.1.1.1.1.1.0 c.args.tries c.args.loss)
+    c.in-Ok-fetched.ensures.parts ∙ (λ i. length (that_came (fetched_all (attempt_comes (g.N.Net.passes c.args.net.now) c.args.j (Some c.args.loss)) (others i) c.args.tries (old i) (next_parts None (old i))))) ∙ ap length (came_are (g.N.Net.passes c.args.net.now) (λ _ _. 0) c.args.g.now g.begun c.requires.1.1.1.1.1.1.1.0.are c.args.members.now.items c.requires.1.1.1.1.1.1.1.1.0 c.requires.1.1.1.1.1.1.1.1.1.0 c.requires.1.1.1.1.1.1.1.1.1.1.0 c.args.j c.requires.1.1.1.1.1.1.0 c.args.tries c.args.loss)
 
 pub returns-in-Ok-fetched-clause-octets : goal.returns-in-Ok-fetched-clause-octets
 returns-in-Ok-fetched-clause-octets g c =
     let ms = c.args.members.now.items in
     let others : c.as_slice.result.now ≡ others_than c.args.j ms = c.as_slice.ensures.value ∙ c.remove-member.ensures.items in
     let old : c.remove-member.result ≡ alone_at ms c.args.j = c.remove-member.ensures.value ∙ get_or_default ms c.args.j c.remove-member.result nobody c.requires.1.1.1.1.1.1.0 in
-    c.in-Ok-fetched.ensures.octets ∙ (λ i. sum_by (size_of c.args.g.now (logs g.begun)) (that_came (fetched_all (comes (g.N.Net.passes c.args.net.now) c.args.j (Some c.args.loss)) (others i) c.args.tries (old i) (next_parts None (old i))))) ∙ ap (sum_by (size_of c.args.g.now (logs g.begun))) (came_are (g.N.Net.passes c.args.net.now) (λ _ _. 0) c.args.g.now g.begun c.requires.1.1.1.1.1.1.1.0.are c.args.members.now.items c.requires.1.1.1.1.1.1.1.1.0 c.requires.1.1.1.1.1.1.1.1.1.0 c.requires.1.1.1.1.1.1.1.1.1.1.0 c.args.j c.requires.1.1.1.1.1.1.0 c.args.tries c.args.loss)
+    c.in-Ok-fetched.ensures.octets ∙ (λ i. sum_by (size_of c.args.g.now (logs g.begun)) (that_came (fetched_all (attempt_comes (g.N.Net.passes c.args.net.now) c.args.j (Some c.args.loss)) (others i) c.args.tries (old i) (next_parts None (old i))))) ∙ ap (sum_by (size_of c.args.g.now (logs g.begun))) (came_are (g.N.Net.passes c.args.net.now) (λ _ _. 0) c.args.g.now g.begun c.requires.1.1.1.1.1.1.1.0.are c.args.members.now.items c.requires.1.1.1.1.1.1.1.1.0 c.requires.1.1.1.1.1.1.1.1.1.0 c.requires.1.1.1.1.1.1.1.1.1.1.0 c.args.j c.requires.1.1.1.1.1.1.0 c.args.tries c.args.loss)
 
 pub returns-in-Ok-fetched-clause-attempts : goal.returns-in-Ok-fetched-clause-attempts
 returns-in-Ok-fetched-clause-attempts g c =
     let ms = c.args.members.now.items in
     let others : c.as_slice.result.now ≡ others_than c.args.j ms = c.as_slice.ensures.value ∙ c.remove-member.ensures.items in
     let old : c.remove-member.result ≡ alone_at ms c.args.j = c.remove-member.ensures.value ∙ get_or_default ms c.args.j c.remove-member.result nobody c.requires.1.1.1.1.1.1.0 in
-    c.in-Ok-fetched.ensures.attempts ∙ (λ i. sum (map (λ (x : Fetched). x.attempts) (fetched_all (comes (g.N.Net.passes c.args.net.now) c.args.j (Some c.args.loss)) (others i) c.args.tries (old i) (next_parts None (old i))))) ∙ attempts_are (g.N.Net.passes c.args.net.now) (λ _ _. 0) c.args.g.now g.begun c.requires.1.1.1.1.1.1.1.0.are c.args.members.now.items c.requires.1.1.1.1.1.1.1.1.0 c.requires.1.1.1.1.1.1.1.1.1.0 c.requires.1.1.1.1.1.1.1.1.1.1.0 c.args.j c.requires.1.1.1.1.1.1.0 c.args.tries c.args.loss
+    c.in-Ok-fetched.ensures.attempts ∙ (λ i. sum (map (λ (x : Fetched). x.attempts) (fetched_all (attempt_comes (g.N.Net.passes c.args.net.now) c.args.j (Some c.args.loss)) (others i) c.args.tries (old i) (next_parts None (old i))))) ∙ attempts_are (g.N.Net.passes c.args.net.now) (λ _ _. 0) c.args.g.now g.begun c.requires.1.1.1.1.1.1.1.0.are c.args.members.now.items c.requires.1.1.1.1.1.1.1.1.0 c.requires.1.1.1.1.1.1.1.1.1.0 c.requires.1.1.1.1.1.1.1.1.1.1.0 c.args.j c.requires.1.1.1.1.1.1.0 c.args.tries c.args.loss
 
 pub returns-in-Err-clause-truly : goal.returns-in-Err-clause-truly
 returns-in-Err-clause-truly g c =
@@ -112,4 +112,4 @@ pub returns-in-Err-clause-numbers : goal.returns-in-Err-clause-numbers
 returns-in-Err-clause-numbers g c =
     let old = c.remove-member.ensures.value ∙ get_or_default c.args.members.now.items c.args.j c.remove-member.result nobody c.requires.1.1.1.1.1.1.0 in
     let same = put_back c.args.members.now.items c.remove-member.new.self.items c.insert.new.self.items c.args.j c.fetch-fetched.new.member c.requires.1.1.1.1.1.1.0 c.remove-member.ensures.items c.in-Ok.ensures.items (c.in-Err.ensures.err ∙ old) in
-    subst AreNumbered (sym same) c.requires.1.1.1.1.1.1.1.1.1.0
+    subst MembersAreNumbered (sym same) c.requires.1.1.1.1.1.1.1.1.1.0

@@ -1,6 +1,6 @@
 use Rattle.std.proofs.Common.{◌-◌, length}
 use Rattle.group_model.specs.Publications.{all_parts}
-use Rattle.bench_world.specs.Gathering.{one_each, held_sum, Counts, Gains}
+use Rattle.bench_world.specs.Gathering.{one_each, held_sum, Counts, GainsParts}
 use Rattle.bench_world.specs.Sizes.{size_of}
 use Rattle.bench_world.proofs.gather.gather.Given as goal
 
@@ -9,7 +9,7 @@ ghost-gain_round g a = g.logs
 
 abbrev pub invariant-rounds : goal.invariant-rounds
 invariant-rounds g l = record {
-  gains : Gains l.g g.logs l.link.others.now l.fn.member l.member;
+  gains : GainsParts l.g g.logs l.link.others.now l.fn.member l.member;
   parts : Counts one_each l.kept.parts l.fn.member l.member;
   octets : Counts (size_of l.g g.logs) l.kept.octets l.fn.member l.member;
 }

@@ -2,7 +2,7 @@ use Rattle.std.proofs.Common.{◌≡◌, ℕ, ◌++◌, [], ◌∷◌, length, s
 use Rattle.ndn_tlv.specs.declared.tlv_fault.TlvFault.{TlvFault}
 use Rattle.ndn_tlv.specs.Listing.{Listing}
 use Rattle.ndn_tlv.specs.Elements.{Item, item, elements}
-use Rattle.ndn_inspect.specs.Inspection.{Lines, line}
+use Rattle.ndn_inspect.specs.Inspection.{Lines, element_line}
 use Rattle.ndn_inspect.proofs.OpenReadings.{Readings, at_end, at_fault, at_leaf, at_nest, all_read, first_read, Fit-nil, Fit-last, Fit-parts, Fit-element, elements_fit, size, size_elements, size-then, work, work-last}
 use Rattle.ndn_inspect.proofs.inspector.put_elements.Goals as goal
 
@@ -71,7 +71,7 @@ loop-reader-preserved c =
     let seen = rw c.in-Some-next.is at c.in-Ok.ensures.ok in
     let leaf = sym c.has_elements.ensures ∙ c.if-has_elements.false in
     let deep : c.len.result ≡ length outer = c.len.ensures ∙ c.pop.new.self.ok.0 in
-    let lined = c.in_ok-put_line.ensures ∙ ap (λ (d : ℕ). text ++ line d element) deep in (
+    let lined = c.in_ok-put_line.ensures ∙ ap (λ (d : ℕ). text ++ element_line d element) deep in (
       rw (lined, c.in_ok-push-2.ensures.items) (at_leaf text outer c.in-Some.reader _ so_far element c.next.new.self seen leaf),
       rw c.in_ok-push-2.ensures.items (Fit-last outer c.next.new.self parts.0 (Fit-element element c.next.new.self c.in-Some.reader seen parts.1).1),
     )
@@ -104,7 +104,7 @@ loop-reader-preserved-in-Continue-branch-4 c =
     let fits = Fit-element element c.next.new.self c.in-Some.reader seen parts.1 in
     let nest = sym c.has_elements.ensures ∙ c.if-has_elements.true in
     let deep : c.len.result ≡ length outer = c.len.ensures ∙ c.pop.new.self.ok.0 in
-    let lined = c.in_ok-put_line.ensures ∙ ap (λ (d : ℕ). text ++ line d element) deep in
+    let lined = c.in_ok-put_line.ensures ∙ ap (λ (d : ℕ). text ++ element_line d element) deep in
     let inner = elements element.value_start element.value in
     let pushed : c.push-then-has_elements.new.self.items ≡ (outer ++ c.next.new.self ∷ []) ++ inner ∷ [] = c.in_ok-push-3.ensures.items ∙ ap (λ (list : Readings). list ++ c.new-then-has_elements.result ∷ []) c.in_ok-push-2.ensures.items ∙ ap (λ (r : Listing Item TlvFault). (outer ++ c.next.new.self ∷ []) ++ r ∷ []) c.new-then-has_elements.ensures.elements in (
       rw (lined, pushed) (at_nest text outer c.in-Some.reader _ so_far element c.next.new.self seen nest),

@@ -1,7 +1,7 @@
 use Rattle.std.proofs.Common.{◌≡◌, ◌+◌, ◌<◌, ℕ, List, [], ◌∷◌, ◌++◌, length, take, drop, get_or, Option, Some, refl, sym, subst, ◌∙◌, add-one, arith}
 use Rattle.std.proofs.lemmas.List.{take_more, take_all, take-append-drop, length-take-le}
 use Rattle.std.proofs.Math.Seq.{drop-cons}
-use Rattle.ndn_name.specs.UriVerdict.{Leaves}
+use Rattle.ndn_name.specs.UriVerdict.{LeavesLanguage}
 use Rattle.ndn_name.proofs.Decimals.{SoFar, IsSomeDecimal, longer-some, longer-none, decimal-empty}
 use Rattle.ndn_name.proofs.uri_digits.read_decimal.Goals as goal
 
@@ -14,8 +14,8 @@ returns-in_default-clause-read c =
     let i = c.loop-i.i in
     let octet = get_or text i 0 in
     let leaves = longer-none c.args.most c.loop-i.number (take i text) octet (drop (i + 1) text) (omega arith) c.loop-i.invariant (sym c.with_digit.ensures ∙ c.in_default.is) in
-    let P : List ℕ → Type 0 = λ t. Leaves (IsSomeDecimal c.args.most) t (length (take i text)) in
-    let Q : ℕ → Type 0 = λ k. Leaves (IsSomeDecimal c.args.most) text k in
+    let P : List ℕ → Type 0 = λ t. LeavesLanguage (IsSomeDecimal c.args.most) t (length (take i text)) in
+    let Q : ℕ → Type 0 = λ k. LeavesLanguage (IsSomeDecimal c.args.most) text k in
     (i, refl, subst Q (length-take-le i text (omega arith)) (subst P (split_at text i c.loop-i-test.true) leaves))
 
 pub loop-i-preserved : goal.loop-i-preserved

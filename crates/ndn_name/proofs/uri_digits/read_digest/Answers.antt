@@ -4,7 +4,7 @@ use Rattle.std.proofs.lemmas.List.{length-take, take_more_set}
 use Rattle.ndn_name.specs.Uri.{IsDigits}
 use Rattle.ndn_name.proofs.Escapes.{pair-fails, pair-takes}
 use Rattle.ndn_name.proofs.Digests.{digest-pair_fails, digest-long, digits-push, length-digits, IsSomeDigest}
-use Rattle.ndn_name.specs.UriVerdict.{Leaves}
+use Rattle.ndn_name.specs.UriVerdict.{LeavesLanguage}
 use Rattle.ndn_name.proofs.uri_digits.read_digest.Goals as goal
 
 pub returns-in_err-value-clause-read : goal.returns-in_err-value-clause-read
@@ -35,7 +35,7 @@ loop-octet-preserved c =
       read = subst P (sym (take_more_set items i c.in_ok-value.value (omega arith))) t.2;
     }
 
-long : (at : ℕ) (a front rest text : List ℕ) → IsDigits a front → length a ≡ 32 → 0 < length rest → front ++ rest ≡ text → (k : ℕ) × (at + 64 ≡ at + k) × Leaves IsSomeDigest text k
+long : (at : ℕ) (a front rest text : List ℕ) → IsDigits a front → length a ≡ 32 → 0 < length rest → front ++ rest ≡ text → (k : ℕ) × (at + 64 ≡ at + k) × LeavesLanguage IsSomeDigest text k
 long at a front [] text read size some split = absurd (omega arith)
 long at a front (c ∷ rest) text read size some split =
     (length front + 0, omega (arith, size, length-digits a front read), digest-long a front text c rest read size split)

@@ -7,8 +7,8 @@ use Rattle.ndn_name.specs.declared.name_fault.NameFault.{NameFault}
 use Rattle.ndn_name.specs.declared.name_fault.NameFault.TheVariants.{NameTooLong}
 use Rattle.ndn_name.specs.declared.uri_form.UriPart.{UriPart}
 use Rattle.ndn_name.specs.Names.{Component, encoding}
-use Rattle.ndn_name.specs.Uri.{name_in}
-use Rattle.ndn_name.specs.UriReading.{IsSound, uri_part}
+use Rattle.ndn_name.specs.Uri.{name_of_parts}
+use Rattle.ndn_name.specs.UriReading.{MayBeAppended, uri_part}
 use Rattle.ndn_name.proofs.Encodings.{encoding-nil, encoding-append}
 use Rattle.ndn_name.proofs.Limits.{in_limit}
 use Rattle.ndn_name.proofs.uri_read.name_of_parts.Goals as goal
@@ -17,7 +17,7 @@ abbrev failed : NameFault → Result (Unit {0}) NameFault
 failed f = Err f
 
 abbrev names : List UriPart → List Component
-names parts = name_in (map uri_part parts)
+names parts = name_of_parts (map uri_part parts)
 
 -- the part at an index, and those behind it
 at_index : (parts : List UriPart) (i : ℕ) (d : UriPart) → i < length parts → d ≡ get_or parts i d → names (drop i parts) ≡ (uri_part d).1 ∷ names (drop (i + 1) parts)
@@ -37,7 +37,7 @@ loop-part-init c = record {
 
 pub push_part-requires : goal.push_part-requires
 push_part-requires c =
-    let P : List Component → Type 0 = λ n. AllByRecursion IsSound n in
+    let P : List Component → Type 0 = λ n. AllByRecursion MayBeAppended n in
     (subst P (at_index c.args.parts.now c.loop-part.part-index c.part-item.result c.loop-part-test.true c.part-item.is) c.loop-part.invariant.sound).0
 
 pub returns-in_err-push_part-clause-too_long : goal.returns-in_err-push_part-clause-too_long
@@ -58,7 +58,7 @@ loop-part-preserved c =
     let i = c.loop-part.part-index in
     let one = (uri_part c.part-item.result).1 in
     let here = at_index parts i c.part-item.result c.loop-part-test.true c.part-item.is in
-    let P : List Component → Type 0 = λ n. AllByRecursion IsSound n in
+    let P : List Component → Type 0 = λ n. AllByRecursion MayBeAppended n in
     let Q : List Component → Type 0 = λ n. length (encoding n) ≤ 1000 in
     record {
       so_far = ap (λ (n : List Component). n ++ names (drop (i + 1) parts)) c.in_ok-push_part.ensures.ok ∙ append_assoc c.loop-part.name (one ∷ []) (names (drop (i + 1) parts)) ∙ ap (λ (n : List Component). c.loop-part.name ++ n) (sym here) ∙ c.loop-part.invariant.so_far;

@@ -1,5 +1,5 @@
-use Rattle.repo_plan.specs.Sound.{IsSound}
-use Rattle.repo_member.specs.Alone.{IsAlone, IsOf, alone_plan}
+use Rattle.repo_plan.specs.Sound.{PlanIsSound}
+use Rattle.repo_member.specs.Alone.{IsAlone, IsOfGroup, alone_plan}
 use Rattle.repo_member.specs.Blocks.{AreWithinLimits}
 use Rattle.repo_member.proofs.CallReach.{in_every_member}
 use Rattle.repo_member.proofs.laws.calls_keep_members_sound.Goals as goal
@@ -8,10 +8,10 @@ pub returns-clause-alone : goal.returns-clause-alone
 returns-clause-alone c = in_every_member (λ g a. IsAlone a) (λ g a r. r.alone)
 
 pub returns-clause-group : goal.returns-clause-group
-returns-clause-group c = in_every_member IsOf (λ g a r. r.of)
+returns-clause-group c = in_every_member IsOfGroup (λ g a r. r.of)
 
 pub returns-clause-plan : goal.returns-clause-plan
-returns-clause-plan c = in_every_member (λ g a. IsSound (alone_plan a)) (λ g a r. r.sound)
+returns-clause-plan c = in_every_member (λ g a. PlanIsSound (alone_plan a)) (λ g a r. r.sound)
 
 pub returns-clause-insertions : goal.returns-clause-insertions
 returns-clause-insertions c = in_every_member (λ g a. AreWithinLimits a.insertions.processes) (λ g a r. r.insertions)

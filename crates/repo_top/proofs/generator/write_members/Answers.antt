@@ -1,5 +1,5 @@
 use Rattle.std.proofs.Common.{◌∙◌, subst, arith}
-use Rattle.repo_top.specs.Outside.{Gains, GainsFront}
+use Rattle.repo_top.specs.Outside.{GainsText, GainsFront}
 use Rattle.repo_top.specs.Generator.{member_text}
 use Rattle.repo_top.proofs.Scripts.{front_in_next, front_so_many, no_texts, one_text_more}
 use Rattle.repo_top.proofs.generator.write_members.Goals as goal
@@ -28,6 +28,6 @@ loop-before-preserved g c =
     let line = c.deref.ensures ∙ c.in_ok-put_member.ensures in
     record {
       so_far = one_text_more member_text (g.K.Sink.out c.args.sink.now) before behind c.loop-before.before
-          c.loop-before.invariant.so_far (subst (Gains before behind) line c.in_ok-write_line.ensures.whole);
+          c.loop-before.invariant.so_far (subst (GainsText before behind) line c.in_ok-write_line.ensures.whole);
       faults = omega (arith, c.loop-before.invariant.faults, c.write_line.ensures.faults);
     }

@@ -1,11 +1,11 @@
 use Rattle.std.proofs.Common.{◌≡◌, ◌∙◌, ℕ, ◌+◌, ◌++◌, refl, sym, ap, subst, arith}
-use Rattle.repo_top.specs.Outside.{Gains, GainsFront}
-use Rattle.repo_top.specs.Generator.{drawn, next_state, object_text, publish_text, state, turns_text}
+use Rattle.repo_top.specs.Outside.{GainsText, GainsFront}
+use Rattle.repo_top.specs.Generator.{drawn, next_state, object_text, publish_line, generator_state, turns_text}
 use Rattle.repo_top.proofs.Scripts.{front_in_next, no_texts, one_text_more, state_more}
 use Rattle.repo_top.proofs.generator.write_objects.Goals as goal
 
 pub loop-before-init : goal.loop-before-init
-unfolding state
+unfolding generator_state
 loop-before-init g c = record {
   so_far = no_texts (object_text c.args.measures.members c.args.measures.seed) (g.K.Sink.out c.args.sink.now);
   state = refl;
@@ -19,10 +19,10 @@ returns-in_err-write_object-clause-front g c =
     let k = c.loop-before.before in
     let before = g.K.Sink.out c.loop-before.sink in
     let behind = g.K.Sink.out c.write_object.new.sink in
-    let same : c.next_state-state.result ≡ state seed (k + 1) =
+    let same : c.next_state-state.result ≡ generator_state seed (k + 1) =
     c.next_state-state.ensures ∙ ap next_state c.loop-before.invariant.state ∙ sym (state_more seed k) in
     let object : ℕ → Type 0 = λ s. GainsFront before behind
-    (publish_text members (k + 1) (drawn s) ++ turns_text members (k + 1)) in
+    (publish_line members (k + 1) (drawn s) ++ turns_text members (k + 1)) in
     front_in_next (object_text members seed) (g.K.Sink.out c.args.sink.now) before behind k c.args.measures.objects
     c.loop-before-test.true c.loop-before.invariant.so_far (subst object same c.write_object.ensures.front)
 
@@ -33,10 +33,10 @@ loop-before-preserved g c =
     let k = c.loop-before.before in
     let before = g.K.Sink.out c.loop-before.sink in
     let behind = g.K.Sink.out c.write_object.new.sink in
-    let same : c.next_state-state.result ≡ state seed (k + 1) =
+    let same : c.next_state-state.result ≡ generator_state seed (k + 1) =
     c.next_state-state.ensures ∙ ap next_state c.loop-before.invariant.state ∙ sym (state_more seed k) in
-    let object : ℕ → Type 0 = λ s. Gains before behind
-    (publish_text members (k + 1) (drawn s) ++ turns_text members (k + 1)) in
+    let object : ℕ → Type 0 = λ s. GainsText before behind
+    (publish_line members (k + 1) (drawn s) ++ turns_text members (k + 1)) in
     record {
       so_far = one_text_more (object_text members seed) (g.K.Sink.out c.args.sink.now) before behind k
           c.loop-before.invariant.so_far (subst object same c.in_ok-write_object.ensures.whole);

@@ -1,10 +1,10 @@
 use Rattle.std.proofs.Common.{◌≤◌}
-use Rattle.repo_top.specs.Outside.{Gains}
+use Rattle.repo_top.specs.Outside.{GainsText}
 use Rattle.repo_top.specs.Generator.{texts, turn_text}
 use Rattle.repo_top.proofs.generator.write_turns.Given as goal
 
 abbrev pub invariant-loop-before : goal.invariant-loop-before
 invariant-loop-before g l = record {
-  so_far : Gains (g.K.Sink.out l.fn.sink) (g.K.Sink.out l.sink) (texts (turn_text l.object) l.before);
+  so_far : GainsText (g.K.Sink.out l.fn.sink) (g.K.Sink.out l.sink) (texts (turn_text l.object) l.before);
   faults : g.K.Sink.faults l.fn.sink ≤ g.K.Sink.faults l.sink;
 }

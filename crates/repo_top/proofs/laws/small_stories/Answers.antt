@@ -3,13 +3,13 @@ use Rattle.std.specs.Fmt.{digits}
 use Rattle.hex.specs.Hex.{decode_pairs}
 use Rattle.ndn_tlv.specs.Spelling.{number}
 use Rattle.ndn_name.specs.Names.{encoding}
-use Rattle.ndn_name.specs.UriText.{behind, component_of_text, components_of_texts, cut_at, name_of_text, octets_of_digits, unescaped}
+use Rattle.ndn_name.specs.UriText.{behind_word, component_of_text, components_of_texts, cut_at, name_of_text, octets_of_digits, unescaped}
 use Rattle.svs_vector.specs.Vectors.{covers, join, join_all}
 use Rattle.svs_sync.specs.KeptVector.{after_all_kept, after_kept}
-use Rattle.svs_sync.specs.Suppression.{after, after_all}
-use Rattle.script_lang.specs.Kinds.{content_of, filled_of, hex_of, label_of, name_of, number_of}
-use Rattle.script_lang.specs.Lines.{named, values_of}
-use Rattle.script_report.specs.Texts.{entries_text, line, numbered, summary_text}
+use Rattle.svs_sync.specs.Suppression.{after_sync_event, after_sync_events}
+use Rattle.script_lang.specs.Kinds.{content_of, filled_of, hex_of, label_of, uri_of, numeral_of}
+use Rattle.script_lang.specs.Lines.{verb_named, values_of}
+use Rattle.script_report.specs.Texts.{entries_text, line, labelled_numbers, summary_text}
 use Rattle.repo_top.specs.Lines.{lines}
 use Rattle.repo_top.specs.Judging.{acted, acted_by, judged, judged_line, line_taken}
 use Rattle.repo_top.specs.Story.{story_from}
@@ -20,29 +20,29 @@ unfolding lines story_from
 returns-clause-nothing c = λ given. record { text_is = refl; ending_is = refl }
 
 pub returns-clause-no_group : goal.returns-clause-no_group
-unfolding decode_pairs digits number encoding behind component_of_text components_of_texts cut_at name_of_text octets_of_digits
-    unescaped covers join join_all after_all_kept after_kept after after_all content_of filled_of hex_of label_of name_of number_of
-    named values_of entries_text line numbered summary_text lines acted acted_by line_taken judged_line judged
+unfolding decode_pairs digits number encoding behind_word component_of_text components_of_texts cut_at name_of_text octets_of_digits
+    unescaped covers join join_all after_all_kept after_kept after_sync_event after_sync_events content_of filled_of hex_of label_of uri_of numeral_of
+    verb_named values_of entries_text line labelled_numbers summary_text lines acted acted_by line_taken judged_line judged
     story_from
 returns-clause-no_group c = λ given. record { text_is = refl; ending_is = refl }
 
 pub returns-clause-group_alone : goal.returns-clause-group_alone
-unfolding decode_pairs digits number encoding behind component_of_text components_of_texts cut_at name_of_text octets_of_digits
-    unescaped covers join join_all after_all_kept after_kept after after_all content_of filled_of hex_of label_of name_of number_of
-    named values_of entries_text line numbered summary_text lines acted acted_by line_taken judged_line judged
+unfolding decode_pairs digits number encoding behind_word component_of_text components_of_texts cut_at name_of_text octets_of_digits
+    unescaped covers join join_all after_all_kept after_kept after_sync_event after_sync_events content_of filled_of hex_of label_of uri_of numeral_of
+    verb_named values_of entries_text line labelled_numbers summary_text lines acted acted_by line_taken judged_line judged
     story_from
 returns-clause-group_alone c = λ given. record { text_is = refl; ending_is = refl }
 
 pub returns-clause-nobody : goal.returns-clause-nobody
-unfolding decode_pairs digits number encoding behind component_of_text components_of_texts cut_at name_of_text octets_of_digits
-    unescaped covers join join_all after_all_kept after_kept after after_all content_of filled_of hex_of label_of name_of number_of
-    named values_of entries_text line numbered summary_text lines acted acted_by line_taken judged_line judged
+unfolding decode_pairs digits number encoding behind_word component_of_text components_of_texts cut_at name_of_text octets_of_digits
+    unescaped covers join join_all after_all_kept after_kept after_sync_event after_sync_events content_of filled_of hex_of label_of uri_of numeral_of
+    verb_named values_of entries_text line labelled_numbers summary_text lines acted acted_by line_taken judged_line judged
     story_from
 returns-clause-nobody c = λ given. record { text_is = refl; ending_is = refl }
 
 pub returns-clause-published : goal.returns-clause-published
-unfolding decode_pairs digits number encoding behind component_of_text components_of_texts cut_at name_of_text octets_of_digits
-    unescaped covers join join_all after_all_kept after_kept after after_all content_of filled_of hex_of label_of name_of number_of
-    named values_of entries_text line numbered summary_text lines acted acted_by line_taken judged_line judged
+unfolding decode_pairs digits number encoding behind_word component_of_text components_of_texts cut_at name_of_text octets_of_digits
+    unescaped covers join join_all after_all_kept after_kept after_sync_event after_sync_events content_of filled_of hex_of label_of uri_of numeral_of
+    verb_named values_of entries_text line labelled_numbers summary_text lines acted acted_by line_taken judged_line judged
     story_from
 returns-clause-published c = λ given. record { text_is = refl; ending_is = refl }

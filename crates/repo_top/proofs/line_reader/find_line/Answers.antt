@@ -1,6 +1,6 @@
 use Rattle.std.proofs.Common.{sym, subst, Option, ℕ}
 use Rattle.std.specs.Option.{MatchOption}
-use Rattle.repo_top.specs.Reading.{HasLine, IsBegun}
+use Rattle.repo_top.specs.Reading.{HasLine, LineIsBegun}
 use Rattle.repo_top.proofs.Readings.{line_found, all_free, no_line}
 use Rattle.repo_top.proofs.line_reader.find_line.Goals as goal
 
@@ -17,5 +17,5 @@ returns-in-None c =
     let behind = c.split_at.ensures.back in
     let place = rw behind at c.in-None.ensures.place in
     let free = all_free c.args.held.now c.args.searched c.requires.within c.requires.free (sym place) in
-    let Q : Option ℕ → Type 0 = λ r. MatchOption r (IsBegun c.args.held.now) (λ count. HasLine count c.args.held.now) in
+    let Q : Option ℕ → Type 0 = λ r. MatchOption r (LineIsBegun c.args.held.now) (λ count. HasLine count c.args.held.now) in
     subst Q (sym c.then_some.ensures) (no_line c.args.held.now free)

@@ -1,7 +1,7 @@
 use Rattle.std.proofs.Common.{◌≡◌, ◌⊎◌, sym, ◌∙◌, subst}
 use Rattle.repo_top.specs.declared.status.Status.TheVariants.{NoMemory}
 use Rattle.repo_top.specs.Answers.{IsTold, status_of}
-use Rattle.repo_top.specs.Outside.{Gains, GainsFront}
+use Rattle.repo_top.specs.Outside.{GainsText, GainsFront}
 use Rattle.repo_top.specs.Story.{Story}
 use Rattle.repo_top.specs.Inspection.{inspect_story}
 use Rattle.repo_top.proofs.InspectRuns.{by_story, told_ends, unfailing_ends, none_left}
@@ -17,7 +17,7 @@ returns-clause-end g c = λ told.
 pub returns-clause-text : goal.returns-clause-text
 returns-clause-text g c = λ told.
     let gained = c.write_inspection.ensures.text told in
-    let Q : Story → Type 0 = λ s. Gains (g.K.Sink.out c.args.sink.now) (g.K.Sink.out c.write_inspection.new.sink) s.text in
+    let Q : Story → Type 0 = λ s. GainsText (g.K.Sink.out c.args.sink.now) (g.K.Sink.out c.write_inspection.new.sink) s.text in
     by_story Q (g.S.Source.left c.args.source.now) (g.S.Source.left c.read_up_to.new.source) c.in-Ok.input.items c.in-Ok.ensures.taken c.in-Ok.ensures.whole gained
 
 pub returns-clause-front : goal.returns-clause-front

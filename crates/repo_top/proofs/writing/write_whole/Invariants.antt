@@ -1,11 +1,11 @@
 use Rattle.std.proofs.Common.{◌-◌, ◌≤◌, length, take}
-use Rattle.repo_top.specs.Outside.{Gains}
+use Rattle.repo_top.specs.Outside.{GainsText}
 use Rattle.repo_top.proofs.writing.write_whole.Given as goal
 
 abbrev pub invariant-loop-written : goal.invariant-loop-written
 invariant-loop-written g l = record {
   room : l.written ≤ length l.text;
-  so_far : Gains (g.K.Sink.out l.fn.sink) (g.K.Sink.out l.sink) (take l.written l.text);
+  so_far : GainsText (g.K.Sink.out l.fn.sink) (g.K.Sink.out l.sink) (take l.written l.text);
   faults : g.K.Sink.faults l.fn.sink ≤ g.K.Sink.faults l.sink;
 }
 

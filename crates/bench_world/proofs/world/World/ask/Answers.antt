@@ -4,13 +4,13 @@ use Rattle.group_model.specs.World.{member, logs}
 use Rattle.repo_member.specs.TrueMembers.{true_packets}
 use Rattle.bench_world.specs.EventValues.{ask_told}
 use Rattle.bench_world.specs.Worlds.{GroupState, world_of}
-use Rattle.bench_world.specs.Kept.{state}
+use Rattle.bench_world.specs.Kept.{world_state}
 use Rattle.bench_world.proofs.Readers.{store_at}
 use Rattle.bench_world.proofs.world.World.ask.Goals as goal
 
 pub returns-clause-told : goal.returns-clause-told
 returns-clause-told c =
-    let s = state c.self.inside in
+    let s = world_state c.self.inside in
     let there = subst (λ (x : GroupState). c.args.m < length x.members) (sym c.self.view_is) c.requires.there in
     c.in_ok-happened.ensures
     ∙ ap (λ es. ask_told c.args.m (served c.args.octets.now es)) (store_at s c.self.invariant c.args.m there c.index.result.now c.index.ensures)

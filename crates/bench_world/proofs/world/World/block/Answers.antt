@@ -7,7 +7,7 @@ use Rattle.repo_member.specs.declared.refusals.PublishRefusal.TheVariants.{Numbe
 use Rattle.repo_member.specs.declared.member.block.Blocked.{Blocked}
 use Rattle.bench_world.specs.declared.event.StepFault.TheVariants as fault
 use Rattle.bench_world.specs.EventValues.{block_told}
-use Rattle.bench_world.specs.Kept.{state}
+use Rattle.bench_world.specs.Kept.{world_state}
 use Rattle.bench_world.specs.Steps.{IsFaultOf}
 use Rattle.bench_world.specs.Worlds.{GroupState, world_of, drawing}
 use Rattle.bench_world.proofs.BlockEvents.{block_refused, finds_number, block_taken, told_so, after_so}
@@ -16,13 +16,13 @@ use Rattle.bench_world.proofs.world.World.block.Goals as goal
 
 pub block-requires-clause-draws : goal.block-requires-clause-draws
 block-requires-clause-draws g c =
-    let s = state c.self.inside in
+    let s = world_state c.self.inside in
     let there = subst (λ (x : GroupState). c.args.m < length x.members) (sym c.self.view_is) c.requires.there in
     few_draws s c.self.invariant c.args.m there c.index_mut-member.result.now c.index_mut-member.ensures.value
 
 pub returns-in-Err-NumbersSpent-clause-refused : goal.returns-in-Err-NumbersSpent-clause-refused
 returns-in-Err-NumbersSpent-clause-refused g c =
-    let s = state c.self.inside in
+    let s = world_state c.self.inside in
     let there = subst (λ (x : GroupState). c.args.m < length x.members) (sym c.self.view_is) c.requires.there in
     let event = Event.Block c.args.m c.args.process c.args.index c.args.content.now in
     let r : Result Blocked PublishRefusal = Err c.in-Err-NumbersSpent.field-0 in
@@ -33,7 +33,7 @@ returns-in-Err-NumbersSpent-clause-refused g c =
 
 pub invariant_of-self-2 : goal.invariant_of-self-2
 invariant_of-self-2 g c =
-    let s = state c.self.inside in
+    let s = world_state c.self.inside in
     let there = subst (λ (x : GroupState). c.args.m < length x.members) (sym c.self.view_is) c.requires.there in
     let old = c.index_mut-member.result.now in
     let r : Result Blocked PublishRefusal = Ok c.in-Ok.blocked in
@@ -46,7 +46,7 @@ invariant_of-self-2 g c =
 
 pub returns-clause-taken : goal.returns-clause-taken
 returns-clause-taken g c =
-    let s = state c.self.inside in
+    let s = world_state c.self.inside in
     let there = subst (λ (x : GroupState). c.args.m < length x.members) (sym c.self.view_is) c.requires.there in
     let old = c.index_mut-member.result.now in
     let r : Result Blocked PublishRefusal = Ok c.in-Ok.blocked in
@@ -57,7 +57,7 @@ returns-clause-taken g c =
 
 pub returns-clause-world : goal.returns-clause-world
 returns-clause-world g c =
-    let s = state c.self.inside in
+    let s = world_state c.self.inside in
     let there = subst (λ (x : GroupState). c.args.m < length x.members) (sym c.self.view_is) c.requires.there in
     let old = c.index_mut-member.result.now in
     let r : Result Blocked PublishRefusal = Ok c.in-Ok.blocked in
@@ -71,7 +71,7 @@ returns-clause-world g c =
 
 pub returns-clause-told : goal.returns-clause-told
 returns-clause-told g c =
-    let s = state c.self.inside in
+    let s = world_state c.self.inside in
     let there = subst (λ (x : GroupState). c.args.m < length x.members) (sym c.self.view_is) c.requires.there in
     let old = c.index_mut-member.result.now in
     let r : Result Blocked PublishRefusal = Ok c.in-Ok.blocked in

@@ -6,20 +6,20 @@ use Rattle.group_model.specs.Steps.{after_deliver, mode_at}
 use Rattle.svs_sync.specs.Suppression.{mode_of}
 use Rattle.bench_world.specs.EventValues.{delivered_told}
 use Rattle.bench_world.specs.Worlds.{GroupState, world_of, drawing}
-use Rattle.bench_world.specs.Kept.{state}
+use Rattle.bench_world.specs.Kept.{world_state}
 use Rattle.bench_world.proofs.States.{few_draws, member_set}
 use Rattle.bench_world.proofs.Deliveries.{there, not_refused, heard_is, heard_state, heard_world}
 use Rattle.bench_world.proofs.world.World.deliver.Goals as goal
 
 pub hear-requires-clause-few : goal.hear-requires-clause-few
 hear-requires-clause-few g c =
-    let s = state c.self.inside in
+    let s = world_state c.self.inside in
     let inside = subst (λ (x : GroupState). c.args.m < length x.members) (sym c.self.view_is) c.requires.there in
     few_draws s c.self.invariant c.args.m inside c.index_mut-member.result.now c.index_mut-member.ensures.value
 
 pub invariant_of-self-2 : goal.invariant_of-self-2
 invariant_of-self-2 g c =
-    let s = state c.self.inside in
+    let s = world_state c.self.inside in
     let inside = subst (λ (x : GroupState). c.args.m < length x.members) (sym c.self.view_is) c.requires.there in
     let at = there s.sent c.args.k c.in-Some.octets.now c.in-Some.ensures in
     let old = c.index_mut-member.result.now in
@@ -30,13 +30,13 @@ invariant_of-self-2 g c =
 
 pub returns-clause-taken : goal.returns-clause-taken
 returns-clause-taken g c =
-    let s = state c.self.inside in
+    let s = world_state c.self.inside in
     let at = there s.sent c.args.k c.in-Some.octets.now c.in-Some.ensures in
     subst (λ (x : GroupState). unless_sent (world_of x) c.args.k ≡ None) c.self.view_is (not_refused s c.args.k at.first at.last)
 
 pub returns-clause-world : goal.returns-clause-world
 returns-clause-world g c =
-    let s = state c.self.inside in
+    let s = world_state c.self.inside in
     let inside = subst (λ (x : GroupState). c.args.m < length x.members) (sym c.self.view_is) c.requires.there in
     let at = there s.sent c.args.k c.in-Some.octets.now c.in-Some.ensures in
     let old = c.index_mut-member.result.now in
@@ -47,7 +47,7 @@ returns-clause-world g c =
 
 pub returns-clause-told : goal.returns-clause-told
 returns-clause-told g c =
-    let s = state c.self.inside in
+    let s = world_state c.self.inside in
     let inside = subst (λ (x : GroupState). c.args.m < length x.members) (sym c.self.view_is) c.requires.there in
     let at = there s.sent c.args.k c.in-Some.octets.now c.in-Some.ensures in
     let old = c.index_mut-member.result.now in

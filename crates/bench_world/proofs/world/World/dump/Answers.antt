@@ -5,13 +5,13 @@ use Rattle.group_model.specs.World.{member, logs}
 use Rattle.repo_member.specs.InGroup.{true_packet}
 use Rattle.bench_world.specs.EventValues.{part_at, dump_told}
 use Rattle.bench_world.specs.Worlds.{GroupState, world_of}
-use Rattle.bench_world.specs.Kept.{state}
+use Rattle.bench_world.specs.Kept.{world_state}
 use Rattle.bench_world.proofs.Readers.{packet_of_held}
 use Rattle.bench_world.proofs.world.World.dump.Goals as goal
 
 pub returns-clause-told : goal.returns-clause-told
 returns-clause-told c =
-    let s = state c.self.inside in
+    let s = world_state c.self.inside in
     let there = subst (λ (x : GroupState). c.args.m < length x.members) (sym c.self.view_is) c.requires.there in
     c.in_ok-happened.ensures
     ∙ ap (dump_told c.args.m) (packet_of_held s c.self.invariant c.args.m there c.index.result.now c.index.ensures (part_at c.args.p c.args.s c.args.x))

@@ -10,13 +10,13 @@ use Rattle.bench_world.specs.Replying.{fed_reply}
 use Rattle.bench_world.specs.Steps.{IsFaultOf}
 use Rattle.bench_world.specs.Answering.{claim_in, came_for}
 use Rattle.bench_world.specs.Worlds.{GroupState, IsTrueState, world_of, logs_around}
-use Rattle.bench_world.specs.Kept.{state}
+use Rattle.bench_world.specs.Kept.{world_state}
 use Rattle.bench_world.proofs.Answered.{feed_refusal, feed_taken, feed_is, feed_world, feed_state, fault_by}
 use Rattle.bench_world.proofs.world.World.feed.Goals as goal
 
 pub returns-in-Err-clause-refused : goal.returns-in-Err-clause-refused
 returns-in-Err-clause-refused c =
-    let s = state c.self.inside in
+    let s = world_state c.self.inside in
     let there = subst (λ (x : GroupState). c.args.m < length x.members) (sym c.self.view_is) c.requires.there in
     subst (λ (x : GroupState). IsFaultOf (refusal (keyed x.keys) (world_of x) (Event.Feed c.args.m c.args.f (λ logs t. octets_as x.keys logs t c.args.octets.now))) c.in-Err.fault) c.self.view_is
     (subst (λ r. IsFaultOf r c.in-Err.fault) (feed_refusal s c.self.invariant c.args.m there c.args.f c.args.octets.now)
@@ -24,7 +24,7 @@ returns-in-Err-clause-refused c =
 
 pub invariant_of-self-2 : goal.invariant_of-self-2
 invariant_of-self-2 c =
-    let s = state c.self.inside in
+    let s = world_state c.self.inside in
     let there = subst (λ (x : GroupState). c.args.m < length x.members) (sym c.self.view_is) c.requires.there in
     let one = c.parts_of.ensures in
     subst (λ (t : Tally). IsTrueState (record s { members = c.feed.new.members.items; tally = t; steps = s.steps + 1 })) (λ i. record s.tally { parts = s.tally.parts + sym one i; octets = s.tally.octets + sym c.unwrap_or.ensures i })
@@ -33,14 +33,14 @@ invariant_of-self-2 c =
 
 pub returns-clause-taken : goal.returns-clause-taken
 returns-clause-taken c =
-    let s = state c.self.inside in
+    let s = world_state c.self.inside in
     let there = subst (λ (x : GroupState). c.args.m < length x.members) (sym c.self.view_is) c.requires.there in
     subst (λ (x : GroupState). refusal (keyed x.keys) (world_of x) (Event.Feed c.args.m c.args.f (λ logs t. octets_as x.keys logs t c.args.octets.now)) ≡ None) c.self.view_is
     (feed_taken s c.self.invariant c.args.m there c.args.f c.args.octets.now c.kept_octets-kept.result (c.in-Ok.ensures.kept ∙ ap (λ k. Ok k) (sym c.kept_octets-kept.ensures)))
 
 pub returns-clause-world : goal.returns-clause-world
 returns-clause-world c =
-    let s = state c.self.inside in
+    let s = world_state c.self.inside in
     let there = subst (λ (x : GroupState). c.args.m < length x.members) (sym c.self.view_is) c.requires.there in
     let one = c.parts_of.ensures in
     ap (λ (t : Tally). world_of (record s { members = c.feed.new.members.items; tally = t; steps = s.steps + 1 })) (λ i. record s.tally { parts = s.tally.parts + one i; octets = s.tally.octets + c.unwrap_or.ensures i })
@@ -49,7 +49,7 @@ returns-clause-world c =
 
 pub returns-clause-told : goal.returns-clause-told
 returns-clause-told c =
-    let s = state c.self.inside in
+    let s = world_state c.self.inside in
     let there = subst (λ (x : GroupState). c.args.m < length x.members) (sym c.self.view_is) c.requires.there in
     c.fed_happened.ensures ∙ ap (λ n. fed_reply c.args.m n c.in-Ok.fed) c.from.ensures
     ∙ feed_is s c.self.invariant c.args.m there c.args.f c.args.octets.now c.in-Ok.fed c.in-Ok.ensures.fed

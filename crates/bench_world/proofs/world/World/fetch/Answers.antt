@@ -3,41 +3,41 @@ use Rattle.group_model.specs.Steps.{planned_parts, fetched_parts, attempts_made,
 use Rattle.bench_world.specs.Serving.{outside}
 use Rattle.bench_world.specs.EventValues.{Told}
 use Rattle.bench_world.specs.Worlds.{GroupState, world_of}
-use Rattle.bench_world.specs.Kept.{state}
+use Rattle.bench_world.specs.Kept.{world_state}
 use Rattle.bench_world.proofs.States.{few_logs, tried_few}
 use Rattle.bench_world.proofs.Gainings.{fetch_fits, fetch_world, fetch_state}
 use Rattle.bench_world.proofs.world.World.fetch.Goals as goal
 
 pub fetch_at-fetched-requires : goal.fetch_at-fetched-requires
 fetch_at-fetched-requires g c κs within =
-    let s = state c.self.inside in
+    let s = world_state c.self.inside in
     let there = subst (λ (x : GroupState). c.args.m < length x.members) (sym c.self.view_is) c.requires.there in
     (within.0, (within.1, (c.type_bounds.sync-N, (c.type_bounds.sync-R, (c.requires.workers, (c.requires.tries, (there, (few_logs s c.self.invariant, (refl, (c.self.invariant.numbers, (c.self.invariant.members, tried_few s c.self.invariant)))))))))))
 
 pub overflow_add-self : goal.overflow_add-self
 overflow_add-self g c =
-    let s = state c.self.inside in
+    let s = world_state c.self.inside in
     let few = subst (λ (x : GroupState). x.steps < 100000) (sym c.self.view_is) c.requires.few in
     let fits = fetch_fits s c.self.invariant few (g.N.Net.passes c.args.net.now) c.args.m c.args.tries c.args.loss c.requires.tries.1 c.in-Ok.counts.attempts c.in-Ok.counts.kept.parts c.in-Ok.counts.kept.octets c.in-Ok.ensures.attempts c.in-Ok.ensures.parts c.in-Ok.ensures.octets in
     omega (arith, fits.0)
 
 pub overflow_add-self-3 : goal.overflow_add-self-3
 overflow_add-self-3 g c =
-    let s = state c.self.inside in
+    let s = world_state c.self.inside in
     let few = subst (λ (x : GroupState). x.steps < 100000) (sym c.self.view_is) c.requires.few in
     let fits = fetch_fits s c.self.invariant few (g.N.Net.passes c.args.net.now) c.args.m c.args.tries c.args.loss c.requires.tries.1 c.in-Ok.counts.attempts c.in-Ok.counts.kept.parts c.in-Ok.counts.kept.octets c.in-Ok.ensures.attempts c.in-Ok.ensures.parts c.in-Ok.ensures.octets in
     omega (arith, fits.2)
 
 pub invariant_of-self-2 : goal.invariant_of-self-2
 invariant_of-self-2 g c =
-    let s = state c.self.inside in
+    let s = world_state c.self.inside in
     let few = subst (λ (x : GroupState). x.steps < 100000) (sym c.self.view_is) c.requires.few in
     fetch_state s c.self.invariant few (g.N.Net.passes c.args.net.now) c.args.m c.args.tries c.args.loss c.requires.tries.1 c.in-Ok.counts.attempts c.from.result c.in-Ok.counts.kept.octets
     c.in-Ok.ensures.attempts (c.from.ensures ∙ c.in-Ok.ensures.parts) c.in-Ok.ensures.octets c.fetch_at-fetched.new.members.items c.in-Ok.ensures.members c.fetch_at-fetched.ensures.len c.fetch_at-fetched.ensures.numbers c.fetch_at-fetched.ensures.truly
 
 pub returns-clause-world : goal.returns-clause-world
 returns-clause-world g c =
-    let s = state c.self.inside in
+    let s = world_state c.self.inside in
     let few = subst (λ (x : GroupState). x.steps < 100000) (sym c.self.view_is) c.requires.few in
     fetch_world s c.self.invariant few (g.N.Net.passes c.args.net.now) c.args.m c.args.tries c.args.loss c.requires.tries.1 c.in-Ok.counts.attempts c.from.result c.in-Ok.counts.kept.octets
     c.in-Ok.ensures.attempts (c.from.ensures ∙ c.in-Ok.ensures.parts) c.in-Ok.ensures.octets c.fetch_at-fetched.new.members.items c.in-Ok.ensures.members

@@ -2,20 +2,20 @@ use Rattle.std.proofs.Common.{◌<◌, ◌+◌, length, sym, ap, ◌∙◌, subs
 use Rattle.group_model.specs.Steps.{after_fire, timer_at, next_sync}
 use Rattle.bench_world.specs.EventValues.{fired_told}
 use Rattle.bench_world.specs.Worlds.{GroupState, world_of, drawing}
-use Rattle.bench_world.specs.Kept.{state}
+use Rattle.bench_world.specs.Kept.{world_state}
 use Rattle.bench_world.proofs.States.{few_draws}
 use Rattle.bench_world.proofs.Timers.{fired_world, fired_state, fires_so}
 use Rattle.bench_world.proofs.world.World.fire.Goals as goal
 
 pub fire-requires-clause-few : goal.fire-requires-clause-few
 fire-requires-clause-few g c =
-    let s = state c.self.inside in
+    let s = world_state c.self.inside in
     let there = subst (λ (x : GroupState). c.args.m < length x.members) (sym c.self.view_is) c.requires.there in
     few_draws s c.self.invariant c.args.m there c.index_mut-member.result.now c.index_mut-member.ensures.value
 
 pub invariant_of-self-2 : goal.invariant_of-self-2
 invariant_of-self-2 g c =
-    let s = state c.self.inside in
+    let s = world_state c.self.inside in
     let there = subst (λ (x : GroupState). c.args.m < length x.members) (sym c.self.view_is) c.requires.there in
     let few = subst (λ (x : GroupState). x.steps < 100000) (sym c.self.view_is) c.requires.few in
     fired_state s c.self.invariant c.args.m there c.index_mut-member.result.now c.index_mut-member.ensures.value c.fire.new.self (g.D.Draws.draw c.args.draws.now) c.draw-draw.result
@@ -24,7 +24,7 @@ invariant_of-self-2 g c =
 
 pub returns-clause-world : goal.returns-clause-world
 returns-clause-world g c =
-    let s = state c.self.inside in
+    let s = world_state c.self.inside in
     let there = subst (λ (x : GroupState). c.args.m < length x.members) (sym c.self.view_is) c.requires.there in
     fired_world s c.self.invariant c.args.m there c.index_mut-member.result.now c.index_mut-member.ensures.value c.fire.new.self (g.D.Draws.draw c.args.draws.now) c.draw-draw.result
     (c.draw-draw.ensures ∙ ap (g.D.Draws.draw c.args.draws.now c.args.m) c.next_draw.ensures) c.in-Ok.ensures.ok c.in-Ok.fire c.in-Ok.ensures.fire
@@ -33,7 +33,7 @@ returns-clause-world g c =
 
 pub returns-clause-told : goal.returns-clause-told
 returns-clause-told g c =
-    let s = state c.self.inside in
+    let s = world_state c.self.inside in
     let there = subst (λ (x : GroupState). c.args.m < length x.members) (sym c.self.view_is) c.requires.there in
     fires_so s c.self.invariant c.args.m there c.index_mut-member.result.now c.index_mut-member.ensures.value (length c.reserve.new.self.packets + 1) c.in-Ok.fire _ c.in-Ok.ensures.fire c.send_fired-happened.ensures.told
     (ap (λ x. length x.packets + 1) c.in_ok-reserve.ensures.ok)

@@ -10,14 +10,14 @@ use Rattle.bench_world.specs.Hearing.{told_sync}
 use Rattle.bench_world.specs.Readings.{read_as}
 use Rattle.bench_world.specs.Steps.{IsFaultOf}
 use Rattle.bench_world.specs.Worlds.{GroupState, nobody, world_of, drawing}
-use Rattle.bench_world.specs.Kept.{state}
+use Rattle.bench_world.specs.Kept.{world_state}
 use Rattle.bench_world.proofs.States.{few_draws}
 use Rattle.bench_world.proofs.Hearings.{refused_so, foreign_so, sent_taken, heard_world, heard_state, heard_told}
 use Rattle.bench_world.proofs.world.World.hear.Goals as goal
 
 pub returns-in-Err-Sync-clause-taken : goal.returns-in-Err-Sync-clause-taken
 returns-in-Err-Sync-clause-taken g c =
-    let s = state c.self.inside in
+    let s = world_state c.self.inside in
     let there = subst (λ (x : GroupState). c.args.m < length x.members) (sym c.self.view_is) c.requires.there in
     let r = group_verdict s.keys c.args.octets.now in
     let all = refused_so s c.self.invariant c.args.m there c.index.result.now c.index.ensures r (g.D.Draws.draw c.args.draws.now) c.in-Err-Sync.field-0 c.in-Err-Sync.ensures.refused (λ memory. apart (sym c.in-Err-Sync.field-0-is ∙ memory)) in
@@ -27,7 +27,7 @@ returns-in-Err-Sync-clause-taken g c =
 
 pub returns-in-Err-Sync-clause-world : goal.returns-in-Err-Sync-clause-world
 returns-in-Err-Sync-clause-world g c =
-    let s = state c.self.inside in
+    let s = world_state c.self.inside in
     let there = subst (λ (x : GroupState). c.args.m < length x.members) (sym c.self.view_is) c.requires.there in
     let r = group_verdict s.keys c.args.octets.now in
     let all = refused_so s c.self.invariant c.args.m there c.index.result.now c.index.ensures r (g.D.Draws.draw c.args.draws.now) c.in-Err-Sync.field-0 c.in-Err-Sync.ensures.refused (λ memory. apart (sym c.in-Err-Sync.field-0-is ∙ memory)) in
@@ -37,7 +37,7 @@ returns-in-Err-Sync-clause-world g c =
 
 pub returns-in-Err-Sync-clause-told : goal.returns-in-Err-Sync-clause-told
 returns-in-Err-Sync-clause-told g c =
-    let s = state c.self.inside in
+    let s = world_state c.self.inside in
     let there = subst (λ (x : GroupState). c.args.m < length x.members) (sym c.self.view_is) c.requires.there in
     let r = group_verdict s.keys c.args.octets.now in
     let all = refused_so s c.self.invariant c.args.m there c.index.result.now c.index.ensures r (g.D.Draws.draw c.args.draws.now) c.in-Err-Sync.field-0 c.in-Err-Sync.ensures.refused (λ memory. apart (sym c.in-Err-Sync.field-0-is ∙ memory)) in
@@ -48,7 +48,7 @@ returns-in-Err-Sync-clause-told g c =
 
 pub returns-in-Err-OwnNumberAhead-clause-taken : goal.returns-in-Err-OwnNumberAhead-clause-taken
 returns-in-Err-OwnNumberAhead-clause-taken g c =
-    let s = state c.self.inside in
+    let s = world_state c.self.inside in
     let there = subst (λ (x : GroupState). c.args.m < length x.members) (sym c.self.view_is) c.requires.there in
     let r = group_verdict s.keys c.args.octets.now in
     let all = refused_so s c.self.invariant c.args.m there c.index.result.now c.index.ensures r (g.D.Draws.draw c.args.draws.now) c.in-Err-OwnNumberAhead.field-0 c.in-Err-OwnNumberAhead.ensures.refused (λ memory. apart (sym c.in-Err-OwnNumberAhead.field-0-is ∙ memory)) in
@@ -58,7 +58,7 @@ returns-in-Err-OwnNumberAhead-clause-taken g c =
 
 pub returns-in-Err-OwnNumberAhead-clause-world : goal.returns-in-Err-OwnNumberAhead-clause-world
 returns-in-Err-OwnNumberAhead-clause-world g c =
-    let s = state c.self.inside in
+    let s = world_state c.self.inside in
     let there = subst (λ (x : GroupState). c.args.m < length x.members) (sym c.self.view_is) c.requires.there in
     let r = group_verdict s.keys c.args.octets.now in
     let all = refused_so s c.self.invariant c.args.m there c.index.result.now c.index.ensures r (g.D.Draws.draw c.args.draws.now) c.in-Err-OwnNumberAhead.field-0 c.in-Err-OwnNumberAhead.ensures.refused (λ memory. apart (sym c.in-Err-OwnNumberAhead.field-0-is ∙ memory)) in
@@ -68,7 +68,7 @@ returns-in-Err-OwnNumberAhead-clause-world g c =
 
 pub returns-in-Err-OwnNumberAhead-clause-told : goal.returns-in-Err-OwnNumberAhead-clause-told
 returns-in-Err-OwnNumberAhead-clause-told g c =
-    let s = state c.self.inside in
+    let s = world_state c.self.inside in
     let there = subst (λ (x : GroupState). c.args.m < length x.members) (sym c.self.view_is) c.requires.there in
     let r = group_verdict s.keys c.args.octets.now in
     let all = refused_so s c.self.invariant c.args.m there c.index.result.now c.index.ensures r (g.D.Draws.draw c.args.draws.now) c.in-Err-OwnNumberAhead.field-0 c.in-Err-OwnNumberAhead.ensures.refused (λ memory. apart (sym c.in-Err-OwnNumberAhead.field-0-is ∙ memory)) in
@@ -79,13 +79,13 @@ returns-in-Err-OwnNumberAhead-clause-told g c =
 
 pub hear_sent-requires-clause-few : goal.hear_sent-requires-clause-few
 hear_sent-requires-clause-few g c =
-    let s = state c.self.inside in
+    let s = world_state c.self.inside in
     let there = subst (λ (x : GroupState). c.args.m < length x.members) (sym c.self.view_is) c.requires.there in
     few_draws s c.self.invariant c.args.m there c.index_mut-member.result.now c.index_mut-member.ensures.value
 
 pub returns-in-Err-clause-refused : goal.returns-in-Err-clause-refused
 returns-in-Err-clause-refused g c =
-    let s = state c.self.inside in
+    let s = world_state c.self.inside in
     let there = subst (λ (x : GroupState). c.args.m < length x.members) (sym c.self.view_is) c.requires.there in
     let r = group_verdict s.keys c.args.octets.now in
     let old = c.index_mut-member.result.now in
@@ -97,7 +97,7 @@ returns-in-Err-clause-refused g c =
 
 pub invariant_of-self-2 : goal.invariant_of-self-2
 invariant_of-self-2 g c =
-    let s = state c.self.inside in
+    let s = world_state c.self.inside in
     let there = subst (λ (x : GroupState). c.args.m < length x.members) (sym c.self.view_is) c.requires.there in
     let r = group_verdict s.keys c.args.octets.now in
     let old = c.index_mut-member.result.now in
@@ -110,7 +110,7 @@ invariant_of-self-2 g c =
 
 pub returns-clause-taken : goal.returns-clause-taken
 returns-clause-taken g c =
-    let s = state c.self.inside in
+    let s = world_state c.self.inside in
     let there = subst (λ (x : GroupState). c.args.m < length x.members) (sym c.self.view_is) c.requires.there in
     let r = group_verdict s.keys c.args.octets.now in
     let old = c.index_mut-member.result.now in
@@ -121,7 +121,7 @@ returns-clause-taken g c =
 
 pub returns-clause-world : goal.returns-clause-world
 returns-clause-world g c =
-    let s = state c.self.inside in
+    let s = world_state c.self.inside in
     let there = subst (λ (x : GroupState). c.args.m < length x.members) (sym c.self.view_is) c.requires.there in
     let r = group_verdict s.keys c.args.octets.now in
     let old = c.index_mut-member.result.now in
@@ -134,7 +134,7 @@ returns-clause-world g c =
 
 pub returns-clause-told : goal.returns-clause-told
 returns-clause-told g c =
-    let s = state c.self.inside in
+    let s = world_state c.self.inside in
     let there = subst (λ (x : GroupState). c.args.m < length x.members) (sym c.self.view_is) c.requires.there in
     let r = group_verdict s.keys c.args.octets.now in
     let old = c.index_mut-member.result.now in

@@ -1,23 +1,23 @@
 use Rattle.std.proofs.Common.{◌≡◌, ◌<◌, cond, ◌∷◌, ◌++◌, [], List, map, length, sym, ap, ◌∙◌, subst}
 use Rattle.std.specs.Prelude.{is_ok}
 use Rattle.std.proofs.lemmas.List.{map-append}
-use Rattle.group_model.specs.Steps.{after_issue, answer_of}
+use Rattle.group_model.specs.Steps.{after_issue, command_answer}
 use Rattle.repo_member.specs.Commanded as commanded
 use Rattle.bench_world.specs.declared.world.IssuedCommand.{IssuedCommand}
-use Rattle.bench_world.specs.Kept.{state, issued_of}
+use Rattle.bench_world.specs.Kept.{world_state, issued_of}
 use Rattle.bench_world.specs.Worlds.{GroupState, world_of}
 use Rattle.bench_world.proofs.Orders.{issue_answered, taken_is, issue_world, issue_state}
 use Rattle.bench_world.proofs.world.World.issue.Goals as goal
 
 pub invariant_of-self-2 : goal.invariant_of-self-2
 invariant_of-self-2 c =
-    let s = state c.self.inside in
+    let s = world_state c.self.inside in
     let there = subst (λ (x : GroupState). c.args.m < length x.members) (sym c.self.view_is) c.requires.there in
     let few = subst (λ (x : GroupState). x.steps < 100000) (sym c.self.view_is) c.requires.few in
     let known = subst (λ (x : GroupState). c.args.client < length x.keys.clients.names) (sym c.self.view_is) c.requires.client in
     let old = c.index_mut-member.result.now in
     let taken = taken_is s c.self.invariant c.args.m there old c.index_mut-member.ensures.value c.args.client c.args.command known c.requires.spelled c.requires.command c.deref.result.now (c.deref.ensures.value ∙ c.in_ok-octets.ensures) in
-    let b_is = c.in-Ok.ensures.ok ∙ ap (λ r. commanded.after_order r old) taken in
+    let b_is = c.in-Ok.ensures.ok ∙ ap (λ r. commanded.alone_after_order r old) taken in
     let one : IssuedCommand = record { member = c.args.m; client = c.args.client; command = c.args.command } in
     let pushed : c.push.new.self.items ≡ c.reserve.new.self.items ++ one ∷ [] = c.push.ensures.items ∙ ap (λ r. cond (is_ok r) (c.reserve.new.self.items ++ one ∷ []) c.reserve.new.self.items) c.unwrap.ensures in
     let made = ap (map issued_of) (pushed ∙ ap (λ (xs : List IssuedCommand). xs ++ one ∷ []) c.reserve.ensures.items) ∙ map-append issued_of c.self.inside.issued.items (one ∷ []) in
@@ -25,12 +25,12 @@ invariant_of-self-2 c =
 
 pub returns-clause-world : goal.returns-clause-world
 returns-clause-world c =
-    let s = state c.self.inside in
+    let s = world_state c.self.inside in
     let there = subst (λ (x : GroupState). c.args.m < length x.members) (sym c.self.view_is) c.requires.there in
     let known = subst (λ (x : GroupState). c.args.client < length x.keys.clients.names) (sym c.self.view_is) c.requires.client in
     let old = c.index_mut-member.result.now in
     let taken = taken_is s c.self.invariant c.args.m there old c.index_mut-member.ensures.value c.args.client c.args.command known c.requires.spelled c.requires.command c.deref.result.now (c.deref.ensures.value ∙ c.in_ok-octets.ensures) in
-    let b_is = c.in-Ok.ensures.ok ∙ ap (λ r. commanded.after_order r old) taken in
+    let b_is = c.in-Ok.ensures.ok ∙ ap (λ r. commanded.alone_after_order r old) taken in
     let one : IssuedCommand = record { member = c.args.m; client = c.args.client; command = c.args.command } in
     let pushed : c.push.new.self.items ≡ c.reserve.new.self.items ++ one ∷ [] = c.push.ensures.items ∙ ap (λ r. cond (is_ok r) (c.reserve.new.self.items ++ one ∷ []) c.reserve.new.self.items) c.unwrap.ensures in
     let made = ap (map issued_of) (pushed ∙ ap (λ (xs : List IssuedCommand). xs ++ one ∷ []) c.reserve.ensures.items) ∙ map-append issued_of c.self.inside.issued.items (one ∷ []) in
@@ -39,10 +39,10 @@ returns-clause-world c =
 
 pub returns-clause-answer : goal.returns-clause-answer
 returns-clause-answer c =
-    let s = state c.self.inside in
+    let s = world_state c.self.inside in
     let there = subst (λ (x : GroupState). c.args.m < length x.members) (sym c.self.view_is) c.requires.there in
     let known = subst (λ (x : GroupState). c.args.client < length x.keys.clients.names) (sym c.self.view_is) c.requires.client in
     let old = c.index_mut-member.result.now in
     let taken = taken_is s c.self.invariant c.args.m there old c.index_mut-member.ensures.value c.args.client c.args.command known c.requires.spelled c.requires.command c.deref.result.now (c.deref.ensures.value ∙ c.in_ok-octets.ensures) in
-    c.in-Ok.ensures.answer ∙ ap (λ r. commanded.order_answer r old) taken ∙ issue_answered s c.self.invariant c.args.m there old c.index_mut-member.ensures.value c.args.client c.args.command
-    ∙ ap (λ (x : GroupState). answer_of (world_of x) c.args.m c.args.command) c.self.view_is
+    c.in-Ok.ensures.answer ∙ ap (λ r. commanded.alone_order_answer r old) taken ∙ issue_answered s c.self.invariant c.args.m there old c.index_mut-member.ensures.value c.args.client c.args.command
+    ∙ ap (λ (x : GroupState). command_answer (world_of x) c.args.m c.args.command) c.self.view_is

@@ -4,20 +4,20 @@ use Rattle.group_model.specs.Events.{Event}
 use Rattle.group_model.specs.Refusals.{Refusal, refusal}
 use Rattle.group_model.specs.Steps.{after_publish, next_seq_at}
 use Rattle.bench_world.specs.Worlds.{GroupState, world_of, drawing}
-use Rattle.bench_world.specs.Kept.{state}
+use Rattle.bench_world.specs.Kept.{world_state}
 use Rattle.bench_world.proofs.States.{few_draws}
 use Rattle.bench_world.proofs.Objects.{refused_so, has_room, seq_is, sent_is, publish_taken, world_sent, state_sent}
 use Rattle.bench_world.proofs.world.World.publish_contents.Goals as goal
 
 pub publish-requires-clause-draws : goal.publish-requires-clause-draws
 publish-requires-clause-draws g c =
-    let s = state c.self.inside in
+    let s = world_state c.self.inside in
     let there = subst (λ (x : GroupState). c.args.m < length x.members) (sym c.self.view_is) c.requires.there in
     few_draws s c.self.invariant c.args.m there c.index_mut-member.result.now c.index_mut-member.ensures.value
 
 pub returns-in-Err-clause-refused : goal.returns-in-Err-clause-refused
 returns-in-Err-clause-refused g c =
-    let s = state c.self.inside in
+    let s = world_state c.self.inside in
     let there = subst (λ (x : GroupState). c.args.m < length x.members) (sym c.self.view_is) c.requires.there in
     let object : NamedContents = record { name = c.args.name.now; contents = map (λ x. x.items) c.args.contents.now } in
     subst (λ (x : GroupState). (c.in-Err.refusal ≡ _) ⊎ (refusal (drawing (g.D.Draws.draw c.args.draws.now)) (world_of x) (Event.Publish c.args.m object) ≡ Some Refusal.NumbersSpent)) c.self.view_is
@@ -25,7 +25,7 @@ returns-in-Err-clause-refused g c =
 
 pub invariant_of-self-2 : goal.invariant_of-self-2
 invariant_of-self-2 g c =
-    let s = state c.self.inside in
+    let s = world_state c.self.inside in
     let few = subst (λ (x : GroupState). x.steps < 100000) (sym c.self.view_is) c.requires.few in
     let there = subst (λ (x : GroupState). c.args.m < length x.members) (sym c.self.view_is) c.requires.there in
     let old = c.index_mut-member.result.now in
@@ -39,7 +39,7 @@ invariant_of-self-2 g c =
 
 pub returns-clause-ok : goal.returns-clause-ok
 returns-clause-ok g c =
-    let s = state c.self.inside in
+    let s = world_state c.self.inside in
     let there = subst (λ (x : GroupState). c.args.m < length x.members) (sym c.self.view_is) c.requires.there in
     let old = c.index_mut-member.result.now in
     let object : NamedContents = record { name = c.args.name.now; contents = map (λ x. x.items) c.args.contents.now } in
@@ -52,7 +52,7 @@ returns-clause-ok g c =
 
 pub returns-clause-taken : goal.returns-clause-taken
 returns-clause-taken g c =
-    let s = state c.self.inside in
+    let s = world_state c.self.inside in
     let few = subst (λ (x : GroupState). x.steps < 100000) (sym c.self.view_is) c.requires.few in
     let there = subst (λ (x : GroupState). c.args.m < length x.members) (sym c.self.view_is) c.requires.there in
     let old = c.index_mut-member.result.now in
@@ -64,7 +64,7 @@ returns-clause-taken g c =
 
 pub returns-clause-seq : goal.returns-clause-seq
 returns-clause-seq g c =
-    let s = state c.self.inside in
+    let s = world_state c.self.inside in
     let there = subst (λ (x : GroupState). c.args.m < length x.members) (sym c.self.view_is) c.requires.there in
     seq_is s c.self.invariant c.args.m there c.index_mut-member.result.now c.index_mut-member.ensures.value c.in-Ok.published.seq c.in-Ok.ensures.seq
     ∙ ap (λ (x : GroupState). next_seq_at (world_of x) c.args.m) c.self.view_is

@@ -1,20 +1,20 @@
 use Rattle.std.proofs.Common.{◌<◌, length, sym, ap, ◌∙◌, subst}
 use Rattle.group_model.specs.Steps.{after_restart}
 use Rattle.bench_world.specs.Worlds.{GroupState, world_of, drawing}
-use Rattle.bench_world.specs.Kept.{state}
+use Rattle.bench_world.specs.Kept.{world_state}
 use Rattle.bench_world.proofs.States.{few_draws}
 use Rattle.bench_world.proofs.Timers.{restarted_world, restarted_state}
 use Rattle.bench_world.proofs.world.World.restart.Goals as goal
 
 pub restart-requires-clause-few : goal.restart-requires-clause-few
 restart-requires-clause-few g c =
-    let s = state c.self.inside in
+    let s = world_state c.self.inside in
     let there = subst (λ (x : GroupState). c.args.m < length x.members) (sym c.self.view_is) c.requires.there in
     few_draws s c.self.invariant c.args.m there c.index_mut-member.result.now c.index_mut-member.ensures.value
 
 pub invariant_of-self : goal.invariant_of-self
 invariant_of-self g c =
-    let s = state c.self.inside in
+    let s = world_state c.self.inside in
     let there = subst (λ (x : GroupState). c.args.m < length x.members) (sym c.self.view_is) c.requires.there in
     let few = subst (λ (x : GroupState). x.steps < 100000) (sym c.self.view_is) c.requires.few in
     restarted_state s c.self.invariant c.args.m there c.index_mut-member.result.now c.index_mut-member.ensures.value c.restart.new.self (g.D.Draws.draw c.args.draws.now) c.draw-draw.result
@@ -22,7 +22,7 @@ invariant_of-self g c =
 
 pub returns-clause-world : goal.returns-clause-world
 returns-clause-world g c =
-    let s = state c.self.inside in
+    let s = world_state c.self.inside in
     let there = subst (λ (x : GroupState). c.args.m < length x.members) (sym c.self.view_is) c.requires.there in
     restarted_world s c.self.invariant c.args.m there c.index_mut-member.result.now c.index_mut-member.ensures.value c.restart.new.self (g.D.Draws.draw c.args.draws.now) c.draw-draw.result
     (c.draw-draw.ensures ∙ ap (g.D.Draws.draw c.args.draws.now c.args.m) c.next_draw.ensures) c.restart.ensures

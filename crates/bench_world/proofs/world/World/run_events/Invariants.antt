@@ -1,6 +1,6 @@
 use Rattle.std.proofs.Common.{◌≡◌, ◌+◌, length, take}
 use Rattle.group_model.specs.Steps.{after_events}
-use Rattle.group_model.specs.Refusals.{AreTaken}
+use Rattle.group_model.specs.Refusals.{EventsAreTaken}
 use Rattle.bench_world.specs.Serving.{outside}
 use Rattle.bench_world.specs.Worlds.{world_of}
 use Rattle.bench_world.specs.Runs.{event_values, group_events}
@@ -12,6 +12,6 @@ invariant-loop-event g l = record {
   steps : l.self.steps ≡ l.fn.self.steps + l.event-index;
   keys : l.self.keys ≡ l.fn.self.keys;
   many : length (world_of l.self).members ≡ length l.fn.self.keys.members.names;
-  taken : AreTaken (outside l.fn.self.keys (g.D.Draws.draw l.draws) (g.N.Net.passes l.net)) (world_of l.fn.self) (group_events l.fn.self.keys (event_values (take l.event-index l.events)));
+  taken : EventsAreTaken (outside l.fn.self.keys (g.D.Draws.draw l.draws) (g.N.Net.passes l.net)) (world_of l.fn.self) (group_events l.fn.self.keys (event_values (take l.event-index l.events)));
   world : world_of l.self ≡ after_events (outside l.fn.self.keys (g.D.Draws.draw l.draws) (g.N.Net.passes l.net)) (world_of l.fn.self) (group_events l.fn.self.keys (event_values (take l.event-index l.events)));
 }

@@ -6,7 +6,7 @@ use Rattle.bench_world.specs.Serving.{keyed}
 use Rattle.bench_world.specs.Runs.{HaveSettledPart}
 use Rattle.bench_world.specs.Settling.{told_of}
 use Rattle.bench_world.specs.Worlds.{GroupState, IsTrueState, tells, world_of}
-use Rattle.bench_world.specs.Kept.{state}
+use Rattle.bench_world.specs.Kept.{world_state}
 use Rattle.bench_world.proofs.States.{few_logs, few_members, few_sent, tried_few}
 use Rattle.bench_world.proofs.Readers.{counted_state}
 use Rattle.bench_world.proofs.GatheredAll.{where_err}
@@ -15,13 +15,13 @@ use Rattle.bench_world.proofs.world.World.settle.Goals as goal
 
 pub invariant_of-self : goal.invariant_of-self
 invariant_of-self g c =
-    let s = state c.self.inside in
+    let s = world_state c.self.inside in
     let few = subst (λ (x : GroupState). x.steps < 100000) (sym c.self.view_is) c.requires.few in
     subst (λ (ps : List SentPacket). IsTrueState (record s { sent = ps; steps = s.steps + 1 })) (sym (ap (λ x. x.packets) c.in_err-reserve.ensures.err)) (counted_state s c.self.invariant few)
 
 pub returns-in_err-reserve-clause-err : goal.returns-in_err-reserve-clause-err
 returns-in_err-reserve-clause-err g c =
-    let s = state c.self.inside in
+    let s = world_state c.self.inside in
     let few = subst (λ (x : GroupState). x.steps < 100000) (sym c.self.view_is) c.requires.few in
     where_err c.from_residual.result (
     subst (λ (x : GroupState). HaveSettledPart x (record s { sent = c.reserve.new.self.packets; steps = s.steps + 1 })) c.self.view_is
@@ -29,12 +29,12 @@ returns-in_err-reserve-clause-err g c =
 
 pub settle_members-settled-requires : goal.settle_members-settled-requires
 settle_members-settled-requires g c κs within =
-    let s = state c.self.inside in
+    let s = world_state c.self.inside in
     (within.0, (within.1, (c.type_bounds.sync-N, (c.type_bounds.sync-R, (c.requires.workers, (few_logs s c.self.invariant, (refl, (c.self.invariant.numbers, (c.self.invariant.members, (sound_only s c.self.invariant, tried_few s c.self.invariant))))))))))
 
 pub invariant_of-self-in-Err : goal.invariant_of-self-in-Err
 invariant_of-self-in-Err g c =
-    let s = state c.self.inside in
+    let s = world_state c.self.inside in
     let few = subst (λ (x : GroupState). x.steps < 100000) (sym c.self.view_is) c.requires.few in
     let same : c.reserve.new.self.packets ≡ s.sent = ap (λ x. x.packets) c.in_ok-reserve.ensures.ok in
     subst (λ (ps : List SentPacket). IsTrueState (record s { members = c.settle_members-settled.new.members.items; sent = ps; steps = s.steps + 1 })) (sym same)
@@ -42,7 +42,7 @@ invariant_of-self-in-Err g c =
 
 pub returns-in-Err-clause-err : goal.returns-in-Err-clause-err
 returns-in-Err-clause-err g c =
-    let s = state c.self.inside in
+    let s = world_state c.self.inside in
     let few = subst (λ (x : GroupState). x.steps < 100000) (sym c.self.view_is) c.requires.few in
     let same : c.reserve.new.self.packets ≡ s.sent = ap (λ x. x.packets) c.in_ok-reserve.ensures.ok in
     subst (λ (x : GroupState). HaveSettledPart x (record s { members = c.settle_members-settled.new.members.items; sent = c.reserve.new.self.packets; steps = s.steps + 1 })) c.self.view_is
@@ -51,7 +51,7 @@ returns-in-Err-clause-err g c =
 
 pub send_all-requires-clause-room : goal.send_all-requires-clause-room
 send_all-requires-clause-room g c =
-    let s = state c.self.inside in
+    let s = world_state c.self.inside in
     let a : length (map told_of c.in-Ok.settled.0.items) ≡ length (map (tells s.keys) s.members) = ap length c.in-Ok.ensures.told in
     let b = length-map c.in-Ok.settled.0.items told_of in
     let d = length-map s.members (tells s.keys) in
@@ -60,7 +60,7 @@ send_all-requires-clause-room g c =
 
 pub send_all-requires-clause-few : goal.send_all-requires-clause-few
 send_all-requires-clause-few g c =
-    let s = state c.self.inside in
+    let s = world_state c.self.inside in
     let a : length (map told_of c.in-Ok.settled.0.items) ≡ length (map (tells s.keys) s.members) = ap length c.in-Ok.ensures.told in
     let b = length-map c.in-Ok.settled.0.items told_of in
     let d = length-map s.members (tells s.keys) in
@@ -71,7 +71,7 @@ send_all-requires-clause-few g c =
 
 pub overflow_add-self-3 : goal.overflow_add-self-3
 overflow_add-self-3 g c =
-    let s = state c.self.inside in
+    let s = world_state c.self.inside in
     let few = subst (λ (x : GroupState). x.steps < 100000) (sym c.self.view_is) c.requires.few in
     let sent : c.send_all.new.sent.packets ≡ c.self.inside.sent.packets ++ map told_of c.in-Ok.settled.0.items =
     c.send_all.ensures ∙ ap (λ (ps : List SentPacket). ps ++ map told_of c.in-Ok.settled.0.items) (ap (λ x. x.packets) c.in_ok-reserve.ensures.ok) in
@@ -82,7 +82,7 @@ overflow_add-self-3 g c =
 
 pub overflow_add-self-4 : goal.overflow_add-self-4
 overflow_add-self-4 g c =
-    let s = state c.self.inside in
+    let s = world_state c.self.inside in
     let few = subst (λ (x : GroupState). x.steps < 100000) (sym c.self.view_is) c.requires.few in
     let sent : c.send_all.new.sent.packets ≡ c.self.inside.sent.packets ++ map told_of c.in-Ok.settled.0.items =
     c.send_all.ensures ∙ ap (λ (ps : List SentPacket). ps ++ map told_of c.in-Ok.settled.0.items) (ap (λ x. x.packets) c.in_ok-reserve.ensures.ok) in
@@ -93,7 +93,7 @@ overflow_add-self-4 g c =
 
 pub invariant_of-self-2 : goal.invariant_of-self-2
 invariant_of-self-2 g c =
-    let s = state c.self.inside in
+    let s = world_state c.self.inside in
     let few = subst (λ (x : GroupState). x.steps < 100000) (sym c.self.view_is) c.requires.few in
     let sent : c.send_all.new.sent.packets ≡ c.self.inside.sent.packets ++ map told_of c.in-Ok.settled.0.items =
     c.send_all.ensures ∙ ap (λ (ps : List SentPacket). ps ++ map told_of c.in-Ok.settled.0.items) (ap (λ x. x.packets) c.in_ok-reserve.ensures.ok) in
@@ -104,7 +104,7 @@ invariant_of-self-2 g c =
 
 pub returns-clause-world : goal.returns-clause-world
 returns-clause-world g c =
-    let s = state c.self.inside in
+    let s = world_state c.self.inside in
     let few = subst (λ (x : GroupState). x.steps < 100000) (sym c.self.view_is) c.requires.few in
     let sent : c.send_all.new.sent.packets ≡ c.self.inside.sent.packets ++ map told_of c.in-Ok.settled.0.items =
     c.send_all.ensures ∙ ap (λ (ps : List SentPacket). ps ++ map told_of c.in-Ok.settled.0.items) (ap (λ x. x.packets) c.in_ok-reserve.ensures.ok) in
@@ -119,7 +119,7 @@ returns-clause-parts g c =
 
 pub returns-clause-joined : goal.returns-clause-joined
 returns-clause-joined g c =
-    let s = state c.self.inside in
+    let s = world_state c.self.inside in
     let few = subst (λ (x : GroupState). x.steps < 100000) (sym c.self.view_is) c.requires.few in
     let sent : c.send_all.new.sent.packets ≡ c.self.inside.sent.packets ++ map told_of c.in-Ok.settled.0.items =
     c.send_all.ensures ∙ ap (λ (ps : List SentPacket). ps ++ map told_of c.in-Ok.settled.0.items) (ap (λ x. x.packets) c.in_ok-reserve.ensures.ok) in

@@ -2,7 +2,7 @@ use Rattle.std.proofs.Common.{◌≡◌, List, Some, option_map, sym, ◌∙◌,
 use Rattle.std.specs.Prelude.{slice_get, Ok, Err, Result}
 use Rattle.ndn_name.specs.Names.{Component}
 use Rattle.ndn_name.specs.declared.name_fault.NameFault.{NameFault}
-use Rattle.ndn_sign.specs.Ring.{Pair}
+use Rattle.ndn_sign.specs.Ring.{NamedKey}
 use Rattle.repo_object.specs.Objects.{key_name}
 use Rattle.repo_member.specs.Groups.{client_at}
 use Rattle.bench_world.proofs.ClientKeys.{key_read}
@@ -10,7 +10,7 @@ use Rattle.bench_world.proofs.world.commanding.client_key_name.Goals as goal
 
 pub unreachable-requires : goal.unreachable-requires
 unreachable-requires c =
-    let found = subst (λ (ring : List Pair). option_map (λ (p : Pair). p.name) (slice_get ring c.args.client) ≡ Some c.name.result.now) c.clients.ensures c.name.ensures in
+    let found = subst (λ (ring : List NamedKey). option_map (λ (p : NamedKey). p.name) (slice_get ring c.args.client) ≡ Some c.name.result.now) c.clients.ensures c.name.ensures in
     let read = key_read c.args.g.now c.roster-roster.ensures.sound.clients c.args.client c.requires c.name.result.now found in
     apart c.in_default.field-0 (key_name (client_at c.args.g.now c.args.client)) (sym c.in_default.ensures.read ∙ read) where
       apart : (x : NameFault) (n : List Component) → (let r : Result (List Component) NameFault = Err x in r) ≡ Ok n → ⊥
@@ -18,7 +18,7 @@ unreachable-requires c =
 
 pub returns-in-Ok-from_view : goal.returns-in-Ok-from_view
 returns-in-Ok-from_view c =
-    let found = subst (λ (ring : List Pair). option_map (λ (p : Pair). p.name) (slice_get ring c.args.client) ≡ Some c.name.result.now) c.clients.ensures c.name.ensures in
+    let found = subst (λ (ring : List NamedKey). option_map (λ (p : NamedKey). p.name) (slice_get ring c.args.client) ≡ Some c.name.result.now) c.clients.ensures c.name.ensures in
     let read = key_read c.args.g.now c.roster-roster.ensures.sound.clients c.args.client c.requires c.name.result.now found in
     c.in-Ok-from_view.ensures.ok ∙ same c.in-Ok.view (key_name (client_at c.args.g.now c.args.client)) (sym c.in-Ok.ensures.read ∙ read) where
       same : (a b : List Component) → (let r : Result (List Component) NameFault = Ok a in r) ≡ Ok b → a ≡ b

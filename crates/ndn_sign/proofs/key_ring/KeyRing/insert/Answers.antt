@@ -1,5 +1,5 @@
 use Rattle.std.proofs.Common.{rules, ◌≡◌, ◌<◌, List, [], ◌∷◌, ◌++◌, length, sym, ap, ◌∙◌, arith}
-use Rattle.ndn_sign.specs.Ring.{IsRing, Pair, pair, pair_limit, number_of}
+use Rattle.ndn_sign.specs.Ring.{IsRing, NamedKey, pair, pair_limit, key_number}
 use Rattle.ndn_sign.proofs.RingLemmas.{number_of-entries, pairs, still_ring, with_pair}
 use Rattle.ndn_sign.proofs.key_ring.KeyRing.insert.Goals as goal
 
@@ -9,7 +9,7 @@ appended : (c : goal.Joined-branch-4)
 appended c =
     let name = c.args.name.now in
     let entries = c.self.inside.pairs.entries in
-    let none = sym (number_of-entries name entries) ∙ ap (number_of name) c.self.view_is ∙ c.requires.new_name in
+    let none = sym (number_of-entries name entries) ∙ ap (key_number name) c.self.view_is ∙ c.requires.new_name in
     let same : c.in_ok-name.name.items ≡ name = search rules in
     with_pair name c.args.key.now c.in_ok-name.name c.in_ok-key.key entries c.insert.new.self.entries none same
     c.in_ok-key.ensures c.in_ok-insert.ensures.entries
@@ -17,7 +17,7 @@ appended c =
 is_ring : (c : goal.Joined-branch-4) → IsRing (pairs c.insert.new.self.entries)
 is_ring c =
     let entries = c.self.inside.pairs.entries in
-    let count = ap (λ (ring : List Pair). length ring) c.self.view_is in
+    let count = ap (λ (ring : List NamedKey). length ring) c.self.view_is in
     let room : length (pairs entries) < pair_limit = omega (arith, count, c.requires.room) in
     let p = pair c.args.name.now c.args.key.now in
     still_ring p entries c.insert.new.self.entries (appended c) room c.in_ok-insert.ensures.unique

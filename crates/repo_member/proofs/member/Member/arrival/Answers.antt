@@ -1,6 +1,6 @@
 use Rattle.std.proofs.Common.{◌≡◌, ℕ, length, Option, Some, None, option_map, Bor, ap, sym, ◌∙◌, List, arith}
 use Rattle.std.specs.Prelude.{IfSome}
-use Rattle.ndn_sign.specs.Ring.{Pair}
+use Rattle.ndn_sign.specs.Ring.{NamedKey}
 use Rattle.repo_plan.specs.declared.part.Part.{Part}
 use Rattle.repo_object.specs.Wants.{WantedPart}
 use Rattle.repo_object.specs.Verdict.{publisher_key}
@@ -12,7 +12,7 @@ pub check-requires : goal.check-requires
 check-requires c =
     let inside = publisher_in_ring c.args.g.now c.self.inside c.args.self.now c.args.part c.self.invariant c.self.view_is c.requires.group c.members.ensures.keys c.requires.asked in
     let part = ap (λ (w : WantedPart). w.part.publisher) c.in_ok-expected.ensures ∙ ap (λ (t : Part). t.publisher) (want_part c.args.g.now c.args.self.now.store c.args.part) in
-    let ring = ap (λ (r : List Pair). length r) c.members.ensures.ring in
+    let ring = ap (λ (r : List NamedKey). length r) c.members.ensures.ring in
     omega (arith, inside, part, ring)
 
 lent : (known : Option (Bor (List ℕ))) (told : Option (List ℕ)) (digest : List ℕ) → option_map (λ (d : Bor (List ℕ)). d.now) known ≡ told → IfSome told (λ d. digest ≡ d) → IfSome known (λ d. d.now ≡ digest)

@@ -7,27 +7,27 @@ use Rattle.ndn_name.specs.CanonicalOrder.{canonical_cmp}
 use Rattle.ndn_name.specs.Names.{Component}
 use Rattle.repo_plan.specs.Parts.{Pair}
 use Rattle.repo_plan.specs.Plan.{knows, claims_part_in}
-use Rattle.repo_plan.specs.Sound.{IsSound}
+use Rattle.repo_plan.specs.Sound.{PlanIsSound}
 use Rattle.repo_catalog.specs.declared.entry.Entry.{Entry}
-use Rattle.repo_catalog.specs.Entries.{publication_of, has_name, IsCatalogue}
+use Rattle.repo_catalog.specs.Entries.{publication_of, entry_has_name, IsCatalogue}
 use Rattle.repo_member.specs.declared.member.Member.TheInside.{Inside}
 use Rattle.repo_member.specs.Records.{Packet}
 use Rattle.repo_member.specs.Listed.{alone_catalogue}
 use Rattle.repo_member.specs.Alone.{Alone, alone_plan}
-use Rattle.repo_member.specs.Deleting.{publications_named, outside_all, catalogued}
+use Rattle.repo_member.specs.Deleting.{publications_named, outside_all, catalogued_named}
 use Rattle.repo_member.specs.Members.{alone, IsMember}
 use Rattle.repo_member.proofs.FoundLemmas.{IsEntryAt, entry_is_at, named_append, outside_shorter}
 use Rattle.repo_member.proofs.member.Member.found.Goals.{then-is_eq+else-prove+in_ok-push, else-is_eq}
 use Rattle.repo_member.proofs.member.Member.found.Goals as goal
 
 -- the entry at a place, in a member
-entry_at_place : (m : Inside) (name : List Component) (entries : List Entry) (i : ℕ) (e : Entry) → IsMember m → IsSound m.plan
+entry_at_place : (m : Inside) (name : List Component) (entries : List Entry) (i : ℕ) (e : Entry) → IsMember m → PlanIsSound m.plan
     → entries ≡ m.catalogue.entries → IsCatalogue m.catalogue.entries → i < length entries → e ≡ get_or entries i e → IsEntryAt m.plan m.store.packets name entries i e
 entry_at_place m name entries i e is sound same order low found =
     entry_is_at m.plan m.store.packets name entries i e e sound is.kept.tied (same ∙ is.kept.listed) (subst IsCatalogue (sym same) order) low found
 
 -- one name more, or none
-named_more : (name : List Component) (entries : List Entry) (i : ℕ) (e : Entry) (b : Bool) → i < length entries → e ≡ get_or entries i e → has_name name e ≡ b
+named_more : (name : List Component) (entries : List Entry) (i : ℕ) (e : Entry) (b : Bool) → i < length entries → e ≡ get_or entries i e → entry_has_name name e ≡ b
     → publications_named name (take (i + 1) entries) ≡ publications_named name (take i entries) ++ cond b (publication_of e ∷ []) []
 named_more name entries i e b low found is =
     ap (publications_named name) (take_more entries i e low ∙ ap (λ (x : Entry). take i entries ++ x ∷ []) (sym found))
@@ -71,7 +71,7 @@ loop-entry-preserved c =
     let i : ℕ = c.loop-entry.entry-index in
     let e : Entry = c.entry-item.result in
     let invariant = c.loop-entry.invariant in
-    let named : has_name name e ≡ c.is_eq.result = sym (c.is_eq.ensures ∙ ap is_eq (c.compare.ensures ∙ ap (λ (n : List Component). canonical_cmp n c.view-in-loop-entry.result) c.view.ensures ∙ ap (canonical_cmp e.name) c.view-in-loop-entry.ensures)) in
+    let named : entry_has_name name e ≡ c.is_eq.result = sym (c.is_eq.ensures ∙ ap is_eq (c.compare.ensures ∙ ap (λ (n : List Component). canonical_cmp n c.view-in-loop-entry.result) c.view.ensures ∙ ap (canonical_cmp e.name) c.view-in-loop-entry.ensures)) in
     elim c.if-is_eq.branch [
       | then-is_eq+else-prove+in_ok-push w ↦
           let at = entry_at_place c.self.inside name entries i e c.self.invariant w.holds-held.ensures.sound
@@ -120,7 +120,7 @@ returns-clause-publications c =
 
 pub returns-clause-packets : goal.returns-clause-packets
 returns-clause-packets c =
-    let named : c.loop-entry.publications.items ≡ catalogued c.args.name.now c.args.self.now =
+    let named : c.loop-entry.publications.items ≡ catalogued_named c.args.name.now c.args.self.now =
     c.loop-entry.invariant.named
     ∙ all_named c.self.inside c.args.self.now c.args.name.now c.entries-entry-items.result.now c.loop-entry.entry-index c.self.invariant c.self.view_is c.entries-entry-items.ensures.entries (omega (arith, c.loop-entry-test.false)) in
     let stored = c.len.ensures.number ∙ ap (λ (a : Alone). length a.store) c.self.view_is in

@@ -1,5 +1,5 @@
 use Rattle.std.proofs.Common.{ℕ, List, slice_range, sym, ap, ◌∙◌}
-use Rattle.repo_store.specs.Kept.{name_of}
+use Rattle.repo_store.specs.Kept.{packet_name}
 use Rattle.repo_store.proofs.Names.{name_of-read}
 use Rattle.repo_store.proofs.packet.Packet.name.Goals as goal
 
@@ -7,4 +7,4 @@ pub returns : goal.returns
 returns c =
     let named = c.self.invariant.0 in
     ap (λ (o : List ℕ). slice_range o c.self.inside.name_start c.self.inside.name_end) c.deref.ensures.value
-    ∙ named.spelled ∙ sym (name_of-read c.self.inside.octets.items named.is.packet named.is.read) ∙ ap name_of c.self.view_is
+    ∙ named.spelled ∙ sym (name_of-read c.self.inside.octets.items named.is.packet named.is.read) ∙ ap packet_name c.self.view_is

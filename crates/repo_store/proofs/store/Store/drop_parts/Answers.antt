@@ -5,7 +5,7 @@ use Rattle.repo_plan.specs.Parts.{Pair}
 use Rattle.repo_plan.proofs.Sets.{In}
 use Rattle.repo_store.specs.declared.index.Held.{Held}
 use Rattle.repo_store.specs.declared.index.Order.TheVariants.{Names, FullNames}
-use Rattle.repo_store.specs.StoreList.{StoreList, IsSound, packets_in, packets_outside}
+use Rattle.repo_store.specs.StoreList.{StoreList, StoreIsSound, packets_in, packets_outside}
 use Rattle.repo_store.specs.StoreFields.{ArePartsSmall}
 use Rattle.repo_store.specs.Kept.{entries_of, held_of}
 use Rattle.repo_store.specs.Layers.{IsIndexOf}
@@ -51,7 +51,7 @@ invariant_of-self c =
     let names = index_same Names old new left c.drop_pair.new.self same (index_outside Names old pair parts c.self.inside.names c.drop_pair.new.self c.drop_pair.ensures.settled c.drop_pair.ensures.recent c.self.invariant.names) in
     let full_names = index_same FullNames old new left c.drop_pair-2.new.self same (index_outside FullNames old pair parts c.self.inside.full_names c.drop_pair-2.new.self c.drop_pair-2.ensures.settled c.drop_pair-2.ensures.recent c.self.invariant.full_names) in
     record {
-      sound = subst IsSound (sym put) (sound_outside pair (entries_of old parts) c.self.invariant.sound);
+      sound = subst StoreIsSound (sym put) (sound_outside pair (entries_of old parts) c.self.invariant.sound);
       small = subst ArePartsSmall (sym put) (small_outside pair (entries_of old parts) c.self.invariant.small);
       slots = subst (AreSlots new) (sym c.drop_slots.ensures.dropped) slots;
       names = subst (λ (h : List Held). IsIndexOf Names new h c.drop_pair.new.self) (sym c.drop_slots.ensures.dropped) names;

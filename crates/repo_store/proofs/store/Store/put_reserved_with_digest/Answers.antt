@@ -8,7 +8,7 @@ use Rattle.repo_plan.proofs.Entries.{order_rises}
 use Rattle.repo_plan.proofs.Sets.{In}
 use Rattle.repo_store.specs.declared.index.Held.{Held}
 use Rattle.repo_store.specs.declared.index.Order.TheVariants.{Names, FullNames}
-use Rattle.repo_store.specs.StoreList.{StoreList, IsSound, with_packet}
+use Rattle.repo_store.specs.StoreList.{StoreList, StoreIsSound, with_packet}
 use Rattle.repo_store.specs.StoreFields.{ArePartsSmall}
 use Rattle.repo_store.specs.Kept.{entries_of, held_list, held_of}
 use Rattle.repo_store.specs.Indexes.{GainsOne}
@@ -89,7 +89,7 @@ invariant_of-self-2 c =
     let full_names = index_same FullNames old new before c.self.inside.full_names same c.self.invariant.full_names in
     let spare : 0 < c.self.inside.spare = omega (arith, c.requires.spare, ap (λ (s : StoreList). s.spare) c.self.view_is) in
     record {
-      sound = subst IsSound (sym put) (sound_more c.args.part octets (entries_of old before) c.requires.is_data c.self.invariant.sound);
+      sound = subst StoreIsSound (sym put) (sound_more c.args.part octets (entries_of old before) c.requires.is_data c.self.invariant.sound);
       small = subst ArePartsSmall (sym put) (small_more c.args.part octets (entries_of old before) (omega arith) c.self.invariant.small);
       slots = slots_more old new octets before after c.self.inside.full_names held c.of_data-packet.ensures.named c.self.invariant.slots c.self.invariant.full_names keeps gains;
       names = index_more Names new before after c.self.inside.names c.add.new.self held c.add.ensures.in_order names.held_only names.all_held gains c.add.ensures.gains;

@@ -3,7 +3,7 @@ use Rattle.std.specs.Prelude.{OnOk, IfErr}
 use Rattle.std.specs.String.{string_bytes}
 use Rattle.script_lang.specs.Forms.{stated}
 use Rattle.repo_top.specs.Judging.{Verdict, given_by, says}
-use Rattle.repo_top.specs.Progressing.{IsStop, state}
+use Rattle.repo_top.specs.Progressing.{IsStop, progress_state}
 use Rattle.repo_top.proofs.Progressings.{grouped, member_declared, client_declared, declared_says, event_acts, is_event}
 use Rattle.repo_top.proofs.progress.Progress.follow.Goals as goal
 
@@ -105,7 +105,7 @@ returns-in_default-clause-taken g c =
     let one = event_acts (given_by (g.D.Draws.draw c.args.draws.now) (g.N.Net.passes c.args.net.now))
     (map string_bytes c.args.self.now.labels.items) c.args.self.now.stage c.args.self.now.words c.args.line
     (is_event c.args.line c.in_default.not-Group c.in_default.not-Member c.in_default.not-Client) c.requires.checked in
-    subst (λ (v : Verdict). OnOk c.act.result (v ≡ says c.act.new.report.items (state c.act.new.self))) (sym one.acts)
+    subst (λ (v : Verdict). OnOk c.act.result (v ≡ says c.act.new.report.items (progress_state c.act.new.self))) (sym one.acts)
     c.act.ensures.taken
 
 pub returns-in_default-clause-stopped : goal.returns-in_default-clause-stopped

@@ -2,7 +2,7 @@ use Rattle.std.proofs.Common.{◌≡◌, sym, subst}
 use Rattle.std.specs.Prelude.{OnOk, IfErr}
 use Rattle.script_lang.specs.Forms.{stated}
 use Rattle.repo_top.specs.Judging.{Verdict, given_by, judged_line, says}
-use Rattle.repo_top.specs.Progressing.{IsStop, state}
+use Rattle.repo_top.specs.Progressing.{IsStop, progress_state}
 use Rattle.repo_top.specs.Stopping.{check_stop}
 use Rattle.repo_top.proofs.Judgings.{refused_line}
 use Rattle.repo_top.proofs.Progressings.{line_is_taken, stops_so}
@@ -11,15 +11,15 @@ use Rattle.repo_top.proofs.progress.Progress.take_line.Goals as goal
 pub returns-in_err-check-clause-stopped : goal.returns-in_err-check-clause-stopped
 returns-in_err-check-clause-stopped g c =
     stops_so c.from_residual.result
-    (IsStop (judged_line (given_by (g.D.Draws.draw c.args.draws.now) (g.N.Net.passes c.args.net.now)) (state
+    (IsStop (judged_line (given_by (g.D.Draws.draw c.args.draws.now) (g.N.Net.passes c.args.net.now)) (progress_state
     c.args.self.now) (stated c.args.line)))
     (check_stop c.in_err-check.field-0.0) c.from_residual.ensures.1
-    (refused_line (given_by (g.D.Draws.draw c.args.draws.now) (g.N.Net.passes c.args.net.now)) (state c.args.self.now)
+    (refused_line (given_by (g.D.Draws.draw c.args.draws.now) (g.N.Net.passes c.args.net.now)) (progress_state c.args.self.now)
     (stated c.args.line) c.in_err-check.field-0.0 c.in_err-check.ensures.refused)
 
 pub returns-clause-taken : goal.returns-clause-taken
 returns-clause-taken g c =
-    subst (λ (v : Verdict). OnOk c.follow.result (v ≡ says c.follow.new.report.items (state c.follow.new.self)))
+    subst (λ (v : Verdict). OnOk c.follow.result (v ≡ says c.follow.new.report.items (progress_state c.follow.new.self)))
     (sym (line_is_taken (given_by (g.D.Draws.draw c.args.draws.now) (g.N.Net.passes c.args.net.now))
     c.args.self.now.stage
     c.args.self.now.words c.check.new.self (stated c.args.line) c.in_ok-check.ensures.ok)) c.follow.ensures.taken

@@ -1,5 +1,5 @@
 use Rattle.std.proofs.Common.{◌≡◌, ◌+◌, ◌<◌, ◌∙◌, sym, subst, ap, take, length, List, ℕ}
-use Rattle.repo_top.specs.Outside.{Gains}
+use Rattle.repo_top.specs.Outside.{GainsText}
 use Rattle.repo_top.specs.Judging.{given_by}
 use Rattle.repo_top.specs.Carrying.{Halts, reached}
 use Rattle.repo_top.proofs.Stops.{stops_halted, stops_unwritten}
@@ -11,7 +11,7 @@ returns-in-Err-write_whole-clause-stops g c =
     let before = g.K.Sink.out c.args.sink.now in
     let behind = g.K.Sink.out c.write_whole.new.sink in
     let text = c.deref.ensures.value in
-    let P : List ℕ → Type 0 = λ t. Gains before behind (take n t) in
+    let P : List ℕ → Type 0 = λ t. GainsText before behind (take n t) in
     let Q : List ℕ → Type 0 = λ t. n < length t in
     stops_unwritten (given_by (g.D.Draws.draw c.args.draws.now) (g.N.Net.passes c.args.net.now)) (reached c.args.self.now) c.args.line.now before behind
     c.judge.new.self.report.items (reached c.judge.new.self).state n c.in-Ok.ensures.taken (subst P text c.in-Err-write_whole.ensures.front) (subst Q text c.in-Err-write_whole.ensures.missing)

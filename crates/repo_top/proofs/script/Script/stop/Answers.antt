@@ -1,5 +1,5 @@
 use Rattle.std.proofs.Common.{◌≡◌, ◌+◌, ◌<◌, ◌∙◌, sym, subst, ap, take, length, List, ℕ}
-use Rattle.repo_top.specs.Outside.{Gains}
+use Rattle.repo_top.specs.Outside.{GainsText}
 use Rattle.repo_top.specs.Carrying.{stop_text}
 use Rattle.repo_top.proofs.Stops.{halts_unwritten}
 use Rattle.repo_top.proofs.script.Script.stop.Goals as goal
@@ -11,6 +11,6 @@ returns-in-Err-clause-halts g c =
     let before = g.K.Sink.out c.args.sink.now in
     let behind = g.K.Sink.out c.write_whole.new.sink in
     let text : c.deref.result.now ≡ stop_text line c.args.stop = c.deref.ensures.value ∙ c.in-Ok.ensures.text in
-    let P : List ℕ → Type 0 = λ t. Gains before behind (take n t) in
+    let P : List ℕ → Type 0 = λ t. GainsText before behind (take n t) in
     let Q : List ℕ → Type 0 = λ t. n < length t in
     halts_unwritten line c.args.stop before behind n (subst P text c.in-Err.ensures.front) (subst Q text c.in-Err.ensures.missing)
