@@ -2,6 +2,7 @@ pub mod Orders
 pub mod Search
 pub mod Sets
 pub mod MapChanges
+pub mod TreeLists
 pub mod Entries
 pub mod RunOrder
 pub mod RunLists
