@@ -1,37 +1,105 @@
--- Whether a command was made.
-use Rattle.std.proofs.Common.{◌≡◌, ℕ, zero, suc, ◌+◌, ◌<◌, Bool, true, false, ◌||◌, List, [], ◌∷◌, ◌++◌, map, length, get_or, take, None, Some, refl, sym, ap, ◌∙◌, arith}
-use Rattle.std.specs.Prelude.{Result, Ok, Err}
-use Rattle.std.specs.List.{list_any}
+-- Which commands were made, also when one more is.
+use Rattle.std.proofs.Common.{◌≡◌, ℕ, ◌+◌, ◌<◌, ◌≤◌, Bool, true, false, ◌||◌, List, [], ◌∷◌, ◌++◌, map, length, length-append, get_or, Option, None, Some, refl, sym, ap, ◌∙◌, subst, arith, if◌then◌else◌}
+use Rattle.std.specs.Prelude.{Result, Ok, Err, slice_get}
+use Rattle.std.specs.List.{list_any, All}
 use Rattle.std.proofs.lemmas.Bool.{true≢false}
-use Rattle.std.proofs.lemmas.List.{map-append, take_more}
+use Rattle.std.proofs.lemmas.List.{map-append, get_or_append_left}
+use Rattle.std.proofs.lemmas.List.Elements.{All-head, All-tail, All-push}
+use Rattle.std.proofs.lemmas.List.Folds.{list_any-append}
+use Rattle.std.proofs.lemmas.Option.{get_or_from_slice_get}
+use Rattle.indexmap.specs.IndexSet.{insert_key}
 use Rattle.repo_command.specs.declared.command.Command.{Command}
 use Rattle.group_model.specs.World.{Issued, World}
 use Rattle.group_model.specs.Refusals.{Refusal, unless, if_unissued}
-use Rattle.bench_world.specs.declared.world.IssuedCommand.{IssuedCommand}
-use Rattle.bench_world.specs.Commanding.{may_order}
-use Rattle.bench_world.specs.Kept.{issued_of}
+use Rattle.bench_world.specs.declared.issued.IssuedCommand.{IssuedCommand}
+use Rattle.bench_world.specs.Commanding.{is_that, may_order}
+use Rattle.bench_world.specs.IssuedCommands.{issued_of, is_same, is_same-Decides}
+use Rattle.bench_world.specs.IssuedFields.{no_command, commands_made}
 
-module _ (p : Issued → Bool) where
-  pub found_at : (xs : List IssuedCommand) (k : ℕ) (x : IssuedCommand) → k < length xs → x ≡ get_or xs k x → p (issued_of x) ≡ true → list_any p (map issued_of xs) ≡ true
-  found_at [] k x l is e = absurd (omega (arith, l))
-  found_at (y ∷ ys) zero x l is e = ap (λ (b : Bool). b || list_any p (map issued_of ys)) (ap (λ (z : IssuedCommand). p (issued_of z)) (sym is) ∙ e)
-  found_at (y ∷ ys) (suc k) x l is e = go (p (issued_of y)) (found_at ys k x (omega (arith, l)) is e) where
-    go : (b : Bool) → list_any p (map issued_of ys) ≡ true → (b || list_any p (map issued_of ys)) ≡ true
-    go true h = refl
-    go false h = h
+-- ---- one command more is put in
 
-  none_append : (as_ : List Issued) (b : Issued) → list_any p as_ ≡ false → p b ≡ false → list_any p (as_ ++ b ∷ []) ≡ false
-  none_append [] b h e = ap (λ (x : Bool). x || false) e
-  none_append (a ∷ as_) b h e = go (p a) (λ k. none_append as_ b k e) h where
-    go : (x : Bool) → (list_any p as_ ≡ false → list_any p (as_ ++ b ∷ []) ≡ false) → (x || list_any p as_) ≡ false → (x || list_any p (as_ ++ b ∷ [])) ≡ false
-    go true rest k = absurd (true≢false k)
-    go false rest k = rest k
+or_false : (b : Bool) → (b || false) ≡ b
+or_false true = refl
+or_false false = refl
 
-  pub none_more : (xs : List IssuedCommand) (i : ℕ) (x : IssuedCommand) → i < length xs → x ≡ get_or xs i x → list_any p (map issued_of (take i xs)) ≡ false → p (issued_of x) ≡ false → list_any p (map issued_of (take (i + 1) xs)) ≡ false
-  none_more xs i x l is before e =
-      ap (λ (ys : List IssuedCommand). list_any p (map issued_of ys)) (take_more xs i x l ∙ ap (λ (y : IssuedCommand). take i xs ++ y ∷ []) (sym is))
-      ∙ ap (list_any p) (map-append issued_of (take i xs) (x ∷ []))
-      ∙ none_append (map issued_of (take i xs)) (issued_of x) before e
+module _ (ks : List IssuedCommand) (new : IssuedCommand) where
+  abbrev more : List IssuedCommand
+  more = insert_key is_same ks new
+
+  longer : length ks ≤ length more
+  longer = by (list_any (is_same new) ks)
+    where
+      by : (b : Bool) → length ks ≤ length (if b then ks else ks ++ new ∷ [])
+      by true = omega arith
+      by false = omega (arith, length-append ks (new ∷ []))
+
+  kept : (k : ℕ) → k < length ks → get_or more k no_command ≡ get_or ks k no_command
+  kept k lt = by (list_any (is_same new) ks)
+    where
+      by : (b : Bool) → get_or (if b then ks else ks ++ new ∷ []) k no_command ≡ get_or ks k no_command
+      by true = refl
+      by false = get_or_append_left ks (new ∷ []) no_command k lt
+
+  -- it is there then, and no other that wasn't
+  put : (c : IssuedCommand) → list_any (is_same c) more ≡ (list_any (is_same c) ks || is_same c new)
+  put c = by (list_any (is_same new) ks) refl
+    where
+      found : (b : Bool) → is_same c new ≡ b → list_any (is_same new) ks ≡ true → list_any (is_same c) ks ≡ (list_any (is_same c) ks || b)
+      found true e there =
+          let yes : list_any (is_same c) ks ≡ true = ap (λ (x : IssuedCommand). list_any (is_same x) ks) ((is_same-Decides c new).0 e) ∙ there in
+          rw yes refl
+      found false e there = sym (or_false (list_any (is_same c) ks))
+
+      by : (b : Bool) → list_any (is_same new) ks ≡ b → list_any (is_same c) (if b then ks else ks ++ new ∷ []) ≡ (list_any (is_same c) ks || is_same c new)
+      by true e = found (is_same c new) refl e
+      by false e = list_any-append (is_same c) ks (new ∷ []) ∙ ap (λ (b : Bool). list_any (is_same c) ks || b) (or_false (is_same c new))
+
+  same_before : (made : List ℕ) → All (λ k. k < length ks) made → commands_made more made ≡ commands_made ks made
+  same_before [] within = refl
+  same_before (k ∷ rest) within =
+      let here = kept k (All-head (λ k. k < length ks) k rest within) in
+      let behind = same_before rest (All-tail (λ k. k < length ks) k rest within) in
+      λ i. issued_of (here i) ∷ behind i
+
+  module _ (made old : List ℕ) (k : ℕ) (pushed : made ≡ old ++ k ∷ []) (inside : k < length more) (stands : get_or more k no_command ≡ new) (within : All (λ j. j < length ks) old) where
+    made_more : commands_made more made ≡ commands_made ks old ++ issued_of new ∷ []
+    made_more =
+        ap (commands_made more) pushed ∙ map-append (λ j. issued_of (get_or more j no_command)) old (k ∷ [])
+        ∙ (λ i. same_before old within i ++ issued_of (stands i) ∷ [])
+
+    within_more : All (λ j. j < length more) made
+    within_more = rw pushed (All-push (λ j. j < length more) old k (λ j d h. let lt = within j d h in omega (arith, lt, longer)) inside)
+
+    answers_more : ((c : IssuedCommand) → list_any (is_that (c.member, c.client, c.command)) (commands_made ks old) ≡ list_any (is_same c) ks)
+        → (c : IssuedCommand) → list_any (is_that (c.member, c.client, c.command)) (commands_made more made) ≡ list_any (is_same c) more
+    answers_more answers c =
+        ap (list_any (is_that (c.member, c.client, c.command))) made_more
+        ∙ list_any-append (is_that (c.member, c.client, c.command)) (commands_made ks old) (issued_of new ∷ [])
+        ∙ (λ i. answers c i || or_false (is_same c new) i)
+        ∙ sym (put c)
+
+-- What the fields are then.
+pub record PutIn (ks more : List IssuedCommand) (new : IssuedCommand) (made old : List ℕ) : Type 0 where
+  pub listed : commands_made more made ≡ commands_made ks old ++ issued_of new ∷ []
+  pub within : All (λ j. j < length more) made
+  pub answers : ((c : IssuedCommand) → list_any (is_that (c.member, c.client, c.command)) (commands_made ks old) ≡ list_any (is_same c) ks)
+      → (c : IssuedCommand) → list_any (is_that (c.member, c.client, c.command)) (commands_made more made) ≡ list_any (is_same c) more
+
+pub put_in : (ks keys : List IssuedCommand) (new : IssuedCommand) (made old : List ℕ) (k : ℕ) → keys ≡ insert_key is_same ks new
+    → made ≡ old ++ k ∷ [] → k < length keys → (c : IssuedCommand) × (slice_get keys k ≡ Some c) × (is_same new c ≡ true)
+    → All (λ j. j < length ks) old → PutIn ks keys new made old
+put_in ks keys new made old k keys_are pushed inside (c, at, same) within =
+    let stands : get_or keys k no_command ≡ new = get_or_from_slice_get keys k c no_command at ∙ sym ((is_same-Decides new c).0 same) in
+    let inside_more : k < length (insert_key is_same ks new) = subst (λ (xs : List IssuedCommand). k < length xs) keys_are inside in
+    let stands_more : get_or (insert_key is_same ks new) k no_command ≡ new = subst (λ (xs : List IssuedCommand). get_or xs k no_command ≡ new) keys_are stands in
+    let so : PutIn ks (insert_key is_same ks new) new made old = record {
+      listed = made_more ks new made old k pushed inside_more stands_more within;
+      within = within_more ks new made old k pushed inside_more stands_more within;
+      answers = answers_more ks new made old k pushed inside_more stands_more within;
+    } in
+    subst (λ (xs : List IssuedCommand). PutIn ks xs new made old) (sym keys_are) so
+
+-- ---- what may be carried out
 
 -- An order that may be carried out isn't refused, and another is foreign.
 pub may_taken : (w : World) (m : ℕ) (r : Result (ℕ × Command) ℕ) → may_order w.issued m r ≡ true → if_unissued w m r ≡ None

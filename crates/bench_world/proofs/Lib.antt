@@ -25,10 +25,11 @@ mod Summaries
 mod Gainings
 mod Resets
 mod Names
-mod EventRuns
+pub mod EventRuns
 mod ClientKeys
 mod Orders
 mod IssuedLemmas
+mod Stepping
 mod Coming
 mod TakenOut
 mod Asked

@@ -20,3 +20,6 @@ pub mod Replying
 pub mod Sums
 pub mod Runs
 pub mod Commanding
+pub mod IssuedList
+pub mod IssuedCommands
+pub mod IssuedFields

@@ -1,14 +1,15 @@
 -- What a step leaves that wanted memory, and lists of events.
-use Rattle.std.specs.Prelude.{ℕ, ◌≡◌, ◌+◌, ◌<◌, List, ◌++◌, map, take, length, slice_index_or}
+use Rattle.std.specs.Prelude.{ℕ, ◌≡◌, ◌+◌, ◌<◌, List, ◌++◌, map, take, length, slice_index_or, None, Result, OnOk, IfOk, OnErr, IfErr}
 use Rattle.group_model.specs.Events as group
 use Rattle.group_model.specs.Refusals.{refusal, EventsAreTaken}
 use Rattle.group_model.specs.World.{Outside, World}
-use Rattle.group_model.specs.Steps.{after_events}
+use Rattle.group_model.specs.Steps.{after_event, after_events}
 use Rattle.group_model.specs.Laws.{NothingHidden, NothingWanted, AllJoined, TellsAll}
 use Rattle.repo_member.specs.Groups.{GroupKeys}
 use Rattle.bench_world.specs.declared.event.Event.{Event}
+use Rattle.bench_world.specs.declared.event.Happened.{Happened}
 use Rattle.bench_world.specs.declared.event.StepFault.{StepFault}
-use Rattle.bench_world.specs.EventValues.{EventValue, event_value, group_event}
+use Rattle.bench_world.specs.EventValues.{EventValue, event_value, group_event, told_value, telling}
 use Rattle.bench_world.specs.Settling.{ArePartlySettled}
 use Rattle.bench_world.specs.Steps.{IsFaultOf}
 use Rattle.bench_world.specs.Worlds.{GroupState, in_groups, world_of}
@@ -28,6 +29,17 @@ StandsAsBefore _ old new = new ≡ old
 abbrev pub JoinsAfter : EventValue → World → Type 0
 JoinsAfter (EventValue.Settle workers) w = NothingHidden w → AllJoined w
 JoinsAfter _ w = Unit {0}
+
+-- What an event comes to: where it is taken, what the model makes of the world and tells of it; else why it isn't.
+pub record IsStep (out : Outside) (e : EventValue) (old : GroupState) (result : Result Happened StepFault) (new : GroupState) : Type 0 where
+  pub taken : OnOk result (refusal out (world_of old) (group_event old.keys e) ≡ None)
+  pub world : OnOk result (world_of new ≡ after_event out (world_of old) (group_event old.keys e))
+  pub told : IfOk result (λ happened. told_value happened ≡ telling old.keys out (world_of old) e)
+  pub joined : OnOk result (JoinsAfter e (world_of new))
+  pub steps : OnOk result (new.steps ≡ old.steps + 1)
+  pub keys : new.keys ≡ old.keys
+  pub refused : IfErr result (IsFaultOf (refusal out (world_of old) (group_event old.keys e)))
+  pub err : OnErr result (StandsAsBefore e old new)
 
 -- ---- lists of events
 

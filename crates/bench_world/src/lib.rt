@@ -10,6 +10,7 @@ mod exchange;
 mod fetch;
 mod gather;
 mod hearing;
+mod issued;
 mod laws;
 mod lending;
 mod numbers;

@@ -7,7 +7,7 @@ ghost use Rattle.bench_world.specs.Serving.{outside};
 ghost use Rattle.bench_world.specs.Worlds.{world_of};
 ghost use Rattle.bench_world.specs.EventValues.{event_value, group_event, told_value, telling};
 ghost use Rattle.bench_world.specs.Steps.{IsReady, NamesClient, IsFaultOf, NamesAll};
-ghost use Rattle.bench_world.specs.Runs.{StandsAsBefore, JoinsAfter, event_values, group_events, IsStopped, ListLawFrom};
+ghost use Rattle.bench_world.specs.Runs.{StandsAsBefore, JoinsAfter, IsStep, event_values, group_events, IsStopped, ListLawFrom};
 
 use crate::event::{Event, Happened, StepFault};
 use crate::world::World;
@@ -43,10 +43,7 @@ impl World {
     {
         // Read for its clauses alone: the invariant holds.
         let _count = self.members();
-        match self.carry_out(rt, event, net, draws) {
-            Ok(happened) => Ok(happened),
-            Err(fault) => Err(fault),
-        }
+        self.carry_out(rt, event, net, draws)
     }
 
     // The same, where the members are counted by themselves.
@@ -60,18 +57,8 @@ impl World {
         requires ready { IsReady (length self.old.members) (event_value event.now) }
         requires clients { NamesClient (length self.old.keys.clients.names) (event_value event.now) }
         requires few { self.old.steps < 100000 }
-        ensures taken { OnOk result (refusal (outside self.old.keys (D.draw draws.now) (N.passes net.now))
-            (world_of self.old) (group_event self.old.keys (event_value event.now)) ≡ None) }
-        ensures world { OnOk result (world_of self.new ≡ after_event (outside self.old.keys (D.draw draws.now) (N.passes net.now))
-            (world_of self.old) (group_event self.old.keys (event_value event.now))) }
-        ensures told { IfOk result (λ happened. told_value happened ≡ telling self.old.keys
-            (outside self.old.keys (D.draw draws.now) (N.passes net.now)) (world_of self.old) (event_value event.now)) }
-        ensures joined { OnOk result (JoinsAfter (event_value event.now) (world_of self.new)) }
-        ensures steps { OnOk result (self.new.steps ≡ self.old.steps + 1) }
-        ensures keys { self.new.keys ≡ self.old.keys }
-        ensures refused { IfErr result (IsFaultOf (refusal (outside self.old.keys (D.draw draws.now) (N.passes net.now))
-            (world_of self.old) (group_event self.old.keys (event_value event.now)))) }
-        ensures err { OnErr result (StandsAsBefore (event_value event.now) self.old self.new) }
+        ensures { IsStep (outside self.old.keys (D.draw draws.now) (N.passes net.now)) (event_value event.now)
+            self.old result self.new }
     {
         match event {
             Event::Publish {

@@ -13,19 +13,11 @@ mod reading;
 mod serving;
 mod syncing;
 
+use crate::issued::IssuedCommands;
 use bench_net::{Draws, Sent, Tally};
-use repo_command::Command;
 use repo_member::{Group, Member};
 use std::alloc::{AllocError, Global};
 use std::marker::Model;
-
-// A command that a client made for a member.
-#[derive(Drop)]
-pub(crate) struct IssuedCommand {
-    pub(crate) member: u32,
-    pub(crate) client: u32,
-    pub(crate) command: Command,
-}
 
 /// All members of a group, with what was sent between them, the moment, and what was counted.
 ///
@@ -37,7 +29,7 @@ pub struct World {
     members: Vec<Member>,
     sent: Sent,
     moment: u64,
-    issued: Vec<IssuedCommand>,
+    issued: IssuedCommands,
     delivered: u64,
     attempts: u64,
     parts: u64,
@@ -75,7 +67,7 @@ impl World {
             members,
             sent: Sent::new(alloc),
             moment: 0,
-            issued: Vec::new(alloc),
+            issued: IssuedCommands::new(alloc),
             delivered: 0,
             attempts: 0,
             parts: 0,

@@ -2,8 +2,6 @@
 ghost use Rattle.std.specs.Prelude.{◌≡◌, ◌⊎◌, ◌+◌, ◌<◌, ◌≤◌, true, None, IsTrue, length, map, IfOk, IfErr, OnOk, OnErr, option_map};
 ghost use Rattle.repo_object.specs.Objects.{key_name, is_object_name};
 ghost use Rattle.repo_command.specs.Commands.{is_command, CommandIsSpelled};
-ghost use Rattle.ndn_name.specs.CanonicalOrder.{is_same_name};
-ghost use Rattle.group_model.specs.Commands.{is_equal_command};
 ghost use Rattle.group_model.specs.Limits.{IsShortInsertion};
 ghost use Rattle.group_model.specs.Refusals.{refusal};
 ghost use Rattle.group_model.specs.Steps.{after_event, after_issue, command_answer};
@@ -11,13 +9,13 @@ ghost use Rattle.repo_member.specs.Groups.{client_at};
 ghost use Rattle.repo_member.specs.Commanded.{order_of, order_made};
 ghost use Rattle.bench_world.specs.Serving.{keyed};
 ghost use Rattle.bench_world.specs.Worlds.{world_of};
-ghost use Rattle.bench_world.specs.Commanding.{may_order, is_issued, is_that};
-ghost use Rattle.bench_world.specs.Kept.{issued_of};
+ghost use Rattle.bench_world.specs.Commanding.{may_order};
 ghost use Rattle.bench_world.specs.EventValues.{EventValue, group_event, told_value, telling, order_told};
 ghost use Rattle.bench_world.specs.Steps.{IsFaultOf};
 
-use super::{IssuedCommand, World};
+use super::World;
 use crate::event::{Happened, StepFault};
+use crate::issued::{IssuedCommand, IssuedCommands};
 use ndn_name::{Name, NameView};
 use repo_command::{Answer, Command, CommandRefusal, check_command, make_command};
 use repo_member::Group;
@@ -47,13 +45,11 @@ impl World {
             Ok(answered) => answered,
             Err(error) => return Err(error),
         };
-        self.issued
-            .push(IssuedCommand {
-                member: m,
-                client,
-                command,
-            })
-            .unwrap();
+        self.issued.add_reserved(IssuedCommand {
+            member: m,
+            client,
+            command,
+        });
         self.steps += 1;
         Ok(answered.answer)
     }
@@ -252,88 +248,25 @@ fn made(
 fn may_order(
     alloc: Global,
     g: &Group,
-    issued: &[IssuedCommand],
+    issued: &IssuedCommands,
     m: u32,
     octets: &[u8],
 ) -> Result<bool, AllocError>
     requires { m < length g.now.members.names }
-    ensures { IfOk result (λ may. may ≡ may_order (map issued_of issued.now) m (order_of g.now m octets.now)) }
+    ensures { IfOk result (λ may. may ≡ may_order issued.now.commands m (order_of g.now m octets.now)) }
 {
     match check_command(alloc, octets, g.roster().name(m), g.clients()) {
-        Ok((client, command)) => Ok(was_issued(issued, m, client, &command)),
+        Ok((client, command)) => {
+            let order = IssuedCommand {
+                member: m,
+                client,
+                command,
+            };
+            Ok(issued.has(&order))
+        }
         Err(CommandRefusal::NoMemory) => Err(AllocError),
         Err(_) => Ok(true),
     }
-}
-
-// Whether a client made this command for a member.
-fn was_issued(issued: &[IssuedCommand], m: u32, client: u32, command: &Command) -> bool
-    ensures { result ≡ is_issued (map issued_of issued.now) m (client, command.now) }
-{
-    for one in issued {
-        if is_that(one, m, client, command) {
-            return true;
-        }
-    }
-    false
-}
-
-// Whether this is the command of a client for a member.
-fn is_that(one: &IssuedCommand, m: u32, client: u32, command: &Command) -> bool
-    ensures { result ≡ is_that (m, client, command.now) (issued_of one.now) }
-{
-    one.member == m && one.client == client && is_same(&one.command, command)
-}
-
-// Whether these are one command.
-fn is_same(a: &Command, b: &Command) -> bool
-    ensures { result ≡ is_equal_command a.now b.now }
-{
-    match a {
-        Command::Insert { name, first, last } => is_insertion(b, name, *first, *last),
-        Command::Check { process } => is_check(b, *process),
-        Command::Delete { name } => is_deletion(b, name),
-    }
-}
-
-fn is_insertion(command: &Command, name: &Name, first: u64, last: u64) -> bool
-    ensures { result ≡ is_equal_command (Command.Insert name.now first last) command.now }
-{
-    match command {
-        Command::Insert {
-            name: other,
-            first: other_first,
-            last: other_last,
-        } => is_same_name(name, other) && first == *other_first && last == *other_last,
-        Command::Check { .. } => false,
-        Command::Delete { .. } => false,
-    }
-}
-
-fn is_check(command: &Command, process: u64) -> bool
-    ensures { result ≡ is_equal_command (Command.Check process) command.now }
-{
-    match command {
-        Command::Insert { .. } => false,
-        Command::Check { process: other } => process == *other,
-        Command::Delete { .. } => false,
-    }
-}
-
-fn is_deletion(command: &Command, name: &Name) -> bool
-    ensures { result ≡ is_equal_command (Command.Delete name.now) command.now }
-{
-    match command {
-        Command::Insert { .. } => false,
-        Command::Check { .. } => false,
-        Command::Delete { name: other } => is_same_name(name, other),
-    }
-}
-
-fn is_same_name(a: &Name, b: &Name) -> bool
-    ensures { result ≡ is_same_name a.now b.now }
-{
-    a.view().compare(&b.view()).is_eq()
 }
 
 // What is told of an order.

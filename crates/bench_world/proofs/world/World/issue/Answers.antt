@@ -1,10 +1,10 @@
-use Rattle.std.proofs.Common.{◌≡◌, ◌<◌, cond, ◌∷◌, ◌++◌, [], List, map, length, sym, ap, ◌∙◌, subst}
-use Rattle.std.specs.Prelude.{is_ok}
-use Rattle.std.proofs.lemmas.List.{map-append}
+use Rattle.std.proofs.Common.{◌<◌, ◌∷◌, ◌++◌, [], length, sym, ap, ◌∙◌, subst}
 use Rattle.group_model.specs.Steps.{after_issue, command_answer}
 use Rattle.repo_member.specs.Commanded as commanded
-use Rattle.bench_world.specs.declared.world.IssuedCommand.{IssuedCommand}
-use Rattle.bench_world.specs.Kept.{world_state, issued_of}
+use Rattle.bench_world.specs.declared.issued.IssuedCommand.{IssuedCommand}
+use Rattle.bench_world.specs.IssuedCommands.{issued_of}
+use Rattle.bench_world.specs.IssuedList.{IssuedList}
+use Rattle.bench_world.specs.Kept.{world_state}
 use Rattle.bench_world.specs.Worlds.{GroupState, world_of}
 use Rattle.bench_world.proofs.Orders.{issue_answered, taken_is, issue_world, issue_state}
 use Rattle.bench_world.proofs.world.World.issue.Goals as goal
@@ -19,9 +19,8 @@ invariant_of-self-2 c =
     let taken = taken_is s c.self.invariant c.args.m there old c.index_mut-member.ensures.value c.args.client c.args.command known c.requires.spelled c.requires.command c.deref.result.now (c.deref.ensures.value ∙ c.in_ok-octets.ensures) in
     let b_is = c.in-Ok.ensures.ok ∙ ap (λ r. commanded.alone_after_order r old) taken in
     let one : IssuedCommand = record { member = c.args.m; client = c.args.client; command = c.args.command } in
-    let pushed : c.push.new.self.items ≡ c.reserve.new.self.items ++ one ∷ [] = c.push.ensures.items ∙ ap (λ r. cond (is_ok r) (c.reserve.new.self.items ++ one ∷ []) c.reserve.new.self.items) c.unwrap.ensures in
-    let made = ap (map issued_of) (pushed ∙ ap (λ (xs : List IssuedCommand). xs ++ one ∷ []) c.reserve.ensures.items) ∙ map-append issued_of c.self.inside.issued.items (one ∷ []) in
-    issue_state s c.self.invariant c.args.m there old c.index_mut-member.ensures.value c.args.client c.args.command (map issued_of c.push.new.self.items) made c.command.new.self b_is few c.requires.short
+    let made = c.add_reserved.ensures.made ∙ ap (λ (x : IssuedList). x.commands ++ issued_of one ∷ []) c.in_ok-reserve.ensures.ok in
+    issue_state s c.self.invariant c.args.m there old c.index_mut-member.ensures.value c.args.client c.args.command c.add_reserved.new.self.commands made c.command.new.self b_is few c.requires.short
 
 pub returns-clause-world : goal.returns-clause-world
 returns-clause-world c =
@@ -32,9 +31,8 @@ returns-clause-world c =
     let taken = taken_is s c.self.invariant c.args.m there old c.index_mut-member.ensures.value c.args.client c.args.command known c.requires.spelled c.requires.command c.deref.result.now (c.deref.ensures.value ∙ c.in_ok-octets.ensures) in
     let b_is = c.in-Ok.ensures.ok ∙ ap (λ r. commanded.alone_after_order r old) taken in
     let one : IssuedCommand = record { member = c.args.m; client = c.args.client; command = c.args.command } in
-    let pushed : c.push.new.self.items ≡ c.reserve.new.self.items ++ one ∷ [] = c.push.ensures.items ∙ ap (λ r. cond (is_ok r) (c.reserve.new.self.items ++ one ∷ []) c.reserve.new.self.items) c.unwrap.ensures in
-    let made = ap (map issued_of) (pushed ∙ ap (λ (xs : List IssuedCommand). xs ++ one ∷ []) c.reserve.ensures.items) ∙ map-append issued_of c.self.inside.issued.items (one ∷ []) in
-    issue_world s c.self.invariant c.args.m there old c.index_mut-member.ensures.value c.args.client c.args.command (map issued_of c.push.new.self.items) made c.command.new.self b_is
+    let made = c.add_reserved.ensures.made ∙ ap (λ (x : IssuedList). x.commands ++ issued_of one ∷ []) c.in_ok-reserve.ensures.ok in
+    issue_world s c.self.invariant c.args.m there old c.index_mut-member.ensures.value c.args.client c.args.command c.add_reserved.new.self.commands made c.command.new.self b_is
     ∙ ap (λ (x : GroupState). after_issue (world_of x) c.args.m c.args.client c.args.command) c.self.view_is
 
 pub returns-clause-answer : goal.returns-clause-answer

@@ -1,6 +1,6 @@
-use Rattle.std.proofs.Common.{List, map, sym, ap, ◌∙◌, subst}
+use Rattle.std.proofs.Common.{List, sym, ap, ◌∙◌, subst}
 use Rattle.group_model.specs.World.{Issued}
-use Rattle.bench_world.specs.Kept.{issued_of}
+use Rattle.bench_world.specs.IssuedList.{IssuedList}
 use Rattle.bench_world.specs.Worlds.{IsTrueState, world_of}
 use Rattle.bench_world.proofs.Openings.{opening_state, opening_is}
 use Rattle.bench_world.proofs.world.World.new.Goals as goal
@@ -8,12 +8,12 @@ use Rattle.bench_world.proofs.world.World.new.Goals as goal
 pub invariant_of-result : goal.invariant_of-result
 invariant_of-result g c =
     subst (λ (made : List Issued). IsTrueState (record { keys = c.args.group; members = c.in_ok-members.members.items; sent = c.new.result.packets; moment = 0; issued = made; tally = record { delivered = 0; attempts = 0; parts = 0; octets = 0 }; steps = 0 }))
-    (sym (ap (map issued_of) c.new-2.ensures.items))
+    (sym (ap (λ (x : IssuedList). x.commands) c.new-2.ensures))
     (opening_state c.args.group c.roster-roster.ensures.sound (g.D.Draws.draw c.args.draws.now)
     c.in_ok-members.members.items c.new.result.packets c.in_ok-members.ensures (ap (λ x. x.packets) c.new.ensures))
 
 pub returns-clause-world : goal.returns-clause-world
 returns-clause-world g c =
-    ap (λ (made : List Issued). world_of (record { keys = c.args.group; members = c.in_ok-members.members.items; sent = c.new.result.packets; moment = 0; issued = made; tally = record { delivered = 0; attempts = 0; parts = 0; octets = 0 }; steps = 0 })) (ap (map issued_of) c.new-2.ensures.items)
+    ap (λ (made : List Issued). world_of (record { keys = c.args.group; members = c.in_ok-members.members.items; sent = c.new.result.packets; moment = 0; issued = made; tally = record { delivered = 0; attempts = 0; parts = 0; octets = 0 }; steps = 0 })) (ap (λ (x : IssuedList). x.commands) c.new-2.ensures)
     ∙ opening_is c.args.group c.roster-roster.ensures.sound (g.D.Draws.draw c.args.draws.now)
     c.in_ok-members.members.items c.new.result.packets c.in_ok-members.ensures (ap (λ x. x.packets) c.new.ensures)

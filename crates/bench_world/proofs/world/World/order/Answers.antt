@@ -1,12 +1,10 @@
-use Rattle.std.proofs.Common.{◌≡◌, ◌<◌, ℕ, List, Option, None, Some, length, map, refl, sym, ap, ◌∙◌, subst}
+use Rattle.std.proofs.Common.{◌≡◌, ◌<◌, ℕ, Option, None, Some, length, refl, sym, ap, ◌∙◌, subst}
 use Rattle.group_model.specs.Refusals.{Refusal, if_unissued}
 use Rattle.group_model.specs.Steps.{after_order, order_answer}
 use Rattle.repo_member.specs.Commanded as commanded
 use Rattle.bench_world.specs.declared.event.StepFault.TheVariants as fault
-use Rattle.bench_world.specs.declared.world.IssuedCommand.{IssuedCommand}
-use Rattle.bench_world.specs.Commanding.{may_order}
 use Rattle.bench_world.specs.EventValues.{order_told}
-use Rattle.bench_world.specs.Kept.{world_state, issued_of}
+use Rattle.bench_world.specs.Kept.{world_state}
 use Rattle.bench_world.specs.Steps.{IsFaultOf}
 use Rattle.bench_world.specs.Worlds.{GroupState, world_of}
 use Rattle.bench_world.proofs.States.{number_is}
@@ -47,14 +45,14 @@ returns-clause-told c =
 pub returns-clause-taken : goal.returns-clause-taken
 returns-clause-taken c =
     let s = world_state c.self.inside in
-    let may = ap (λ (xs : List IssuedCommand). may_order (map issued_of xs) c.args.m (commanded.order_of s.keys c.args.m c.args.octets.now)) (sym c.deref.ensures.value) ∙ sym c.in_ok-may_order.ensures ∙ c.if-not-branch.false in
+    let may = sym c.in_ok-may_order.ensures ∙ c.if-not-branch.false in
     subst (λ (x : GroupState). if_unissued (world_of x) c.args.m (commanded.order_of x.keys c.args.m c.args.octets.now) ≡ None) c.self.view_is
     (may_taken (world_of s) c.args.m (commanded.order_of s.keys c.args.m c.args.octets.now) may)
 
 pub returns-then-not-branch-clause-refused : goal.returns-then-not-branch-clause-refused
 returns-then-not-branch-clause-refused c =
     let s = world_state c.self.inside in
-    let may = ap (λ (xs : List IssuedCommand). may_order (map issued_of xs) c.args.m (commanded.order_of s.keys c.args.m c.args.octets.now)) (sym c.deref.ensures.value) ∙ sym c.in_ok-may_order.ensures ∙ c.if-not-branch.true in
+    let may = sym c.in_ok-may_order.ensures ∙ c.if-not-branch.true in
     let foreign = subst (λ (x : GroupState). if_unissued (world_of x) c.args.m (commanded.order_of x.keys c.args.m c.args.octets.now) ≡ Some Refusal.Foreign) c.self.view_is
     (may_foreign (world_of s) c.args.m (commanded.order_of s.keys c.args.m c.args.octets.now) may) in
     subst (λ (r : Option Refusal). IsFaultOf r fault.Foreign) (sym foreign) refl

@@ -1,0 +1,8 @@
+-- The commands that clients made, as a list in the order of making.
+use Rattle.std.specs.Prelude.{ℕ, List}
+use Rattle.group_model.specs.World.{Issued}
+
+-- What was made, and how many commands more there is room for.
+pub record IssuedList : Type 0 where
+  pub commands : List Issued
+  pub spare : ℕ

@@ -1,0 +1,184 @@
+// The commands that clients made.
+ghost use Rattle.std.specs.Prelude.{◌≡◌, ◌-◌, ◌<◌, [], ◌∷◌, ◌++◌, max, OnOk, OnErr};
+ghost use Rattle.ndn_name.specs.CanonicalOrder.{is_same_name};
+ghost use Rattle.group_model.specs.Commands.{is_equal_command};
+ghost use Rattle.bench_world.specs.Commanding.{is_issued};
+
+use indexmap::IndexSet;
+use ndn_name::Name;
+use repo_command::Command;
+use std::alloc::{AllocError, Global};
+use std::hash::{Hash, Hasher};
+use std::marker::Model;
+
+// A command that a client made for a member.
+#[derive(Drop)]
+pub(crate) struct IssuedCommand {
+    pub(crate) member: u32,
+    pub(crate) client: u32,
+    pub(crate) command: Command,
+}
+
+impl PartialEq for IssuedCommand {
+    ghost use Rattle.std.specs.Cmp.{partial_equiv_from_equiv};
+    ghost use Rattle.bench_world.specs.IssuedCommands.{is_same, is_same_equiv};
+
+    ghost eq = { is_same };
+
+    ghost laws = { partial_equiv_from_equiv is_same_equiv };
+
+    fn eq(&self, other: &IssuedCommand) -> bool {
+        other.member == self.member
+            && other.client == self.client
+            && is_same(&other.command, &self.command)
+    }
+}
+
+impl Eq for IssuedCommand {
+    ghost use Rattle.bench_world.specs.IssuedCommands.{is_same_equiv};
+
+    ghost laws = { is_same_equiv };
+}
+
+impl Hash for IssuedCommand {
+    ghost use Rattle.bench_world.specs.IssuedCommands.{issued_input, issued_alike};
+
+    ghost hash_input = { issued_input };
+
+    ghost respects_eq = { issued_alike };
+
+    fn hash<H: Hasher>(&self, state: &mut H) {
+        self.member.hash(state);
+        self.client.hash(state);
+        match &self.command {
+            Command::Insert { name, first, last } => {
+                name.octets().hash(state);
+                first.hash(state);
+                last.hash(state);
+            }
+            Command::Check { process } => process.hash(state),
+            Command::Delete { name } => name.octets().hash(state),
+        }
+    }
+}
+
+// The commands that clients made, in the order of making, and room for more.
+//
+// Whether one was made is found in a time that doesn't grow with the list.
+#[derive(Drop)]
+pub(crate) struct IssuedCommands {
+    // Each command that was made, once.
+    commands: IndexSet<IssuedCommand>,
+    // Which was made when, by its number among them.
+    made: Vec<usize>,
+    spare: usize,
+}
+
+// They are seen as a list, beside the number of commands that there is room for.
+impl Model for IssuedCommands {
+    ghost use Rattle.bench_world.specs.IssuedList.{IssuedList};
+
+    ghost Value = { IssuedList };
+
+    ghost use Rattle.bench_world.specs.IssuedFields.{commands_made, AreIssued};
+
+    ghost view = { λ s. record { commands = commands_made s.commands.keys s.made.items; spare = s.spare } };
+
+    ghost invariant = { AreIssued };
+}
+
+impl IssuedCommands {
+    ghost use Rattle.bench_world.specs.IssuedCommands.{issued_of};
+
+    pub(crate) fn new(alloc: Global) -> IssuedCommands
+        ensures { result ≡ record { commands = []; spare = 0 } }
+    {
+        IssuedCommands {
+            commands: IndexSet::new(alloc),
+            made: Vec::new(alloc),
+            spare: 0,
+        }
+    }
+
+    // Makes room for `n` commands, unless there is room for so many already.
+    pub(crate) fn reserve(&mut self, n: usize) -> Result<(), AllocError>
+        ensures ok { OnOk result (self.new ≡ record self.old { spare = max self.old.spare n }) }
+        ensures err { OnErr result (self.new ≡ self.old) }
+    {
+        if self.spare < n {
+            self.commands.reserve(n)?;
+            self.made.reserve(n)?;
+            self.spare = n;
+        }
+        Ok(())
+    }
+
+    // Appends a command, for which room was made. It takes no memory.
+    pub(crate) fn add_reserved(&mut self, command: IssuedCommand)
+        requires { 0 < self.old.spare }
+        ensures made { self.new.commands ≡ self.old.commands ++ issued_of command ∷ [] }
+        ensures spare { self.new.spare ≡ self.old.spare - 1 }
+    {
+        let (number, _) = self.commands.insert_full(command).unwrap();
+        self.made.push(number).unwrap();
+        self.spare -= 1;
+    }
+
+    // Whether that client made that command for that member.
+    pub(crate) fn has(&self, command: &IssuedCommand) -> bool
+        ensures { result ≡ is_issued self.now.commands command.now.member (command.now.client, command.now.command) }
+    {
+        self.commands.contains(command)
+    }
+}
+
+// Whether these are one command.
+fn is_same(a: &Command, b: &Command) -> bool
+    ensures { result ≡ is_equal_command a.now b.now }
+{
+    match a {
+        Command::Insert { name, first, last } => is_insertion(b, name, *first, *last),
+        Command::Check { process } => is_check(b, *process),
+        Command::Delete { name } => is_deletion(b, name),
+    }
+}
+
+fn is_insertion(command: &Command, name: &Name, first: u64, last: u64) -> bool
+    ensures { result ≡ is_equal_command (Command.Insert name.now first last) command.now }
+{
+    match command {
+        Command::Insert {
+            name: other,
+            first: other_first,
+            last: other_last,
+        } => is_same_name(name, other) && first == *other_first && last == *other_last,
+        Command::Check { .. } => false,
+        Command::Delete { .. } => false,
+    }
+}
+
+fn is_check(command: &Command, process: u64) -> bool
+    ensures { result ≡ is_equal_command (Command.Check process) command.now }
+{
+    match command {
+        Command::Insert { .. } => false,
+        Command::Check { process: other } => process == *other,
+        Command::Delete { .. } => false,
+    }
+}
+
+fn is_deletion(command: &Command, name: &Name) -> bool
+    ensures { result ≡ is_equal_command (Command.Delete name.now) command.now }
+{
+    match command {
+        Command::Insert { .. } => false,
+        Command::Check { .. } => false,
+        Command::Delete { name: other } => is_same_name(name, other),
+    }
+}
+
+fn is_same_name(a: &Name, b: &Name) -> bool
+    ensures { result ≡ is_same_name a.now b.now }
+{
+    a.view().compare(&b.view()).is_eq()
+}
