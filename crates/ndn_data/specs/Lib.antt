@@ -5,7 +5,6 @@ pub use Rattle.ndn_name.specs.Names
 pub use Rattle.ndn_name.specs.CanonicalOrder
 pub use Rattle.ndn_sign.specs.Hmac
 pub use Rattle.ndn_packet.specs.Written
-pub mod FullName
 pub mod Signed
 pub mod MetaInfo
 pub mod Data
