@@ -7,11 +7,11 @@ use Rattle.std.specs.Hash as fed
 use Rattle.std.specs.Hash.{HashWrites}
 use Rattle.std.proofs.lemmas.Bool.{true≢false}
 use Rattle.ndn_name.specs.Names.{Component, encoding}
-use Rattle.ndn_name.specs.CanonicalOrder.{canonical_cmp, canonical_cmp_total, is_same_name}
+use Rattle.ndn_name.specs.CanonicalOrder.{canonical_cmp, canonical_cmp_total}
 use Rattle.ndn_name.proofs.Prefixes.{canonical_cmp-equal}
 use Rattle.repo_command.specs.declared.command.Command.{Command}
 use Rattle.repo_command.specs.declared.command.Command.TheVariants.{Insert, Check, Delete}
-use Rattle.group_model.specs.Commands.{is_equal_command}
+use Rattle.group_model.specs.Commands.{is_equal_name, is_equal_command}
 use Rattle.group_model.specs.World.{Issued}
 use Rattle.bench_world.specs.declared.issued.IssuedCommand.{IssuedCommand}
 use Rattle.bench_world.specs.Commanding.{is_that}
@@ -35,10 +35,10 @@ issued_input c = fed.u32 c.member ++ (fed.u32 c.client ++ command_input c.comman
 
 -- ---- the test decides, as `Eq` and `Hash` ask
 
-same_names : (a b : List Component) → is_same_name a b ≡ true → a ≡ b
+same_names : (a b : List Component) → is_equal_name a b ≡ true → a ≡ b
 same_names a b h = canonical_cmp-equal a b ((Equal-is (canonical_cmp a b)).0 h)
 
-name_itself : (a : List Component) → is_same_name a a ≡ true
+name_itself : (a : List Component) → is_equal_name a a ≡ true
 name_itself = (eq_by_cmp_equiv canonical_cmp_total).refl
 
 number_itself : (a : ℕ) → (a == a) ≡ true
@@ -46,8 +46,8 @@ number_itself a = (unsigned_Decides a a).1 refl
 
 same_commands : (a b : Command) → is_equal_command a b ≡ true → a ≡ b
 same_commands (Insert a b c) (Insert d e f) h =
-    let name = same_names a d (first_so (is_same_name a d) ((b == e) && (c == f)) h) in
-    let rest = second_so (is_same_name a d) ((b == e) && (c == f)) h in
+    let name = same_names a d (first_so (is_equal_name a d) ((b == e) && (c == f)) h) in
+    let rest = second_so (is_equal_name a d) ((b == e) && (c == f)) h in
     let first = (unsigned_Decides b e).0 (first_so (b == e) (c == f) rest) in
     let last = (unsigned_Decides c f).0 (second_so (b == e) (c == f) rest) in
     λ i. Insert (name i) (first i) (last i)
@@ -66,7 +66,7 @@ both_true false t e h = e
 
 command_itself : (a : Command) → is_equal_command a a ≡ true
 command_itself (Insert a b c) =
-    both_true (is_same_name a a) ((b == b) && (c == c)) (name_itself a)
+    both_true (is_equal_name a a) ((b == b) && (c == c)) (name_itself a)
     (both_true (b == b) (c == c) (number_itself b) (number_itself c))
 command_itself (Check a) = number_itself a
 command_itself (Delete a) = name_itself a

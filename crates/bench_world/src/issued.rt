@@ -1,7 +1,6 @@
 // The commands that clients made.
 ghost use Rattle.std.specs.Prelude.{◌≡◌, ◌-◌, ◌<◌, [], ◌∷◌, ◌++◌, max, OnOk, OnErr};
-ghost use Rattle.ndn_name.specs.CanonicalOrder.{is_same_name};
-ghost use Rattle.group_model.specs.Commands.{is_equal_command};
+ghost use Rattle.group_model.specs.Commands.{is_equal_name, is_equal_command};
 ghost use Rattle.bench_world.specs.Commanding.{is_issued};
 
 use indexmap::IndexSet;
@@ -178,7 +177,7 @@ fn is_deletion(command: &Command, name: &Name) -> bool
 }
 
 fn is_same_name(a: &Name, b: &Name) -> bool
-    ensures { result ≡ is_same_name a.now b.now }
+    ensures { result ≡ is_equal_name a.now b.now }
 {
     a.view().compare(&b.view()).is_eq()
 }

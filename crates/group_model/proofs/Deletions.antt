@@ -9,7 +9,7 @@ use Rattle.repo_plan.proofs.Orders.{exact_parts, exact_pairs}
 use Rattle.repo_plan.proofs.Sets.{In, eq_same, eq_itself, contains-insert_key, contains-filter, rises_insert, rises_filter}
 use Rattle.repo_object.specs.Objects.{NamedContents}
 use Rattle.group_model.specs.Publications.{Logs, Publication, pair_in, parts_in, published, count}
-use Rattle.ndn_name.specs.CanonicalOrder.{is_same_name}
+use Rattle.group_model.specs.Commands.{is_equal_name}
 use Rattle.group_model.specs.Member.{Member, member_holds, member_hides, holds_all, catalogued, catalogued_under, member_hides_too, member_hides_all}
 use Rattle.group_model.specs.Sound.{IsSoundMember, IsKnown, IsHeldSoundly, IsHiddenSoundly}
 use Rattle.group_model.proofs.Lists.{from_filter, each_all}
@@ -101,7 +101,7 @@ known_hides (p ∷ ps) m = known_hides ps (member_hides_too (pair_in p) m)
 -- the catalogued publications of a name are hidden
 pub sound_deletes : (ls : Logs) (j : ℕ) (name : List (ℕ × List ℕ)) (m : Member) → IsSoundMember ls j m → IsSoundMember ls j (member_hides_all (catalogued_under ls m name) m)
 sound_deletes ls j name m s = sound_hides_all ls j (catalogued_under ls m name) m (λ p i.
-    let f : In p (catalogued ls m) × (is_same_name p.object.name name ≡ true) = from_filter (λ q. is_same_name q.object.name name) (catalogued ls m) p i in
+    let f : In p (catalogued ls m) × (is_equal_name p.object.name name ≡ true) = from_filter (λ q. is_equal_name q.object.name name) (catalogued ls m) p i in
     let g : In p (published ls) × (holds_all m p ≡ true) = from_filter (holds_all m) (published ls) p f.0 in
     let there : IsIn ls p = in_published ls p g.0 in
     let held : (t : Part) → IsPartOf t p → member_holds m t ≡ true = λ t h. each_all (member_holds m) (parts_in p) g.1 t (in_parts_in p t h) in

@@ -11,7 +11,7 @@ use Rattle.repo_object.specs.Objects.{NamedContents}
 use Rattle.repo_catalog.specs.declared.entry.Entry.{Entry}
 use Rattle.group_model.specs.Publications.{Logs, Publication, count, pair_in, parts_in, published, published_entry}
 use Rattle.repo_process.specs.Processes.{Process}
-use Rattle.ndn_name.specs.CanonicalOrder.{is_same_name}
+use Rattle.group_model.specs.Commands.{is_equal_name}
 
 pub record Member : Type 0 where
   pub log : List NamedContents  -- what it published, in order
@@ -63,7 +63,7 @@ catalogue logs m = map published_entry (catalogued logs m)
 
 -- Those of one object name.
 abbrev pub catalogued_under : Logs → Member → List Component → List Publication
-catalogued_under logs m name = filter (λ p. is_same_name p.object.name name) (catalogued logs m)
+catalogued_under logs m name = filter (λ p. is_equal_name p.object.name name) (catalogued logs m)
 
 -- ---- changes
 

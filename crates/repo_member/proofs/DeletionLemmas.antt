@@ -7,7 +7,7 @@ use Rattle.repo_plan.specs.SortedList.{insert_key}
 use Rattle.repo_plan.specs.Parts.{Pair, pair_cmp}
 use Rattle.repo_catalog.specs.Entries.{publication_of, entry_has_name}
 use Rattle.group_model.specs.Publications.{Logs, Publication, pair_in, published_entry}
-use Rattle.ndn_name.specs.CanonicalOrder.{is_same_name}
+use Rattle.group_model.specs.Commands.{is_equal_name}
 use Rattle.group_model.specs.Member.{Member, catalogued, catalogued_under, member_hides_all}
 use Rattle.repo_member.specs.Groups.{GroupKeys}
 use Rattle.repo_member.specs.Alone.{Alone}
@@ -24,12 +24,12 @@ hides_alike (p ∷ ps) a =
     let shown : List Part → Member = λ held. record (in_group a) { held = held; hidden = insert_key pair_cmp (pair_in p) a.hidden } in
     hides_alike ps (hidden_one (pair_in p) a) ∙ ap (λ (held : List Part). member_hides_all ps (shown held)) (keys_outside (pair_in p) a.store)
 
-named_entries : (name : List Component) (ps : List Publication) → publications_named name (map published_entry ps) ≡ map pair_in (filter (λ p. is_same_name p.object.name name) ps)
+named_entries : (name : List Component) (ps : List Publication) → publications_named name (map published_entry ps) ≡ map pair_in (filter (λ p. is_equal_name p.object.name name) ps)
 named_entries name [] = refl
-named_entries name (p ∷ ps) = go (is_same_name p.object.name name) (named_entries name ps) where
-  go : (b : Bool) → publications_named name (map published_entry ps) ≡ map pair_in (filter (λ q. is_same_name q.object.name name) ps)
+named_entries name (p ∷ ps) = go (is_equal_name p.object.name name) (named_entries name ps) where
+  go : (b : Bool) → publications_named name (map published_entry ps) ≡ map pair_in (filter (λ q. is_equal_name q.object.name name) ps)
       → map publication_of (cond b (published_entry p ∷ filter (entry_has_name name) (map published_entry ps)) (filter (entry_has_name name) (map published_entry ps)))
-      ≡ map pair_in (cond b (p ∷ filter (λ q. is_same_name q.object.name name) ps) (filter (λ q. is_same_name q.object.name name) ps))
+      ≡ map pair_in (cond b (p ∷ filter (λ q. is_equal_name q.object.name name) ps) (filter (λ q. is_equal_name q.object.name name) ps))
   go true h = ap (λ (rest : List Pair). pair_in p ∷ rest) h
   go false h = h
 

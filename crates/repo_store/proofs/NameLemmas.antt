@@ -10,13 +10,13 @@ use Rattle.sha2.specs.Sha256.{sha256}
 use Rattle.sha2.proofs.Facts256.{length-sha256}
 use Rattle.ndn_tlv.specs.Spelling.{number, element}
 use Rattle.ndn_name.specs.Names.{Component, IsName, IsComponent, encoding, full_name}
-use Rattle.ndn_name.specs.CanonicalOrder.{IsPrefix, canonical_cmp, canonical_cmp_total, is_same_name}
+use Rattle.ndn_name.specs.CanonicalOrder.{IsPrefix, canonical_cmp, canonical_cmp_total}
 use Rattle.ndn_name.proofs.Encodings.{encoding-push, encoding-same, IsName-append}
 use Rattle.ndn_name.proofs.Prefixes.{canonical_cmp-equal, prefix-octets, prefix-encoding}
 use Rattle.ndn_data.specs.Data.{Data, data_of, Satisfies}
 use Rattle.ndn_interest.proofs.DigestLemmas.{IsOctets-sha256}
 use Rattle.repo_plan.proofs.Orders.{equal_from_is_eq}
-use Rattle.repo_store.specs.Served.{is_prefix, asks_for, asks_for_read, satisfies}
+use Rattle.repo_store.specs.Served.{is_same_name, is_prefix, asks_for, asks_for_read, satisfies}
 
 -- ---- tests of names
 

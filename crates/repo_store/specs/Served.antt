@@ -1,14 +1,19 @@
 -- Which of the stored packets an Interest is answered with.
 use Rattle.std.specs.Prelude.{ℕ, Bool, false, ◌&&◌, ◌||◌, List, length, take, Option, None, option_map, Result, Ok, Err, if◌then◌else◌}
 use Rattle.std.specs.List.{find}
+use Rattle.std.specs.Ordering.{eq_by_cmp}
 use Rattle.sha2.specs.Sha256.{sha256}
 use Rattle.ndn_tlv.specs.Listing.{◌>>=◌}
 use Rattle.ndn_name.specs.declared.fault.PacketFault.{PacketFault}
 use Rattle.ndn_name.specs.Names.{Component, full_name}
-use Rattle.ndn_name.specs.CanonicalOrder.{is_same_name}
+use Rattle.ndn_name.specs.CanonicalOrder.{canonical_cmp}
 use Rattle.ndn_interest.specs.Interest.{Interest, interest_of}
 use Rattle.ndn_data.specs.Data.{Data, data_of}
 use Rattle.repo_plan.specs.declared.part.Part.{Part}
+
+-- Whether two names are the same.
+abbrev pub is_same_name : List Component → List Component → Bool
+is_same_name a b = eq_by_cmp canonical_cmp a b
 
 -- Whether the second name begins with the components of the first.
 abbrev pub is_prefix : List Component → List Component → Bool
