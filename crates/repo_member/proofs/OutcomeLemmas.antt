@@ -137,9 +137,9 @@ module _ (old new : Holdings) (packets after : List Packet) (x : Tried) (was : A
     arrived = go y.arrival can.arrived;
     few = subst (λ (n : ℕ). n + y.attempts < 2097152) (sym tried) can.few;
   } where
-    go : (o : Option Arrival) → IfSome o (λ a. IsArrival packets y.part a.octets a.segments a.name) → IfSome o (λ a. IsArrival after y.part a.octets a.segments a.name)
+    go : (o : Option Arrival) → IfSome o (λ a. IsArrival packets y.part a.packet a.segments a.name) → IfSome o (λ a. IsArrival after y.part a.packet a.segments a.name)
     go None h = tt
-    go (Some a) h = arrival_still y.part a.octets a.segments a.name h
+    go (Some a) h = arrival_still y.part a.packet a.segments a.name h
 
     tried : attempts_of new y.part ≡ attempts_of old y.part
     tried = ap (λ (es : List (Part × ℕ)). unwrap_or (value_of part_cmp es y.part) 0) tries ∙ ap (λ (o : Option ℕ). unwrap_or o 0) (tries_aside x.part y.part x.attempts old.attempts other)
@@ -177,7 +177,7 @@ module _ (g : GroupKeys) (a : Alone) (job : Job) (part : Option CheckedPart) (n 
 
   -- the fetched part of a job, with a copy of its packet
   pub one_more : (x : Tried) (jobs later : List Job) (parts behind : List (Option CheckedPart)) (ns rest : List ℕ) (xs : List Tried) → jobs ≡ job ∷ later → parts ≡ part ∷ behind → ns ≡ n ∷ rest
-      → x.part ≡ job.want.part → option_map (λ (y : Arrival). y.octets) x.arrival ≡ option_map (λ (c : CheckedPart). c.octets) part → x.attempts ≡ n
+      → x.part ≡ job.want.part → option_map (λ (y : Arrival). y.packet) x.arrival ≡ option_map (λ (c : CheckedPart). c.octets) part → x.attempts ≡ n
       → map came (xs ++ x ∷ []) ++ outcome_of later behind rest ≡ map came xs ++ outcome_of jobs parts ns
   one_more x jobs later parts behind ns rest xs j p t same packet tried =
       ap (λ (ys : List Fetched). ys ++ outcome_of later behind rest) (map-append came xs (x ∷ [])) ∙ append_assoc (map came xs) (came x ∷ []) (outcome_of later behind rest)
@@ -192,7 +192,7 @@ module _ (g : GroupKeys) (a : Alone) (job : Job) (part : Option CheckedPart) (n 
       ap (is_asked (alone_plan a)) same ∙ (wanted_parts (alone_plan a) job.want.part free.0).asked
 
   pub can_be_taken : (x : Tried) → IsFetched g a job part n → x.part ≡ job.want.part → x.attempts ≡ n
-      → IfSome x.arrival (λ y. IsArrival a.store x.part y.octets y.segments y.name) → CanBeTaken (alone_plan a) a.store x
+      → IfSome x.arrival (λ y. IsArrival a.store x.part y.packet y.segments y.name) → CanBeTaken (alone_plan a) a.store x
   can_be_taken x is same tried arrived =
       let free = and_parts (is_wanted (alone_plan a) job.want.part) (not (is_claimed (alone_plan a) job.want.part)) is.unclaimed in
       let wanted = wanted_parts (alone_plan a) job.want.part free.0 in
@@ -306,7 +306,7 @@ module _ (g : GroupKeys) (a : Alone) where
 
     pub all_counted : count_by (λ (x : Tried). is_some x.arrival) xs ≡ count_by is_some parts
     all_counted =
-        sum_same (λ (x : Tried). one_of (is_some x.arrival)) (λ (x : Tried). one_of (is_some (came x).packet)) (λ x. ap one_of (some_made (λ (y : Arrival). y.octets) x.arrival)) xs
+        sum_same (λ (x : Tried). one_of (is_some x.arrival)) (λ (x : Tried). one_of (is_some (came x).packet)) (λ x. ap one_of (some_made (λ (y : Arrival). y.packet) x.arrival)) xs
         ∙ came_sum (λ o. one_of (is_some o))
         ∙ sum_same (λ (part : Option CheckedPart). one_of (is_some (option_map (λ (c : CheckedPart). c.octets) part))) (λ (part : Option CheckedPart). one_of (is_some part))
         (λ part. ap one_of (sym (some_made (λ (c : CheckedPart). c.octets) part))) parts
@@ -334,9 +334,9 @@ data_fits octets h =
 
 one_fits : (plan : Holdings) (packets : List Packet) (x : Tried) → CanBeTaken plan packets x → arrival_octets x ≤ 8800
 one_fits plan packets x can = go x.arrival can.arrived where
-  go : (o : Option Arrival) → IfSome o (λ a. IsArrival packets x.part a.octets a.segments a.name) → length (unwrap_or (option_map (λ (a : Arrival). a.octets) o) []) ≤ 8800
+  go : (o : Option Arrival) → IfSome o (λ a. IsArrival packets x.part a.packet a.segments a.name) → length (unwrap_or (option_map (λ (a : Arrival). a.packet) o) []) ≤ 8800
   go None h = omega (arith)
-  go (Some a) h = data_fits a.octets h.reads
+  go (Some a) h = data_fits a.packet h.reads
 
 pub octets_fit : (plan : Holdings) (packets : List Packet) (xs : List Tried) → All (CanBeTaken plan packets) xs → sum_by arrival_octets xs ≤ 8800 * length xs
 octets_fit plan packets [] can = omega (arith)

@@ -100,7 +100,7 @@ PlannedJobsAreOutcomes = (g : GroupKeys) (a : Alone) (jobs : List Job) (parts : 
 
 -- what came of a tried part
 abbrev pub came : Tried → Fetched
-came x = record { part = x.part; packet = option_map (λ a. a.octets) x.arrival; attempts = x.attempts }
+came x = record { part = x.part; packet = option_map (λ a. a.packet) x.arrival; attempts = x.attempts }
 
 -- how many octets came for it, if a packet came
 abbrev pub arrival_octets : Tried → ℕ
@@ -113,7 +113,7 @@ pub record CanBeTaken (plan : Holdings) (packets : List Packet) (x : Tried) : Ty
   pub not_held : holds plan x.part ≡ false
   pub not_hidden : hides plan (pair_of x.part) ≡ false
   pub not_claimed : is_claimed plan x.part ≡ false
-  pub arrived : IfSome x.arrival (λ a. IsArrival packets x.part a.octets a.segments a.name)
+  pub arrived : IfSome x.arrival (λ a. IsArrival packets x.part a.packet a.segments a.name)
   pub few : attempts_of plan x.part + x.attempts < 2097152
 
 -- the same of each of different parts

@@ -1,6 +1,5 @@
 // Parts that a member holds from now on, in its plan, in its store and in its catalogue.
-ghost use Rattle.std.specs.Prelude.{◌≡◌, ◌-◌, ◌<◌, ◌≤◌, ◌==◌, true, false, length, is_some, IfSome, IsOk, OnOk};
-ghost use Rattle.sha2.specs.Sha256.{sha256};
+ghost use Rattle.std.specs.Prelude.{◌≡◌, ◌-◌, ◌<◌, ◌≤◌, ◌==◌, true, false, length, is_some, IsOk, OnOk};
 ghost use Rattle.ndn_data.specs.Data.{data_of};
 ghost use Rattle.repo_plan.specs.Parts.{pair_of};
 ghost use Rattle.repo_plan.specs.Plan.{holds, hides, is_asked, is_claimed, holds_too, uses_room};
@@ -9,51 +8,11 @@ ghost use Rattle.repo_member.specs.Gaining.{AreTied, AreKept, HaveRoom, IsArriva
 
 use crate::listing::list_if_whole;
 use ndn_name::Name;
-use ndn_sign::digest as digest_of;
 use repo_catalog::Catalogue;
+use repo_object::Digested;
 use repo_plan::{Part, Plan};
 use repo_store::Store;
 use std::alloc::AllocError;
-use std::marker::Model;
-
-// The octets of a packet, with their digest.
-#[derive(Drop)]
-pub(crate) struct Digested {
-    octets: Vec<u8>,
-    digest: [u8; 32],
-}
-
-// It is seen as the octets.
-impl Model for Digested {
-    ghost use Rattle.std.specs.Prelude.{◌≡◌, ℕ, List};
-    ghost use Rattle.sha2.specs.Sha256.{sha256};
-
-    ghost Value = { List ℕ };
-
-    ghost view = { λ d. d.octets.items };
-
-    ghost invariant = { λ d. d.digest ≡ sha256 d.octets.items };
-}
-
-impl Digested {
-    // The octets with their digest, which is taken here where it isn't known.
-    pub(crate) fn new(octets: Vec<u8>, known: Option<&[u8; 32]>) -> Digested
-        requires { IfSome known (λ digest. digest.now ≡ sha256 octets.items) }
-        ensures { result ≡ octets.items }
-    {
-        let digest = match known {
-            Some(digest) => *digest,
-            None => digest_of(&octets),
-        };
-        Digested { octets, digest }
-    }
-
-    pub(crate) fn len(&self) -> usize
-        ensures { result ≡ length self.now }
-    {
-        self.octets.len()
-    }
-}
 
 // Makes room for so many parts, each of which may be held and be tried, and for as many entries.
 pub(crate) fn make_room(
@@ -80,34 +39,6 @@ pub(crate) fn gain(
     plan: &mut Plan,
     store: &mut Store,
     part: Part,
-    octets: Vec<u8>,
-    segments: Option<u8>,
-)
-    requires plan_room { 0 < plan.old.spare }
-    requires store_room { 0 < store.old.spare }
-    requires tied { AreTied plan.old store.old.packets }
-    requires segments { is_some segments ≡ (part.part == 0) }
-    requires told { segments ≡ told_shape part octets.items }
-    requires data { IsOk (data_of octets.items) }
-    requires asked { is_asked plan.old part ≡ true }
-    requires not_held { holds plan.old part ≡ false }
-    requires not_hidden { hides plan.old (pair_of part) ≡ false }
-    requires not_claimed { is_claimed plan.old part ≡ false }
-    ensures plan { plan.new ≡ uses_room (holds_too part segments plan.old) }
-    ensures store { store.new ≡ record {
-      packets = with_packet part octets.items store.old.packets;
-      spare = store.old.spare - 1;
-    } }
-    ensures tied { AreTied plan.new store.new.packets }
-{
-    gain_digested(plan, store, part, Digested::new(octets, None), segments);
-}
-
-// The same, with a packet whose digest is at hand.
-pub(crate) fn gain_digested(
-    plan: &mut Plan,
-    store: &mut Store,
-    part: Part,
     packet: Digested,
     segments: Option<u8>,
 )
@@ -129,13 +60,14 @@ pub(crate) fn gain_digested(
     ensures tied { AreTied plan.new store.new.packets }
 {
     plan.hold_reserved(part, segments);
-    store.put_reserved_with_digest(part, packet.octets, &packet.digest);
+    let (octets, digest) = packet.into_parts();
+    store.put_reserved_with_digest(part, octets, &digest);
 }
 
-// A packet that came for a part: its octets, what it lists if it is a record, and the name of its object.
+// A packet that came for a part, what it lists if it is a record, and the name of its object.
 #[derive(Drop)]
 pub(crate) struct Arrival {
-    pub(crate) octets: Digested,
+    pub(crate) packet: Digested,
     pub(crate) segments: Option<u8>,
     pub(crate) name: Name,
 }
@@ -150,19 +82,19 @@ pub(crate) fn gain_listed(
 )
     requires room { HaveRoom 1 plan.old store.old catalogue.old }
     requires kept { AreKept plan.old store.old.packets catalogue.old.entries }
-    requires arrival { IsArrival store.old.packets part arrival.octets arrival.segments arrival.name }
+    requires arrival { IsArrival store.old.packets part arrival.packet arrival.segments arrival.name }
     requires asked { is_asked plan.old part ≡ true }
     requires not_held { holds plan.old part ≡ false }
     requires not_hidden { hides plan.old (pair_of part) ≡ false }
     requires not_claimed { is_claimed plan.old part ≡ false }
     ensures plan { plan.new ≡ uses_room (holds_too part arrival.segments plan.old) }
     ensures others { KeepsOthers plan.old plan.new }
-    ensures packets { store.new.packets ≡ with_packet part arrival.octets store.old.packets }
+    ensures packets { store.new.packets ≡ with_packet part arrival.packet store.old.packets }
     ensures store_room { store.new.spare ≡ store.old.spare - 1 }
     ensures catalogue_room { catalogue.old.spare - 1 ≤ catalogue.new.spare }
     ensures kept { AreKept plan.new store.new.packets catalogue.new.entries }
 {
-    gain_digested(plan, store, part, arrival.octets, arrival.segments);
+    gain(plan, store, part, arrival.packet, arrival.segments);
     list_if_whole(
         plan,
         store,

@@ -2,7 +2,6 @@
 use Rattle.std.proofs.Common.{◌≡◌, ℕ, ◌+◌, ◌-◌, ◌<◌, ◌≤◌, zero, suc, List, [], ◌∷◌, ◌++◌, length, map, drop, append_assoc, get_or, Vec, Global, Option, Some, option_map, Result, Err, refl, sym, ap, subst, ◌∙◌, arith}
 use Rattle.std.specs.List.{All, flat_map, slice_get}
 use Rattle.std.proofs.lemmas.List.{append-nil, at_drop_more, at_drop_all, length-map, get_or-map}
-use Rattle.std.proofs.lemmas.Simd.{map-map}
 use Rattle.std.proofs.lemmas.List.Elements.{All-get_or}
 use Rattle.sha2.specs.Sha256.{sha256}
 use Rattle.ndn_tlv.specs.Spelling.{element}
@@ -11,7 +10,7 @@ use Rattle.ndn_name.specs.declared.fault.PacketWriteFault.{PacketWriteFault}
 use Rattle.ndn_name.specs.declared.fault.PacketWriteFault.TheVariants.{TooLong, NoMemory}
 use Rattle.ndn_name.specs.Names.{Component, encoding}
 use Rattle.repo_object.specs.Objects.{NamedContents, IsContent, Publisher, key_name}
-use Rattle.repo_object.specs.Publication.{record_content, packet_at, segment_packet, segment_packets_from, segment_packets, published_segments, published_listing}
+use Rattle.repo_object.specs.Publication.{record_content, packet_at, segment_packet, segment_packets_from, segment_packets, published_listing}
 use Rattle.repo_object.specs.Records.{listed_record}
 use Rattle.repo_object.proofs.RecordLemmas.{mapped_some}
 
@@ -100,12 +99,9 @@ content_written name digests written i past so_far =
 
 -- ---- the record
 
-abbrev pub digest_of : Vec ℕ Global → List ℕ
-digest_of segment = sha256 segment.items
-
 -- what the record of packets lists that were written
-pub listing_is : (publisher : Publisher) (object : NamedContents) (keyed name : List Component) (packets : List (Vec ℕ Global)) → keyed ≡ key_name publisher.node → name ≡ object.name
-    → map items packets ≡ segment_packets keyed publisher.key object → listed_record name (map digest_of packets) ≡ published_listing publisher object
+pub listing_is : (publisher : Publisher) (object : NamedContents) (keyed name : List Component) (packets : List (List ℕ)) → keyed ≡ key_name publisher.node → name ≡ object.name
+    → packets ≡ segment_packets keyed publisher.key object → listed_record name (map sha256 packets) ≡ published_listing publisher object
 listing_is publisher object keyed name packets key_is name_is packets_are =
-    let all : map digest_of packets ≡ map sha256 (published_segments publisher object) = sym (map-map sha256 items packets) ∙ ap (map sha256) (packets_are ∙ ap (λ (k : List Component). segment_packets k publisher.key object) key_is) in
-    ap (λ (n : List Component). listed_record n (map digest_of packets)) name_is ∙ ap (listed_record object.name) all
+    ap (λ (n : List Component). listed_record n (map sha256 packets)) name_is
+    ∙ ap (λ (ps : List (List ℕ)). listed_record object.name (map sha256 ps)) (packets_are ∙ ap (λ (k : List Component). segment_packets k publisher.key object) key_is)

@@ -7,7 +7,6 @@ use Rattle.sha2.specs.Sha256.{sha256}
 use Rattle.ndn_tlv.specs.NumberField.{number_of, number_field}
 use Rattle.ndn_tlv.proofs.Steps.{ok_is}
 use Rattle.ndn_tlv.proofs.NumberFields.{number_of-number_field}
-use Rattle.ndn_name.specs.declared.fault.PacketFault.{PacketFault}
 use Rattle.ndn_name.specs.Names.{Component, IsName, encoding}
 use Rattle.ndn_name.proofs.Encodings.{encoding-same}
 use Rattle.ndn_data.specs.Data.{Data, data_of}

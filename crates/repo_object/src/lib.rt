@@ -4,6 +4,7 @@
 
 mod checked;
 mod cutting;
+mod digested;
 mod expected;
 mod job;
 mod laws;
@@ -21,6 +22,7 @@ mod want;
 
 pub use checked::{Checked, check_part};
 pub use cutting::{CutFault, cut};
+pub use digested::Digested;
 pub use expected::{Expected, expect_record, expect_segment};
 pub use job::Job;
 pub use laws::{
@@ -32,7 +34,7 @@ pub use laws::{
 pub use listing::{Listing, digest_at, is_record, read_record};
 pub use names::{NODE_NAME_LIMIT, key_name};
 pub use object::{CONTENT_LIMIT, OBJECT_NAME_LIMIT, Object, SEGMENT_LIMIT, is_object_name};
-pub use packets::{packet_of, packets_of, record_packet};
+pub use packets::{digested_packets_of, packet_of, packets_of, record_packet};
 pub use part_refusal::PartRefusal;
 pub use record_fault::RecordFault;
 pub use record_view::RecordView;

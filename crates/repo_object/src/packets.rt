@@ -1,4 +1,4 @@
-ghost use Rattle.std.specs.Prelude.{◌≡◌, ◌≤◌, ◌<◌, length, map, option_map, IfOk, None};
+ghost use Rattle.std.specs.Prelude.{◌≡◌, ◌≤◌, ◌<◌, ◌∷◌, length, map, option_map, IfOk, None};
 ghost use Rattle.sha2.specs.Sha256.{sha256};
 ghost use Rattle.ndn_name.specs.Names.{encoding};
 ghost use Rattle.ndn_packet.specs.Outer.{packet_limit};
@@ -8,6 +8,7 @@ ghost use Rattle.repo_object.specs.Objects.{publisher};
 ghost use Rattle.repo_object.specs.Publication.{record_content, record_packet, packets, packet_at, segment_packet, segment_packets};
 ghost use Rattle.repo_object.specs.Records.{listed_record};
 
+use crate::digested::Digested;
 use crate::listing::Listing;
 use crate::names::{key_name, record_name, segment_name};
 use crate::object::Object;
@@ -15,7 +16,6 @@ use crate::record_types;
 use ndn_data::write_signed;
 use ndn_name::{Name, PacketWriteFault};
 use ndn_packet::{DIGEST_ELEMENT_LEN, element_len};
-use ndn_sign::digest;
 use ndn_tlv::{Writer, types};
 use std::alloc::{AllocError, Global};
 
@@ -34,12 +34,32 @@ pub fn packets_of(
     ensures { IfOk result (λ made. map (λ packet. packet.items) made.items
         ≡ packets (publisher node.now group.now key.now) seq object.now) }
 {
-    let key_name = key_name(node)?;
-    let mut packets = segment_packets(alloc, object, &key_name, key)?;
-    let digests = digests_of(alloc, &packets)?;
-    let name = record_name(node, group, seq)?;
-    let record = write_record(alloc, &name, object.name(), &digests, &key_name, key)?;
-    packets.insert(0, record)?;
+    let (record, segments) = record_and_segments(alloc, object, seq, node, group, key)?;
+    let mut packets = Vec::with_capacity(alloc, segments.len() + 1)?;
+    packets.push(record)?;
+    for segment in segments {
+        let (octets, _) = segment.into_parts();
+        packets.push(octets)?;
+    }
+    Ok(packets)
+}
+
+/// The same, each with its digest: a segment's is the one that the record lists.
+pub fn digested_packets_of(
+    alloc: Global,
+    object: &Object,
+    seq: u16,
+    node: &Name,
+    group: &Name,
+    key: &[u8],
+) -> Result<Vec<Digested>, AllocError>
+    requires node { length (encoding node.now) ≤ node_name_limit }
+    requires group { length (encoding group.now) ≤ node_name_limit }
+    ensures { IfOk result (λ made. made.items
+        ≡ packets (publisher node.now group.now key.now) seq object.now) }
+{
+    let (record, mut packets) = record_and_segments(alloc, object, seq, node, group, key)?;
+    packets.insert(0, Digested::new(record, None))?;
     Ok(packets)
 }
 
@@ -91,8 +111,8 @@ pub fn packet_of(
         ≡ packet_at (publisher node.now group.now key.now) seq object.now part) }
 {
     if part == 0 {
-        let mut packets = packets_of(alloc, object, seq, node, group, key)?;
-        return Ok(Some(packets.swap_remove(0)));
+        let (record, _) = record_and_segments(alloc, object, seq, node, group, key)?;
+        return Ok(Some(record));
     }
     let i = part - 1;
     let contents = object.contents();
@@ -105,23 +125,44 @@ pub fn packet_of(
     Ok(Some(packet))
 }
 
+// The record of a publication, and the packets of its segments, with room for the record.
+fn record_and_segments(
+    alloc: Global,
+    object: &Object,
+    seq: u16,
+    node: &Name,
+    group: &Name,
+    key: &[u8],
+) -> Result<(Vec<u8>, Vec<Digested>), AllocError>
+    requires node { length (encoding node.now) ≤ node_name_limit }
+    requires group { length (encoding group.now) ≤ node_name_limit }
+    ensures { IfOk result (λ made. made.0.items ∷ made.1.items
+        ≡ packets (publisher node.now group.now key.now) seq object.now) }
+{
+    let key_name = key_name(node)?;
+    let segments = segment_packets(alloc, object, &key_name, key)?;
+    let digests = digests_of(alloc, &segments)?;
+    let name = record_name(node, group, seq)?;
+    let record = write_record(alloc, &name, object.name(), &digests, &key_name, key)?;
+    Ok((record, segments))
+}
+
 // The packets of an object's segments, with room for the record.
 fn segment_packets(
     alloc: Global,
     object: &Object,
     key_name: &Name,
     key: &[u8],
-) -> Result<Vec<Vec<u8>>, AllocError>
+) -> Result<Vec<Digested>, AllocError>
     requires { length (encoding key_name.now) ≤ 205 }
-    ensures { IfOk result (λ made. map (λ packet. packet.items) made.items
-        ≡ segment_packets key_name.now key.now object.now) }
+    ensures { IfOk result (λ made. made.items ≡ segment_packets key_name.now key.now object.now) }
 {
     let contents = object.contents();
     let last = contents.len().saturating_sub(1) as u64;
     let mut packets = Vec::with_capacity(alloc, contents.len() + 1)?;
     for (i, content) in contents.iter().enumerate() {
         let packet = segment_packet(alloc, object.name(), last, i as u8, content, key_name, key)?;
-        packets.push(packet)?;
+        packets.push(Digested::new(packet, None))?;
     }
     Ok(packets)
 }
@@ -148,13 +189,12 @@ fn segment_packet(
 }
 
 // The digests of packets.
-fn digests_of(alloc: Global, packets: &[Vec<u8>]) -> Result<Vec<[u8; 32]>, AllocError>
-    ensures { IfOk result
-        (λ digests. digests.items ≡ map (λ packet. sha256 packet.items) packets.now) }
+fn digests_of(alloc: Global, packets: &[Digested]) -> Result<Vec<[u8; 32]>, AllocError>
+    ensures { IfOk result (λ digests. digests.items ≡ map sha256 packets.now) }
 {
     let mut digests = Vec::with_capacity(alloc, packets.len())?;
     for packet in packets {
-        digests.push(digest(packet))?;
+        digests.push(*packet.digest())?;
     }
     Ok(digests)
 }

@@ -126,6 +126,27 @@ fn worked_publication_is_written(rt: HostRuntime) -> Result<(), Fail> {
         let made = packet_of(alloc, &object, 1, part as u8, &alice, &group, KEY)?;
         assert_eq!(rt; made.as_deref(), packet);
     }
+    come_with_digests(&rt, alloc, &object, &alice, &group, &packets)
+}
+
+// Sees that the first publication of an object is made of these packets, each with its digest.
+fn come_with_digests(
+    rt: &impl Abort,
+    alloc: Global,
+    object: &Object,
+    node: &Name,
+    group: &Name,
+    packets: &[Vec<u8>],
+) -> Result<(), Fail>
+    requires node { length (encoding node.now) ≤ 200 }
+    requires group { length (encoding group.now) ≤ 200 }
+{
+    let made = digested_packets_of(alloc, object, 1, node, group, KEY)?;
+    assert_eq!(rt; made.len(), packets.len());
+    for (one, packet) in made.iter().zip(packets) {
+        assert_eq!(rt; one.octets(), packet.as_slice());
+        assert_eq!(rt; *one.digest(), digest(packet));
+    }
     Ok(())
 }
 

@@ -13,11 +13,13 @@ ghost use Rattle.repo_member.specs.Listed.{listing_at};
 ghost use Rattle.repo_member.specs.Outcomes.{job_for, IsCheckedFor};
 
 use super::Member;
-use crate::gaining::{Arrival, Digested, gain_listed, make_room};
+use crate::gaining::{Arrival, gain_listed, make_room};
 use crate::group::Group;
 use crate::listing::owned_name;
 use crate::refusals::{AcceptRefusal, WantFault};
-use repo_object::{Checked, Expected, Job, RecordView, Want, expect_record, expect_segment};
+use repo_object::{
+    Checked, Digested, Expected, Job, RecordView, Want, expect_record, expect_segment,
+};
 use repo_plan::{FetcherBusy, FetcherIdle, Part};
 use std::alloc::{AllocError, Global};
 
@@ -111,8 +113,8 @@ impl Member {
         requires fetcher { IsFetcher f }
         requires claimed { claim_of (alone_plan self.old) f ≡ Some part }
         requires wanted { is_wanted (alone_plan self.old) part ≡ true }
-        requires arrival { IsArrival self.old.store part arrival.octets arrival.segments arrival.name }
-        ensures ok { OnOk result (self.new ≡ alone_accepts f part arrival.octets self.old) }
+        requires arrival { IsArrival self.old.store part arrival.packet arrival.segments arrival.name }
+        ensures ok { OnOk result (self.new ≡ alone_accepts f part arrival.packet self.old) }
         ensures err { OnErr result (self.new ≡ self.old) }
     {
         make_room(&mut self.plan, &mut self.store, &mut self.catalogue, 1)?;
@@ -217,9 +219,9 @@ impl Member {
         requires asked { is_asked (alone_plan self.now) part ≡ true }
         ensures passed { IfOk result (λ _. passed part (ring_verdict (want_of g.now self.now.store part)
             g.now.members.ring octets.now) ≡ Ok part) }
-        ensures octets { IfOk result (λ arrival. arrival.octets ≡ octets.now) }
+        ensures octets { IfOk result (λ arrival. arrival.packet ≡ octets.now) }
         ensures arrival { IfOk result (λ arrival.
-            IsArrival self.now.store part arrival.octets arrival.segments arrival.name) }
+            IsArrival self.now.store part arrival.packet arrival.segments arrival.name) }
         ensures refused { IfErr result (λ refusal. (refusal ≡ AcceptRefusal.NoMemory)
             ⊎ (passed part (ring_verdict (want_of g.now self.now.store part)
             g.now.members.ring octets.now) ≡ Err refusal)) }
@@ -240,23 +242,23 @@ impl Member {
         requires digest { IfSome digest (λ digest. digest.now ≡ sha256 octets.now) }
         requires record_part { part.part ≡ 0 → IsSome (listing_in octets.now) }
         requires asked { is_asked (alone_plan self.now) part ≡ true }
-        ensures octets { IfOk result (λ arrival. arrival.octets ≡ octets.now) }
+        ensures octets { IfOk result (λ arrival. arrival.packet ≡ octets.now) }
         ensures arrival { IfOk result (λ arrival.
-            IsArrival self.now.store part arrival.octets arrival.segments arrival.name) }
+            IsArrival self.now.store part arrival.packet arrival.segments arrival.name) }
     {
         let alloc = *self.log.allocator();
         let copy = Digested::new(octets.to_vec(alloc)?, digest);
         if part.part == 0 {
             let record = RecordView::in_packet(octets);
             return Ok(Arrival {
-                octets: copy,
+                packet: copy,
                 segments: Some(record.segments()),
                 name: owned_name(alloc, record.name())?,
             });
         }
         let record = self.record_of(part);
         Ok(Arrival {
-            octets: copy,
+            packet: copy,
             segments: None,
             name: owned_name(alloc, record.name())?,
         })

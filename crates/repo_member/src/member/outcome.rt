@@ -131,7 +131,7 @@ fn take_one(
     ensures attempts { plan.new.attempts ≡ with_tries tried.part tried.attempts plan.old.attempts }
     ensures others { KeepsButTries plan.old plan.new }
     ensures kept { AreKept plan.new store.new.packets catalogue.new.entries }
-    ensures came { result ≡ option_map (λ a. length a.octets) tried.arrival }
+    ensures came { result ≡ option_map (λ a. length a.packet) tried.arrival }
 {
     let Tried {
         part,
@@ -140,7 +140,7 @@ fn take_one(
     } = tried;
     let mut came = None;
     if let Some(arrival) = arrival {
-        came = Some(arrival.octets.len() as u64);
+        came = Some(arrival.packet.octets().len() as u64);
         gain_listed(plan, store, catalogue, part, arrival);
     }
     plan.add_attempts_reserved(part, attempts);

@@ -14,7 +14,7 @@ use crate::group::Group;
 use crate::listing::list_if_whole;
 use crate::refusals::PublishRefusal;
 use ndn_name::Name;
-use repo_object::{Object, packet_of, packets_of};
+use repo_object::{Digested, Object, digested_packets_of, packet_of};
 use repo_plan::{Part, Plan};
 use repo_store::Store;
 use std::alloc::AllocError;
@@ -35,7 +35,7 @@ pub struct Published {
 #[derive(Drop)]
 struct Prepared {
     name: Name,
-    packets: Vec<Vec<u8>>,
+    packets: Vec<Digested>,
     sync: Vec<u8>,
 }
 
@@ -169,12 +169,12 @@ impl Member {
         ensures within { IfOk result (λ _. IsObject object.now) }
         ensures publisher { IfOk result (λ _. IsPublisher (publisher_at g.now self.now.number)) }
         ensures prepared { IfOk result (λ prepared. IsPrepared g.now self.now object.now
-            prepared.name (map (λ p. p.items) prepared.packets.items) prepared.sync.items) }
+            prepared.name prepared.packets.items prepared.sync.items) }
     {
         let alloc = *self.log.allocator();
         let node = g.roster().name(self.number);
         let key = g.members().key(self.number);
-        let packets = packets_of(alloc, object, seq, node, g.name(), key)?;
+        let packets = digested_packets_of(alloc, object, seq, node, g.name(), key)?;
         let mut vector = self.vector.copy(alloc)?;
         vector.raise(self.number, seq);
         let sync = sync_of(alloc, g, self.number, &vector)?;
@@ -188,27 +188,27 @@ impl Member {
 }
 
 // The parts of a new publication are held from now on, with these packets, for which room was made.
-fn gain_all(plan: &mut Plan, store: &mut Store, publisher: u32, seq: u16, packets: Vec<Vec<u8>>)
+fn gain_all(plan: &mut Plan, store: &mut Store, publisher: u32, seq: u16, packets: Vec<Digested>)
     requires plan_room { vec_len packets ≤ plan.old.spare }
     requires store_room { vec_len packets ≤ store.old.spare }
     requires tied { AreTied plan.old store.old.packets }
     requires new { IsNew plan.old (publisher, seq) }
-    requires packets { ArePackets (map (λ p. p.items) packets.items) }
+    requires packets { ArePackets packets.items }
     ensures packets { store.new.packets ≡ with_packets
-        (as_parts (publisher, seq) 0 (map (λ p. p.items) packets.items)) store.old.packets }
+        (as_parts (publisher, seq) 0 packets.items) store.old.packets }
     ensures others { KeepsOthers plan.old plan.new }
     ensures tied { AreTied plan.new store.new.packets }
 {
     let segments = packets.len() as u8 - 1;
     let mut x = 0;
-    for octets in packets {
+    for packet in packets {
         let part = Part {
             publisher,
             seq,
             part: x,
         };
         let segments = if x == 0 { Some(segments) } else { None };
-        gain(plan, store, part, octets, segments);
+        gain(plan, store, part, packet, segments);
         x += 1;
     }
 }

@@ -1,5 +1,5 @@
 use Rattle.std.specs.Prelude.{is_ok, slice_index, slice_set, if◌then◌else◌}
-use Rattle.std.proofs.Common.{◌≡◌, ◌<◌, ◌^◌, ◌+◌, max, true, false, List, [], ◌∷◌, ◌++◌, ℕ, length, map, refl, sym, ap, ◌∙◌, subst, arith}
+use Rattle.std.proofs.Common.{◌≡◌, ◌<◌, ◌^◌, ◌+◌, max, true, false, List, [], ◌∷◌, ◌++◌, ℕ, length, refl, sym, ap, ◌∙◌, subst, arith}
 use Rattle.repo_plan.specs.declared.part.Part.{Part}
 use Rattle.repo_plan.specs.Parts.{Pair, part_cmp, part_of}
 use Rattle.repo_plan.specs.SortedList.{contains, keys, Rises}
@@ -43,7 +43,7 @@ invariant_of-self-2 c =
     ∙ ap (λ (ts : List Part). contains part_cmp ts (part_of pair 0)) (sym c.self.invariant.kept.tied.held) ∙ sym c.holds-held.ensures.held ∙ c.if-prove.false in
     let order : Rises part_cmp (keys c.make_room.new.store.packets) = subst (λ (p : List Packet). Rises part_cmp (keys p)) (sym c.make_room.ensures.store) c.self.invariant.kept.tied.in_order in
     let listed = c.make_room.ensures.catalogue ∙ c.self.invariant.kept.listed ∙ ap alone_catalogue (sym c.make_room.ensures.store) in
-    let kept = published_kept c.make_room.new.store.packets c.gain_all.new.store.packets pair (map (λ p. p.items) c.in-Ok.prepared.packets.items) c.make_room.new.catalogue.entries c.list_if_whole.new.catalogue.entries c.gain_all.new.plan absent order c.gain_all.ensures.tied c.gain_all.ensures.packets listed c.list_if_whole.ensures.entries in
+    let kept = published_kept c.make_room.new.store.packets c.gain_all.new.store.packets pair c.in-Ok.prepared.packets.items c.make_room.new.catalogue.entries c.list_if_whole.new.catalogue.entries c.gain_all.new.plan absent order c.gain_all.ensures.tied c.gain_all.ensures.packets listed c.list_if_whole.ensures.entries in
     let long : c.log_len.result ≡ length c.self.inside.log.items = c.log_len.ensures.len ∙ sym (ap (λ (a : Alone). length a.log) c.self.view_is) in
     let number = c.self.inside.number in
     let known = c.self.inside.vector in

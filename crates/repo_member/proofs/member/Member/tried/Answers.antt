@@ -15,13 +15,13 @@ use Rattle.repo_member.proofs.OutcomeLemmas.{IsSmallPart, nothing_left, first_fe
 use Rattle.repo_member.proofs.member.Member.tried.Goals.{in-Some-checked+in_ok-arrived-in-Some-checked, in-None-checked}
 use Rattle.repo_member.proofs.member.Member.tried.Goals as goal
 
-same_packet : (c : goal.In_ok-push) → option_map (λ (a : Arrival). a.octets) c.match-checked.arrival ≡ option_map (λ (k : CheckedPart). k.octets) c.in-Some.checked.now
+same_packet : (c : goal.In_ok-push) → option_map (λ (a : Arrival). a.packet) c.match-checked.arrival ≡ option_map (λ (k : CheckedPart). k.octets) c.in-Some.checked.now
 same_packet c = elim c.match-checked.branch [
   | in-Some-checked+in_ok-arrived-in-Some-checked w ↦ rw (w.arrival-is, w.in-Some-checked.is, w.in_ok-arrived-in-Some-checked.ensures.octets, w.octets.ensures.same) refl
   | in-None-checked w ↦ rw (w.arrival-is, w.in-None-checked.is) refl
 ]
 
-arrived : (c : goal.In_ok-push) → IfSome c.match-checked.arrival (λ a. IsArrival c.args.self.now.store c.part-part.result a.octets a.segments a.name)
+arrived : (c : goal.In_ok-push) → IfSome c.match-checked.arrival (λ a. IsArrival c.args.self.now.store c.part-part.result a.packet a.segments a.name)
 arrived c = elim c.match-checked.branch [
   | in-Some-checked+in_ok-arrived-in-Some-checked w ↦ rw w.arrival-is w.in_ok-arrived-in-Some-checked.ensures.arrival
   | in-None-checked w ↦ rw w.arrival-is tt

@@ -15,11 +15,11 @@ take_one-came-requires-clause-takable c =
     All-head (CanBeTaken c.loop-tried.plan c.loop-tried.store.packets) c.in-Some.tried (into_iter_items c.next.new.self)
     (subst (All (CanBeTaken c.loop-tried.plan c.loop-tried.store.packets)) c.in-Some.ensures.steps.0 c.loop-tried.invariant.takable.each)
 
-made : (o : Option Arrival) → is_some (option_map (λ (a : Arrival). length a.octets) o) ≡ is_some o
+made : (o : Option Arrival) → is_some (option_map (λ (a : Arrival). length a.packet) o) ≡ is_some o
 made None = refl
 made (Some a) = refl
 
-counted : (o : Option Arrival) → unwrap_or (option_map (λ (a : Arrival). length a.octets) o) 0 ≡ length (unwrap_or (option_map (λ (a : Arrival). a.octets) o) [])
+counted : (o : Option Arrival) → unwrap_or (option_map (λ (a : Arrival). length a.packet) o) 0 ≡ length (unwrap_or (option_map (λ (a : Arrival). a.packet) o) [])
 counted None = refl
 counted (Some a) = refl
 

@@ -9,39 +9,38 @@ use Rattle.repo_plan.specs.Plan.{Holdings}
 use Rattle.repo_store.specs.StoreList.{StoreList}
 use Rattle.repo_member.specs.Alone.{as_parts, with_packets}
 use Rattle.repo_member.proofs.PublishLemmas.{gained_more, not_claimed, room_kept, tells_later, told_first, not_told}
-use Rattle.repo_member.proofs.member.publishing.gain_all.Invariants.{octets_of}
 use Rattle.repo_member.proofs.member.publishing.gain_all.Goals.{then-x-eq0, else-x-eq0}
 use Rattle.repo_member.proofs.member.publishing.gain_all.Goals as goal
 
 pub gain-requires-clause-data : goal.gain-requires-clause-data
 gain-requires-clause-data c =
-    let rest = ap octets_of c.in-Some.ensures.steps.0 in
-    All-head (λ octets. IsOk (data_of octets)) c.in-Some.octets.items _ (subst (All (λ octets. IsOk (data_of octets))) rest c.loop-octets.invariant.read)
+    let rest = c.in-Some.ensures.steps.0 in
+    All-head (λ octets. IsOk (data_of octets)) c.in-Some.packet _ (subst (All (λ octets. IsOk (data_of octets))) rest c.loop-packet.invariant.read)
 
 pub gain-requires-clause-not_claimed : goal.gain-requires-clause-not_claimed
-gain-requires-clause-not_claimed c = not_claimed _ _ (c.args.publisher, c.args.seq) _ c.loop-octets.x c.requires.new c.loop-octets.invariant.gained
+gain-requires-clause-not_claimed c = not_claimed _ _ (c.args.publisher, c.args.seq) _ c.loop-packet.x c.requires.new c.loop-packet.invariant.gained
 
-shape_of_part : (c : goal.After-gain) → c.if-x-eq0.segments ≡ told_first (c.len.result - 1) c.loop-octets.x
+shape_of_part : (c : goal.After-gain) → c.if-x-eq0.segments ≡ told_first (c.len.result - 1) c.loop-packet.x
 shape_of_part c = elim c.if-x-eq0.branch [
   | then-x-eq0 w ↦ w.segments-is ∙ sym (ap (told_first (c.len.result - 1)) w.if-x-eq0.true)
-  | else-x-eq0 w ↦ w.segments-is ∙ sym (not_told (c.len.result - 1) c.loop-octets.x w.if-x-eq0.false)
+  | else-x-eq0 w ↦ w.segments-is ∙ sym (not_told (c.len.result - 1) c.loop-packet.x w.if-x-eq0.false)
 ]
 
-pub loop-octets-preserved : goal.loop-octets-preserved
-loop-octets-preserved c =
-    let rest = ap octets_of c.in-Some.ensures.steps.0 in
+pub loop-packet-preserved : goal.loop-packet-preserved
+loop-packet-preserved c =
+    let rest = c.in-Some.ensures.steps.0 in
     let fewer = ap (λ (r : List (List ℕ)). length r) rest in
-    let inv = c.loop-octets.invariant in
-    let later = octets_of (into_iter_items c.next.new.self) in
+    let inv = c.loop-packet.invariant in
+    let later = into_iter_items c.next.new.self in
     record {
       stored =
-          ap (λ (s : StoreList). with_packets (as_parts (c.args.publisher, c.args.seq) (c.loop-octets.x + 1) later) s.packets) c.gain.ensures.store
-          ∙ sym (ap (λ (r : List (List ℕ)). with_packets (as_parts (c.args.publisher, c.args.seq) c.loop-octets.x r) c.loop-octets.store.packets) rest) ∙ inv.stored;
+          ap (λ (s : StoreList). with_packets (as_parts (c.args.publisher, c.args.seq) (c.loop-packet.x + 1) later) s.packets) c.gain.ensures.store
+          ∙ sym (ap (λ (r : List (List ℕ)). with_packets (as_parts (c.args.publisher, c.args.seq) c.loop-packet.x r) c.loop-packet.store.packets) rest) ∙ inv.stored;
       tied = c.gain.ensures.tied;
-      gained = gained_more _ _ (c.args.publisher, c.args.seq) _ c.loop-octets.x c.requires.new inv.gained c.if-x-eq0.segments _ (shape_of_part c) c.gain.ensures.plan;
-      plan_room = omega (arith, fewer, inv.plan_room, ap (λ (p : Holdings). p.spare) c.gain.ensures.plan, room_kept (part_of (c.args.publisher, c.args.seq) c.loop-octets.x) c.if-x-eq0.segments c.loop-octets.plan);
+      gained = gained_more _ _ (c.args.publisher, c.args.seq) _ c.loop-packet.x c.requires.new inv.gained c.if-x-eq0.segments _ (shape_of_part c) c.gain.ensures.plan;
+      plan_room = omega (arith, fewer, inv.plan_room, ap (λ (p : Holdings). p.spare) c.gain.ensures.plan, room_kept (part_of (c.args.publisher, c.args.seq) c.loop-packet.x) c.if-x-eq0.segments c.loop-packet.plan);
       store_room = omega (arith, fewer, inv.store_room, ap (λ (s : StoreList). s.spare) c.gain.ensures.store);
-      read = All-tail (λ octets. IsOk (data_of octets)) c.in-Some.octets.items _ (subst (All (λ octets. IsOk (data_of octets))) rest inv.read);
+      read = All-tail (λ octets. IsOk (data_of octets)) c.in-Some.packet _ (subst (All (λ octets. IsOk (data_of octets))) rest inv.read);
       count = omega (arith, fewer, inv.count);
-      told = tells_later _ c.loop-octets.x later;
+      told = tells_later _ c.loop-packet.x later;
     }

@@ -1,4 +1,4 @@
-use Rattle.std.proofs.Common.{◌≡◌, ℕ, ◌+◌, ◌≤◌, Vec, Global, List, map, length}
+use Rattle.std.proofs.Common.{◌≡◌, ◌+◌, ◌≤◌, length}
 use Rattle.std.specs.Prelude.{IsOk}
 use Rattle.std.specs.List.{All}
 use Rattle.std.specs.Vec.Iter.{into_iter_items}
@@ -8,13 +8,10 @@ use Rattle.repo_member.specs.Gaining.{AreTied}
 use Rattle.repo_member.proofs.PublishLemmas.{HasGained, TellsTheRest}
 use Rattle.repo_member.proofs.member.publishing.gain_all.Given as goal
 
-abbrev pub octets_of : List (Vec ℕ Global) → List (List ℕ)
-octets_of packets = map (λ p. p.items) packets
-
-abbrev pub invariant-loop-octets : goal.invariant-loop-octets
-invariant-loop-octets l =
-    let rest = octets_of (into_iter_items l.octets-iterator) in record {
-      stored : with_packets (as_parts (l.publisher, l.seq) l.x rest) l.store.packets ≡ with_packets (as_parts (l.publisher, l.seq) 0 (octets_of l.fn.packets.items)) l.initial.store.packets;
+abbrev pub invariant-loop-packet : goal.invariant-loop-packet
+invariant-loop-packet l =
+    let rest = into_iter_items l.packet-iterator in record {
+      stored : with_packets (as_parts (l.publisher, l.seq) l.x rest) l.store.packets ≡ with_packets (as_parts (l.publisher, l.seq) 0 l.fn.packets.items) l.initial.store.packets;
       tied : AreTied l.plan l.store.packets;
       gained : HasGained l.initial.plan l.plan (l.publisher, l.seq) l.segments l.x;
       plan_room : length rest ≤ l.plan.spare;

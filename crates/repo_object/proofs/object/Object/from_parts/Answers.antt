@@ -1,4 +1,4 @@
-use Rattle.std.proofs.Common.{length, arith}
+use Rattle.std.proofs.Common.{arith}
 use Rattle.std.proofs.lemmas.List.{length-map}
 use Rattle.std.proofs.lemmas.List.Elements.{All-map}
 use Rattle.repo_object.specs.Objects.{IsContent}

@@ -1,4 +1,4 @@
-use Rattle.std.proofs.Common.{ℕ, ◌∷◌, List, None, map, length, ap, ◌∙◌, arith}
+use Rattle.std.proofs.Common.{ℕ, ◌∷◌, List, None, length, ap, ◌∙◌, arith}
 use Rattle.ndn_name.specs.Names.{Component, encoding}
 use Rattle.ndn_data.specs.WrittenData.{written_data}
 use Rattle.repo_object.specs.Objects.{Publisher, publisher, record_name}
@@ -6,8 +6,8 @@ use Rattle.repo_object.specs.Publication.{Listed, record_content, record_packet,
 use Rattle.repo_object.specs.Records.{listed_record}
 use Rattle.repo_object.proofs.PacketSizes.{key_name-size, record_name-size}
 use Rattle.repo_object.proofs.Publications.{listing_within_limits}
-use Rattle.repo_object.proofs.Packing.{items, listing_is}
-use Rattle.repo_object.proofs.packets.packets_of.Goals as goal
+use Rattle.repo_object.proofs.Packing.{listing_is}
+use Rattle.repo_object.proofs.packets.record_and_segments.Goals as goal
 
 pub segment_packets-requires : goal.segment_packets-requires
 segment_packets-requires c =
@@ -27,7 +27,7 @@ write_record-requires-clause-key_name c =
 pub write_record-requires-clause-few : goal.write_record-requires-clause-few
 write_record-requires-clause-few c =
     let who : Publisher = publisher c.args.node.now c.args.group.now c.args.key.now in
-    let made = ap (map items) c.deref.ensures.value ∙ c.in_ok-packets.ensures in
+    let made = c.deref.ensures.value ∙ c.in_ok-segments.ensures in
     let listing = ap (listed_record c.name-2.result.now) (c.deref-2.ensures.value ∙ c.in_ok-digests.ensures)
     ∙ listing_is who c.args.object.now c.in_ok-key_name.key_name c.name-2.result.now c.deref.result.now c.in_ok-key_name.ensures c.name-2.ensures.same made in
     omega (arith, ap (λ (l : Listed). length l.digests) listing, (listing_within_limits who c.args.object.now c.name-2.ensures.within).few)
@@ -39,14 +39,13 @@ returns c =
     let keyed = c.in_ok-key_name.key_name in
     let key = c.args.key.now in
     let named = record_name c.args.node.now c.args.group.now c.args.seq in
-    let made = ap (map items) c.deref.ensures.value ∙ c.in_ok-packets.ensures in
+    let made = c.deref.ensures.value ∙ c.in_ok-segments.ensures in
     let listing = ap (listed_record c.name-2.result.now) (c.deref-2.ensures.value ∙ c.in_ok-digests.ensures)
     ∙ listing_is who object keyed c.name-2.result.now c.deref.result.now c.in_ok-key_name.ensures c.name-2.ensures.same made in
     let record_is = c.in_ok-record.ensures
     ∙ ap (λ (n : List Component). written_data n None (record_content (listed_record c.name-2.result.now c.deref-2.result.now)) keyed key) c.in_ok-name.ensures
     ∙ ap (λ (l : Listed). written_data named None (record_content l) keyed key) listing
     ∙ ap (λ (k : List Component). written_data named None (record_content (published_listing who object)) k key) c.in_ok-key_name.ensures in
-    let segments_are = c.in_ok-packets.ensures ∙ ap (λ (k : List Component). segment_packets k key object) c.in_ok-key_name.ensures in
-    ap (map items) c.in_ok-insert.ensures.items
-    ∙ ap (λ (r : List ℕ). r ∷ map items c.in_ok-packets.packets.items) record_is
+    let segments_are = c.in_ok-segments.ensures ∙ ap (λ (k : List Component). segment_packets k key object) c.in_ok-key_name.ensures in
+    ap (λ (r : List ℕ). r ∷ c.in_ok-segments.segments.items) record_is
     ∙ ap (λ (ps : List (List ℕ)). record_packet who c.args.seq (published_listing who object) ∷ ps) segments_are
