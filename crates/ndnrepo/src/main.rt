@@ -1,5 +1,5 @@
-//! The program `ndnrepo`: `run` reads a script on standard input and writes its report on standard output, `inspect` reads
-//! the hexadecimal digits of octets and writes the elements that they are, and `gen` writes a script.
+//! The program `ndnrepo`: `run` reads a script on standard input and writes its report on standard output, `inspect`
+//! reads the hexadecimal digits of octets and writes the elements that they are, and `gen` writes a script.
 #![tactic(auto)]
 
 use bench_net::Seeded;

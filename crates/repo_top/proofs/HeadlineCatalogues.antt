@@ -150,7 +150,8 @@ module _ (given : Given) (s : State) (sound : IsSoundState given s) (label repor
       }
 
 pub catalogue_line : (given : Given) (r : Reached) → IsSoundState given r.state
-    → (label report : List ℕ) (new : Reached) → IsCatalogueLine given r label report new → IsCatalogueOf (group_at given r) (labels_at r) label report
+    → (label report : List ℕ) (new : Reached) → IsCatalogueLine given r label report new
+    → IsCatalogueOf (group_at given r) (labels_at r) label report
 catalogue_line given r sound label report new l =
     catalogue_of given r.state sound label report new.state
     (stated_taken given r.state l.line report new.state (said verb.Catalogue (Text label ∷ [])) l.stated

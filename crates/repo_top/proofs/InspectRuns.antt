@@ -1,5 +1,5 @@
 -- What was read of digits decides what an inspection of the whole input comes to.
-use Rattle.std.proofs.Common.{◌≡◌, ◌≢◌, ℕ, ◌+◌, ◌<◌, ◌≤◌, List, [], ◌++◌, length, Option, Some, None, ◌⊎◌, inl, inr, refl, sym, ap, subst, arith, IfSome, ◌∙◌}
+use Rattle.std.proofs.Common.{◌≡◌, ◌≢◌, ℕ, ◌<◌, List, [], ◌++◌, length, Option, Some, None, ◌⊎◌, inl, inr, refl, sym, ap, subst, arith, IfSome, ◌∙◌}
 use Rattle.std.specs.Option.{option_map}
 use Rattle.std.proofs.lemmas.List.{append-nil}
 use Rattle.std.proofs.lemmas.Bool.Decides.{leb_tells}
@@ -17,12 +17,19 @@ use Rattle.repo_top.proofs.Inspections.{same_inspection, inspection_takes_whole}
 abbrev pub IsWhole : List ℕ → Option (List ℕ) → Type 0
 IsWhole read left = length read < 16777217 → IsAtEnd left
 
-story_of_both : (read rest : List ℕ) → (length read < 16777217 → rest ≡ []) → inspect_story (read ++ rest) ≡ inspect_story read
+story_of_both : (read rest : List ℕ) → (length read < 16777217 → rest ≡ [])
+    → inspect_story (read ++ rest) ≡ inspect_story read
 story_of_both read rest whole =
-    elim (leb_tells (length read) 16777216) [ inl few ↦ rw (whole (omega (arith, few.1)), append-nil read) refl | inr more ↦ same_inspection read rest more.1 ]
+    elim (leb_tells (length read) 16777216) [
+      | inl few ↦ rw (whole (omega (arith, few.1)), append-nil read) refl
+      | inr
+          more ↦ same_inspection read rest more.1
+    ]
 
 -- what holds of the story of what was read holds of the story of the input
-pub by_story : (Q : Story → Type 0) (before left : Option (List ℕ)) (read : List ℕ) → Keeps before (prepend_known read left) → IsWhole read left → Q (inspect_story read) → IfSome (option_map inspect_story before) Q
+pub by_story : (Q : Story → Type 0) (before left : Option (List ℕ)) (read : List ℕ)
+    → Keeps before (prepend_known read left) → IsWhole read left → Q (inspect_story read)
+    → IfSome (option_map inspect_story before) Q
 by_story Q None left read e whole q = tt
 by_story Q (Some input) None read e whole q = absurd e
 by_story Q (Some input) (Some rest) read e whole q =
@@ -37,7 +44,8 @@ told_ends status e (inl same) told = same
 told_ends status e (inr (inl same)) told = absurd (subst IsTold same told)
 told_ends status e (inr (inr same)) told = absurd (subst IsTold same told)
 
-pub unfailing_ends : (status : Status) (e : Ending) → EndsSo status e → status ≢ WriteFault → (status ≡ status_of e) ⊎ (status ≡ NoMemory)
+pub unfailing_ends : (status : Status) (e : Ending) → EndsSo status e → status ≢ WriteFault
+    → (status ≡ status_of e) ⊎ (status ≡ NoMemory)
 unfailing_ends status e (inl same) sound = inl same
 unfailing_ends status e (inr (inl same)) sound = inr same
 unfailing_ends status e (inr (inr same)) sound = absurd (sound same)
@@ -47,7 +55,8 @@ is_done ending.Done h = refl
 is_done (ending.Refused line number) h = cc
 is_done (ending.Foreign line) h = cc
 
-pub none_left : (before left : Option (List ℕ)) (read : List ℕ) → Keeps before (prepend_known read left) → IsWhole read left → Done ≡ status_of (inspect_story read).ending → IfSome before (λ input. left ≡ Some [])
+pub none_left : (before left : Option (List ℕ)) (read : List ℕ) → Keeps before (prepend_known read left)
+    → IsWhole read left → Done ≡ status_of (inspect_story read).ending → IfSome before (λ input. left ≡ Some [])
 none_left None left read e whole done = tt
 none_left (Some input) None read e whole done = absurd e
 none_left (Some input) (Some rest) read e whole done =

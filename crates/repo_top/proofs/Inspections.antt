@@ -10,8 +10,8 @@ use Rattle.repo_top.specs.declared.ending.Ending.TheVariants.{Done}
 use Rattle.repo_top.specs.declared.status.Status.TheVariants.{Foreign}
 use Rattle.repo_top.specs.Answers.{status_of}
 use Rattle.repo_top.specs.declared.refusal.Refusal.TheVariants.{Limit}
-use Rattle.repo_top.specs.Story.{Story, refused}
-use Rattle.repo_top.specs.Inspection.{decoded_story, inspect_story, lines_story, octets_story, sound_ending, without_spaces}
+use Rattle.repo_top.specs.Story.{refused}
+use Rattle.repo_top.specs.Inspection.{decoded_story, inspect_story, lines_story, sound_ending, without_spaces}
 
 too_long : (octets : List ℕ) → 16777216 < length octets → inspect_story octets ≡ refused Limit
 unfolding inspect_story
@@ -36,15 +36,18 @@ by_fault : (fault : Option TlvFault) (line : ℕ) → status_of (sound_ending fa
 by_fault None line = λ e. cc
 by_fault (Some fault) line = λ e. cc
 
-by_size : (long : Bool) (octets : List ℕ) (line : ℕ) → status_of (cond long (refused Limit) (lines_story (inspected octets))).ending ≢ Foreign line
+by_size : (long : Bool) (octets : List ℕ) (line : ℕ) → status_of
+    (cond long (refused Limit) (lines_story (inspected octets))).ending ≢ Foreign line
 by_size true octets line = λ e. cc
 by_size false octets line = by_fault (inspected octets).fault line
 
-by_digits : (decoded : Result (List ℕ) FromHexError) (line : ℕ) → status_of (decoded_story decoded).ending ≢ Foreign line
+by_digits : (decoded : Result (List ℕ) FromHexError) (line : ℕ)
+    → status_of (decoded_story decoded).ending ≢ Foreign line
 by_digits (Ok octets) line = by_size (ltb 8800 (length octets)) octets line
 by_digits (Err e) line = λ e. cc
 
-by_input : (long : Bool) (input : List ℕ) (line : ℕ) → status_of (cond long (refused Limit) (decoded_story (decode_of (without_spaces input)))).ending ≢ Foreign line
+by_input : (long : Bool) (input : List ℕ) (line : ℕ) → status_of
+    (cond long (refused Limit) (decoded_story (decode_of (without_spaces input)))).ending ≢ Foreign line
 by_input true input line = λ e. cc
 by_input false input line = by_digits (decode_of (without_spaces input)) line
 

@@ -21,7 +21,8 @@ lines_joined (b ∷ bs) = joined_in_front b (eqb b 10) (lines bs) ∙ ap (λ (t 
 -- ---- each is a line
 
 free_more : (b : ℕ) (octets : List ℕ) → b ≢ 10 → has_feed octets ≡ false → has_feed (b ∷ octets) ≡ false
-free_more b octets other free = or_from (eqb b 10) (has_feed octets) (elim (eqb_tells b 10) [ inl same ↦ absurd (other same.1) | inr else ↦ else.0 ]) free
+free_more b octets other free = or_from (eqb b 10) (has_feed octets)
+    (elim (eqb_tells b 10) [ inl same ↦ absurd (other same.1) | inr else ↦ else.0 ]) free
 
 whole_more : (b : ℕ) (line : List ℕ) → b ≢ 10 → IsWhole line → IsWhole (b ∷ line)
 whole_more b line other w = record {
@@ -33,7 +34,8 @@ whole_more b line other w = record {
 open_more : (b : ℕ) (line : List ℕ) → b ≢ 10 → has_feed line ≡ false → IsOpen (b ∷ line)
 open_more b line other free = record { some = λ e. cc; free = free_more b line other free }
 
-lines_in_front : (b : ℕ) (ends : Bool) (others : List (List ℕ)) → (ends ≡ true → b ≡ 10) → (ends ≡ false → b ≢ 10) → AreLines others → AreLines (octet_in_front b ends others)
+lines_in_front : (b : ℕ) (ends : Bool) (others : List (List ℕ)) → (ends ≡ true → b ≡ 10) → (ends ≡ false → b ≢ 10)
+    → AreLines others → AreLines (octet_in_front b ends others)
 lines_in_front b true others feed other are = after others are where
   first : IsWhole (b ∷ [])
   first = record { front = []; free = refl; is = ap (λ (t : ℕ). t ∷ []) (feed refl) }
@@ -58,7 +60,8 @@ lines_are_lines (b ∷ bs) =
 -- ---- the first line
 
 -- octets before a line feed, and it, are a line
-pub first_line : (front more : List ℕ) → has_feed front ≡ false → lines (front ++ 10 ∷ more) ≡ (front ++ 10 ∷ []) ∷ lines more
+pub first_line : (front more : List ℕ) → has_feed front ≡ false
+    → lines (front ++ 10 ∷ more) ≡ (front ++ 10 ∷ []) ∷ lines more
 unfolding lines
 first_line [] more free = refl
 first_line (b ∷ bs) more free =
@@ -75,7 +78,8 @@ begins_one : (b : ℕ) (ls : List (List ℕ)) → eqb b 10 ≡ false → Begins 
 begins_one b [] test = record { rest = []; others = []; is = rw test refl }
 begins_one b (line ∷ others) test = record { rest = line; others = others; is = rw test refl }
 
-begins_more : (b : ℕ) (front : List ℕ) (ls : List (List ℕ)) → eqb b 10 ≡ false → Begins front ls → Begins (b ∷ front) (octet_in_front b (eqb b 10) ls)
+begins_more : (b : ℕ) (front : List ℕ) (ls : List (List ℕ)) → eqb b 10 ≡ false → Begins front ls
+    → Begins (b ∷ front) (octet_in_front b (eqb b 10) ls)
 begins_more b front ls test f = record { rest = f.rest; others = f.others; is = rw (test, f.is) refl }
 
 -- octets without a line feed are at the front of the first line, whatever follows
@@ -98,7 +102,8 @@ open_line (b ∷ d ∷ bs) some free =
 
 pub whole_first : (line more : List ℕ) → IsWhole line → lines (line ++ more) ≡ line ∷ lines more
 whole_first line more w =
-    ap lines (ap (λ (t : List ℕ). t ++ more) w.is ∙ append_assoc w.front (10 ∷ []) more) ∙ first_line w.front more w.free ∙ ap (λ (t : List ℕ). t ∷ lines more) (sym w.is)
+    ap lines (ap (λ (t : List ℕ). t ++ more) w.is ∙ append_assoc w.front (10 ∷ []) more)
+    ∙ first_line w.front more w.free ∙ ap (λ (t : List ℕ). t ∷ lines more) (sym w.is)
 
 -- ---- one way to cut
 
@@ -108,4 +113,5 @@ only_lines [] are = refl
 only_lines (line ∷ []) (inl w) = whole_first line [] w
 only_lines (line ∷ []) (inr o) = ap lines (append-nil line) ∙ open_line line o.some o.free
 only_lines (line ∷ next ∷ others) are =
-    whole_first line (concat (next ∷ others)) are.0 ∙ ap (λ (t : List (List ℕ)). line ∷ t) (only_lines (next ∷ others) are.1)
+    whole_first line (concat (next ∷ others)) are.0 ∙ ap (λ (t : List (List ℕ)). line ∷ t)
+    (only_lines (next ∷ others) are.1)

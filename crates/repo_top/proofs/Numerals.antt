@@ -25,7 +25,8 @@ all_digits : (word : List ℕ) → is_numeral word ≡ true → list_all is_asci
 all_digits [] h = refl
 all_digits (first ∷ others) h = and_right _ (list_all is_ascii_digit (first ∷ others)) h
 
-pub digit_is : (word : List ℕ) (i : ℕ) → is_numeral word ≡ true → i < length word → is_ascii_digit (get_or word i 0) ≡ true
+pub digit_is : (word : List ℕ) (i : ℕ) → is_numeral word ≡ true → i < length word
+    → is_ascii_digit (get_or word i 0) ≡ true
 digit_is word i h lt = go (is_ascii_digit (get_or word i 0)) refl where
   go : (b : Bool) → is_ascii_digit (get_or word i 0) ≡ b → is_ascii_digit (get_or word i 0) ≡ true
   go true e = e
@@ -37,8 +38,10 @@ digit_is_value c h = grind (arith, nat_tests)
 pub digit_bounds : (c : ℕ) → is_ascii_digit c ≡ true → (48 ≤ c) × (c ≤ 57)
 digit_bounds c h = grind (arith, nat_tests)
 
-pub value_more : (word : List ℕ) (i : ℕ) → i < length word → is_ascii_digit (get_or word i 0) ≡ true → digits_value 10 (take (i + 1) word) ≡ digits_value 10 (take i word) * 10 + (get_or word i 0 - 48)
-value_more word i lt digit = digits_value_more 10 word i lt ∙ ap (λ (d : ℕ). digits_value 10 (take i word) * 10 + d) (digit_is_value (get_or word i 0) digit)
+pub value_more : (word : List ℕ) (i : ℕ) → i < length word → is_ascii_digit (get_or word i 0) ≡ true
+    → digits_value 10 (take (i + 1) word) ≡ digits_value 10 (take i word) * 10 + (get_or word i 0 - 48)
+value_more word i lt digit = digits_value_more 10 word i lt
+    ∙ ap (λ (d : ℕ). digits_value 10 (take i word) * 10 + d) (digit_is_value (get_or word i 0) digit)
 
 pub ten_times : (i : ℕ) → 10 ^ (i + 1) ≡ 10 ^ i * 10
 ten_times i = rw add-one (pow-suc 10 i)

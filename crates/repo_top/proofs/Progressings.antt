@@ -171,7 +171,8 @@ member_at given labels stage e label node key c =
     )
 
 pub member_declared : (given : Given) (labels : List (List ℕ)) (stage : Stage) (e : Declared) (s : Stated)
-    (label : List ℕ) (node : List Component) (octets key : List ℕ) → s ≡ said verb.Member (Text label ∷ Named node ∷ Octets octets ∷ [])
+    (label : List ℕ) (node : List Component) (octets key : List ℕ)
+    → s ≡ said verb.Member (Text label ∷ Named node ∷ Octets octets ∷ [])
     → key ≡ octets → LineIsChecked labels stage e s → MemberDeclares given labels stage e s label node key
 member_declared given labels stage e s label node octets key is same c =
     let is_key : s ≡ said verb.Member (Text label ∷ Named node ∷ Octets key ∷ []) =
@@ -223,7 +224,8 @@ client_at given labels stage e label node key c =
     )
 
 pub client_declared : (given : Given) (labels : List (List ℕ)) (stage : Stage) (e : Declared) (s : Stated)
-    (label : List ℕ) (node : List Component) (octets key : List ℕ) → s ≡ said verb.Client (Text label ∷ Named node ∷ Octets octets ∷ [])
+    (label : List ℕ) (node : List Component) (octets key : List ℕ)
+    → s ≡ said verb.Client (Text label ∷ Named node ∷ Octets octets ∷ [])
     → key ≡ octets → LineIsChecked labels stage e s → ClientDeclares given labels stage e s node key
 client_declared given labels stage e s label node octets key is same c =
     let is_key : s ≡ said verb.Client (Text label ∷ Named node ∷ Octets key ∷ []) =

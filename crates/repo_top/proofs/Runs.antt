@@ -1,51 +1,44 @@
 -- A run: lines that were carried out, and how it may end.
-use Rattle.std.proofs.Common.{◌≡◌, ◌≢◌, ℕ, ◌+◌, ◌-◌, ◌<◌, ◌≤◌, Bool, true, false, eqb, ltb, ◌||◌, List, [], ◌∷◌, ◌++◌, length, take, drop, Option, Some, None, IfSome, refl, sym, ap, subst, ◌∙◌, append_assoc, length-append, arith, ◌⊎◌, inl, inr}
-use Rattle.std.specs.List.{concat, filter, list_any}
+use Rattle.std.proofs.Common.{◌≡◌, ◌≢◌, ℕ, zero, suc, ◌+◌, ◌-◌, ◌<◌, ◌≤◌, true, false, eqb, ltb, List, [], ◌∷◌, ◌++◌, length, take, drop, Option, Some, None, IfSome, refl, sym, ap, subst, ◌∙◌, append_assoc, length-append, arith, ◌⊎◌, inl, inr}
+use Rattle.std.specs.List.{concat, filter}
 use Rattle.std.specs.Io.KnownBytes.{IsAtEnd, Keeps, prepend_known}
 use Rattle.std.proofs.KnownBytes.{Appends-trans}
 use Rattle.std.proofs.lemmas.Bool.{or_from, or_left, or_right, le-ltb, lt-ltb}
 use Rattle.std.proofs.lemmas.Bool.Decides.{leb_tells}
-use Rattle.std.proofs.lemmas.List.{append-nil, take-append-drop, take-append-le, take_all}
+use Rattle.std.proofs.lemmas.List.{append-nil, nil_from_length, take-append-drop, take-append-le, take_all}
 use Rattle.std.proofs.lemmas.List.Elements.{filter-append}
 use Rattle.std.proofs.lemmas.List.Folds.{concat-append, list_any-append}
+use Rattle.std.proofs.Math.Numerals.{suc-eq-add-one}
 use Rattle.std.proofs.Math.Seq.{take-append_seam, take-append-add}
 use Rattle.repo_top.specs.declared.ending.Ending.TheVariants as ending
 use Rattle.repo_top.specs.declared.status.Status.{Status}
-use Rattle.repo_top.specs.declared.status.Status.TheVariants.{Done, Usage, Refused, ReadFault, WriteFault, NoMemory, Foreign}
+use Rattle.repo_top.specs.declared.status.Status.TheVariants.{Done, ReadFault, WriteFault}
 use Rattle.repo_top.specs.declared.refusal.Refusal.TheVariants.{Limit}
 use Rattle.repo_top.specs.Outside.{GainsText, GainsFront}
 use Rattle.repo_top.specs.Lines.{IsWhole, has_feed, lines}
 use Rattle.repo_top.specs.Judging.{Given, Verdict, foreign, refused, says}
 use Rattle.repo_top.specs.Reading.{HasLine, LineIsBegun, IsTooLong}
 use Rattle.repo_top.specs.Story.{Reached, Story, reached_behind, behind_text, ended, judged_next, nothing_reached, story_from, story_of}
-use Rattle.repo_top.specs.Answers.{IsTold, status_of}
-use Rattle.repo_top.specs.Taken.{IsStoppedAt, IsTakenNear, LacksText, can_be_judged, end_of_line, lines_so_far, lines_taken, report_of, report_through, taken}
+use Rattle.repo_top.specs.Taken.{FallsShortNear, IsTakenNear, LacksText, can_be_judged, end_of_line, lines_so_far, lines_taken, report_of, report_through, taken}
 use Rattle.repo_top.specs.Carrying.{Carried, EndsIn, Finishes, IsStopping, Known, Ran, Stops, StatusTells, Took}
 use Rattle.repo_top.proofs.LineLaws.{open_line, whole_first}
-use Rattle.repo_top.proofs.Outputs.{front_behind, front_none, front_so_far, front_whole, nothing_gained}
+use Rattle.repo_top.proofs.Outputs.{front_behind, front_so_far, front_whole, nothing_gained}
 use Rattle.repo_top.proofs.Stories.{behind_behind, first_line_story, goes_on, long_refused, no_lines, refused_story}
 
 -- ---- what a status says of a story
 
-lacks_behind : (a b d : Option (List ℕ)) (text more : List ℕ) → GainsText a b text → IfSome b (λ _. LacksText b d more) → IfSome a (λ _. LacksText a d (text ++ more))
-lacks_behind None b d text more p h = tt
-lacks_behind (Some x) None d text more p h = absurd p
-lacks_behind (Some x) (Some y) None text more p h = absurd h
-lacks_behind (Some x) (Some y) (Some z) text more p h =
-    let size = ap length p in
-    omega (arith, h, size, length-append x text, length-append text more)
-
-pub tells_behind : (s : Story) (a b d : Option (List ℕ)) (text : List ℕ) (status : Status) → GainsText a b text → StatusTells s b d status → StatusTells (behind_text text s) a d status
+pub tells_behind : (s : Story) (a b d : Option (List ℕ)) (text : List ℕ) (status : Status) → GainsText a b text
+    → StatusTells s b d status → StatusTells (behind_text text s) a d status
 tells_behind s a b d text status p t = record {
   ending = t.ending;
   text = λ told. Appends-trans a b d text s.text p (t.text told);
   front = front_behind a b d text s.text p t.front;
-  lacks = λ fault. lacks_behind a b d text s.text p (t.lacks fault);
 }
 
 -- ---- lines that were carried out
 
-module _ (given : Given) (held : List ℕ) (r : Reached) (a b : Option (List ℕ)) (input rest : List ℕ) (so_far : Carried given held r a b input rest) where
+module _ (given : Given) (held : List ℕ) (r : Reached) (a b : Option (List ℕ)) (input rest : List ℕ)
+    (so_far : Carried given held r a b input rest) where
   -- octets were read
   pub carried_read : (held' rest' : List ℕ) → held' ++ rest' ≡ held ++ rest → Carried given held' r a b input rest'
   carried_read held' rest' e = record {
@@ -62,7 +55,8 @@ module _ (given : Given) (held : List ℕ) (r : Reached) (a b : Option (List ℕ
   }
 
   story_is : story_of given input ≡ behind_text so_far.text (story_from given r (lines (held ++ rest)))
-  story_is = ap (story_of given) so_far.parts ∙ ap (story_from given nothing_reached) (so_far.cut (held ++ rest)) ∙ so_far.goes (lines (held ++ rest))
+  story_is = ap (story_of given) so_far.parts ∙ ap (story_from given nothing_reached) (so_far.cut (held ++ rest))
+      ∙ so_far.goes (lines (held ++ rest))
 
   taken_is : taken input rest ≡ so_far.octets ++ held
   taken_is =
@@ -72,14 +66,19 @@ module _ (given : Given) (held : List ℕ) (r : Reached) (a b : Option (List ℕ
       rw (size, whole) (take-append_seam front rest)
 
   so_far_is : lines_so_far (taken input rest) ≡ so_far.done ++ filter can_be_judged (lines held)
-  so_far_is = rw taken_is (ap (filter can_be_judged) (so_far.cut held) ∙ filter-append can_be_judged so_far.done (lines held) ∙ ap (λ (t : List (List ℕ)). t ++ filter can_be_judged (lines held)) so_far.judged)
+  so_far_is = rw taken_is (ap (filter can_be_judged) (so_far.cut held)
+      ∙ filter-append can_be_judged so_far.done (lines held)
+      ∙ ap (λ (t : List (List ℕ)). t ++ filter can_be_judged (lines held)) so_far.judged)
 
 -- ---- a line is carried out
 
 judged_whole : (line : List ℕ) → IsWhole line → can_be_judged line ≡ true
-judged_whole line w = or_left (has_feed line) (ltb 32768 (length line)) (ap has_feed w.is ∙ list_any-append (λ octet. eqb octet 10) w.front (10 ∷ []) ∙ or_right (has_feed w.front) true refl)
+judged_whole line w = or_left (has_feed line) (ltb 32768 (length line))
+    (ap has_feed w.is ∙ list_any-append (λ octet. eqb octet 10) w.front (10 ∷ [])
+    ∙ or_right (has_feed w.front) true refl)
 
-module _ (given : Given) (held : List ℕ) (r next : Reached) (a b d : Option (List ℕ)) (input rest : List ℕ) (count : ℕ) (so_far : Carried given held r a b input rest) (took : Took given r (take count held) next b d) where
+module _ (given : Given) (held : List ℕ) (r next : Reached) (a b d : Option (List ℕ)) (input rest : List ℕ) (count : ℕ)
+    (so_far : Carried given held r a b input rest) (took : Took given r (take count held) next b d) where
   with_line : IsWhole (take count held) → Carried given (drop count held) next a d input rest
   with_line whole =
       let line = take count held in
@@ -87,39 +86,70 @@ module _ (given : Given) (held : List ℕ) (r next : Reached) (a b d : Option (L
         done = so_far.done ++ line ∷ [];
         octets = so_far.octets ++ line;
         text = so_far.text ++ took.report;
-        parts = so_far.parts ∙ ap (λ (t : List ℕ). so_far.octets ++ (t ++ rest)) (sym (take-append-drop count held)) ∙ simp append_assoc;
-        cut = λ more. ap lines (append_assoc so_far.octets line more) ∙ so_far.cut (line ++ more) ∙ ap (λ (t : List (List ℕ)). so_far.done ++ t) (whole_first line more whole) ∙ sym (append_assoc so_far.done (line ∷ []) (lines more));
-        joined = concat-append so_far.done (line ∷ []) ∙ ap (λ (t : List ℕ). t ++ (line ++ [])) so_far.joined ∙ ap (λ (t : List ℕ). so_far.octets ++ t) (append-nil line);
-        count = omega (arith, ap (λ (t : Reached). t.lines) took.then, so_far.count, length-append so_far.done (line ∷ []));
+        parts = so_far.parts ∙ ap (λ (t : List ℕ). so_far.octets ++ (t ++ rest)) (sym (take-append-drop count held))
+            ∙ simp append_assoc;
+        cut = λ more. ap lines (append_assoc so_far.octets line more) ∙ so_far.cut (line ++ more)
+            ∙ ap (λ (t : List (List ℕ)). so_far.done ++ t) (whole_first line more whole)
+            ∙ sym (append_assoc so_far.done (line ∷ []) (lines more));
+        joined = concat-append so_far.done (line ∷ []) ∙ ap (λ (t : List ℕ). t ++ (line ++ [])) so_far.joined
+            ∙ ap (λ (t : List ℕ). so_far.octets ++ t) (append-nil line);
+        count = omega (
+          arith,
+          ap (λ (t : Reached). t.lines) took.then,
+          so_far.count,
+          length-append so_far.done (line ∷ []),
+        );
         judged = filter-append can_be_judged so_far.done (line ∷ []) ∙ rw (so_far.judged, judged_whole line whole) refl;
-        goes = λ others. ap (story_from given nothing_reached) (append_assoc so_far.done (line ∷ []) others) ∙ so_far.goes (line ∷ others) ∙ ap (behind_text so_far.text) (goes_on given r line next b d took others) ∙ behind_behind so_far.text took.report (story_from given next others);
+        goes = λ others. ap (story_from given nothing_reached) (append_assoc so_far.done (line ∷ []) others)
+            ∙ so_far.goes (line ∷ others) ∙ ap (behind_text so_far.text) (goes_on given r line next b d took others)
+            ∙ behind_behind so_far.text took.report (story_from given next others);
         gained = Appends-trans a b d so_far.text took.report so_far.gained took.gained;
       }
 
   pub carried_line : HasLine count held → Carried given (drop count held) next a d input rest
   carried_line h = by_line h.line where
-    by_line : IsWhole (take count held) ⊎ (IsTooLong held × (count ≡ length held)) → Carried given (drop count held) next a d input rest
+    by_line : IsWhole (take count held) ⊎ (IsTooLong held × (count ≡ length held))
+        → Carried given (drop count held) next a d input rest
     by_line (inl whole) = with_line whole
     by_line (inr long) =
         let all : take count held ≡ held ++ [] = take_all count held (omega (arith, long.1)) ∙ sym (append-nil held) in
-        let why : says took.report next.state ≡ refused Limit = sym took.verdict ∙ ap (judged_next given r) all ∙ long_refused given r held [] long.0 in
+        let why : says took.report next.state ≡ refused Limit = sym took.verdict ∙ ap (judged_next given r) all
+        ∙ long_refused given r held [] long.0 in
         absurd cc
 
 -- ---- fronts of lines
 
 -- fewer lines have no longer report
-fewer_lines : (given : Given) (r : Reached) (front others : List (List ℕ)) → length (story_from given r front).text ≤ length (story_from given r (front ++ others)).text
+fewer_lines : (given : Given) (r : Reached) (front others : List (List ℕ))
+    → length (story_from given r front).text ≤ length (story_from given r (front ++ others)).text
 fewer_lines given r [] others = let none = ap (λ (s : Story). length s.text) (no_lines given r) in omega (arith, none)
-fewer_lines given r (line ∷ front) others = by_verdict (λ next. fewer_lines given next front others) (judged_next given r line) refl where
-  by_verdict : ((next : Reached) → length (story_from given next front).text ≤ length (story_from given next (front ++ others)).text) → (v : Verdict) → judged_next given r line ≡ v → length (story_from given r (line ∷ front)).text ≤ length (story_from given r (line ∷ (front ++ others))).text
-  by_verdict fewer (says report next) e =
-      let after_line = reached_behind r line report next in
-      rw (refused_story given r line (says report next) front e, refused_story given r line (says report next) (front ++ others) e)
-      (omega (arith, fewer after_line, length-append report (story_from given after_line front).text, length-append report (story_from given after_line (front ++ others)).text))
-  by_verdict fewer (refused why) e =
-      rw (refused_story given r line (refused why) front e, refused_story given r line (refused why) (front ++ others) e) (omega arith)
-  by_verdict fewer foreign e =
-      rw (refused_story given r line foreign front e, refused_story given r line foreign (front ++ others) e) (omega arith)
+fewer_lines given r (line ∷ front) others =
+    by_verdict (λ next. fewer_lines given next front others) (judged_next given r line) refl where
+      by_verdict : ((next : Reached)
+          → length (story_from given next front).text ≤ length (story_from given next (front ++ others)).text)
+          → (v : Verdict) → judged_next given r line ≡ v
+          → length (story_from given r (line ∷ front)).text
+          ≤ length (story_from given r (line ∷ (front ++ others))).text
+      by_verdict fewer (says report next) e =
+          let after_line = reached_behind r line report next in
+          rw (
+            refused_story given r line (says report next) front e,
+            refused_story given r line (says report next) (front ++ others) e,
+          )
+          (omega (
+            arith,
+            fewer after_line,
+            length-append report (story_from given after_line front).text,
+            length-append report (story_from given after_line (front ++ others)).text,
+          ))
+      by_verdict fewer (refused why) e =
+          rw (
+            refused_story given r line (refused why) front e,
+            refused_story given r line (refused why) (front ++ others) e,
+          ) (omega arith)
+      by_verdict fewer foreign e =
+          rw (refused_story given r line foreign front e, refused_story given r line foreign (front ++ others) e)
+          (omega arith)
 
 -- ---- how a run ends
 
@@ -128,7 +158,8 @@ unfolding lines
 begun_judged [] h = refl
 begun_judged (o ∷ os) h =
     let one : lines (o ∷ os) ≡ (o ∷ os) ∷ [] = open_line (o ∷ os) (λ e. cc) h.free in
-    let not_yet : can_be_judged (o ∷ os) ≡ false = or_from (has_feed (o ∷ os)) (ltb 32768 (length (o ∷ os))) h.free (le-ltb 32768 (length (o ∷ os)) h.short) in
+    let not_yet : can_be_judged (o ∷ os) ≡ false = or_from (has_feed (o ∷ os)) (ltb 32768 (length (o ∷ os))) h.free
+    (le-ltb 32768 (length (o ∷ os)) h.short) in
     ap (filter can_be_judged) one ∙ rw not_yet refl
 
 -- the first line that can be judged, and those behind it
@@ -136,9 +167,11 @@ pub record Judged (line : List ℕ) (ls : List (List ℕ)) : Type 0 where
   pub others : List (List ℕ)
   pub are : ls ≡ line ∷ others
 
-first_judged : (held : List ℕ) (count : ℕ) → HasLine count held → Judged (take count held) (filter can_be_judged (lines held))
+first_judged : (held : List ℕ) (count : ℕ) → HasLine count held
+    → Judged (take count held) (filter can_be_judged (lines held))
 first_judged held count h = by_line h.line where
-  by_line : IsWhole (take count held) ⊎ (IsTooLong held × (count ≡ length held)) → Judged (take count held) (filter can_be_judged (lines held))
+  by_line : IsWhole (take count held) ⊎ (IsTooLong held × (count ≡ length held))
+      → Judged (take count held) (filter can_be_judged (lines held))
   by_line (inl whole) = record {
     others = filter can_be_judged (lines (drop count held));
     are = ap (λ (t : List ℕ). filter can_be_judged (lines t)) (sym (take-append-drop count held))
@@ -148,20 +181,87 @@ first_judged held count h = by_line h.line where
   by_line (inr long) =
       let all : take count held ≡ held = take_all count held (omega (arith, long.1)) in
       let some : held ≢ [] = λ e. let none = ap length e in omega (arith, none, long.0.long) in
-      let now : can_be_judged held ≡ true = or_right (has_feed held) (ltb 32768 (length held)) (lt-ltb 32768 (length held) long.0.long) in
+      let now : can_be_judged held ≡ true = or_right (has_feed held) (ltb 32768 (length held))
+      (lt-ltb 32768 (length held) long.0.long) in
       record {
         others = [];
-        are = ap (filter can_be_judged) (open_line held some long.0.free) ∙ rw now (ap (λ (t : List ℕ). t ∷ []) (sym all));
+        are = ap (filter can_be_judged) (open_line held some long.0.free)
+            ∙ rw now (ap (λ (t : List ℕ). t ∷ []) (sym all));
       }
 
-longer : (a b d : Option (List ℕ)) (text : List ℕ) (n : ℕ) (report more : List ℕ) → GainsText a b text → GainsFront b d more → length report ≤ length text → LacksText a d report → ⊥
-longer None b d text n report more p f le h = h
-longer (Some x) None d text n report more p f le h = p
-longer (Some x) (Some y) None text n report more p f le h = h
-longer (Some x) (Some y) (Some z) text n report more p f le h =
+longer : {Short : Type 0} (a b d : Option (List ℕ)) (text report more : List ℕ) → GainsText a b text
+    → GainsFront b d more Short → length report ≤ length text → LacksText a d report → ⊥
+longer None b d text report more p f le h = h
+longer (Some x) None d text report more p f le h = p
+longer (Some x) (Some y) None text report more p f le h = h
+longer (Some x) (Some y) (Some z) text report more p f le h =
     omega (arith, h, le, ap length p, ap length f.gained, length-append x text, length-append y f.written)
 
-module _ (given : Given) (held : List ℕ) (r next : Reached) (a b d : Option (List ℕ)) (input rest : List ℕ) (so_far : Carried given held r a b input rest) where
+-- a text that was cut short is lacking
+short_lacks : {Short : Type 0} (a d : Option (List ℕ)) (text : List ℕ) → GainsFront a d text Short → Short
+    → IfSome a (λ _. LacksText a d text)
+short_lacks None d text f short = tt
+short_lacks (Some x) None text f short = absurd f.gained
+short_lacks (Some x) (Some y) text f short =
+    let some : 0 < length f.rest = elim (leb_tells (length f.rest) 0) [
+      | inl none ↦ absurd (f.short short (nil_from_length f.rest (omega (arith, none.1))))
+      | inr more ↦ more.1
+    ] in
+    omega (
+      arith,
+      some,
+      ap length f.gained,
+      length-append x f.written,
+      ap length f.parts,
+      length-append f.written f.rest,
+    )
+
+-- ---- the line of the first octet that is lacking
+
+-- so many lines lack nothing, and one more does
+record FirstLack (given : Given) (x y input : List ℕ) : Type 0 where
+  pub before : ℕ
+  pub there : LacksText (Some x) (Some y) (report_through given before input) → ⊥
+  pub lacks : LacksText (Some x) (Some y) (report_through given (before + 1) input)
+
+first_lack : (given : Given) (x y input : List ℕ) (n : ℕ) → length x ≤ length y
+    → LacksText (Some x) (Some y) (report_through given n input) → FirstLack given x y input
+first_lack given x y input zero le h =
+    let none : length (report_through given 0 input) ≡ 0 =
+    ap (λ (s : Story). length s.text) (no_lines given nothing_reached) in
+    absurd (omega (arith, le, h, none))
+first_lack given x y input (suc n) le h =
+    elim (leb_tells (length x + length (report_through given n input)) (length y)) [
+      | inl there ↦ record {
+        before = n;
+        there = λ l. omega (arith, l, there.1);
+        lacks = subst (λ (i : ℕ). LacksText (Some x) (Some y) (report_through given i input)) (suc-eq-add-one n) h;
+      }
+      | inr lacks ↦ first_lack given x y input n le (omega (arith, lacks.1))
+    ]
+
+falls_short : {Short : Type 0} (given : Given) (a d : Option (List ℕ)) (input rest : List ℕ)
+    → ((n : ℕ) → LacksText a d (report_through given n input) → IsTakenNear n input rest)
+    → GainsFront a d (story_of given input).text Short → Short
+    → IfSome a (λ _. FallsShortNear given a d input rest)
+falls_short given None d input rest near f short = tt
+falls_short given (Some x) None input rest near f short = absurd f.gained
+falls_short given (Some x) (Some y) input rest near f short =
+    let all = length (lines input) in
+    let whole : report_through given all input ≡ (story_of given input).text =
+    ap (report_of given) (take_all all (lines input) (omega arith)) in
+    let lacks = subst (LacksText (Some x) (Some y)) (sym whole)
+    (short_lacks (Some x) (Some y) (story_of given input).text f short) in
+    let first = first_lack given x y input all (omega (arith, ap length f.gained, length-append x f.written)) lacks in
+    record {
+      before = first.before;
+      there = first.there;
+      lacks = first.lacks;
+      near = near (first.before + 1) first.lacks;
+    }
+
+module _ (given : Given) (held : List ℕ) (r next : Reached) (a b d : Option (List ℕ)) (input rest : List ℕ)
+    (so_far : Carried given held r a b input rest) where
   lines_are : lines input ≡ so_far.done ++ lines (held ++ rest)
   lines_are = ap lines so_far.parts ∙ so_far.cut (held ++ rest)
 
@@ -170,56 +270,88 @@ module _ (given : Given) (held : List ℕ) (r next : Reached) (a b d : Option (L
       let count : length so_far.done ≤ n = omega (arith, le, so_far.count) in
       let more = take (n - length so_far.done) (lines (held ++ rest)) in
       let size : n ≡ length so_far.done + (n - length so_far.done) = omega arith in
-      let first : take n (lines input) ≡ so_far.done ++ more = ap (take n) lines_are ∙ ap (λ (i : ℕ). take i (so_far.done ++ lines (held ++ rest))) size ∙ take-append-add so_far.done (lines (held ++ rest)) (n - length so_far.done) in
-      let all : concat (take n (lines input)) ≡ so_far.octets ++ concat more = ap concat first ∙ concat-append so_far.done more ∙ ap (λ (t : List ℕ). t ++ concat more) so_far.joined in
+      let first : take n (lines input) ≡ so_far.done ++ more = ap (take n) lines_are
+      ∙ ap (λ (i : ℕ). take i (so_far.done ++ lines (held ++ rest))) size
+      ∙ take-append-add so_far.done (lines (held ++ rest)) (n - length so_far.done) in
+      let all : concat (take n (lines input)) ≡ so_far.octets ++ concat more = ap concat first
+      ∙ concat-append so_far.done more ∙ ap (λ (t : List ℕ). t ++ concat more) so_far.joined in
       omega (arith, ap length all, length-append so_far.octets (concat more))
 
   near : (n : ℕ) → r.lines ≤ n → length held ≤ 65536 → IsTakenNear n input rest
   near n le few =
-      omega (arith, octets_within n le, few, ap length so_far.parts, length-append so_far.octets (held ++ rest), length-append held rest)
+      omega (
+        arith,
+        octets_within n le,
+        few,
+        ap length so_far.parts,
+        length-append so_far.octets (held ++ rest),
+        length-append held rest,
+      )
 
   few_reported : (n : ℕ) → n ≤ r.lines → length (report_through given n input) ≤ length so_far.text
   few_reported n le =
       let count : n ≤ length so_far.done = omega (arith, le, so_far.count) in
-      let first : take n (lines input) ≡ take n so_far.done = ap (take n) lines_are ∙ take-append-le n so_far.done (lines (held ++ rest)) count in
+      let first : take n (lines input) ≡ take n so_far.done = ap (take n) lines_are
+      ∙ take-append-le n so_far.done (lines (held ++ rest)) count in
       let fewer = fewer_lines given nothing_reached (take n so_far.done) (drop n so_far.done) in
       let all : report_of given (take n so_far.done ++ drop n so_far.done) ≡ so_far.text ++ [] =
-      ap (report_of given) (take-append-drop n so_far.done ∙ sym (append-nil so_far.done)) ∙ ap (λ (s : Story). s.text) (so_far.goes [] ∙ ap (behind_text so_far.text) (no_lines given r)) in
-      omega (arith, fewer, ap length all, length-append {A = ℕ} so_far.text [], ap (λ (t : List (List ℕ)). length (report_of given t)) first)
+      ap (report_of given) (take-append-drop n so_far.done ∙ sym (append-nil so_far.done))
+      ∙ ap (λ (s : Story). s.text) (so_far.goes [] ∙ ap (behind_text so_far.text) (no_lines given r)) in
+      omega (
+        arith,
+        fewer,
+        ap length all,
+        length-append {A = ℕ} so_far.text [],
+        ap (λ (t : List (List ℕ)). length (report_of given t)) first,
+      )
 
-  near_fault : (more : List ℕ) → GainsFront b d more → length held ≤ 65536 → (n : ℕ) → LacksText a d (report_through given n input) → IsTakenNear n input rest
+  near_fault : {Short : Type 0} (more : List ℕ) → GainsFront b d more Short → length held ≤ 65536 → (n : ℕ)
+      → LacksText a d (report_through given n input) → IsTakenNear n input rest
   near_fault more f few n lacks = elim (leb_tells r.lines n) [
     | inl le ↦ near n le.1 few
-    | inr lt ↦ absurd (longer a b d so_far.text n (report_through given n input) more so_far.gained f (few_reported n (omega (arith, lt.1))) lacks)
+    | inr lt ↦ absurd (longer a b d so_far.text (report_through given n input) more so_far.gained f
+        (few_reported n (omega (arith, lt.1))) lacks)
   ]
 
-  front_so_far_is : (others : List (List ℕ)) → filter can_be_judged (lines held) ≡ others → GainsFront b d (story_from given r others).text → GainsFront a d (report_of given (lines_so_far (taken input rest)))
-  front_so_far_is others e f =
+  front_so_far_is : {Short : Type 0} (others : List (List ℕ)) → filter can_be_judged (lines held) ≡ others
+      → GainsFront b d (story_from given r others).text Short
+      → GainsFront a d (report_of given (lines_so_far (taken input rest))) Short
+  front_so_far_is {Short} others e f =
       let text : report_of given (lines_so_far (taken input rest)) ≡ so_far.text ++ (story_from given r others).text =
-      ap (report_of given) (so_far_is given held r a b input rest so_far ∙ ap (λ (t : List (List ℕ)). so_far.done ++ t) e) ∙ ap (λ (s : Story). s.text) (so_far.goes others) in
-      let P : List ℕ → Type 0 = λ t. GainsFront a d t in
+      ap (report_of given) (so_far_is given held r a b input rest so_far
+      ∙ ap (λ (t : List (List ℕ)). so_far.done ++ t) e) ∙ ap (λ (s : Story). s.text) (so_far.goes others) in
+      let P : List ℕ → Type 0 = λ t. GainsFront a d t Short in
       subst P (sym text) (front_behind a b d so_far.text (story_from given r others).text so_far.gained f)
 
 -- what was written is a front of what is reported of the lines that were taken
-front_taken : (given : Given) (a d : Option (List ℕ)) (input rest : List ℕ) → GainsFront a d (story_of given input).text → GainsFront a d (report_of given (lines_so_far (taken input rest))) → GainsFront a d (report_of given (lines_taken input rest))
+front_taken : {Short : Type 0} (given : Given) (a d : Option (List ℕ)) (input rest : List ℕ)
+    → GainsFront a d (story_of given input).text Short
+    → GainsFront a d (report_of given (lines_so_far (taken input rest))) Short
+    → GainsFront a d (report_of given (lines_taken input rest)) Short
 front_taken given a d input [] whole part = whole
 front_taken given a d input (o ∷ os) whole part = part
 
 -- the source failed
-pub ran_unread : (Last : Story → Type 0) (given : Given) (held : List ℕ) (r : Reached) (a b : Option (List ℕ)) (input rest : List ℕ) → Carried given held r a b input rest → LineIsBegun held → Ran given a b ReadFault Last input rest
+pub ran_unread : (Last : Story → Type 0) (given : Given) (held : List ℕ) (r : Reached) (a b : Option (List ℕ))
+    (input rest : List ℕ) → Carried given held r a b input rest → LineIsBegun held → Ran given a b ReadFault Last input rest
 ran_unread Last given held r a b input rest so_far begun =
     let story = story_is given held r a b input rest so_far in
-    let front : GainsFront a b (story_of given input).text =
-    front_so_far a b so_far.text (story_from given r (lines (held ++ rest))).text (story_of given input).text (ap (λ (s : Story). s.text) story) so_far.gained in
-    let lines_are_done : lines_so_far (taken input rest) ≡ so_far.done ++ [] = so_far_is given held r a b input rest so_far ∙ ap (λ (t : List (List ℕ)). so_far.done ++ t) (begun_judged held begun) in
+    let front : GainsFront a b (story_of given input).text (ReadFault ≡ WriteFault) =
+    front_so_far a b so_far.text (story_from given r (lines (held ++ rest))).text (story_of given input).text
+    (ap (λ (s : Story). s.text) story) (λ e. absurd cc) so_far.gained in
+    let lines_are_done : lines_so_far (taken input rest) ≡ so_far.done ++ [] =
+    so_far_is given held r a b input rest so_far ∙ ap (λ (t : List (List ℕ)). so_far.done ++ t)
+    (begun_judged held begun) in
     let text : report_of given (lines_so_far (taken input rest)) ≡ so_far.text =
-    ap (report_of given) lines_are_done ∙ ap (λ (s : Story). s.text) (so_far.goes [] ∙ ap (behind_text so_far.text) (no_lines given r)) ∙ append-nil so_far.text in
+    ap (report_of given) lines_are_done ∙ ap (λ (s : Story). s.text)
+    (so_far.goes [] ∙ ap (behind_text so_far.text) (no_lines given r)) ∙ append-nil so_far.text in
     let P : List ℕ → Type 0 = λ t. GainsText a b t in
     let exact : GainsText a b (report_of given (lines_so_far (taken input rest))) = subst P (sym text) so_far.gained in
     record {
-      tells = record { ending = λ told. absurd told; text = λ told. absurd told; front = front; lacks = λ e. absurd cc };
+      tells = record { ending = λ told. absurd told; text = λ told. absurd told; front = front };
       read_to_end = λ e. absurd cc;
-      front_of_taken = front_taken given a b input rest front (front_whole a b (report_of given (lines_so_far (taken input rest))) exact);
+      front_of_taken = front_taken given a b input rest front
+          (front_whole a b (report_of given (lines_so_far (taken input rest))) (λ e. cc) exact);
       near_line = λ line at. absurd at;
       near_fault = λ e. absurd cc;
       exact = λ e. exact;
@@ -227,7 +359,9 @@ ran_unread Last given held r a b input rest so_far begun =
     }
 
 -- the run stopped at a line
-module _ (given : Given) (held : List ℕ) (r next : Reached) (a b d : Option (List ℕ)) (input rest : List ℕ) (count : ℕ) (status : Status) (so_far : Carried given held r a b input rest) (h : HasLine count held) (few : length held ≤ 65536) (stops : Stops given r (take count held) b d status) where
+module _ (given : Given) (held : List ℕ) (r next : Reached) (a b d : Option (List ℕ)) (input rest : List ℕ) (count : ℕ)
+    (status : Status) (so_far : Carried given held r a b input rest) (h : HasLine count held)
+    (few : length held ≤ 65536) (stops : Stops given r (take count held) b d status) where
   never : (other : Status) → (IsStopping other → ⊥) → status ≡ other → ⊥
   never other not_so e = not_so (subst IsStopping e stops.stops)
 
@@ -236,75 +370,101 @@ module _ (given : Given) (held : List ℕ) (r next : Reached) (a b d : Option (L
       let line = take count held in
       let behind_line = lines (drop count held ++ rest) in
       let story : story_of given input ≡ behind_text so_far.text (story_from given r (line ∷ behind_line)) =
-      story_is given held r a b input rest so_far ∙ ap (behind_text so_far.text) (first_line_story given r held rest count h) in
+      story_is given held r a b input rest so_far ∙ ap (behind_text so_far.text)
+      (first_line_story given r held rest count h) in
       let Q : Story → Type 0 = λ s. StatusTells s a d status in
-      let tells = subst Q (sym story) (tells_behind (story_from given r (line ∷ behind_line)) a b d so_far.text status so_far.gained (stops.tells behind_line)) in
+      let tells = subst Q (sym story) (tells_behind (story_from given r (line ∷ behind_line)) a b d so_far.text status
+      so_far.gained (stops.tells behind_line)) in
       let first = first_judged held count h in
       let fronts = stops.tells first.others in
       record {
         tells = tells;
         read_to_end = λ e. absurd (never Done (λ x. x) e);
-        front_of_taken = front_taken given a d input rest tells.front (front_so_far_is given held r next a b d input rest so_far (line ∷ first.others) first.are fronts.front);
+        front_of_taken = front_taken given a d input rest tells.front
+            (front_so_far_is given held r next a b d input rest so_far (line ∷ first.others) first.are fronts.front);
         near_line = λ n at. near given held r next a b d input rest so_far n (omega (arith, stops.at n at)) few;
-        near_fault = λ e n lacks. near_fault given held r next a b d input rest so_far (story_from given r (line ∷ behind_line)).text (stops.tells behind_line).front few n lacks;
+        near_fault = falls_short given a d input rest (near_fault given held r next a b d input rest so_far
+            (story_from given r (line ∷ behind_line)).text (stops.tells behind_line).front few) tells.front;
         exact = λ e. absurd (never ReadFault (λ x. x) e);
         last = λ e. absurd (never Done (λ x. x) e);
       }
 
 -- the run came to the end of its input
-pub ran_finished : (given : Given) (held : List ℕ) (r next : Reached) (a b d : Option (List ℕ)) (input rest : List ℕ) (status : Status) → Carried given held r a b input rest → rest ≡ [] → length held ≤ 65536 → Finishes given r (lines held) next b d status → Ran given a d status (EndsIn next.state) input rest
+pub ran_finished : (given : Given) (held : List ℕ) (r next : Reached) (a b d : Option (List ℕ)) (input rest : List ℕ)
+    (status : Status) → Carried given held r a b input rest → rest ≡ [] → length held ≤ 65536
+    → Finishes given r (lines held) next b d status → Ran given a d status (EndsIn next.state) input rest
 ran_finished given held r next a b d input rest status so_far none few f =
     let story : story_of given input ≡ behind_text so_far.text (story_from given r (lines held)) =
-    story_is given held r a b input rest so_far ∙ ap (λ (t : List ℕ). behind_text so_far.text (story_from given r (lines t))) (ap (λ (t : List ℕ). held ++ t) none ∙ append-nil held) in
+    story_is given held r a b input rest so_far ∙ ap (λ (t : List ℕ). behind_text so_far.text (story_from given r (lines t)))
+    (ap (λ (t : List ℕ). held ++ t) none ∙ append-nil held) in
     let Q : Story → Type 0 = λ s. StatusTells s a d status in
-    let tells = subst Q (sym story) (tells_behind (story_from given r (lines held)) a b d so_far.text status so_far.gained f.tells) in
+    let tells = subst Q (sym story) (tells_behind (story_from given r (lines held)) a b d so_far.text status
+    so_far.gained f.tells) in
     record {
       tells = tells;
       read_to_end = λ e. none;
-      front_of_taken = subst (λ (t : List ℕ). GainsFront a d (report_of given (lines_taken input t))) (sym none) tells.front;
+      front_of_taken = subst (λ (t : List ℕ). GainsFront a d (report_of given (lines_taken input t))
+          (status ≡ WriteFault)) (sym none) tells.front;
       near_line = λ n at. near given held r next a b d input rest so_far n (omega (arith, f.at n at)) few;
-      near_fault = λ e n lacks. near_fault given held r next a b d input rest so_far (story_from given r (lines held)).text f.tells.front few n lacks;
+      near_fault = falls_short given a d input rest (near_fault given held r next a b d input rest so_far
+          (story_from given r (lines held)).text f.tells.front few) tells.front;
       exact = λ e. absurd (f.read e);
       last = λ e. let ends = f.last e in
-          record { keys = ap (λ (s : Story). s.keys) story ∙ ends.keys; world = ap (λ (s : Story). s.world) story ∙ ends.world };
+          record {
+            keys = ap (λ (s : Story). s.keys) story ∙ ends.keys;
+            world = ap (λ (s : Story). s.world) story ∙ ends.world;
+          };
     }
 
 -- ---- the last line
 
-pub finishes_none : (given : Given) (r : Reached) (a : Option (List ℕ)) (last : List ℕ) → last ≡ [] → Finishes given r (lines last) r a a Done
+pub finishes_none : (given : Given) (r : Reached) (a : Option (List ℕ)) (last : List ℕ) → last ≡ []
+    → Finishes given r (lines last) r a a Done
 unfolding lines
 finishes_none given r a last none =
     let F : List ℕ → Type 0 = λ t. Finishes given r (lines t) r a a Done in
     let ends = no_lines given r in
     let T : Story → Type 0 = λ s. StatusTells s a a Done in
     subst F (sym none) (record {
-      tells = subst T (sym ends) (record { ending = λ told. refl; text = λ told. nothing_gained a; front = front_whole a a [] (nothing_gained a); lacks = λ e. absurd cc });
+      tells = subst T (sym ends) (record {
+        ending = λ told. refl;
+        text = λ told. nothing_gained a;
+        front = front_whole a a [] (λ e. cc) (nothing_gained a);
+      });
       at = λ number at. absurd at;
       read = λ e. cc;
       last = λ e. record { keys = ap (λ (s : Story). s.keys) ends; world = ap (λ (s : Story). s.world) ends };
     })
 
-module _ (given : Given) (r next : Reached) (a b : Option (List ℕ)) (last : List ℕ) (some : last ≢ []) (begun : LineIsBegun last) where
+module _ (given : Given) (r next : Reached) (a b : Option (List ℕ)) (last : List ℕ) (some : last ≢ [])
+    (begun : LineIsBegun last) where
   one_line : lines last ≡ last ∷ []
   one_line = open_line last some begun.free
 
   pub finishes_line : Took given r last next a b → Finishes given r (lines last) next a b Done
   finishes_line took =
       let story : story_from given r (lines last) ≡ behind_text took.report (ended next.state [] ending.Done) =
-      ap (story_from given r) one_line ∙ goes_on given r last next a b took [] ∙ ap (behind_text took.report) (no_lines given next) in
+      ap (story_from given r) one_line ∙ goes_on given r last next a b took []
+      ∙ ap (behind_text took.report) (no_lines given next) in
       let all : took.report ≡ took.report ++ [] = sym (append-nil took.report) in
       let gained = subst (GainsText a b) all took.gained in
       let T : Story → Type 0 = λ s. StatusTells s a b Done in
       record {
-        tells = subst T (sym story) (record { ending = λ told. refl; text = λ told. gained; front = front_whole a b (took.report ++ []) gained; lacks = λ e. absurd cc });
+        tells = subst T (sym story) (record {
+          ending = λ told. refl;
+          text = λ told. gained;
+          front = front_whole a b (took.report ++ []) (λ e. cc) gained;
+        });
         at = λ number at. absurd at;
         read = λ e. cc;
         last = λ e. record { keys = ap (λ (s : Story). s.keys) story; world = ap (λ (s : Story). s.world) story };
       }
 
-  pub finishes_stopped : (status : Status) → Stops given r last a b status → Finishes given r (lines last) next a b status
+  pub finishes_stopped : (status : Status) → Stops given r last a b status
+      → Finishes given r (lines last) next a b status
   finishes_stopped status stops =
-      let never : (other : Status) → (IsStopping other → ⊥) → status ≡ other → ⊥ = λ other not_so e. not_so (subst IsStopping e stops.stops) in
+      let never : (other : Status) → (IsStopping other → ⊥) → status ≡ other
+      → ⊥ = λ other not_so e. not_so (subst IsStopping e stops.stops) in
       let T : List (List ℕ) → Type 0 = λ ls. StatusTells (story_from given r ls) a b status in
       record {
         tells = subst T (sym one_line) (stops.tells []);
@@ -315,41 +475,59 @@ module _ (given : Given) (r next : Reached) (a b : Option (List ℕ)) (last : Li
 
 -- ---- what is known
 
-known_map : (P Q : List ℕ → List ℕ → Type 0) → ((input rest : List ℕ) → P input rest → Q input rest) → (before now : Option (List ℕ)) → Known before now P → Known before now Q
+known_map : (P Q : List ℕ → List ℕ → Type 0) → ((input rest : List ℕ) → P input rest → Q input rest)
+    → (before now : Option (List ℕ)) → Known before now P → Known before now Q
 known_map P Q f None now h = tt
 known_map P Q f (Some input) None h = absurd h
 known_map P Q f (Some input) (Some rest) h = f input rest h
 
 module _ (given : Given) (a : Option (List ℕ)) where
-  pub known_read : (held held' : List ℕ) (r : Reached) (b before now now' : Option (List ℕ)) → Keeps (prepend_known held now) (prepend_known held' now') → Known before now (Carried given held r a b) → Known before now' (Carried given held' r a b)
+  pub known_read : (held held' : List ℕ) (r : Reached) (b before now now' : Option (List ℕ))
+      → Keeps (prepend_known held now) (prepend_known held' now') → Known before now (Carried given held r a b)
+      → Known before now' (Carried given held' r a b)
   known_read held held' r b None now now' k h = tt
   known_read held held' r b (Some input) None now' k h = absurd h
   known_read held held' r b (Some input) (Some rest) None k h = absurd k
-  known_read held held' r b (Some input) (Some rest) (Some rest') k h = carried_read given held r a b input rest h held' rest' k
+  known_read held held' r b (Some input) (Some rest) (Some rest') k h =
+      carried_read given held r a b input rest h held' rest' k
 
   module _ (held : List ℕ) (r next : Reached) (b d before now : Option (List ℕ)) (count : ℕ) where
-    pub known_line : HasLine count held → Took given r (take count held) next b d → Known before now (Carried given held r a b) → Known before now (Carried given (drop count held) next a d)
-    known_line h took = known_map (Carried given held r a b) (Carried given (drop count held) next a d) (λ input rest so_far. carried_line given held r next a b d input rest count so_far took h) before now
+    pub known_line : HasLine count held → Took given r (take count held) next b d
+        → Known before now (Carried given held r a b) → Known before now (Carried given (drop count held) next a d)
+    known_line h took = known_map (Carried given held r a b) (Carried given (drop count held) next a d)
+        (λ input rest so_far. carried_line given held r next a b d input rest count so_far took h) before now
 
-    pub known_stopped : (Last : Story → Type 0) (status : Status) → HasLine count held → length held ≤ 65536 → Stops given r (take count held) b d status → Known before now (Carried given held r a b) → Known before now (Ran given a d status Last)
-    known_stopped Last status h few stops = known_map (Carried given held r a b) (Ran given a d status Last) (λ input rest so_far. ran_stopped given held r next a b d input rest count status so_far h few stops Last) before now
+    pub known_stopped : (Last : Story → Type 0) (status : Status) → HasLine count held → length held ≤ 65536
+        → Stops given r (take count held) b d status → Known before now (Carried given held r a b)
+        → Known before now (Ran given a d status Last)
+    known_stopped Last status h few stops = known_map (Carried given held r a b) (Ran given a d status Last)
+        (λ input rest so_far. ran_stopped given held r next a b d input rest count status so_far h few stops Last)
+        before now
 
-  pub known_unread : (Last : Story → Type 0) (held : List ℕ) (r : Reached) (b before now : Option (List ℕ)) → LineIsBegun held → Known before now (Carried given held r a b) → Known before now (Ran given a b ReadFault Last)
-  known_unread Last held r b before now begun = known_map (Carried given held r a b) (Ran given a b ReadFault Last) (λ input rest so_far. ran_unread Last given held r a b input rest so_far begun) before now
+  pub known_unread : (Last : Story → Type 0) (held : List ℕ) (r : Reached) (b before now : Option (List ℕ))
+      → LineIsBegun held → Known before now (Carried given held r a b) → Known before now (Ran given a b ReadFault Last)
+  known_unread Last held r b before now begun = known_map (Carried given held r a b) (Ran given a b ReadFault Last)
+      (λ input rest so_far. ran_unread Last given held r a b input rest so_far begun) before now
 
-  pub known_finished : (held : List ℕ) (r next : Reached) (b d before now : Option (List ℕ)) (status : Status) → IsAtEnd now → length held ≤ 65536 → Finishes given r (lines held) next b d status → Known before now (Carried given held r a b) → Known before now (Ran given a d status (EndsIn next.state))
+  pub known_finished : (held : List ℕ) (r next : Reached) (b d before now : Option (List ℕ)) (status : Status)
+      → IsAtEnd now → length held ≤ 65536 → Finishes given r (lines held) next b d status
+      → Known before now (Carried given held r a b) → Known before now (Ran given a d status (EndsIn next.state))
   known_finished held r next b d None now status end few f h = tt
   known_finished held r next b d (Some input) None status end few f h = absurd h
-  known_finished held r next b d (Some input) (Some rest) status end few f h = ran_finished given held r next a b d input rest status h end few f
+  known_finished held r next b d (Some input) (Some rest) status end few f h =
+      ran_finished given held r next a b d input rest status h end few f
 
 -- what is said of the story's end may be said otherwise
-pub ran_as : (given : Given) (a b : Option (List ℕ)) (status : Status) (P Q : Story → Type 0) → (status ≡ Done → (s : Story) → P s → Q s) → (before now : Option (List ℕ)) → Known before now (Ran given a b status P) → Known before now (Ran given a b status Q)
-ran_as given a b status P Q f before now = known_map (Ran given a b status P) (Ran given a b status Q) (λ input rest ran. record {
-  tells = ran.tells;
-  read_to_end = ran.read_to_end;
-  front_of_taken = ran.front_of_taken;
-  near_line = ran.near_line;
-  near_fault = ran.near_fault;
-  exact = ran.exact;
-  last = λ e. f e (story_of given input) (ran.last e);
-}) before now
+pub ran_as : (given : Given) (a b : Option (List ℕ)) (status : Status) (P Q : Story → Type 0)
+    → (status ≡ Done → (s : Story) → P s → Q s) → (before now : Option (List ℕ))
+    → Known before now (Ran given a b status P) → Known before now (Ran given a b status Q)
+ran_as given a b status P Q f before now = known_map (Ran given a b status P) (Ran given a b status Q)
+    (λ input rest ran. record {
+      tells = ran.tells;
+      read_to_end = ran.read_to_end;
+      front_of_taken = ran.front_of_taken;
+      near_line = ran.near_line;
+      near_fault = ran.near_fault;
+      exact = ran.exact;
+      last = λ e. f e (story_of given input) (ran.last e);
+    }) before now

@@ -8,29 +8,31 @@ use Rattle.repo_top.specs.Generator.{next_state, generator_state, texts}
 use Rattle.repo_top.proofs.Outputs.{front_behind, front_longer, front_whole, nothing_gained}
 
 -- five texts that are written one after another, and the fronts that faults leave
-module _ (a b : Option (List ℕ)) (v w x y z : List ℕ) where
-  pub fourth_front : GainsFront a b (v ++ w ++ x ++ y) → GainsFront a b (v ++ w ++ x ++ y ++ z)
+module _ {Short : Type 0} (a b : Option (List ℕ)) (v w x y z : List ℕ) where
+  pub fourth_front : GainsFront a b (v ++ w ++ x ++ y) Short → GainsFront a b (v ++ w ++ x ++ y ++ z) Short
   fourth_front f = front_longer a b (v ++ w ++ x ++ y) z f
 
-  pub third_front : GainsFront a b (v ++ w ++ x) → GainsFront a b (v ++ w ++ x ++ y ++ z)
+  pub third_front : GainsFront a b (v ++ w ++ x) Short → GainsFront a b (v ++ w ++ x ++ y ++ z) Short
   third_front f = fourth_front (front_longer a b (v ++ w ++ x) y f)
 
-  pub second_front : GainsFront a b (v ++ w) → GainsFront a b (v ++ w ++ x ++ y ++ z)
+  pub second_front : GainsFront a b (v ++ w) Short → GainsFront a b (v ++ w ++ x ++ y ++ z) Short
   second_front f = third_front (front_longer a b (v ++ w) x f)
 
-  pub first_front : GainsFront a b v → GainsFront a b (v ++ w ++ x ++ y ++ z)
+  pub first_front : GainsFront a b v Short → GainsFront a b (v ++ w ++ x ++ y ++ z) Short
   first_front f = second_front (front_longer a b v w f)
 
 -- a front of fewer texts is one of more
-pub front_of_texts : (a b : Option (List ℕ)) (text : ℕ → List ℕ) (k n : ℕ) → k ≤ n → GainsFront a b (texts text k) → GainsFront a b (texts text n)
+pub front_of_texts : {Short : Type 0} (a b : Option (List ℕ)) (text : ℕ → List ℕ) (k n : ℕ) → k ≤ n
+    → GainsFront a b (texts text k) Short → GainsFront a b (texts text n) Short
 unfolding texts
-front_of_texts a b text k zero le f = let e : k ≡ zero = omega (arith, le) in subst (λ (i : ℕ). GainsFront a b (texts text i)) e f
-front_of_texts a b text k (suc n) le f =
+front_of_texts {Short} a b text k zero le f =
+    let e : k ≡ zero = omega (arith, le) in subst (λ (i : ℕ). GainsFront a b (texts text i) Short) e f
+front_of_texts {Short} a b text k (suc n) le f =
     elim (leb_tells k n) [
       | inl few ↦ front_longer a b (texts text n) (text (suc n)) (front_of_texts a b text k n few.1 f)
       | inr more ↦
           let e : k ≡ suc n = omega (arith, le, more.1) in
-          subst (λ (i : ℕ). GainsFront a b (texts text i)) e f
+          subst (λ (i : ℕ). GainsFront a b (texts text i) Short) e f
     ]
 
 module _ (text : ℕ → List ℕ) where
@@ -42,17 +44,21 @@ module _ (text : ℕ → List ℕ) where
   unfolding texts
   texts_more k = let e : k + 1 ≡ suc k = omega arith in rw e refl
 
-  pub one_text_more : (a b d : Option (List ℕ)) (k : ℕ) → GainsText a b (texts text k) → GainsText b d (text (k + 1)) → GainsText a d (texts text (k + 1))
+  pub one_text_more : (a b d : Option (List ℕ)) (k : ℕ) → GainsText a b (texts text k) → GainsText b d (text (k + 1))
+      → GainsText a d (texts text (k + 1))
   one_text_more a b d k p q =
       subst (GainsText a d) (sym (texts_more k)) (Appends-trans a b d (texts text k) (text (k + 1)) p q)
 
-  pub front_so_many : (a b : Option (List ℕ)) (k n : ℕ) → k ≤ n → GainsText a b (texts text k) → GainsFront a b (texts text n)
-  front_so_many a b k n le p = front_of_texts a b text k n le (front_whole a b (texts text k) p)
+  pub front_so_many : {Short : Type 0} (a b : Option (List ℕ)) (k n : ℕ) → k ≤ n → (Short → ⊥)
+      → GainsText a b (texts text k) → GainsFront a b (texts text n) Short
+  front_so_many a b k n le whole p = front_of_texts a b text k n le (front_whole a b (texts text k) whole p)
 
-  pub front_in_next : (a b d : Option (List ℕ)) (k n : ℕ) → k < n → GainsText a b (texts text k) → GainsFront b d (text (k + 1)) → GainsFront a d (texts text n)
-  front_in_next a b d k n lt p f =
+  pub front_in_next : {Short : Type 0} (a b d : Option (List ℕ)) (k n : ℕ) → k < n → GainsText a b (texts text k)
+      → GainsFront b d (text (k + 1)) Short → GainsFront a d (texts text n) Short
+  front_in_next {Short} a b d k n lt p f =
       let one = front_behind a b d (texts text k) (text (k + 1)) p f in
-      front_of_texts a d text (k + 1) n (omega (arith, lt)) (subst (GainsFront a d) (sym (texts_more k)) one)
+      front_of_texts a d text (k + 1) n (omega (arith, lt))
+      (subst (λ (t : List ℕ). GainsFront a d t Short) (sym (texts_more k)) one)
 
 pub state_more : (seed k : ℕ) → generator_state seed (k + 1) ≡ next_state (generator_state seed k)
 unfolding generator_state

@@ -1,5 +1,5 @@
 -- One line of a story at a time.
-use Rattle.std.proofs.Common.{◌≡◌, ◌≢◌, ℕ, ◌+◌, ◌-◌, ◌<◌, ◌≤◌, Bool, true, false, not, eqb, leb, List, [], ◌∷◌, ◌++◌, length, take, drop, get_or, Option, Some, None, Result, Ok, Err, refl, sym, ap, subst, ◌∙◌, append_assoc, length-append, arith, ◌⊎◌, inl, inr}
+use Rattle.std.proofs.Common.{◌≡◌, ◌≢◌, ℕ, ◌+◌, ◌-◌, ◌≤◌, true, false, not, eqb, leb, List, [], ◌∷◌, ◌++◌, length, take, drop, get_or, Option, Err, refl, sym, ap, ◌∙◌, append_assoc, length-append, arith, ◌⊎◌, inl, inr}
 use Rattle.std.proofs.lemmas.Bool.{and_right, both_ways, cases_Bool, lt-leb}
 use Rattle.std.proofs.lemmas.List.{append-nil, length-take, take-append-drop, take_all}
 use Rattle.std.proofs.lemmas.List.Folds.{list_any_at}
@@ -9,7 +9,7 @@ use Rattle.repo_top.specs.declared.ending.Ending.TheVariants.{Done, Refused}
 use Rattle.repo_top.specs.declared.refusal.Refusal.TheVariants.{Limit}
 use Rattle.repo_top.specs.declared.stop.Stop.{Stop}
 use Rattle.repo_top.specs.declared.stop.Stop.TheVariants as stop
-use Rattle.repo_top.specs.Judging.{Given, State, Verdict, judged, refused, says, foreign}
+use Rattle.repo_top.specs.Judging.{Given, Verdict, judged, refused}
 use Rattle.repo_top.specs.Progressing.{IsStop}
 use Rattle.repo_top.specs.Refusals.{refusal_text}
 use Rattle.repo_top.specs.Answers.{status_of}
@@ -30,12 +30,14 @@ module _ (given : Given) (r : Reached) where
   no_lines = refl
 
   module _ (line : List ℕ) where
-    story_line : (others : List (List ℕ)) → story_from given r (line ∷ others) ≡ story_of_line (λ next. story_from given next others) r line (judged_next given r line)
+    story_line : (others : List (List ℕ)) → story_from given r (line ∷ others)
+        ≡ story_of_line (λ next. story_from given next others) r line (judged_next given r line)
     unfolding story_from
     story_line others = refl
 
     -- a line that is taken
-    pub goes_on : (next : Reached) (old new : Option (List ℕ)) (t : Took given r line next old new) (others : List (List ℕ)) → story_from given r (line ∷ others) ≡ behind_text t.report (story_from given next others)
+    pub goes_on : (next : Reached) (old new : Option (List ℕ)) (t : Took given r line next old new)
+        (others : List (List ℕ)) → story_from given r (line ∷ others) ≡ behind_text t.report (story_from given next others)
     goes_on next old new t others =
         let tell : Verdict → Story = λ v. story_of_line (λ n. story_from given n others) r line v in
         let then : Reached → Story = λ n. behind_text t.report (story_from given n others) in
@@ -43,7 +45,8 @@ module _ (given : Given) (r : Reached) where
 
     -- a line at which the run stops
     pub stop_tells : (s : Stop) → IsStop (judged_next given r line) s → s ≢ stop.NoMemory → (others : List (List ℕ))
-        → ((story_from given r (line ∷ others)).text ≡ stop_text (r.lines + 1) s) × (status_of (story_from given r (line ∷ others)).ending ≡ stop_status (r.lines + 1) s)
+        → ((story_from given r (line ∷ others)).text ≡ stop_text (r.lines + 1) s)
+        × (status_of (story_from given r (line ∷ others)).ending ≡ stop_status (r.lines + 1) s)
     stop_tells (stop.Refused why) is some others =
         let tell : Verdict → Story = λ v. story_of_line (λ n. story_from given n others) r line v in
         let story = story_line others ∙ ap tell is in
@@ -54,8 +57,11 @@ module _ (given : Given) (r : Reached) where
         (ap (λ (t : Story). t.text) story, ap (λ (t : Story). status_of t.ending) story)
     stop_tells stop.NoMemory is some others = absurd (some refl)
 
-    pub refused_story : (why : Verdict) (others : List (List ℕ)) → judged_next given r line ≡ why → story_from given r (line ∷ others) ≡ story_of_line (λ n. story_from given n others) r line why
-    refused_story why others e = let tell : Verdict → Story = λ v. story_of_line (λ n. story_from given n others) r line v in story_line others ∙ ap tell e
+    pub refused_story : (why : Verdict) (others : List (List ℕ)) → judged_next given r line ≡ why
+        → story_from given r (line ∷ others) ≡ story_of_line (λ n. story_from given n others) r line why
+    refused_story why others e =
+        let tell : Verdict → Story = λ v. story_of_line (λ n. story_from given n others) r line v in
+        story_line others ∙ ap tell e
 
 -- ---- lines that are too long
 
@@ -64,21 +70,30 @@ not_ended : (octets : List ℕ) → has_feed octets ≡ false → ends_with 10 o
 not_ended [] free = refl
 not_ended (b ∷ bs) free = elim (cases_Bool (eqb (get_or (b ∷ bs) (length (b ∷ bs) - 1) 0) 10)) [
   | inr other ↦ and_right (not (eqb (length (b ∷ bs)) 0)) (eqb (get_or (b ∷ bs) (length (b ∷ bs) - 1) 0) 10) other
-  | inl feed ↦ absurd (both_ways (has_feed (b ∷ bs)) free (list_any_at (λ octet. eqb octet 10) (b ∷ bs) (length (b ∷ bs) - 1) 0 (omega arith) feed))
+  | inl feed ↦ absurd (both_ways (has_feed (b ∷ bs)) free
+      (list_any_at (λ octet. eqb octet 10) (b ∷ bs) (length (b ∷ bs) - 1) 0 (omega arith) feed))
 ]
 
-without_feed : (front rest : List ℕ) → has_feed front ≡ false → ends_with 10 (front ++ rest) ≡ true → length front ≤ length (without_last_octet (front ++ rest))
-without_feed front [] free ends = absurd (both_ways (ends_with 10 front) (not_ended front free) (ap (ends_with 10) (sym (append-nil front)) ∙ ends))
-without_feed front (b ∷ bs) free ends = omega (arith, length-take (length (front ++ b ∷ bs) - 1) (front ++ b ∷ bs), length-append front (b ∷ bs))
+without_feed : (front rest : List ℕ) → has_feed front ≡ false → ends_with 10 (front ++ rest) ≡ true
+    → length front ≤ length (without_last_octet (front ++ rest))
+without_feed front [] free ends = absurd (both_ways (ends_with 10 front) (not_ended front free)
+    (ap (ends_with 10) (sym (append-nil front)) ∙ ends))
+without_feed front (b ∷ bs) free ends = omega (
+  arith,
+  length-take (length (front ++ b ∷ bs) - 1) (front ++ b ∷ bs),
+  length-append front (b ∷ bs),
+)
 
 long_line_of : (front rest : List ℕ) → IsTooLong front → line_of (front ++ rest) ≡ Err line_fault.Limit
 long_line_of front rest long = elim (cases_Bool (ends_with 10 (front ++ rest))) [
   | inl ended_so ↦
       let more = without_feed front rest long.free ended_so in
-      let test : leb (length (without_last_octet (front ++ rest))) 32768 ≡ false = lt-leb (length (without_last_octet (front ++ rest))) 32768 (omega (arith, more, long.long)) in
+      let test : leb (length (without_last_octet (front ++ rest))) 32768 ≡ false =
+      lt-leb (length (without_last_octet (front ++ rest))) 32768 (omega (arith, more, long.long)) in
       rw (ended_so, test) refl
   | inr open_ ↦
-      let test : leb (length (front ++ rest)) 32768 ≡ false = lt-leb (length (front ++ rest)) 32768 (omega (arith, length-append front rest, long.long)) in
+      let test : leb (length (front ++ rest)) 32768 ≡ false =
+      lt-leb (length (front ++ rest)) 32768 (omega (arith, length-append front rest, long.long)) in
       rw (open_, test) refl
 ]
 
@@ -91,23 +106,32 @@ module _ (given : Given) (r : Reached) where
   ]
 
   -- such a line ends the story, whatever of it is known
-  long_story : (front rest : List ℕ) (others : List (List ℕ)) → IsTooLong front → story_from given r ((front ++ rest) ∷ others) ≡ ended r.state (refusal_text (r.lines + 1) Limit) (Refused (r.lines + 1) 4)
-  long_story front rest others long = refused_story given r (front ++ rest) (refused Limit) others (long_refused front rest long)
+  long_story : (front rest : List ℕ) (others : List (List ℕ)) → IsTooLong front
+      → story_from given r ((front ++ rest) ∷ others) ≡ ended r.state (refusal_text (r.lines + 1) Limit)
+      (Refused (r.lines + 1) 4)
+  long_story front rest others long = refused_story given r (front ++ rest) (refused Limit) others
+      (long_refused front rest long)
 
   not_nothing : (octets : List ℕ) → IsTooLong octets → octets ≢ []
   not_nothing octets long e = let none = ap length e in omega (arith, none, long.long)
 
   -- the story of octets begins with the line at their front
   pub first_line_story : (held rest : List ℕ) (count : ℕ) → HasLine count held
-      → story_from given r (lines (held ++ rest)) ≡ story_from given r (take count held ∷ lines (drop count held ++ rest))
+      → story_from given r (lines (held ++ rest)) ≡ story_from given r
+      (take count held ∷ lines (drop count held ++ rest))
   first_line_story held rest count h = by_line h.line where
     by_line : (IsWhole (take count held) ⊎ (IsTooLong held × (count ≡ length held)))
-        → story_from given r (lines (held ++ rest)) ≡ story_from given r (take count held ∷ lines (drop count held ++ rest))
+        → story_from given r (lines (held ++ rest)) ≡ story_from given r
+        (take count held ∷ lines (drop count held ++ rest))
     by_line (inl whole) =
-        let parts : held ++ rest ≡ take count held ++ (drop count held ++ rest) = ap (λ (t : List ℕ). t ++ rest) (sym (take-append-drop count held)) ∙ append_assoc (take count held) (drop count held) rest in
-        ap (λ (t : List ℕ). story_from given r (lines t)) parts ∙ ap (story_from given r) (whole_first (take count held) (drop count held ++ rest) whole)
+        let parts : held ++ rest ≡ take count held ++ (drop count held ++ rest) =
+        ap (λ (t : List ℕ). t ++ rest) (sym (take-append-drop count held))
+        ∙ append_assoc (take count held) (drop count held) rest in
+        ap (λ (t : List ℕ). story_from given r (lines t)) parts
+        ∙ ap (story_from given r) (whole_first (take count held) (drop count held ++ rest) whole)
     by_line (inr long) =
         let b = long_line held rest (not_nothing held long.0) long.0.free in
         let all : take count held ≡ held = take_all count held (omega (arith, long.1)) in
         ap (story_from given r) b.is ∙ long_story held b.rest b.others long.0
-        ∙ sym (rw all (ap (λ (t : List ℕ). story_from given r (t ∷ lines (drop count held ++ rest))) (sym (append-nil held)) ∙ long_story held [] (lines (drop count held ++ rest)) long.0))
+        ∙ sym (rw all (ap (λ (t : List ℕ). story_from given r (t ∷ lines (drop count held ++ rest)))
+        (sym (append-nil held)) ∙ long_story held [] (lines (drop count held ++ rest)) long.0))

@@ -18,7 +18,7 @@ use Rattle.repo_top.specs.Judging.{Given, State, says}
 use Rattle.repo_top.specs.Progressing.{IsProgress, progress_state, steps}
 use Rattle.repo_top.specs.Story.{Reached, Story, reached_behind, behind_text, judged_next, nothing_reached, story_from, story_of}
 use Rattle.repo_top.specs.Answers.{IsTold, status_of}
-use Rattle.repo_top.specs.Taken.{IsStoppedAt, IsTakenNear, LacksText, can_be_judged, lines_so_far, lines_taken, report_of, report_through, taken}
+use Rattle.repo_top.specs.Taken.{IsStoppedAt, IsTakenNear, FallsShortNear, can_be_judged, lines_so_far, lines_taken, report_of, taken}
 
 -- ---- a script so far
 
@@ -57,8 +57,7 @@ stop_text line stop.NoMemory = []
 pub record StatusTells (s : Story) (old new : Option (List ℕ)) (status : Status) : Type 0 where
   pub ending : IsTold status → status ≡ status_of s.ending
   pub text : IsTold status → GainsText old new s.text
-  pub front : GainsFront old new s.text
-  pub lacks : status ≡ WriteFault → IfSome old (λ _. LacksText old new s.text)
+  pub front : GainsFront old new s.text (status ≡ WriteFault)
 
 -- The statuses with which a run stops at a line.
 abbrev pub IsStopping : Status → Type 0
@@ -75,8 +74,7 @@ pub record Halts (line : ℕ) (why : Stop) (old new : Option (List ℕ)) (status
   pub stops : IsStopping status
   pub same : IsTold status → status ≡ stop_status line why
   pub text : IsTold status → GainsText old new (stop_text line why)
-  pub front : GainsFront old new (stop_text line why)
-  pub lacks : status ≡ WriteFault → IfSome old (λ _. LacksText old new (stop_text line why))
+  pub front : GainsFront old new (stop_text line why) (status ≡ WriteFault)
 
 -- A run stopped at a line, whatever lines follow it.
 pub record Stops (given : Given) (r : Reached) (line : List ℕ) (old new : Option (List ℕ))
@@ -136,9 +134,8 @@ pub record Ran (given : Given) (old new : Option (List ℕ)) (status : Status) (
     (input rest : List ℕ) : Type 0 where
   pub tells : StatusTells (story_of given input) old new status
   pub read_to_end : status ≡ Done → rest ≡ []
-  pub front_of_taken : GainsFront old new (report_of given (lines_taken input rest))
+  pub front_of_taken : GainsFront old new (report_of given (lines_taken input rest)) (status ≡ WriteFault)
   pub near_line : (line : ℕ) → IsStoppedAt status line → IsTakenNear line input rest
-  pub near_fault : status ≡ WriteFault → (line : ℕ)
-      → LacksText old new (report_through given line input) → IsTakenNear line input rest
+  pub near_fault : status ≡ WriteFault → IfSome old (λ _. FallsShortNear given old new input rest)
   pub exact : status ≡ ReadFault → GainsText old new (report_of given (lines_so_far (taken input rest)))
   pub last : status ≡ Done → Last (story_of given input)

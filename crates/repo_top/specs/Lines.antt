@@ -8,8 +8,8 @@ octet_in_front octet true others = (octet ∷ []) ∷ others
 octet_in_front octet false [] = (octet ∷ []) ∷ []
 octet_in_front octet false (line ∷ others) = (octet ∷ line) ∷ others
 
--- The lines of an input, each with the line feed that ends it. What stands behind the last line feed is a line too, unless
--- nothing does.
+-- The lines of an input, each with the line feed that ends it. What stands behind the last line feed is a line too,
+-- unless nothing does.
 unfoldable pub lines : List ℕ → List (List ℕ)
 lines [] = []
 lines (octet ∷ octets) = octet_in_front octet (octet == 10) (lines octets)

@@ -1,5 +1,5 @@
 -- What a script comes to: the text of its report, its end, and the group behind its last line.
-use Rattle.std.specs.Prelude.{◌≡◌, ℕ, ◌+◌, Bool, ◌&&◌, List, [], ◌∷◌, ◌++◌, length, Option, Some, None, nat_lt, nat_le, if◌then◌else◌}
+use Rattle.std.specs.Prelude.{◌≡◌, ℕ, ◌+◌, Bool, ◌&&◌, List, [], ◌∷◌, ◌++◌, length, Option, None, nat_lt, nat_le, if◌then◌else◌}
 use Rattle.script_lang.specs.Limits.{script_lines, script_octets}
 use Rattle.script_report.specs.Limits.{report_octets}
 use Rattle.script_report.specs.Texts.{foreign_text}
@@ -55,8 +55,8 @@ judged_next given r line =
 
 -- ---- the whole
 
--- The text of a report, how the script ends, and behind the last line that was taken the names and keys of the group, and
--- its world once there was an event.
+-- The text of a report, how the script ends, and behind the last line that was taken the names and keys of the group,
+-- and its world once there was an event.
 pub record Story : Type 0 where
   pub text : List ℕ
   pub ending : Ending

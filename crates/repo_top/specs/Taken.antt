@@ -52,6 +52,14 @@ end_of_line line input = length (concat (take line (lines input)))
 abbrev pub IsTakenNear : ℕ → List ℕ → List ℕ → Type 0
 IsTakenNear line input rest = length input ≤ length rest + (end_of_line line input + 65536)
 
+-- A report has a first octet that an output lacks. It is of the line behind so many, whose own reports are all there,
+-- and at most 65,536 octets past the end of that line were taken.
+pub record FallsShortNear (given : Given) (old new : Option (List ℕ)) (input rest : List ℕ) : Type 0 where
+  pub before : ℕ
+  pub there : LacksText old new (report_through given before input) → ⊥
+  pub lacks : LacksText old new (report_through given (before + 1) input)
+  pub near : IsTakenNear (before + 1) input rest
+
 -- The line is refused or foreign.
 abbrev pub IsStoppedAt : Status → ℕ → Type 0
 IsStoppedAt Done line = ⊥

@@ -48,7 +48,8 @@ pub(crate) fn write_script<K: Sink>(
 ) -> Result<(), Unwritten>
     requires { 0 < measures.members }
     ensures whole { OnOk result (GainsText (K.out sink.old) (K.out sink.new) (gen_text measures)) }
-    ensures front { GainsFront (K.out sink.old) (K.out sink.new) (gen_text measures) }
+    ensures front { GainsFront (K.out sink.old) (K.out sink.new) (gen_text measures)
+        (result ≡ Err Failed) }
     ensures risen { result ≡ Err Failed → HasRisen (K.faults sink.old) (K.faults sink.new) }
 {
     let mut line = String::new(alloc);
@@ -62,7 +63,8 @@ pub(crate) fn write_script<K: Sink>(
 
 fn write_members<K: Sink>(sink: &mut K, line: &mut String, members: u64) -> Result<(), Unwritten>
     ensures whole { OnOk result (GainsText (K.out sink.old) (K.out sink.new) (texts member_text members)) }
-    ensures front { GainsFront (K.out sink.old) (K.out sink.new) (texts member_text members) }
+    ensures front { GainsFront (K.out sink.old) (K.out sink.new) (texts member_text members)
+        (result ≡ Err Failed) }
     ensures risen { result ≡ Err Failed → HasRisen (K.faults sink.old) (K.faults sink.new) }
     ensures faults { K.faults sink.old ≤ K.faults sink.new }
 {
@@ -82,7 +84,7 @@ fn write_objects<K: Sink>(
     ensures whole { OnOk result (GainsText (K.out sink.old) (K.out sink.new)
         (texts (object_text measures.members measures.seed) measures.objects)) }
     ensures front { GainsFront (K.out sink.old) (K.out sink.new)
-        (texts (object_text measures.members measures.seed) measures.objects) }
+        (texts (object_text measures.members measures.seed) measures.objects) (result ≡ Err Failed) }
     ensures risen { result ≡ Err Failed → HasRisen (K.faults sink.old) (K.faults sink.new) }
     ensures faults { K.faults sink.old ≤ K.faults sink.new }
 {
@@ -113,7 +115,7 @@ fn write_object<K: Sink>(
     ensures whole { OnOk result (GainsText (K.out sink.old) (K.out sink.new)
         (publish_line members object draw ++ turns_text members object)) }
     ensures front { GainsFront (K.out sink.old) (K.out sink.new)
-        (publish_line members object draw ++ turns_text members object) }
+        (publish_line members object draw ++ turns_text members object) (result ≡ Err Failed) }
     ensures risen { result ≡ Err Failed → HasRisen (K.faults sink.old) (K.faults sink.new) }
     ensures faults { K.faults sink.old ≤ K.faults sink.new }
 {
@@ -129,7 +131,8 @@ fn write_turns<K: Sink>(
     object: u64,
 ) -> Result<(), Unwritten>
     ensures whole { OnOk result (GainsText (K.out sink.old) (K.out sink.new) (turns_text members object)) }
-    ensures front { GainsFront (K.out sink.old) (K.out sink.new) (turns_text members object) }
+    ensures front { GainsFront (K.out sink.old) (K.out sink.new) (turns_text members object)
+        (result ≡ Err Failed) }
     ensures risen { result ≡ Err Failed → HasRisen (K.faults sink.old) (K.faults sink.new) }
     ensures faults { K.faults sink.old ≤ K.faults sink.new }
 {
@@ -149,7 +152,8 @@ fn write_turn<K: Sink>(
     member: u64,
 ) -> Result<(), Unwritten>
     ensures whole { OnOk result (GainsText (K.out sink.old) (K.out sink.new) (turn_text object member)) }
-    ensures front { GainsFront (K.out sink.old) (K.out sink.new) (turn_text object member) }
+    ensures front { GainsFront (K.out sink.old) (K.out sink.new) (turn_text object member)
+        (result ≡ Err Failed) }
     ensures risen { result ≡ Err Failed → HasRisen (K.faults sink.old) (K.faults sink.new) }
     ensures faults { K.faults sink.old ≤ K.faults sink.new }
 {
@@ -159,10 +163,10 @@ fn write_turn<K: Sink>(
     write_line(sink, line)
 }
 
-#[tactic(auto, using(crate::proofs::Outputs::front_taken))]
 fn write_line<K: Sink>(sink: &mut K, line: &str) -> Result<(), Unwritten>
     ensures whole { OnOk result (GainsText (K.out sink.old) (K.out sink.new) line.now) }
-    ensures front { GainsFront (K.out sink.old) (K.out sink.new) line.now }
+    ensures front { GainsFront (K.out sink.old) (K.out sink.new) line.now
+        (result ≡ Err Failed) }
     ensures risen { result ≡ Err Failed → HasRisen (K.faults sink.old) (K.faults sink.new) }
     ensures faults { K.faults sink.old ≤ K.faults sink.new }
 {

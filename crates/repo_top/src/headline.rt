@@ -5,8 +5,8 @@ ghost use Rattle.repo_top.specs.Lines.{lines};
 ghost use Rattle.repo_top.specs.Story.{nothing_reached, story_of};
 
 /// The story of an input is told by its lines: the first of them are taken one after the other, their reports are its
-/// text, and the next line, if there is one, is refused or foreign. Each line that is taken has its report at its place.
-/// However the script goes on behind lines that are taken, its story begins with their reports.
+/// text, and the next line, if there is one, is refused or foreign. Each line that is taken has its report at its
+/// place. However the script goes on behind lines that are taken, its story begins with their reports.
 pub fn stories_are_their_lines()
     ensures told { (given : Given) (input : List ℕ)
         → IsToldBy given nothing_reached (lines input) (story_of given input) }

@@ -46,8 +46,8 @@ impl Script {
         }
     }
 
-    // Carries out the next line, its line feed with it, and writes its report. Where the run stops at the line, what says
-    // so is written instead.
+    // Carries out the next line, its line feed with it, and writes its report. Where the run stops at the line, what
+    // says so is written instead.
     pub(crate) fn carry_out<R: Threads + Sync, K: Sink, N: Net + Sync, D: Draws>(
         &mut self,
         rt: &R,

@@ -7,7 +7,7 @@ ghost use Rattle.repo_top.specs.Generator.{gen_text};
 ghost use Rattle.repo_top.specs.Inspection.{inspect_story};
 ghost use Rattle.repo_top.specs.Judging.{given_by};
 ghost use Rattle.repo_top.specs.Outside.{GainsText, GainsFront, HasRisen};
-ghost use Rattle.repo_top.specs.Taken.{IsStoppedAt, IsTakenNear, LacksText, lines_so_far, lines_taken, report_of, report_through, taken};
+ghost use Rattle.repo_top.specs.Taken.{FallsShortNear, IsStoppedAt, IsTakenNear, lines_so_far, lines_taken, report_of, taken};
 
 use crate::asked::{Asked, asked_of};
 use crate::generator::{Measures, Unwritten, write_script};
@@ -25,9 +25,9 @@ use std::alloc::Global;
 use std::thread::Threads;
 
 /// Does what the words ask for. `run` carries out the script of the source line by line: it holds at most 65,536 octets
-/// that it has read and not carried out, and writes the report of a line before it carries out the next. `inspect` reads
-/// hexadecimal digits to their end, and writes the lines of the elements that their octets are. `gen` with how many members
-/// and objects there are and a seed writes a script line by line.
+/// that it has read and not carried out, and writes the report of a line before it carries out the next. `inspect`
+/// reads hexadecimal digits to their end, and writes the lines of the elements that their octets are. `gen` with how
+/// many members and objects there are and a seed writes a script line by line.
 ///
 /// `end` is left with the last world of a script that is done and has an event.
 pub fn run<R: Threads + Sync, S: Source, K: Sink, N: Net + Sync, D: Draws>(
@@ -46,8 +46,8 @@ pub fn run<R: Threads + Sync, S: Source, K: Sink, N: Net + Sync, D: Draws>(
     ensures usage { (result ≡ Status.Usage) ↔ (asked_of (map string_bytes words.now) ≡ None) }
     ensures untouched { result ≡ Status.Usage → (source.new ≡ source.old) × (sink.new ≡ sink.old) }
 
-    // On `Done`, `Refused` and `Foreign` the status is the end of the story that the words ask for, and what was written is
-    // its text.
+    // On `Done`, `Refused` and `Foreign` the status is the end of the story that the words ask for, and what was
+    // written is its text.
     ensures end { IsTold result
         → IfSome (asked_story (given_by (D.draw draws.now) (N.passes net.now))
         (asked_of (map string_bytes words.now)) (S.left source.old))
@@ -76,7 +76,8 @@ pub fn run<R: Threads + Sync, S: Source, K: Sink, N: Net + Sync, D: Draws>(
     ensures generated { IsGenerated (asked_of (map string_bytes words.now))
         → (result ≡ Status.Done) ⊎ ((result ≡ Status.NoMemory) ⊎ (result ≡ Status.WriteFault)) }
 
-    // The other answers have their causes; want of memory may come at any time.
+    // The other answers have their causes; want of memory may come at any time. Whatever comes, what was written is a
+    // front of the story's text, and after `WriteFault` not the whole of it.
     ensures read_fault { result ≡ Status.ReadFault
         → HasRisen (S.faults source.old) (S.faults source.new) }
     ensures write_fault { result ≡ Status.WriteFault
@@ -85,7 +86,7 @@ pub fn run<R: Threads + Sync, S: Source, K: Sink, N: Net + Sync, D: Draws>(
         → IsRun (asked_of (map string_bytes words.now)) }
     ensures front { IfSome (asked_story (given_by (D.draw draws.now) (N.passes net.now))
         (asked_of (map string_bytes words.now)) (S.left source.old))
-        (λ story. GainsFront (K.out sink.old) (K.out sink.new) story.text) }
+        (λ story. GainsFront (K.out sink.old) (K.out sink.new) story.text (result ≡ Status.WriteFault)) }
     ensures unwritten { IsInspected (asked_of (map string_bytes words.now))
         → result ≡ Status.ReadFault → sink.new ≡ sink.old }
     ensures complete { ¬ HasRisen (S.faults source.old) (S.faults source.new)
@@ -94,26 +95,26 @@ pub fn run<R: Threads + Sync, S: Source, K: Sink, N: Net + Sync, D: Draws>(
         (asked_of (map string_bytes words.now)) (S.left source.old))
         (λ story. (result ≡ status_of story.ending) ⊎ (result ≡ Status.NoMemory)) }
 
-    // A script is carried out line by line. Whatever comes, what was written is a front of what is reported of the lines
-    // that were taken whole, and after `ReadFault` it is all of that.
+    // A script is carried out line by line. Whatever comes, what was written is a front of what is reported of the
+    // lines that were taken whole: after `ReadFault` it is all of that, and after `WriteFault` it is not.
     ensures front_of_taken { IsRun (asked_of (map string_bytes words.now)) → IfSome (S.left source.old)
         (λ input. IfSome (S.left source.new) (λ rest. GainsFront (K.out sink.old) (K.out sink.new)
-        (report_of (given_by (D.draw draws.now) (N.passes net.now)) (lines_taken input rest)))) }
+        (report_of (given_by (D.draw draws.now) (N.passes net.now)) (lines_taken input rest))
+        (result ≡ Status.WriteFault))) }
     ensures exact_after_read_fault { IsRun (asked_of (map string_bytes words.now))
         → result ≡ Status.ReadFault → IfSome (S.left source.old)
         (λ input. IfSome (S.left source.new) (λ rest. GainsText (K.out sink.old) (K.out sink.new)
         (report_of (given_by (D.draw draws.now) (N.passes net.now)) (lines_so_far (taken input rest))))) }
 
-    // At most 65,536 octets are taken past the end of the line that is refused or foreign, and after `WriteFault` past the
-    // end of each line up to which the report has more octets than were written.
+    // At most 65,536 octets are taken past the end of the line that is refused or foreign, and after `WriteFault` past
+    // the end of the line of whose report the first octet is that was not written.
     ensures bounded_after_refusal { IsRun (asked_of (map string_bytes words.now)) → (line : ℕ)
         → IsStoppedAt result line → IfSome (S.left source.old) (λ input. IfSome (S.left source.new)
         (λ rest. IsTakenNear line input rest)) }
     ensures bounded_after_write_fault { IsRun (asked_of (map string_bytes words.now))
         → result ≡ Status.WriteFault → IfSome (S.left source.old) (λ input. IfSome (S.left source.new)
-        (λ rest. (line : ℕ) → LacksText (K.out sink.old) (K.out sink.new)
-        (report_through (given_by (D.draw draws.now) (N.passes net.now)) line input)
-        → IsTakenNear line input rest)) }
+        (λ rest. IfSome (K.out sink.old) (λ _. FallsShortNear (given_by (D.draw draws.now) (N.passes net.now))
+        (K.out sink.old) (K.out sink.new) input rest))) }
 {
     match asked_of(words) {
         Some(Asked::Run) => run_script(rt, alloc, source, sink, net, draws, end),
@@ -130,7 +131,8 @@ fn generate<K: Sink>(measures: Measures, alloc: Global, sink: &mut K) -> Status
     ensures text { result ≡ Status.Done → GainsText (K.out sink.old) (K.out sink.new) (gen_text measures) }
     ensures write_fault { result ≡ Status.WriteFault
         → HasRisen (K.faults sink.old) (K.faults sink.new) }
-    ensures front { GainsFront (K.out sink.old) (K.out sink.new) (gen_text measures) }
+    ensures front { GainsFront (K.out sink.old) (K.out sink.new) (gen_text measures)
+        (result ≡ Status.WriteFault) }
 {
     match write_script(alloc, sink, measures) {
         Ok(()) => Status::Done,
@@ -155,7 +157,7 @@ fn inspect<S: Source, K: Sink>(alloc: Global, source: &mut S, sink: &mut K) -> S
     ensures never_foreign { (line : ℕ) → result ≢ Status.Foreign line }
     ensures never_usage { result ≢ Status.Usage }
     ensures front { IfSome (option_map inspect_story (S.left source.old))
-        (λ story. GainsFront (K.out sink.old) (K.out sink.new) story.text) }
+        (λ story. GainsFront (K.out sink.old) (K.out sink.new) story.text (result ≡ Status.WriteFault)) }
     ensures complete { ¬ HasRisen (S.faults source.old) (S.faults source.new)
         → ¬ HasRisen (K.faults sink.old) (K.faults sink.new)
         → IfSome (option_map inspect_story (S.left source.old))
@@ -171,7 +173,6 @@ fn inspect<S: Source, K: Sink>(alloc: Global, source: &mut S, sink: &mut K) -> S
 }
 
 // Inspects the input, and writes the text of that.
-#[tactic(auto, using(crate::proofs::Outputs::front_taken))]
 fn write_inspection<K: Sink>(alloc: Global, input: Vec<u8>, sink: &mut K) -> Status
     ensures ends { (result ≡ status_of (inspect_story input.items).ending)
         ⊎ ((result ≡ Status.NoMemory) ⊎ (result ≡ Status.WriteFault)) }
@@ -180,7 +181,8 @@ fn write_inspection<K: Sink>(alloc: Global, input: Vec<u8>, sink: &mut K) -> Sta
     ensures write_fault { result ≡ Status.WriteFault
         → HasRisen (K.faults sink.old) (K.faults sink.new) }
     ensures never_foreign { (line : ℕ) → result ≢ Status.Foreign line }
-    ensures front { GainsFront (K.out sink.old) (K.out sink.new) (inspect_story input.items).text }
+    ensures front { GainsFront (K.out sink.old) (K.out sink.new) (inspect_story input.items).text
+        (result ≡ Status.WriteFault) }
 {
     let Ok(told) = tell_inspection(alloc, input) else {
         return Status::NoMemory;

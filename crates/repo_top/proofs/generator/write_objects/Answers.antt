@@ -1,6 +1,8 @@
-use Rattle.std.proofs.Common.{◌≡◌, ◌∙◌, ℕ, ◌+◌, ◌++◌, refl, sym, ap, subst, arith}
+use Rattle.std.proofs.Common.{rules, ◌≡◌, ◌∙◌, ℕ, Err, ◌+◌, ◌++◌, refl, sym, ap, subst, arith}
 use Rattle.repo_top.specs.Outside.{GainsText, GainsFront}
-use Rattle.repo_top.specs.Generator.{drawn, next_state, object_text, publish_line, generator_state, turns_text}
+use Rattle.repo_top.specs.declared.generator.Unwritten.TheVariants.{Failed}
+use Rattle.repo_top.specs.Generator.{drawn, next_state, object_text, publish_line, generator_state, texts, turns_text}
+use Rattle.repo_top.proofs.Outputs.{front_as}
 use Rattle.repo_top.proofs.Scripts.{front_in_next, no_texts, one_text_more, state_more}
 use Rattle.repo_top.proofs.generator.write_objects.Goals as goal
 
@@ -22,9 +24,11 @@ returns-in_err-write_object-clause-front g c =
     let same : c.next_state-state.result ≡ generator_state seed (k + 1) =
     c.next_state-state.ensures ∙ ap next_state c.loop-before.invariant.state ∙ sym (state_more seed k) in
     let object : ℕ → Type 0 = λ s. GainsFront before behind
-    (publish_line members (k + 1) (drawn s) ++ turns_text members (k + 1)) in
-    front_in_next (object_text members seed) (g.K.Sink.out c.args.sink.now) before behind k c.args.measures.objects
-    c.loop-before-test.true c.loop-before.invariant.so_far (subst object same c.write_object.ensures.front)
+    (publish_line members (k + 1) (drawn s) ++ turns_text members (k + 1)) (c.write_object.result ≡ Err Failed) in
+    front_as (g.K.Sink.out c.args.sink.now) behind (texts (object_text members seed) c.args.measures.objects)
+    (λ e. search rules) (front_in_next (object_text members seed) (g.K.Sink.out c.args.sink.now) before behind k
+    c.args.measures.objects c.loop-before-test.true c.loop-before.invariant.so_far
+    (subst object same c.write_object.ensures.front))
 
 pub loop-before-preserved : goal.loop-before-preserved
 loop-before-preserved g c =

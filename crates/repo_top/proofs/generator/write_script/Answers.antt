@@ -1,7 +1,7 @@
-use Rattle.std.proofs.Common.{◌++◌, codes}
+use Rattle.std.proofs.Common.{rules, ◌++◌, codes}
 use Rattle.std.proofs.KnownBytes.{Appends-trans}
 use Rattle.repo_top.specs.Generator.{gen_text, member_text, object_text, texts}
-use Rattle.repo_top.proofs.Outputs.{front_behind}
+use Rattle.repo_top.proofs.Outputs.{front_as, front_behind, front_whole}
 use Rattle.repo_top.proofs.Scripts.{first_front, fourth_front, second_front, third_front}
 use Rattle.repo_top.proofs.generator.write_script.Goals as goal
 
@@ -14,7 +14,9 @@ returns-in_err-write_line-clause-front g c =
     let first = codes "group /g\n" in
     let fourth = codes "settle 4\n" in
     let fifth = codes "summary\n" in
-    first_front a (g.K.Sink.out c.write_line.new.sink) first members objects fourth fifth c.write_line.ensures.front
+    let b = g.K.Sink.out c.write_line.new.sink in
+    front_as a b (gen_text c.args.measures) (λ e. search rules)
+    (first_front a b first members objects fourth fifth c.write_line.ensures.front)
 
 pub returns-in_err-write_members-clause-front : goal.returns-in_err-write_members-clause-front
 unfolding gen_text
@@ -27,8 +29,8 @@ returns-in_err-write_members-clause-front g c =
     let fifth = codes "summary\n" in
     let b = g.K.Sink.out c.write_line.new.sink in
     let d = g.K.Sink.out c.write_members.new.sink in
-    second_front a d first members objects fourth fifth
-    (front_behind a b d first members c.in_ok-write_line.ensures.whole c.write_members.ensures.front)
+    front_as a d (gen_text c.args.measures) (λ e. search rules) (second_front a d first members objects fourth fifth
+    (front_behind a b d first members c.in_ok-write_line.ensures.whole c.write_members.ensures.front))
 
 pub returns-in_err-write_objects-clause-front : goal.returns-in_err-write_objects-clause-front
 unfolding gen_text
@@ -43,8 +45,8 @@ returns-in_err-write_objects-clause-front g c =
     let d = g.K.Sink.out c.write_members.new.sink in
     let two = Appends-trans a b d first members c.in_ok-write_line.ensures.whole c.in_ok-write_members.ensures.whole in
     let e = g.K.Sink.out c.write_objects.new.sink in
-    third_front a e first members objects fourth fifth
-    (front_behind a d e (first ++ members) objects two c.write_objects.ensures.front)
+    front_as a e (gen_text c.args.measures) (λ e. search rules) (third_front a e first members objects fourth fifth
+    (front_behind a d e (first ++ members) objects two c.write_objects.ensures.front))
 
 pub returns-in_err-write_line-2-clause-front : goal.returns-in_err-write_line-2-clause-front
 unfolding gen_text
@@ -61,8 +63,8 @@ returns-in_err-write_line-2-clause-front g c =
     let e = g.K.Sink.out c.write_objects.new.sink in
     let three = Appends-trans a d e (first ++ members) objects two c.in_ok-write_objects.ensures.whole in
     let f = g.K.Sink.out c.write_line-2.new.sink in
-    fourth_front a f first members objects fourth fifth
-    (front_behind a e f (first ++ members ++ objects) fourth three c.write_line-2.ensures.front)
+    front_as a f (gen_text c.args.measures) (λ e. search rules) (fourth_front a f first members objects fourth fifth
+    (front_behind a e f (first ++ members ++ objects) fourth three c.write_line-2.ensures.front))
 
 pub returns-in_err-write_line-3-clause-front : goal.returns-in_err-write_line-3-clause-front
 unfolding gen_text
@@ -81,7 +83,8 @@ returns-in_err-write_line-3-clause-front g c =
     let f = g.K.Sink.out c.write_line-2.new.sink in
     let four = Appends-trans a e f (first ++ members ++ objects) fourth three c.in_ok-write_line-2.ensures.whole in
     let h = g.K.Sink.out c.write_line-3.new.sink in
-    front_behind a f h (first ++ members ++ objects ++ fourth) fifth four c.write_line-3.ensures.front
+    front_as a h (gen_text c.args.measures) (λ e. search rules)
+    (front_behind a f h (first ++ members ++ objects ++ fourth) fifth four c.write_line-3.ensures.front)
 
 pub returns-clause-whole : goal.returns-clause-whole
 unfolding gen_text
@@ -103,20 +106,6 @@ returns-clause-whole g c =
     Appends-trans a f h (first ++ members ++ objects ++ fourth) fifth four c.in_ok-write_line-3.ensures.whole
 
 pub returns-clause-front : goal.returns-clause-front
-unfolding gen_text
 returns-clause-front g c =
-    let a = g.K.Sink.out c.args.sink.now in
-    let members = texts member_text c.args.measures.members in
-    let objects = texts (object_text c.args.measures.members c.args.measures.seed) c.args.measures.objects in
-    let first = codes "group /g\n" in
-    let fourth = codes "settle 4\n" in
-    let fifth = codes "summary\n" in
-    let b = g.K.Sink.out c.write_line.new.sink in
-    let d = g.K.Sink.out c.write_members.new.sink in
-    let two = Appends-trans a b d first members c.in_ok-write_line.ensures.whole c.in_ok-write_members.ensures.whole in
-    let e = g.K.Sink.out c.write_objects.new.sink in
-    let three = Appends-trans a d e (first ++ members) objects two c.in_ok-write_objects.ensures.whole in
-    let f = g.K.Sink.out c.write_line-2.new.sink in
-    let four = Appends-trans a e f (first ++ members ++ objects) fourth three c.in_ok-write_line-2.ensures.whole in
-    let h = g.K.Sink.out c.write_line-3.new.sink in
-    front_behind a f h (first ++ members ++ objects ++ fourth) fifth four c.write_line-3.ensures.front
+    front_whole (g.K.Sink.out c.args.sink.now) (g.K.Sink.out c.write_line-3.new.sink) (gen_text c.args.measures)
+    (λ e. search rules) (returns-clause-whole g c)

@@ -1,8 +1,19 @@
-use Rattle.std.proofs.Common.{◌∙◌, subst}
+use Rattle.std.proofs.Common.{rules, ◌≡◌, ◌++◌, ℕ, List, Err, ◌∙◌, subst}
+use Rattle.repo_top.specs.declared.generator.Unwritten.TheVariants.{Failed}
 use Rattle.repo_top.specs.Outside.{GainsText, GainsFront}
 use Rattle.repo_top.specs.Generator.{deliver_text, fetch_line}
-use Rattle.repo_top.proofs.Outputs.{front_behind}
+use Rattle.repo_top.proofs.Outputs.{front_as, front_behind, front_longer}
 use Rattle.repo_top.proofs.generator.write_turn.Goals as goal
+
+pub returns-in_err-write_line-clause-front : goal.returns-in_err-write_line-clause-front
+returns-in_err-write_line-clause-front g c =
+    let before = g.K.Sink.out c.args.sink.now in
+    let between = g.K.Sink.out c.write_line.new.sink in
+    let deliver = deliver_text c.args.object c.args.member in
+    let fetch = fetch_line c.args.member in
+    let line : List ℕ → Type 0 = λ t. GainsFront before between t (c.write_line.result ≡ Err Failed) in
+    front_as before between (deliver ++ fetch) (λ e. search rules) (front_longer before between deliver fetch
+    (subst line (c.deref.ensures ∙ c.in_ok-put_deliver.ensures) c.write_line.ensures.front))
 
 pub returns-clause-front : goal.returns-clause-front
 returns-clause-front g c =
@@ -11,4 +22,5 @@ returns-clause-front g c =
     let behind = g.K.Sink.out c.write_line-2.new.sink in
     front_behind before between behind (deliver_text c.args.object c.args.member) (fetch_line c.args.member)
     (subst (GainsText before between) (c.deref.ensures ∙ c.in_ok-put_deliver.ensures) c.in_ok-write_line.ensures.whole)
-    (subst (GainsFront between behind) (c.deref-2.ensures ∙ c.in_ok-put_fetch.ensures) c.write_line-2.ensures.front)
+    (subst (λ (t : List ℕ). GainsFront between behind t (c.write_line-2.result ≡ Err Failed))
+    (c.deref-2.ensures ∙ c.in_ok-put_fetch.ensures) c.write_line-2.ensures.front)

@@ -1,5 +1,6 @@
-use Rattle.std.proofs.Common.{arith}
-use Rattle.repo_top.specs.Generator.{turn_text}
+use Rattle.std.proofs.Common.{rules, arith}
+use Rattle.repo_top.specs.Generator.{texts, turn_text}
+use Rattle.repo_top.proofs.Outputs.{front_as}
 use Rattle.repo_top.proofs.Scripts.{front_in_next, no_texts, one_text_more}
 use Rattle.repo_top.proofs.generator.write_turns.Goals as goal
 
@@ -11,9 +12,11 @@ loop-before-init g c = record {
 
 pub returns-in_err-write_turn-clause-front : goal.returns-in_err-write_turn-clause-front
 returns-in_err-write_turn-clause-front g c =
-    rw c.if-object-ne0.false (front_in_next (turn_text c.args.object) (g.K.Sink.out c.args.sink.now) (g.K.Sink.out c.loop-before.sink)
-    (g.K.Sink.out c.write_turn.new.sink) c.loop-before.before c.args.members c.loop-before-test.true
-    c.loop-before.invariant.so_far c.write_turn.ensures.front)
+    let a = g.K.Sink.out c.args.sink.now in
+    let d = g.K.Sink.out c.write_turn.new.sink in
+    rw c.if-object-ne0.false (front_as a d (texts (turn_text c.args.object) c.args.members) (λ e. search rules)
+    (front_in_next (turn_text c.args.object) a (g.K.Sink.out c.loop-before.sink) d c.loop-before.before c.args.members
+    c.loop-before-test.true c.loop-before.invariant.so_far c.write_turn.ensures.front))
 
 pub loop-before-preserved : goal.loop-before-preserved
 loop-before-preserved g c = record {

@@ -9,17 +9,21 @@ use Rattle.repo_top.specs.Inspection.{inspect_story}
 use Rattle.repo_top.proofs.laws.small_inspections.Goals as goal
 
 pub returns-clause-name : goal.returns-clause-name
-unfolding digits decode_pairs encode_with number_at type_at element_at elements_within elements type_name has_elements indent element_line lines_of lines_within lines_at report_line inspect_story
+unfolding digits decode_pairs encode_with number_at type_at element_at elements_within elements type_name has_elements
+    indent element_line lines_of lines_within lines_at report_line inspect_story
 returns-clause-name c = refl
 
 pub returns-clause-fault : goal.returns-clause-fault
-unfolding digits decode_pairs encode_with number_at type_at element_at elements_within elements type_name has_elements indent element_line lines_of lines_within lines_at report_line inspect_story
+unfolding digits decode_pairs encode_with number_at type_at element_at elements_within elements type_name has_elements
+    indent element_line lines_of lines_within lines_at report_line inspect_story
 returns-clause-fault c = refl
 
 pub returns-clause-inner_fault : goal.returns-clause-inner_fault
-unfolding digits decode_pairs encode_with number_at type_at element_at elements_within elements type_name has_elements indent element_line lines_of lines_within lines_at report_line inspect_story
+unfolding digits decode_pairs encode_with number_at type_at element_at elements_within elements type_name has_elements
+    indent element_line lines_of lines_within lines_at report_line inspect_story
 returns-clause-inner_fault c = refl
 
 pub returns-clause-syntax : goal.returns-clause-syntax
-unfolding digits decode_pairs encode_with number_at type_at element_at elements_within elements type_name has_elements indent element_line lines_of lines_within lines_at report_line inspect_story
+unfolding digits decode_pairs encode_with number_at type_at element_at elements_within elements type_name has_elements
+    indent element_line lines_of lines_within lines_at report_line inspect_story
 returns-clause-syntax c = refl

@@ -5,7 +5,9 @@ use Rattle.repo_top.proofs.running.run_lines.Given as goal
 
 abbrev pub invariant-loop-count : goal.invariant-loop-count
 invariant-loop-count g l = record {
-  so_far : Known (g.S.Source.left l.fn.source) (g.S.Source.left l.source) (Carried (given_by (g.D.Draws.draw l.draws) (g.N.Net.passes l.net)) l.reader (reached l.script) (g.K.Sink.out l.fn.sink) (g.K.Sink.out l.sink));
+  so_far : Known (g.S.Source.left l.fn.source) (g.S.Source.left l.source)
+      (Carried (given_by (g.D.Draws.draw l.draws) (g.N.Net.passes l.net)) l.reader (reached l.script)
+      (g.K.Sink.out l.fn.sink) (g.K.Sink.out l.sink));
   is : IsScript l.script;
   source : g.S.Source.faults l.fn.source ≤ g.S.Source.faults l.source;
   sink : g.K.Sink.faults l.fn.sink ≤ g.K.Sink.faults l.sink;

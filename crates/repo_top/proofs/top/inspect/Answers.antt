@@ -1,5 +1,5 @@
 use Rattle.std.proofs.Common.{◌≡◌, ◌⊎◌, sym, ◌∙◌, subst}
-use Rattle.repo_top.specs.declared.status.Status.TheVariants.{NoMemory}
+use Rattle.repo_top.specs.declared.status.Status.TheVariants.{NoMemory, WriteFault}
 use Rattle.repo_top.specs.Answers.{IsTold, status_of}
 use Rattle.repo_top.specs.Outside.{GainsText, GainsFront}
 use Rattle.repo_top.specs.Story.{Story}
@@ -12,29 +12,38 @@ returns-clause-end g c = λ told.
     let read = c.in-Ok.input.items in
     let ends = told_ends c.write_inspection.result (inspect_story read).ending c.write_inspection.ensures.ends told in
     let Q : Story → Type 0 = λ s. c.write_inspection.result ≡ status_of s.ending in
-    by_story Q (g.S.Source.left c.args.source.now) (g.S.Source.left c.read_up_to.new.source) read c.in-Ok.ensures.taken c.in-Ok.ensures.whole ends
+    by_story Q (g.S.Source.left c.args.source.now) (g.S.Source.left c.read_up_to.new.source) read c.in-Ok.ensures.taken
+    c.in-Ok.ensures.whole ends
 
 pub returns-clause-text : goal.returns-clause-text
 returns-clause-text g c = λ told.
     let gained = c.write_inspection.ensures.text told in
-    let Q : Story → Type 0 = λ s. GainsText (g.K.Sink.out c.args.sink.now) (g.K.Sink.out c.write_inspection.new.sink) s.text in
-    by_story Q (g.S.Source.left c.args.source.now) (g.S.Source.left c.read_up_to.new.source) c.in-Ok.input.items c.in-Ok.ensures.taken c.in-Ok.ensures.whole gained
+    let Q : Story → Type 0 = λ s. GainsText (g.K.Sink.out c.args.sink.now) (g.K.Sink.out c.write_inspection.new.sink)
+    s.text in
+    by_story Q (g.S.Source.left c.args.source.now) (g.S.Source.left c.read_up_to.new.source) c.in-Ok.input.items
+    c.in-Ok.ensures.taken c.in-Ok.ensures.whole gained
 
 pub returns-clause-front : goal.returns-clause-front
 returns-clause-front g c =
     let gained = c.write_inspection.ensures.front in
-    let Q : Story → Type 0 = λ s. GainsFront (g.K.Sink.out c.args.sink.now) (g.K.Sink.out c.write_inspection.new.sink) s.text in
-    by_story Q (g.S.Source.left c.args.source.now) (g.S.Source.left c.read_up_to.new.source) c.in-Ok.input.items c.in-Ok.ensures.taken c.in-Ok.ensures.whole gained
+    let Q : Story → Type 0 = λ s. GainsFront (g.K.Sink.out c.args.sink.now) (g.K.Sink.out c.write_inspection.new.sink)
+    s.text (c.write_inspection.result ≡ WriteFault) in
+    by_story Q (g.S.Source.left c.args.source.now) (g.S.Source.left c.read_up_to.new.source) c.in-Ok.input.items
+    c.in-Ok.ensures.taken c.in-Ok.ensures.whole gained
 
 pub returns-clause-read_to_end : goal.returns-clause-read_to_end
 returns-clause-read_to_end g c = λ done.
     let read = c.in-Ok.input.items in
     let told : IsTold c.write_inspection.result = subst IsTold (sym done) tt in
     let ends = told_ends c.write_inspection.result (inspect_story read).ending c.write_inspection.ensures.ends told in
-    none_left (g.S.Source.left c.args.source.now) (g.S.Source.left c.read_up_to.new.source) read c.in-Ok.ensures.taken c.in-Ok.ensures.whole (sym done ∙ ends)
+    none_left (g.S.Source.left c.args.source.now) (g.S.Source.left c.read_up_to.new.source) read c.in-Ok.ensures.taken
+    c.in-Ok.ensures.whole (sym done ∙ ends)
 
 pub returns-clause-complete : goal.returns-clause-complete
 returns-clause-complete g c = λ sound_source sound_sink.
     let read = c.in-Ok.input.items in
-    let Q : Story → Type 0 = λ s. (c.write_inspection.result ≡ status_of s.ending) ⊎ (c.write_inspection.result ≡ NoMemory) in
-    by_story Q (g.S.Source.left c.args.source.now) (g.S.Source.left c.read_up_to.new.source) read c.in-Ok.ensures.taken c.in-Ok.ensures.whole (unfailing_ends c.write_inspection.result (inspect_story read).ending c.write_inspection.ensures.ends (λ failed. sound_sink (c.write_inspection.ensures.write_fault failed)))
+    let Q : Story → Type 0 = λ s. (c.write_inspection.result ≡ status_of s.ending)
+    ⊎ (c.write_inspection.result ≡ NoMemory) in
+    by_story Q (g.S.Source.left c.args.source.now) (g.S.Source.left c.read_up_to.new.source) read c.in-Ok.ensures.taken
+    c.in-Ok.ensures.whole (unfailing_ends c.write_inspection.result (inspect_story read).ending
+    c.write_inspection.ensures.ends (λ failed. sound_sink (c.write_inspection.ensures.write_fault failed)))

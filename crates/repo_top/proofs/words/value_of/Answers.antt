@@ -16,7 +16,8 @@ overflow_add-value c =
     let i = c.loop-digit.digit-index in
     let within : i < 18 = omega (arith, short) in
     let small = small_power i within in
-    let digit = digit_bounds (get_or c.args.numeral.now i 0) (digit_is c.args.numeral.now i c.requires c.loop-digit-test.true) in
+    let digit = digit_bounds (get_or c.args.numeral.now i 0)
+    (digit_is c.args.numeral.now i c.requires c.loop-digit-test.true) in
     omega (arith, c.loop-digit.invariant.bound, small, digit.1, c.from.ensures)
 
 pub loop-digit-preserved : goal.loop-digit-preserved

@@ -4,7 +4,8 @@ use Rattle.repo_top.proofs.line_reader.LineReader.next.Given as goal
 
 abbrev pub invariant-loop-count : goal.invariant-loop-count
 invariant-loop-count g l = record {
-  kept : Keeps (prepend_known l.fn.self (g.S.Source.left l.fn.source)) (prepend_known l.self (g.S.Source.left l.source));
+  kept : Keeps (prepend_known l.fn.self (g.S.Source.left l.fn.source))
+      (prepend_known l.self (g.S.Source.left l.source));
   faults : g.S.Source.faults l.fn.source ≤ g.S.Source.faults l.source;
 }
 

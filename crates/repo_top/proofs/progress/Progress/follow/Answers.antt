@@ -80,25 +80,29 @@ pub act-requires-clause-fit : goal.act-requires-clause-fit
 act-requires-clause-fit g c κs within =
     (event_acts (given_by (g.D.Draws.draw c.args.draws.now) (g.N.Net.passes c.args.net.now))
     (map string_bytes c.args.self.now.labels.items) c.args.self.now.stage c.args.self.now.words c.args.line
-    (is_event c.args.line c.in_default.not-Group c.in_default.not-Member c.in_default.not-Client) c.requires.checked).fit
+    (is_event c.args.line c.in_default.not-Group c.in_default.not-Member c.in_default.not-Client)
+    c.requires.checked).fit
 
 pub act-requires-clause-named : goal.act-requires-clause-named
 act-requires-clause-named g c κs within =
     (event_acts (given_by (g.D.Draws.draw c.args.draws.now) (g.N.Net.passes c.args.net.now))
     (map string_bytes c.args.self.now.labels.items) c.args.self.now.stage c.args.self.now.words c.args.line
-    (is_event c.args.line c.in_default.not-Group c.in_default.not-Member c.in_default.not-Client) c.requires.checked).named
+    (is_event c.args.line c.in_default.not-Group c.in_default.not-Member c.in_default.not-Client)
+    c.requires.checked).named
 
 pub act-requires-clause-group : goal.act-requires-clause-group
 act-requires-clause-group g c κs within =
     (event_acts (given_by (g.D.Draws.draw c.args.draws.now) (g.N.Net.passes c.args.net.now))
     (map string_bytes c.args.self.now.labels.items) c.args.self.now.stage c.args.self.now.words c.args.line
-    (is_event c.args.line c.in_default.not-Group c.in_default.not-Member c.in_default.not-Client) c.requires.checked).group
+    (is_event c.args.line c.in_default.not-Group c.in_default.not-Member c.in_default.not-Client)
+    c.requires.checked).group
 
 pub act-requires-clause-events : goal.act-requires-clause-events
 act-requires-clause-events g c κs within =
     (event_acts (given_by (g.D.Draws.draw c.args.draws.now) (g.N.Net.passes c.args.net.now))
     (map string_bytes c.args.self.now.labels.items) c.args.self.now.stage c.args.self.now.words c.args.line
-    (is_event c.args.line c.in_default.not-Group c.in_default.not-Member c.in_default.not-Client) c.requires.checked).events
+    (is_event c.args.line c.in_default.not-Group c.in_default.not-Member c.in_default.not-Client)
+    c.requires.checked).events
 
 pub returns-in_default-clause-taken : goal.returns-in_default-clause-taken
 returns-in_default-clause-taken g c =

@@ -1,4 +1,4 @@
-use Rattle.std.proofs.Common.{◌≡◌, ◌+◌, ◌<◌, ◌∙◌, sym, subst, ap, take, length, List, ℕ}
+use Rattle.std.proofs.Common.{◌+◌, ◌<◌, subst, take, length, List, ℕ}
 use Rattle.repo_top.specs.Outside.{GainsText}
 use Rattle.repo_top.specs.Judging.{given_by}
 use Rattle.repo_top.specs.Carrying.{Halts, reached}
@@ -13,13 +13,16 @@ returns-in-Err-write_whole-clause-stops g c =
     let text = c.deref.ensures.value in
     let P : List ℕ → Type 0 = λ t. GainsText before behind (take n t) in
     let Q : List ℕ → Type 0 = λ t. n < length t in
-    stops_unwritten (given_by (g.D.Draws.draw c.args.draws.now) (g.N.Net.passes c.args.net.now)) (reached c.args.self.now) c.args.line.now before behind
-    c.judge.new.self.report.items (reached c.judge.new.self).state n c.in-Ok.ensures.taken (subst P text c.in-Err-write_whole.ensures.front) (subst Q text c.in-Err-write_whole.ensures.missing)
+    stops_unwritten (given_by (g.D.Draws.draw c.args.draws.now) (g.N.Net.passes c.args.net.now))
+    (reached c.args.self.now) c.args.line.now before behind
+    c.judge.new.self.report.items (reached c.judge.new.self).state n c.in-Ok.ensures.taken
+    (subst P text c.in-Err-write_whole.ensures.front) (subst Q text c.in-Err-write_whole.ensures.missing)
 
 pub returns-in-Err-clause-stops : goal.returns-in-Err-clause-stops
 returns-in-Err-clause-stops g c =
     let before = g.K.Sink.out c.args.sink.now in
     let behind = g.K.Sink.out c.stop.new.sink in
     let H : ℕ → Type 0 = λ lines. Halts (lines + 1) c.in-Err.stop before behind c.stop.result in
-    stops_halted (given_by (g.D.Draws.draw c.args.draws.now) (g.N.Net.passes c.args.net.now)) (reached c.args.self.now) c.args.line.now before behind
+    stops_halted (given_by (g.D.Draws.draw c.args.draws.now) (g.N.Net.passes c.args.net.now)) (reached c.args.self.now)
+    c.args.line.now before behind
     c.in-Err.stop c.stop.result c.in-Err.ensures.stopped (subst H c.in-Err.ensures.lines c.stop.ensures.halts)

@@ -1,4 +1,4 @@
-use Rattle.std.proofs.Common.{◌≡◌, ◌+◌, ◌<◌, ◌∙◌, sym, subst, ap, take, length, List, ℕ}
+use Rattle.std.proofs.Common.{◌≡◌, ◌+◌, ◌<◌, ◌∙◌, subst, take, length, List, ℕ}
 use Rattle.repo_top.specs.Outside.{GainsText}
 use Rattle.repo_top.specs.Carrying.{stop_text}
 use Rattle.repo_top.proofs.Stops.{halts_unwritten}
@@ -13,4 +13,5 @@ returns-in-Err-clause-halts g c =
     let text : c.deref.result.now ≡ stop_text line c.args.stop = c.deref.ensures.value ∙ c.in-Ok.ensures.text in
     let P : List ℕ → Type 0 = λ t. GainsText before behind (take n t) in
     let Q : List ℕ → Type 0 = λ t. n < length t in
-    halts_unwritten line c.args.stop before behind n (subst P text c.in-Err.ensures.front) (subst Q text c.in-Err.ensures.missing)
+    halts_unwritten line c.args.stop before behind n (subst P text c.in-Err.ensures.front)
+    (subst Q text c.in-Err.ensures.missing)
