@@ -20,8 +20,8 @@ use Rattle.repo_plan.specs.Parts.{numbers_from}
 use Rattle.repo_process.proofs.ProcessLemmas.{length-numbers}
 use Rattle.repo_member.specs.Groups.{GroupKeys, no_nodes, with_node}
 use Rattle.bench_world.specs.EventValues.{EventValue, group_event, telling}
-use Rattle.bench_world.specs.Steps.{IsReady}
 use Rattle.bench_world.specs.Worlds.{drawing}
+use Rattle.bench_world.proofs.EventRuns.{named_ready}
 use Rattle.script_lang.specs.declared.line_fault.LineFault.{LineFault}
 use Rattle.script_lang.specs.declared.line_fault.LineFault.TheVariants as line_fault
 use Rattle.script_lang.specs.declared.check_fault.CheckFault.{CheckFault}
@@ -344,35 +344,6 @@ module _ (given : Given) (s : State) (sound : IsSoundState given s) (d : Declare
   after_client_line stated values after is = cc
 
 -- ---- events
-
--- An event that is ready names those that are there.
-named_ready : (n : ℕ) (w : World) (g : GroupKeys) (e : EventValue) → length w.members ≡ n → IsReady n e
-    → NamesThose w (group_event g e)
-named_ready n w g (EventValue.Publish m name size content) many r = omega (arith, many, r.0)
-named_ready n w g (EventValue.Deliver k m) many r = omega (arith, many, r)
-named_ready n w g (EventValue.Sync k) many r = tt
-named_ready n w g (EventValue.Advance ms) many r = tt
-named_ready n w g (EventValue.Fire m) many r = omega (arith, many, r)
-named_ready n w g (EventValue.Restart m) many r = omega (arith, many, r)
-named_ready n w g (EventValue.Vector m) many r = omega (arith, many, r)
-named_ready n w g (EventValue.Catalogue m) many r = omega (arith, many, r)
-named_ready n w g (EventValue.Claim m f) many r = (omega (arith, many, r.0), r.1.from_one, r.1.to_last)
-named_ready n w g (EventValue.Lose m f) many r = (omega (arith, many, r.0), r.1.from_one, r.1.to_last)
-named_ready n w g (EventValue.Answer m f q) many r =
-    ((omega (arith, many, r.0), r.1.from_one, r.1.to_last), omega (arith, many, r.2))
-named_ready n w g (EventValue.Fetch m workers tries loss) many r = omega (arith, many, r.0)
-named_ready n w g (EventValue.Settle workers) many r = tt
-named_ready n w g (EventValue.Dump m p s x) many r = omega (arith, many, r.0)
-named_ready n w g (EventValue.Hear m octets) many r = omega (arith, many, r)
-named_ready n w g (EventValue.Ask m octets) many r = omega (arith, many, r)
-named_ready n w g (EventValue.Feed m f octets) many r = (omega (arith, many, r.0), r.1.from_one, r.1.to_last)
-named_ready n w g (EventValue.Order m octets) many r = omega (arith, many, r)
-named_ready n w g (EventValue.Insert m client name first last) many r = omega (arith, many, r.0)
-named_ready n w g (EventValue.Block m process index content) many r = omega (arith, many, r.0)
-named_ready n w g (EventValue.Status m client process) many r = omega (arith, many, r)
-named_ready n w g (EventValue.Delete m client name) many r = omega (arith, many, r.0)
-named_ready n w g EventValue.Summary many r = tt
-named_ready n w g EventValue.Traffic many r = tt
 
 -- What a line declares that states an event: labels are known, and there are events from now on.
 pub record IsEventLine (d e : Declared) (stated : Stated) : Type 0 where
