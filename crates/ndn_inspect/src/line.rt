@@ -9,7 +9,7 @@ use std::alloc::AllocError;
 // Each call appends to a text.
 
 // The line of an element at this depth.
-#[tactic(auto, unfolding(crate::specs::Inspection::line))]
+#[tactic(auto, unfolding(crate::specs::Inspection::element_line))]
 pub(crate) fn put_line(
     text: &mut String,
     depth: usize,

@@ -2,7 +2,7 @@ ghost use Rattle.std.specs.Prelude.{◌≡◌};
 ghost use Rattle.ndn_inspect.specs.Types.{type_name, has_elements};
 
 // What elements of this type are called (NDN Packet Format 0.3, "TLV-TYPE numbers").
-#[tactic(auto, unfolding(crate::specs::Types::name_of))]
+#[tactic(auto, unfolding(crate::specs::Types::type_name))]
 pub(crate) fn name_of(typ: u32) -> &'static str
     ensures { result.now ≡ type_name typ }
 {

@@ -196,7 +196,7 @@ fn put_octet(line: &mut String, octet: u64) -> Result<(), AllocError>
     write!(line, "{octet:x}")
 }
 
-#[tactic(auto, unfolding(crate::specs::Generator::publish_text))]
+#[tactic(auto, unfolding(crate::specs::Generator::publish_line))]
 fn put_publish(line: &mut String, members: u64, object: u64, draw: u64) -> Result<(), AllocError>
     requires { 0 < members }
     ensures { OnOk result (string_bytes line.new ≡ publish_line members object draw) }
@@ -219,7 +219,7 @@ fn put_deliver(line: &mut String, object: u64, member: u64) -> Result<(), AllocE
     write!(line, "deliver {object} m{member}\n")
 }
 
-#[tactic(auto, unfolding(crate::specs::Generator::fetch_text))]
+#[tactic(auto, unfolding(crate::specs::Generator::fetch_line))]
 fn put_fetch(line: &mut String, member: u64) -> Result<(), AllocError>
     ensures { OnOk result (string_bytes line.new ≡ fetch_line member) }
 {

@@ -73,7 +73,7 @@ impl Verb {
 }
 
 // The verb that stands beside the word.
-#[tactic(auto, unfolding(crate::specs::Lines::named))]
+#[tactic(auto, unfolding(crate::specs::Lines::verb_named))]
 fn named(rows: &[(&str, Verb)], word: &str) -> Option<Verb>
     ensures { result ≡ verb_named (map (λ row. (row.0.now, row.1)) rows.now) word.now }
 {

@@ -53,7 +53,7 @@ fn are_digits(octets: &[u8]) -> bool
 }
 
 // The number that a word is, within this range.
-#[tactic(auto, unfolding(crate::specs::Kinds::number_of))]
+#[tactic(auto, unfolding(crate::specs::Kinds::numeral_of))]
 pub(crate) fn number_in(least: u64, most: u64, word: &str) -> Result<u64, LineFault>
     ensures gives { Gives (λ number. Number number) result (word_of (N least most) word.now) }
     ensures within { IfOk result (λ number. number ≤ most) }
@@ -119,7 +119,7 @@ fn cut_at_colon(text: &str) -> Option<(&str, &str)>
 }
 
 // The octets that `N:N` stands for: so many times the second.
-#[tactic(auto, unfolding(crate::specs::Kinds::filled_of, crate::specs::Kinds::number_of))]
+#[tactic(auto, unfolding(crate::specs::Kinds::filled_of, crate::specs::Kinds::numeral_of))]
 fn filled_in(alloc: Global, least: u64, most: u64, counts: &str) -> Result<Vec<u8>, LineFault>
     ensures { Gives (λ octets. octets.items) result (filled_of least most counts.now) }
 {
@@ -166,7 +166,7 @@ pub(crate) fn content_in(
 }
 
 // The name whose URI a word is, of 1 to so many octets of value.
-#[tactic(auto, unfolding(crate::specs::Kinds::name_of))]
+#[tactic(auto, unfolding(crate::specs::Kinds::uri_of))]
 pub(crate) fn name_in(alloc: Global, most: u64, word: &str) -> Result<Name, LineFault>
     requires { most ≤ 1000 }
     ensures { Gives (λ name. Named name) result (word_of (URI most) word.now) }
