@@ -2,6 +2,7 @@ pub mod Sizes
 pub mod NameLemmas
 pub mod DigestLemmas
 pub mod RecordLemmas
+pub mod RowLemmas
 pub mod Written
 pub mod PacketSizes
 pub mod Publications

@@ -24,7 +24,7 @@ use Rattle.repo_object.specs.declared.record_fields.RecordField.TheVariants as f
 use Rattle.repo_object.specs.Objects.{is_object_name}
 use Rattle.repo_object.specs.Publication.{Listed}
 use Rattle.repo_object.specs.declared.record_fields.DigestReader.{DigestReader}
-use Rattle.repo_object.specs.Records.{record_table, that_passes, read_name, object_name_in, segment_count_in, digest_in, digests_among, counted_digests, listed_record, listing_among, record_fields, listing_of, IsDigest, IsListing, RecordIsRead, digests_to_come, Lists}
+use Rattle.repo_object.specs.Records.{record_table, that_passes, read_name, object_name_in, segment_count_in, digest_in, digests_among, counted_digests, listed_record, listing_among, record_fields, listing_of, IsDigest, IsListing, IsRow, RecordIsRead, digests_to_come, Lists}
 
 abbrev Field : Type 0
 Field = RecordField × Item
@@ -44,7 +44,7 @@ mapped_some {A} {B} f (Some x) y e = (x, refl, same (f x) y e) where
   same : (x y : B) → found x ≡ found y → x ≡ y
   same x y e = cc
 
-passes_some : {A : Type 0} (test : A → Bool) (o : Option A) (x : A) → that_passes test o ≡ Some x → (o ≡ Some x) × (test x ≡ true)
+pub passes_some : {A : Type 0} (test : A → Bool) (o : Option A) (x : A) → that_passes test o ≡ Some x → (o ≡ Some x) × (test x ≡ true)
 passes_some test None x e = absurd cc
 passes_some {A} test (Some y) x e = by_test (test y) refl e where
   found : A → Option A
@@ -65,12 +65,12 @@ some_passes test o x e h = ap (that_passes test) e ∙ rw h refl
 abbrev digest_field : Item → Field
 digest_field e = (field.Digest, e)
 
-record DigestFields (fields : List Field) (fault : Option FieldFault) (digests : List (List ℕ)) : Type 0 where
-  items : List Item
-  are : fields ≡ map (λ (d : Item). (field.Digest, d)) items
-  values : map (λ (d : Item). d.value) items ≡ digests
-  ended : fault ≡ None
-  long : All IsDigest digests
+pub record DigestFields (fields : List Field) (fault : Option FieldFault) (digests : List (List ℕ)) : Type 0 where
+  pub items : List Item
+  pub are : fields ≡ map (λ (d : Item). (field.Digest, d)) items
+  pub values : map (λ (d : Item). d.value) items ≡ digests
+  pub ended : fault ≡ None
+  pub long : All IsDigest digests
 
 first_digest : (first : Field) (d : List ℕ) → digest_in first ≡ Some d → (first ≡ digest_field first.1) × (first.1.value ≡ d) × (length d ≡ 32)
 first_digest (field.Name, e) d h = absurd cc
@@ -86,7 +86,7 @@ first_digest (field.Digest, e) d h = by_test (eqb (length e.value) 32) refl h wh
   by_test true g k = let is = same e.value d k in (refl, is, ap length (sym is) ∙ eqb-true (length e.value) 32 g)
   by_test false g k = absurd cc
 
-digest_fields : (fields : List Field) (fault : Option FieldFault) (digests : List (List ℕ)) → digests_among fields fault ≡ Some digests → DigestFields fields fault digests
+pub digest_fields : (fields : List Field) (fault : Option FieldFault) (digests : List (List ℕ)) → digests_among fields fault ≡ Some digests → DigestFields fields fault digests
 unfolding digests_among
 digest_fields [] None digests h =
     let none : [] ≡ digests = cc in
@@ -218,33 +218,35 @@ elements_fit offset octets (e ∷ es) fault fits short are =
       elements_fit e.end are.0 es fault (IsOctets-behind (element e.typ e.value) are.0 split) (omega (arith, size)) are.5,
     )
 
-abbrev elements_of : Listing Field FieldFault → List Item
+abbrev pub elements_of : Listing Field FieldFault → List Item
 elements_of read = map (λ (x : Field). x.1) read.items
 
-each_stranger : (fault : FieldFault) (others : Listing Field FieldFault) (b : Bool) → Each Fits (elements_of others) → Each Fits (elements_of (cond b (record { items = []; fault = Some fault }) others))
-each_stranger fault others true h = tt
-each_stranger fault others false h = h
+module _ (P : Item → Type 0) where
+  each_stranger : (fault : FieldFault) (others : Listing Field FieldFault) (b : Bool) → Each P (elements_of others) → Each P (elements_of (cond b (record { items = []; fault = Some fault }) others))
+  each_stranger fault others true h = tt
+  each_stranger fault others false h = h
 
-each_field : (others : List (Place RecordField) → Listing Field FieldFault) (table : List (Place RecordField)) (e : Item) (place : Option (RecordField × List (Place RecordField))) → Fits e
-    → ((places : List (Place RecordField)) → Each Fits (elements_of (others places))) → Each Fits (elements_of (field_then others table e place))
-each_field others table e None fits h = each_stranger (critical e) (others table) (is_critical_type e.typ) (h table) where
-  critical : Item → FieldFault
-  critical e = Critical e.typ e.start
-each_field others table e (Some place) fits h = (fits, h place.1)
+  each_field : (others : List (Place RecordField) → Listing Field FieldFault) (table : List (Place RecordField)) (e : Item) (place : Option (RecordField × List (Place RecordField))) → P e
+      → ((places : List (Place RecordField)) → Each P (elements_of (others places))) → Each P (elements_of (field_then others table e place))
+  each_field others table e None fits h = each_stranger (critical e) (others table) (is_critical_type e.typ) (h table) where
+    critical : Item → FieldFault
+    critical e = Critical e.typ e.start
+  each_field others table e (Some place) fits h = (fits, h place.1)
 
-fields_fit : (table : List (Place RecordField)) (es : List Item) (fault : Option TlvFault) → Each Fits es → Each Fits (elements_of (fields_among table es fault))
-unfolding fields_among
-fields_fit table [] None fits = tt
-fields_fit table [] (Some f) fits = tt
-fields_fit table (e ∷ es) fault fits =
-    each_field (λ places. fields_among places es fault) table e (place_of e.typ table) fits.0 (λ places. fields_fit places es fault fits.1)
+  -- what is so of each element is so of each field
+  pub each_of_fields : (table : List (Place RecordField)) (es : List Item) (fault : Option TlvFault) → Each P es → Each P (elements_of (fields_among table es fault))
+  unfolding fields_among
+  each_of_fields table [] None fits = tt
+  each_of_fields table [] (Some f) fits = tt
+  each_of_fields table (e ∷ es) fault fits =
+      each_field (λ places. fields_among places es fault) table e (place_of e.typ table) fits.0 (λ places. each_of_fields places es fault fits.1)
 
 pub lists_within : (content : List ℕ) (l : Listed) → IsOctets content → length content < 2 ^ 64 → Lists content l → IsListing l
 lists_within content l fits short s =
     let read = elements 0 content in
-    let each = fields_fit record_table read.items read.fault (elements_fit 0 content read.items read.fault fits short (elements_are 0 content fits)) in
-    let P : Listing Field FieldFault → Type 0 = λ f. Each Fits (elements_of f) in
-    let first = (subst P s.fields each).0 in
+    let each = each_of_fields Fits record_table read.items read.fault (elements_fit 0 content read.items read.fault fits short (elements_are 0 content fits)) in
+    let Q : Listing Field FieldFault → Type 0 = λ f. Each Fits (elements_of f) in
+    let first = (subst Q s.fields each).0 in
     record { name = (name_of-encoded s.name.value_start s.name.value l.name first.octets first.long s.names).0; named = s.named; few = s.few; digests = s.are }
 
 -- ---- what a reader of a record has read
@@ -254,14 +256,15 @@ some_mapped f None s = s
 some_mapped f (Some x) s = refl
 
 -- a record's name and digests were read, where they are what its content lists
-pub record_is_read : (content : List ℕ) (name : List Component) (reader : DigestReader) → IsOctets content → length content < 2 ^ 64
-    → listing_of content ≡ option_map (listed_record name) (digests_to_come reader) → IsSome (digests_to_come reader) → RecordIsRead name reader
-record_is_read content name reader fits short is all = go (digests_to_come reader) refl all where
-  go : (o : Option (List (List ℕ))) → digests_to_come reader ≡ o → IsSome o → RecordIsRead name reader
+pub record_is_read : (content : List ℕ) (name : List Component) (reader : DigestReader) (octets : List ℕ) → IsOctets content → length content < 2 ^ 64
+    → listing_of content ≡ option_map (listed_record name) (digests_to_come reader) → (IsSome (digests_to_come reader) → IsRow octets reader) → IsSome (digests_to_come reader) → RecordIsRead name reader octets
+record_is_read content name reader octets fits short is row all = go (digests_to_come reader) refl all where
+  go : (o : Option (List (List ℕ))) → digests_to_come reader ≡ o → IsSome o → RecordIsRead name reader octets
   go None p s = absurd cc
   go (Some digests) p s =
       let read : listing_of content ≡ Some (listed_record name digests) = is ∙ ap (option_map (listed_record name)) p in
       record {
-        all = subst IsSome (sym p) s;
+        all = all;
         within = subst (λ (o : Option (List (List ℕ))). IsListing (listed_record name (unwrap_or o []))) (sym p) (lists_within content (listed_record name digests) fits short (lists content (listed_record name digests) read));
+        row = row all;
       }

@@ -1,5 +1,5 @@
 -- What the content of a record is read as.
-use Rattle.std.specs.Prelude.{◌≡◌, ◌≤◌, ℕ, Bool, IsTrue, IsSome, List, [], ◌∷◌, length, map, Option, Some, None, option_map, unwrap_or, Result, Ok, Err, nat_le, ◌==◌, if◌then◌else◌}
+use Rattle.std.specs.Prelude.{◌≡◌, ◌<◌, ◌≤◌, ℕ, ◌+◌, ◌*◌, Bool, IsTrue, IsSome, List, [], ◌∷◌, length, map, take, drop, slice_get, Option, Some, None, option_map, unwrap_or, Result, Ok, Err, nat_le, ◌==◌, if◌then◌else◌}
 use Rattle.std.specs.List.{All}
 use Rattle.std.specs.Option.{option_and_then}
 use Rattle.ndn_tlv.specs.Types as types
@@ -99,6 +99,17 @@ digests_to_come reader = counted_digests reader.left reader.fields
 abbrev pub digests_left : DigestReader → List (List ℕ)
 digests_left reader = unwrap_or (digests_to_come reader) []
 
+-- How many octets the element of a digest has: a type, a length, and the digest.
+abbrev pub digest_element_len : ℕ
+digest_element_len = 34
+
+-- Octets that hold the digests of a reader have them one after another, where there are no more
+-- octets than the elements of so many digests have.
+abbrev pub IsRow : List ℕ → DigestReader → Type 0
+IsRow octets reader =
+    length octets ≡ digest_element_len * reader.left → (i : ℕ) → i < reader.left
+    → slice_get (digests_left reader) i ≡ Some (take digest_len (drop (digest_element_len * i + 2) octets))
+
 abbrev pub listing_to_come : RecordReader → Option Listed
 listing_to_come reader = option_map (listed_record reader.name) (digests_to_come reader.digests)
 
@@ -114,10 +125,11 @@ pub record IsListing (l : Listed) : Type 0 where
   pub few : length l.digests ≤ segment_limit
   pub digests : All IsDigest l.digests
 
--- A record's name and digests were read, and are within the limits.
-pub record RecordIsRead (name : List Component) (digests : DigestReader) : Type 0 where
+-- A record's name and digests were read, and are within the limits, and these octets hold the digests.
+pub record RecordIsRead (name : List Component) (digests : DigestReader) (octets : List ℕ) : Type 0 where
   pub all : IsSome (digests_to_come digests)
   pub within : IsListing (listed_record name (digests_left digests))
+  pub row : IsRow octets digests
 
 -- A content has the fields of a record that lists this: a Name, a SegmentCount, then Digests.
 pub record Lists (content : List ℕ) (l : Listed) : Type 0 where

@@ -2,7 +2,7 @@ ghost use Rattle.std.specs.Prelude.{◌≡◌, ◌+◌, ◌^◌, ◌<◌, ◌≤
 ghost use Rattle.ndn_tlv.specs.Elements.{item};
 ghost use Rattle.ndn_name.specs.Names.{encoding};
 ghost use Rattle.repo_object.specs.Limits.{object_name_limit, segment_limit};
-ghost use Rattle.repo_object.specs.Records.{listing_of, digest_in, object_name_in, segment_count_in, digests_to_come, digests_left, listing_to_come};
+ghost use Rattle.repo_object.specs.Records.{listing_of, digest_in, object_name_in, segment_count_in, digests_to_come, digests_left, IsRow, listing_to_come};
 
 use crate::object::{SEGMENT_LIMIT, is_object_name};
 use crate::record_fault::RecordFault;
@@ -35,6 +35,9 @@ const RECORD: [Place<RecordField>; 3] = [
     },
 ];
 
+// How many octets the element of a digest has: a type, a length, and the digest.
+pub(crate) const DIGEST_ELEMENT_LEN: usize = 34;
+
 // The digests that a record still has, as many as it counts.
 #[derive(Debug, Drop)]
 pub(crate) struct DigestReader<'p> {
@@ -48,6 +51,8 @@ pub(crate) struct DigestReader<'p> {
 pub(crate) struct RecordReader<'p> {
     pub(crate) name: NameView<'p>,
     pub(crate) digests: DigestReader<'p>,
+    // What follows the number of segments: a row of digests, where nothing else stands there.
+    pub(crate) row: &'p [u8],
 }
 
 impl<'p> RecordReader<'p> {
@@ -57,6 +62,8 @@ impl<'p> RecordReader<'p> {
             (listing_of content.now ≡ None)
             (λ reader. listing_of content.now ≡ listing_to_come reader) }
         ensures short { IfSome result (λ reader. length (encoding reader.name) ≤ object_name_limit) }
+        ensures row { IfSome result (λ reader. IsSome (digests_to_come reader.digests)
+            → IsRow reader.row.now reader.digests) }
     {
         let mut fields = FieldReader::new(Reader::new(content, 0), &RECORD);
         let Ok(Some(first)) = fields.next() else {
@@ -73,9 +80,11 @@ impl<'p> RecordReader<'p> {
         };
         let name = object_name_in(name)?;
         let left = segment_count_in(count)?;
+        let (_, row) = content.split_at(count.end);
         Some(RecordReader {
             name,
             digests: DigestReader { fields, left },
+            row,
         })
     }
 }

@@ -1,7 +1,7 @@
 use crate::expected::{Expected, expect_segment};
 use crate::listing::{Listing, read_digests};
 use crate::names::owned_name;
-use crate::record_fields::{DigestReader, RecordReader};
+use crate::record_fields::{DIGEST_ELEMENT_LEN, DigestReader, RecordReader};
 use ndn_data::DataView;
 use ndn_name::NameView;
 use repo_plan::Part;
@@ -10,11 +10,14 @@ use std::marker::Model;
 
 /// A record whose octets are lent: its object's name, and the digest of each segment's packet.
 ///
-/// Nothing of it is copied; a digest is looked for where it is asked for.
+/// Nothing of it is copied; a digest is looked for where it is asked for: at its place where
+/// only digests follow the number of segments, and else from the first one on.
 #[derive(Debug, Drop)]
 pub struct RecordView<'p> {
     name: NameView<'p>,
     digests: DigestReader<'p>,
+    // What follows the number of segments: a row of digests, where nothing else stands there.
+    row: &'p [u8],
 }
 
 // A record is seen as what it lists.
@@ -26,7 +29,7 @@ impl<'p> Model for RecordView<'p> {
 
     ghost view = { λ r. listed_record r.name (digests_left r.digests) };
 
-    ghost invariant = { λ r. RecordIsRead r.name r.digests };
+    ghost invariant = { λ r. RecordIsRead r.name r.digests r.row.now };
 }
 
 impl<'p> RecordView<'p> {
@@ -39,11 +42,11 @@ impl<'p> RecordView<'p> {
     pub fn read(content: &'p [u8]) -> Option<RecordView<'p>>
         ensures { result ≡ listing_of content.now }
     {
-        let RecordReader { name, digests } = RecordReader::new(content)?;
+        let RecordReader { name, digests, row } = RecordReader::new(content)?;
         if !digests.copy().are_all() {
             return None;
         }
-        Some(RecordView { name, digests })
+        Some(RecordView { name, digests, row })
     }
 
     /// The record of a content that is known to be one, as those are that were checked. Its digests are not gone over.
@@ -51,8 +54,8 @@ impl<'p> RecordView<'p> {
         requires { IsSome (listing_of content.now) }
         ensures { listing_of content.now ≡ Some result }
     {
-        let RecordReader { name, digests } = RecordReader::new(content).unwrap();
-        RecordView { name, digests }
+        let RecordReader { name, digests, row } = RecordReader::new(content).unwrap();
+        RecordView { name, digests, row }
     }
 
     /// The record that a packet is known to be.
@@ -83,6 +86,12 @@ impl<'p> RecordView<'p> {
     pub fn digest(&self, i: usize) -> Option<&'p [u8; 32]>
         ensures { option_map (λ digest. digest.now) result ≡ slice_get self.now.digests i }
     {
+        let count = self.digests.left();
+        // Where nothing else has room, only digests stand there, each behind one octet of type and one of length.
+        if i < count && self.row.len() == DIGEST_ELEMENT_LEN * count {
+            let (_, digest) = self.row.split_at(DIGEST_ELEMENT_LEN * i + 2);
+            return digest.first_chunk();
+        }
         self.digests.copy().at(i)
     }
 
