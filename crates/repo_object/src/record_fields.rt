@@ -35,9 +35,6 @@ const RECORD: [Place<RecordField>; 3] = [
     },
 ];
 
-// How many octets the element of a digest has: a type, a length, and the digest.
-pub(crate) const DIGEST_ELEMENT_LEN: usize = 34;
-
 // The digests that a record still has, as many as it counts.
 #[derive(Debug, Drop)]
 pub(crate) struct DigestReader<'p> {

@@ -1,9 +1,10 @@
 use crate::expected::{Expected, expect_segment};
 use crate::listing::{Listing, read_digests};
 use crate::names::owned_name;
-use crate::record_fields::{DIGEST_ELEMENT_LEN, DigestReader, RecordReader};
+use crate::record_fields::{DigestReader, RecordReader};
 use ndn_data::DataView;
 use ndn_name::NameView;
+use ndn_packet::DIGEST_ELEMENT_LEN;
 use repo_plan::Part;
 use std::alloc::{AllocError, Global};
 use std::marker::Model;
