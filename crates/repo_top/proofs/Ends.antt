@@ -22,12 +22,14 @@ same_keys : (left : Option GroupState) (state : State) (s : Story) → s.keys �
 same_keys None state s e h = tt
 same_keys (Some world) state s e h = h ∙ sym e
 
-leaves : (left : Option GroupState) (state : State) → Leaving state left → (s : Story) → EndsIn state s → LeavesWorld left s
+leaves : (left : Option GroupState) (state : State) → Leaving state left → (s : Story) → EndsIn state s
+    → LeavesWorld left s
 leaves left state l s e = record { world = l.world ∙ sym e.world; keys = same_keys left state s e.keys l.keys }
 
 pub ran_leaves : (given : Given) (a b : Option (List ℕ)) (status : Status) (state : State) (left : Option GroupState)
     → (status ≡ Done → Leaving state left) → (before now : Option (List ℕ))
-    → Known before now (Ran given a b status (EndsIn state)) → Known before now (Ran given a b status (LeavesWorld left))
+    → Known before now (Ran given a b status (EndsIn state))
+    → Known before now (Ran given a b status (LeavesWorld left))
 ran_leaves given a b status state left l before now h =
     ran_as given a b status (EndsIn state) (LeavesWorld left) (λ done s e. leaves left state (l done) s e) before now h
 

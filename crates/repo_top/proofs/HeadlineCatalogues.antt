@@ -145,7 +145,8 @@ module _ (given : Given) (s : State) (sound : IsSoundState given s) (label repor
         number = m;
         there = there;
         named = named.labelled;
-        text = acts.text ∙ ap text same ∙ ap (λ (l : List ℕ). printed_entries labels l (catalogue_at w m)) named.labelled;
+        text = acts.text ∙ ap text same ∙ ap (λ (l : List ℕ). printed_entries labels l (catalogue_at w m))
+            named.labelled;
         rightly = list_exactly (outside_of given s.keys) w m sound.sound there;
       }
 

@@ -121,7 +121,8 @@ says_line given s line report new h = go (line_of line) refl h where
   go (Err line_fault.Limit) is k = cc
   go (Err line_fault.NoMemory) is k = cc
 
-pub taken_line : (given : Given) (r : Reached) (line report : List ℕ) (new : Reached) → LineIsTaken given r line report new
+pub taken_line : (given : Given) (r : Reached) (line report : List ℕ) (new : Reached)
+    → LineIsTaken given r line report new
     → LineTaken given r.state line report new.state
 taken_line given r line report new t =
     says_line given r.state line report new.state (judged_by given r line report new.state t.verdict)

@@ -135,7 +135,8 @@ printed_join given r later label report all same c =
     subst (λ (w : World). c.number < length w.members) same.group c.there in
     c.text
     ∙ ap (λ (w : World). printed_entries (labels_at later) label (catalogue_at w c.number)) same.group
-    ∙ ap (λ (labels : List (List ℕ)). printed_entries labels label (catalogue_at (group_at given r) c.number)) same.labels
+    ∙ ap (λ (labels : List (List ℕ)). printed_entries labels label (catalogue_at (group_at given r) c.number))
+    same.labels
     ∙ ap (printed_entries (labels_at r) label) (all c.number there)
 
 pub settles_join : SettlesJoin

@@ -8,7 +8,8 @@ use Rattle.repo_top.specs.Lines.{AreLines, IsOpen, IsWhole, has_feed, octet_in_f
 
 -- ---- joined
 
-joined_in_front : (b : ℕ) (ends : Bool) (others : List (List ℕ)) → concat (octet_in_front b ends others) ≡ b ∷ concat others
+joined_in_front : (b : ℕ) (ends : Bool) (others : List (List ℕ))
+    → concat (octet_in_front b ends others) ≡ b ∷ concat others
 joined_in_front b true others = refl
 joined_in_front b false [] = refl
 joined_in_front b false (line ∷ others) = refl

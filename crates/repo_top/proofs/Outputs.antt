@@ -68,7 +68,8 @@ pub more_gained : (a b d : Option (List ℕ)) (text : List ℕ) (at n : ℕ) →
 more_gained a b d text at n p q =
     let joined : take at text ++ take n (take (length text - at) (drop at text)) ≡ take (at + n) text =
     rw (piece_is text at) (sym (take-add at n text)) in
-    subst (GainsText a d) joined (Appends-trans a b d (take at text) (take n (take (length text - at) (drop at text))) p q)
+    subst (GainsText a d) joined (Appends-trans a b d (take at text) (take n (take (length text - at) (drop at text))) p
+    q)
 
 -- what was copied to the front of a buffer is what is no longer left
 pub front_left : (octets copied more : List ℕ) (at n : ℕ) → n ≤ length (take (length octets - at) (drop at octets))

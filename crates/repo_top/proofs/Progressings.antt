@@ -18,10 +18,10 @@ use Rattle.repo_member.specs.Groups.{GroupKeys, IsKey, IsPlainNodeName, is_name_
 use Rattle.group_model.specs.Steps.{after_event}
 use Rattle.group_model.specs.Refusals as group
 use Rattle.bench_world.specs.EventValues.{EventValue, group_event, telling}
-use Rattle.repo_top.specs.declared.progress.Stage.{Stage}
-use Rattle.repo_top.specs.declared.progress.Stage.TheVariants.{Opening, Declaring, Acting}
+use Rattle.repo_top.specs.declared.progress.Standing.{Standing}
+use Rattle.repo_top.specs.declared.progress.Standing.TheVariants.{Opening, Declaring, Acting}
 use Rattle.repo_top.specs.Judging.{Given, State, Verdict, says, acted, acted_by, acted_if, found_world, group_named, outside_of, judged_line, line_taken, no_group, taken_by, with_client_too, with_member_too}
-use Rattle.repo_top.specs.Progressing.{NamesAreDeclared, LineIsChecked, IsStop, IsStopOf, StatesFit, has_group, has_world, stage_keys, node_of, state_of, world_in}
+use Rattle.repo_top.specs.Progressing.{NamesAreDeclared, LineIsChecked, IsStop, IsStopOf, StatesFit, has_group, has_world, standing_keys, node_of, state_of, world_in}
 use Rattle.repo_top.specs.declared.stop.Stop.{Stop}
 use Rattle.repo_top.specs.ToldTexts.{told_text}
 use Rattle.repo_top.specs.SaidEvents.{said_event}
@@ -29,68 +29,69 @@ use Rattle.repo_top.proofs.Fitting.{client_fits, event_fits, group_fits, member_
 use Rattle.repo_top.proofs.Judgings.{acted_says, acted_stops, IsEventLine, client_declares, client_says, event_declares, event_says, group_declares, group_says, is_free, member_declares, member_says, taken_line}
 
 -- Nothing but what a line declares matters where it is taken.
-same_acted : (given : Given) (stage : Stage) (d e : Declared) (o : Option EventValue)
-    → acted_if given (state_of stage d) e o ≡ acted_if given (state_of stage e) e o
+same_acted : (given : Given) (standing : Standing) (d e : Declared) (o : Option EventValue)
+    → acted_if given (state_of standing d) e o ≡ acted_if given (state_of standing e) e o
 unfolding acted
-same_acted given stage d e None = refl
-same_acted given stage d e (Some v) = refl
+same_acted given standing d e None = refl
+same_acted given standing d e (Some v) = refl
 
-same_acted_by : (given : Given) (stage : Stage) (d e : Declared) (s : Stated)
-    → acted_by given (state_of stage d) e s ≡ acted_by given (state_of stage e) e s
+same_acted_by : (given : Given) (standing : Standing) (d e : Declared) (s : Stated)
+    → acted_by given (state_of standing d) e s ≡ acted_by given (state_of standing e) e s
 unfolding acted_by
-same_acted_by given stage d e s = same_acted given stage d e (said_event e s)
+same_acted_by given standing d e s = same_acted given standing d e (said_event e s)
 
-same_taken : (given : Given) (stage : Stage) (d e : Declared) (v : Verb) (s : Stated)
-    → taken_by v given (state_of stage d) e s ≡ taken_by v given (state_of stage e) e s
-same_taken given stage d e verb.Group s = refl
-same_taken given stage d e verb.Member s = refl
-same_taken given stage d e verb.Client s = refl
-same_taken given stage d e v s = same_acted_by given stage d e s
+same_taken : (given : Given) (standing : Standing) (d e : Declared) (v : Verb) (s : Stated)
+    → taken_by v given (state_of standing d) e s ≡ taken_by v given (state_of standing e) e s
+same_taken given standing d e verb.Group s = refl
+same_taken given standing d e verb.Member s = refl
+same_taken given standing d e verb.Client s = refl
+same_taken given standing d e v s = same_acted_by given standing d e s
 
-pub line_is_taken : (given : Given) (stage : Stage) (d e : Declared) (s : Stated) → after_line d s ≡ Ok e
-    → judged_line given (state_of stage d) s ≡ line_taken given (state_of stage e) e s
+pub line_is_taken : (given : Given) (standing : Standing) (d e : Declared) (s : Stated) → after_line d s ≡ Ok e
+    → judged_line given (state_of standing d) s ≡ line_taken given (state_of standing e) e s
 unfolding line_taken
-line_is_taken given stage d e s after =
-    taken_line given (state_of stage d) e s after ∙ same_taken given stage d e s.verb s
+line_is_taken given standing d e s after =
+    taken_line given (state_of standing d) e s after ∙ same_taken given standing d e s.verb s
 
-no_world : (stage : Stage) → has_world stage ≡ false → world_in stage ≡ None
+no_world : (standing : Standing) → has_world standing ≡ false → world_in standing ≡ None
 no_world Opening h = refl
 no_world (Declaring group) h = refl
 no_world (Acting world) h = absurd (true≢false h)
 
 -- Nothing is kept before the group's line.
-record IsOpening (stage : Stage) : Type 0 where
-  keys : stage_keys stage ≡ no_group
-  world : world_in stage ≡ None
-  early : has_world stage ≡ false
+record IsOpening (standing : Standing) : Type 0 where
+  keys : standing_keys standing ≡ no_group
+  world : world_in standing ≡ None
+  early : has_world standing ≡ false
 
-is_opening : (stage : Stage) → has_group stage ≡ false → IsOpening stage
+is_opening : (standing : Standing) → has_group standing ≡ false → IsOpening standing
 is_opening Opening h = record { keys = refl; world = refl; early = refl }
 is_opening (Declaring group) h = absurd (true≢false h)
 is_opening (Acting world) h = absurd (true≢false h)
 
 -- The verdict of a line that declares something, and has no report.
-abbrev pub Says : Given → Stage → Declared → Stated → GroupKeys → Type 0
-Says given stage e s keys =
-    line_taken given (state_of stage e) e s ≡ says [] (record { declared = e; keys = keys; world = None })
+abbrev pub Says : Given → Standing → Declared → Stated → GroupKeys → Type 0
+Says given standing e s keys =
+    line_taken given (state_of standing e) e s ≡ says [] (record { declared = e; keys = keys; world = None })
 
 -- ---- the group
 
-pub record Grouped (given : Given) (labels : List (List ℕ)) (stage : Stage) (e : Declared) (s : Stated)
+pub record Grouped (given : Given) (labels : List (List ℕ)) (standing : Standing) (e : Declared) (s : Stated)
     (name : List Component) : Type 0 where
   pub plain : IsPlainNodeName name
   pub group : e.group ≡ true
   pub early : e.events ≡ false
   pub named : NamesAreDeclared labels (group_named name) e
-  pub says : Says given stage e s (group_named name)
+  pub says : Says given standing e s (group_named name)
 
-grouped_at : (given : Given) (labels : List (List ℕ)) (stage : Stage) (e : Declared) (name : List Component)
-    → LineIsChecked labels stage e (said verb.Group (Named name ∷ []))
-    → Grouped given labels stage e (said verb.Group (Named name ∷ [])) name
-grouped_at given labels stage e name c =
+grouped_at : (given : Given) (labels : List (List ℕ)) (standing : Standing) (e : Declared) (name : List Component)
+    → LineIsChecked labels standing e (said verb.Group (Named name ∷ []))
+    → Grouped given labels standing e (said verb.Group (Named name ∷ [])) name
+grouped_at given labels standing e name c =
     let opens = group_declares c.before e name c.after in
-    let none = is_opening stage (sym c.stands.group ∙ opens.0) in
-    let empty : NamesAreDeclared labels no_group c.before = subst (λ keys. NamesAreDeclared labels keys c.before) none.keys
+    let none = is_opening standing (sym c.stands.group ∙ opens.0) in
+    let empty : NamesAreDeclared labels no_group c.before =
+    subst (λ keys. NamesAreDeclared labels keys c.before) none.keys
     c.stands.named in
     let new : NamesAreDeclared labels (group_named name) (record c.before { group = true }) =
     record { labels = empty.labels; members = empty.members; clients = empty.clients } in
@@ -99,50 +100,51 @@ grouped_at given labels stage e name c =
       group = ap (λ (x : Declared). x.group) (sym opens.1);
       early = ap (λ (x : Declared). x.events) (sym opens.1) ∙ c.stands.events ∙ none.early;
       named = subst (NamesAreDeclared labels (group_named name)) opens.1 new;
-      says = group_says given (state_of stage e) e name
+      says = group_says given (state_of standing e) e name
           ∙ ap (λ (w : Option World). says [] (record { declared = e; keys = group_named name; world = w })) none.world;
     }
 
-pub grouped : (given : Given) (labels : List (List ℕ)) (stage : Stage) (e : Declared) (s : Stated)
+pub grouped : (given : Given) (labels : List (List ℕ)) (standing : Standing) (e : Declared) (s : Stated)
     (name : List Component)
-    → s ≡ said verb.Group (Named name ∷ []) → LineIsChecked labels stage e s → Grouped given labels stage e s name
-grouped given labels stage e s name is c =
-    subst (λ (x : Stated). Grouped given labels stage e x name) (sym is)
-    (grouped_at given labels stage e name (subst (LineIsChecked labels stage e) is c))
+    → s ≡ said verb.Group (Named name ∷ []) → LineIsChecked labels standing e s → Grouped given labels standing e s name
+grouped given labels standing e s name is c =
+    subst (λ (x : Stated). Grouped given labels standing e x name) (sym is)
+    (grouped_at given labels standing e name (subst (LineIsChecked labels standing e) is c))
 
 -- ---- members and clients
 
 -- A name and a key are kept in addition, and then the labels and names are these.
-pub record Declares (given : Given) (labels : List (List ℕ)) (stage : Stage) (e : Declared) (s : Stated)
+pub record Declares (given : Given) (labels : List (List ℕ)) (standing : Standing) (e : Declared) (s : Stated)
     (node : List Component) (key : List ℕ) (keys : GroupKeys) : Type 0 where
   pub plain : IsPlainNodeName node
   pub fits : IsKey key
   pub group : e.group ≡ true
   pub early : e.events ≡ false
-  pub there : has_group stage ≡ true
-  pub unchanged : has_world stage ≡ false
-  pub apart : is_name_taken (stage_keys stage) node ≡ false
+  pub there : has_group standing ≡ true
+  pub unchanged : has_world standing ≡ false
+  pub apart : is_name_taken (standing_keys standing) node ≡ false
   pub named : NamesAreDeclared labels keys e
-  pub says : Says given stage e s keys
+  pub says : Says given standing e s keys
 
-abbrev pub MemberDeclares : Given → List (List ℕ) → Stage → Declared → Stated → List ℕ → List Component → List ℕ
+abbrev pub MemberDeclares : Given → List (List ℕ) → Standing → Declared → Stated → List ℕ → List Component → List ℕ
     → Type 0
-MemberDeclares given labels stage e s label node key =
-    Declares given (labels ++ label ∷ []) stage e s node key (with_member_too node key (stage_keys stage))
-    × (length (stage_keys stage).members.names < 16)
+MemberDeclares given labels standing e s label node key =
+    Declares given (labels ++ label ∷ []) standing e s node key (with_member_too node key (standing_keys standing))
+    × (length (standing_keys standing).members.names < 16)
 
-member_at : (given : Given) (labels : List (List ℕ)) (stage : Stage) (e : Declared) (label : List ℕ)
+member_at : (given : Given) (labels : List (List ℕ)) (standing : Standing) (e : Declared) (label : List ℕ)
     (node : List Component) (key : List ℕ)
-    → LineIsChecked labels stage e (said verb.Member (Text label ∷ Named node ∷ Octets key ∷ []))
-    → MemberDeclares given labels stage e (said verb.Member (Text label ∷ Named node ∷ Octets key ∷ [])) label node key
-member_at given labels stage e label node key c =
+    → LineIsChecked labels standing e (said verb.Member (Text label ∷ Named node ∷ Octets key ∷ []))
+    → MemberDeclares given labels standing e (said verb.Member (Text label ∷ Named node ∷ Octets key ∷ [])) label node
+    key
+member_at given labels standing e label node key c =
     let d = c.before in
     let both = member_declares d e label node key c.after in
     let may = both.0 in
     let was = c.stands.named in
     let both_fit = member_fits c.line.octets label node key c.line.read in
     let unchanged = sym c.stands.events ∙ may.early in
-    let new : NamesAreDeclared (labels ++ label ∷ []) (with_member_too node key (stage_keys stage))
+    let new : NamesAreDeclared (labels ++ label ∷ []) (with_member_too node key (standing_keys standing))
     (record c.before { members = c.before.members ++ party label node ∷ [] }) = record {
       labels = ap (λ (xs : List (List ℕ)). xs ++ label ∷ []) was.labels
           ∙ sym (map-append party_label d.members (party label node ∷ []));
@@ -157,46 +159,47 @@ member_at given labels stage e label node key c =
         early = ap (λ (x : Declared). x.events) (sym both.1) ∙ may.early;
         there = sym c.stands.group ∙ may.group;
         unchanged = unchanged;
-        apart = is_free d (stage_keys stage) label node was.members was.clients may.apart;
-        named = subst (NamesAreDeclared (labels ++ label ∷ []) (with_member_too node key (stage_keys stage))) both.1 new;
-        says = member_says given (state_of stage e) e label node key
+        apart = is_free d (standing_keys standing) label node was.members was.clients may.apart;
+        named = subst (NamesAreDeclared (labels ++ label ∷ []) (with_member_too node key (standing_keys standing)))
+            both.1 new;
+        says = member_says given (state_of standing e) e label node key
             ∙ ap (λ (w : Option World). says [] (record {
               declared = e;
-              keys = with_member_too node key (stage_keys stage);
+              keys = with_member_too node key (standing_keys standing);
               world = w;
-            })) (no_world stage unchanged);
+            })) (no_world standing unchanged);
       },
       subst (λ n. n < 16) (sym (length-map d.members node_of)
           ∙ ap (λ (xs : List (List Component)). length xs) was.members) may.few,
     )
 
-pub member_declared : (given : Given) (labels : List (List ℕ)) (stage : Stage) (e : Declared) (s : Stated)
+pub member_declared : (given : Given) (labels : List (List ℕ)) (standing : Standing) (e : Declared) (s : Stated)
     (label : List ℕ) (node : List Component) (octets key : List ℕ)
     → s ≡ said verb.Member (Text label ∷ Named node ∷ Octets octets ∷ [])
-    → key ≡ octets → LineIsChecked labels stage e s → MemberDeclares given labels stage e s label node key
-member_declared given labels stage e s label node octets key is same c =
+    → key ≡ octets → LineIsChecked labels standing e s → MemberDeclares given labels standing e s label node key
+member_declared given labels standing e s label node octets key is same c =
     let is_key : s ≡ said verb.Member (Text label ∷ Named node ∷ Octets key ∷ []) =
     is ∙ ap (λ (k : List ℕ). said verb.Member (Text label ∷ Named node ∷ Octets k ∷ [])) (sym same) in
-    subst (λ (x : Stated). MemberDeclares given labels stage e x label node key) (sym is_key)
-    (member_at given labels stage e label node key (subst (LineIsChecked labels stage e) is_key c))
+    subst (λ (x : Stated). MemberDeclares given labels standing e x label node key) (sym is_key)
+    (member_at given labels standing e label node key (subst (LineIsChecked labels standing e) is_key c))
 
-abbrev pub ClientDeclares : Given → List (List ℕ) → Stage → Declared → Stated → List Component → List ℕ → Type 0
-ClientDeclares given labels stage e s node key =
-    Declares given labels stage e s node key (with_client_too node key (stage_keys stage))
-    × (length (stage_keys stage).clients.names < 16)
+abbrev pub ClientDeclares : Given → List (List ℕ) → Standing → Declared → Stated → List Component → List ℕ → Type 0
+ClientDeclares given labels standing e s node key =
+    Declares given labels standing e s node key (with_client_too node key (standing_keys standing))
+    × (length (standing_keys standing).clients.names < 16)
 
-client_at : (given : Given) (labels : List (List ℕ)) (stage : Stage) (e : Declared) (label : List ℕ)
+client_at : (given : Given) (labels : List (List ℕ)) (standing : Standing) (e : Declared) (label : List ℕ)
     (node : List Component) (key : List ℕ)
-    → LineIsChecked labels stage e (said verb.Client (Text label ∷ Named node ∷ Octets key ∷ []))
-    → ClientDeclares given labels stage e (said verb.Client (Text label ∷ Named node ∷ Octets key ∷ [])) node key
-client_at given labels stage e label node key c =
+    → LineIsChecked labels standing e (said verb.Client (Text label ∷ Named node ∷ Octets key ∷ []))
+    → ClientDeclares given labels standing e (said verb.Client (Text label ∷ Named node ∷ Octets key ∷ [])) node key
+client_at given labels standing e label node key c =
     let d = c.before in
     let both = client_declares d e label node key c.after in
     let may = both.0 in
     let was = c.stands.named in
     let both_fit = client_fits c.line.octets label node key c.line.read in
     let unchanged = sym c.stands.events ∙ may.early in
-    let new : NamesAreDeclared labels (with_client_too node key (stage_keys stage))
+    let new : NamesAreDeclared labels (with_client_too node key (standing_keys standing))
     (record c.before { clients = c.before.clients ++ party label node ∷ [] }) = record {
       labels = was.labels;
       members = was.members;
@@ -210,42 +213,44 @@ client_at given labels stage e label node key c =
         early = ap (λ (x : Declared). x.events) (sym both.1) ∙ may.early;
         there = sym c.stands.group ∙ may.group;
         unchanged = unchanged;
-        apart = is_free d (stage_keys stage) label node was.members was.clients may.apart;
-        named = subst (NamesAreDeclared labels (with_client_too node key (stage_keys stage))) both.1 new;
-        says = client_says given (state_of stage e) e label node key
+        apart = is_free d (standing_keys standing) label node was.members was.clients may.apart;
+        named = subst (NamesAreDeclared labels (with_client_too node key (standing_keys standing))) both.1 new;
+        says = client_says given (state_of standing e) e label node key
             ∙ ap (λ (w : Option World). says [] (record {
               declared = e;
-              keys = with_client_too node key (stage_keys stage);
+              keys = with_client_too node key (standing_keys standing);
               world = w;
-            })) (no_world stage unchanged);
+            })) (no_world standing unchanged);
       },
       subst (λ n. n < 16) (sym (length-map d.clients node_of)
           ∙ ap (λ (xs : List (List Component)). length xs) was.clients) may.few,
     )
 
-pub client_declared : (given : Given) (labels : List (List ℕ)) (stage : Stage) (e : Declared) (s : Stated)
+pub client_declared : (given : Given) (labels : List (List ℕ)) (standing : Standing) (e : Declared) (s : Stated)
     (label : List ℕ) (node : List Component) (octets key : List ℕ)
     → s ≡ said verb.Client (Text label ∷ Named node ∷ Octets octets ∷ [])
-    → key ≡ octets → LineIsChecked labels stage e s → ClientDeclares given labels stage e s node key
-client_declared given labels stage e s label node octets key is same c =
+    → key ≡ octets → LineIsChecked labels standing e s → ClientDeclares given labels standing e s node key
+client_declared given labels standing e s label node octets key is same c =
     let is_key : s ≡ said verb.Client (Text label ∷ Named node ∷ Octets key ∷ []) =
     is ∙ ap (λ (k : List ℕ). said verb.Client (Text label ∷ Named node ∷ Octets k ∷ [])) (sym same) in
-    subst (λ (x : Stated). ClientDeclares given labels stage e x node key) (sym is_key)
-    (client_at given labels stage e label node key (subst (LineIsChecked labels stage e) is_key c))
+    subst (λ (x : Stated). ClientDeclares given labels standing e x node key) (sym is_key)
+    (client_at given labels standing e label node key (subst (LineIsChecked labels standing e) is_key c))
 
 -- ---- events
 
-pub record Acts (given : Given) (labels : List (List ℕ)) (stage : Stage) (e : Declared) (s : Stated) : Type 0 where
+pub record Acts (given : Given) (labels : List (List ℕ)) (standing : Standing) (e : Declared)
+    (s : Stated) : Type 0 where
   pub fit : StatesFit e s
-  pub named : NamesAreDeclared labels (stage_keys stage) e
+  pub named : NamesAreDeclared labels (standing_keys standing) e
   pub group : e.group ≡ true
   pub events : e.events ≡ true
-  pub there : has_group stage ≡ true
-  pub acts : line_taken given (state_of stage e) e s ≡ acted_by given (state_of stage e) e s
+  pub there : has_group standing ≡ true
+  pub acts : line_taken given (state_of standing e) e s ≡ acted_by given (state_of standing e) e s
 
-pub event_acts : (given : Given) (labels : List (List ℕ)) (stage : Stage) (e : Declared) (l : Line) → IsEventLine l
-    → LineIsChecked labels stage e (stated l) → Acts given labels stage e (stated l)
-event_acts given labels stage e l is c =
+pub event_acts : (given : Given) (labels : List (List ℕ)) (standing : Standing) (e : Declared) (l : Line)
+    → IsEventLine l
+    → LineIsChecked labels standing e (stated l) → Acts given labels standing e (stated l)
+event_acts given labels standing e l is c =
     let event = event_declares c.before e l is c.after in
     let was = c.stands.named in
     record {
@@ -258,23 +263,24 @@ event_acts given labels stage e l is c =
       group = event.group;
       events = event.events;
       there = sym c.stands.group ∙ event.there;
-      acts = event_says given (state_of stage e) e l is;
+      acts = event_says given (state_of standing e) e l is;
     }
 
 -- There are as many labels as names.
-pub as_many : {X : Type 0} (f : X → List ℕ) (xs : List X) (keys : GroupKeys) (d : Declared) → NamesAreDeclared (map f xs) keys d
+pub as_many : {X : Type 0} (f : X → List ℕ) (xs : List X) (keys : GroupKeys) (d : Declared)
+    → NamesAreDeclared (map f xs) keys d
     → length xs ≡ length keys.members.names
 as_many f xs keys d n =
     sym (length-map xs f) ∙ ap (λ (ls : List (List ℕ)). length ls) n.labels ∙ length-map d.members party_label
     ∙ sym (length-map d.members node_of) ∙ ap (λ (names : List (List Component)). length names) n.members
 
-module _ (given : Given) (stage found : Stage) (d : Declared) (e : EventValue) (keys : GroupKeys) (w : World)
-    (is : found ≡ stage) (k : keys ≡ stage_keys found) (v : w ≡ found_world given (state_of found d)) where
-  keys_is : keys ≡ stage_keys stage
-  keys_is = k ∙ ap stage_keys is
+module _ (given : Given) (standing found : Standing) (d : Declared) (e : EventValue) (keys : GroupKeys) (w : World)
+    (is : found ≡ standing) (k : keys ≡ standing_keys found) (v : w ≡ found_world given (state_of found d)) where
+  keys_is : keys ≡ standing_keys standing
+  keys_is = k ∙ ap standing_keys is
 
-  world_is : w ≡ found_world given (state_of stage d)
-  world_is = v ∙ ap (λ (s : Stage). found_world given (state_of s d)) is
+  world_is : w ≡ found_world given (state_of standing d)
+  world_is = v ∙ ap (λ (s : Standing). found_world given (state_of s d)) is
 
   -- What is told of the event and what comes of it, by the world that was found.
   pub carried_says : (labels : List (List ℕ)) (report : List ℕ) (keys_new : GroupKeys) (next : World)
@@ -282,40 +288,45 @@ module _ (given : Given) (stage found : Stage) (d : Declared) (e : EventValue) (
       → report ≡ told_text labels (telling keys (outside_of given keys) w e)
       → next ≡ after_event (outside_of given keys) w (group_event keys e)
       → keys_new ≡ keys → labels ≡ map party_label d.members
-      → acted given (state_of stage d) d e ≡ says report (record { declared = d; keys = keys_new; world = Some next })
+      → acted given (state_of standing d) d e ≡ says report
+      (record { declared = d; keys = keys_new; world = Some next })
   carried_says labels report keys_new next taken told after kept named =
-      let taken_so : group.refusal (outside_of given (stage_keys stage)) (found_world given (state_of stage d))
-      (group_event (stage_keys stage) e) ≡ None =
-      subst (λ (x : World). group.refusal (outside_of given (stage_keys stage)) x (group_event (stage_keys stage) e) ≡ None)
+      let taken_so : group.refusal (outside_of given (standing_keys standing)) (found_world given (state_of standing d))
+      (group_event (standing_keys standing) e) ≡ None =
+      subst (λ (x : World). group.refusal (outside_of given (standing_keys standing)) x
+      (group_event (standing_keys standing) e) ≡ None)
       world_is
       (subst (λ (x : GroupKeys). group.refusal (outside_of given x) w (group_event x e) ≡ None) keys_is taken) in
-      let told_so : report ≡ told_text (map party_label d.members) (telling (stage_keys stage)
-      (outside_of given (stage_keys stage))
-      (found_world given (state_of stage d)) e) =
+      let told_so : report ≡ told_text (map party_label d.members) (telling (standing_keys standing)
+      (outside_of given (standing_keys standing))
+      (found_world given (state_of standing d)) e) =
       told ∙ ap (λ (x : List (List ℕ)). told_text x (telling keys (outside_of given keys) w e)) named
       ∙ ap (λ (x : GroupKeys). told_text (map party_label d.members) (telling x (outside_of given x) w e)) keys_is
       ∙ ap (λ (x : World). told_text (map party_label d.members)
-      (telling (stage_keys stage) (outside_of given (stage_keys stage)) x e)) world_is in
-      let after_so : next ≡ after_event (outside_of given (stage_keys stage)) (found_world given (state_of stage d))
-      (group_event (stage_keys stage) e) =
+      (telling (standing_keys standing) (outside_of given (standing_keys standing)) x e)) world_is in
+      let after_so : next ≡ after_event (outside_of given (standing_keys standing))
+      (found_world given (state_of standing d))
+      (group_event (standing_keys standing) e) =
       after ∙ ap (λ (x : GroupKeys). after_event (outside_of given x) w (group_event x e)) keys_is
-      ∙ ap (λ (x : World). after_event (outside_of given (stage_keys stage)) x (group_event (stage_keys stage) e)) world_is in
-      acted_says given (state_of stage d) d e taken_so
+      ∙ ap (λ (x : World). after_event (outside_of given (standing_keys standing)) x
+      (group_event (standing_keys standing) e)) world_is in
+      acted_says given (state_of standing d) d e taken_so
       ∙ ap (λ (x : List ℕ). says x (record {
         declared = d;
-        keys = stage_keys stage;
-        world = Some (after_event (outside_of given (stage_keys stage)) (found_world given (state_of stage d))
-            (group_event (stage_keys stage) e));
+        keys = standing_keys standing;
+        world = Some (after_event (outside_of given (standing_keys standing)) (found_world given (state_of standing d))
+            (group_event (standing_keys standing) e));
       })) (sym told_so)
-      ∙ ap (λ (x : World). says report (record { declared = d; keys = stage_keys stage; world = Some x })) (sym after_so)
+      ∙ ap (λ (x : World). says report (record { declared = d; keys = standing_keys standing; world = Some x }))
+      (sym after_so)
       ∙ ap (λ (x : GroupKeys). says report (record { declared = d; keys = x; world = Some next }))
       (sym (kept ∙ keys_is))
 
   pub carried_stops : (stop : Stop) → IsStopOf (group.refusal (outside_of given keys) w (group_event keys e)) stop
-      → IsStop (acted given (state_of stage d) d e) stop
-  carried_stops stop h = acted_stops given (state_of stage d) d e stop
-      (subst (λ (x : World). IsStopOf (group.refusal (outside_of given (stage_keys stage)) x
-      (group_event (stage_keys stage) e)) stop)
+      → IsStop (acted given (state_of standing d) d e) stop
+  carried_stops stop h = acted_stops given (state_of standing d) d e stop
+      (subst (λ (x : World). IsStopOf (group.refusal (outside_of given (standing_keys standing)) x
+      (group_event (standing_keys standing) e)) stop)
       world_is
       (subst (λ (x : GroupKeys). IsStopOf (group.refusal (outside_of given x) w (group_event x e)) stop) keys_is h))
 

@@ -99,7 +99,8 @@ component_valid c text (sequence tail typ e value) above short =
 -- ---- names
 
 path_valid : (at : ℕ) (parts : List Part) (text : List ℕ) → IsPath at parts text
-    → list_any is_digest (name_of_parts parts) ≡ false → length (encoding (name_of_parts parts)) < 2 ^ 64 → IsName (name_of_parts parts)
+    → list_any is_digest (name_of_parts parts) ≡ false → length (encoding (name_of_parts parts)) < 2 ^ 64
+    → IsName (name_of_parts parts)
 unfolding encoding
 path_valid at [] text h none short = tt
 path_valid at (part ∷ parts) text h none short =
@@ -113,12 +114,14 @@ path_valid at (part ∷ parts) text h none short =
     )
 
 rooted_valid : (at : ℕ) (parts : List Part) (text : List ℕ) → IsRooted at parts text
-    → list_any is_digest (name_of_parts parts) ≡ false → length (encoding (name_of_parts parts)) < 2 ^ 64 → IsName (name_of_parts parts)
+    → list_any is_digest (name_of_parts parts) ≡ false → length (encoding (name_of_parts parts)) < 2 ^ 64
+    → IsName (name_of_parts parts)
 rooted_valid at [] text h none short = tt
 rooted_valid at (part ∷ parts) text h none short = path_valid at (part ∷ parts) text h none short
 
 uri_valid : (parts : List Part) (text : List ℕ) → IsUri parts text
-    → list_any is_digest (name_of_parts parts) ≡ false → length (encoding (name_of_parts parts)) < 2 ^ 64 → IsName (name_of_parts parts)
+    → list_any is_digest (name_of_parts parts) ≡ false → length (encoding (name_of_parts parts)) < 2 ^ 64
+    → IsName (name_of_parts parts)
 uri_valid parts text (inl h) none short = rooted_valid 0 parts text h none short
 uri_valid parts text (inr h) none short = rooted_valid 4 parts h.0 h.2 none short
 

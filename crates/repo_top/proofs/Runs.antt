@@ -333,7 +333,8 @@ front_taken given a d input (o ∷ os) whole part = part
 
 -- the source failed
 pub ran_unread : (Last : Story → Type 0) (given : Given) (held : List ℕ) (r : Reached) (a b : Option (List ℕ))
-    (input rest : List ℕ) → Carried given held r a b input rest → LineIsBegun held → Ran given a b ReadFault Last input rest
+    (input rest : List ℕ) → Carried given held r a b input rest → LineIsBegun held
+    → Ran given a b ReadFault Last input rest
 ran_unread Last given held r a b input rest so_far begun =
     let story = story_is given held r a b input rest so_far in
     let front : GainsFront a b (story_of given input).text (ReadFault ≡ WriteFault) =
@@ -395,7 +396,8 @@ pub ran_finished : (given : Given) (held : List ℕ) (r next : Reached) (a b d :
     → Finishes given r (lines held) next b d status → Ran given a d status (EndsIn next.state) input rest
 ran_finished given held r next a b d input rest status so_far none few f =
     let story : story_of given input ≡ behind_text so_far.text (story_from given r (lines held)) =
-    story_is given held r a b input rest so_far ∙ ap (λ (t : List ℕ). behind_text so_far.text (story_from given r (lines t)))
+    story_is given held r a b input rest so_far ∙ ap (λ (t : List ℕ).
+    behind_text so_far.text (story_from given r (lines t)))
     (ap (λ (t : List ℕ). held ++ t) none ∙ append-nil held) in
     let Q : Story → Type 0 = λ s. StatusTells s a d status in
     let tells = subst Q (sym story) (tells_behind (story_from given r (lines held)) a b d so_far.text status

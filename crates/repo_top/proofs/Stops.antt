@@ -16,7 +16,8 @@ use Rattle.repo_top.proofs.Stories.{refused_story, stop_tells}
 
 -- ---- a text that was not written whole
 
-pub halts_unwritten : (line : ℕ) (why : Stop) (a b : Option (List ℕ)) (n : ℕ) → GainsText a b (take n (stop_text line why))
+pub halts_unwritten : (line : ℕ) (why : Stop) (a b : Option (List ℕ)) (n : ℕ)
+    → GainsText a b (take n (stop_text line why))
     → n < length (stop_text line why) → Halts line why a b WriteFault
 halts_unwritten line why a b n p lt = record {
   stops = tt;
@@ -67,7 +68,8 @@ module _ (given : Given) (r : Reached) (line : List ℕ) (a b : Option (List ℕ
       stopped_there why number (subst P (h.same (told_where status number at)) at)
 
   by_texts : (why : Stop) (status : Status) (s : Story) → Halts (r.lines + 1) why a b status
-      → s.text ≡ stop_text (r.lines + 1) why → status_of s.ending ≡ stop_status (r.lines + 1) why → StatusTells s a b status
+      → s.text ≡ stop_text (r.lines + 1) why → status_of s.ending ≡ stop_status (r.lines + 1) why
+      → StatusTells s a b status
   by_texts why status s h text ending =
       let G : List ℕ → Type 0 = λ t. GainsText a b t in
       let F : List ℕ → Type 0 = λ t. GainsFront a b t (status ≡ WriteFault) in

@@ -37,7 +37,8 @@ module _ (given : Given) (r : Reached) where
 
     -- a line that is taken
     pub goes_on : (next : Reached) (old new : Option (List ℕ)) (t : Took given r line next old new)
-        (others : List (List ℕ)) → story_from given r (line ∷ others) ≡ behind_text t.report (story_from given next others)
+        (others : List (List ℕ)) → story_from given r (line ∷ others)
+        ≡ behind_text t.report (story_from given next others)
     goes_on next old new t others =
         let tell : Verdict → Story = λ v. story_of_line (λ n. story_from given n others) r line v in
         let then : Reached → Story = λ n. behind_text t.report (story_from given n others) in

@@ -11,40 +11,40 @@ use Rattle.bench_world.specs.Worlds.{world_of}
 use Rattle.bench_world.specs.EventValues.{EventValue}
 use Rattle.bench_world.specs.Steps.{IsReady, NamesClient}
 use Rattle.repo_top.specs.declared.progress.Progress.{Progress}
-use Rattle.repo_top.specs.declared.progress.Stage.{Stage}
-use Rattle.repo_top.specs.declared.progress.Stage.TheVariants.{Opening, Declaring, Acting}
+use Rattle.repo_top.specs.declared.progress.Standing.{Standing}
+use Rattle.repo_top.specs.declared.progress.Standing.TheVariants.{Opening, Declaring, Acting}
 use Rattle.repo_top.specs.declared.stop.Stop.{Stop}
 use Rattle.repo_top.specs.declared.stop.Stop.TheVariants as stop
 use Rattle.repo_top.specs.SaidEvents.{said_event}
 use Rattle.repo_top.specs.Judging.{State, Verdict, no_group, refused, foreign, event_refused}
 
-abbrev pub stage_keys : Stage → GroupKeys
-stage_keys Opening = no_group
-stage_keys (Declaring group) = group
-stage_keys (Acting world) = world.keys
+abbrev pub standing_keys : Standing → GroupKeys
+standing_keys Opening = no_group
+standing_keys (Declaring group) = group
+standing_keys (Acting world) = world.keys
 
-abbrev pub world_in : Stage → Option World
+abbrev pub world_in : Standing → Option World
 world_in Opening = None
 world_in (Declaring group) = None
 world_in (Acting world) = Some (world_of world)
 
-abbrev pub steps_in : Stage → ℕ
+abbrev pub steps_in : Standing → ℕ
 steps_in Opening = zero
 steps_in (Declaring group) = zero
 steps_in (Acting world) = world.steps
 
-abbrev pub state_of : Stage → Declared → State
-state_of stage d = record { declared = d; keys = stage_keys stage; world = world_in stage }
+abbrev pub state_of : Standing → Declared → State
+state_of standing d = record { declared = d; keys = standing_keys standing; world = world_in standing }
 
 abbrev pub progress_state : Progress → State
-progress_state p = state_of p.stage p.words
+progress_state p = state_of p.standing p.words
 
-abbrev pub has_group : Stage → Bool
+abbrev pub has_group : Standing → Bool
 has_group Opening = false
 has_group (Declaring group) = true
 has_group (Acting world) = true
 
-abbrev pub has_world : Stage → Bool
+abbrev pub has_world : Standing → Bool
 has_world Opening = false
 has_world (Declaring group) = false
 has_world (Acting world) = true
@@ -54,7 +54,7 @@ node_of p = p.node
 
 -- How many events were carried out.
 abbrev pub steps : Progress → ℕ
-steps p = steps_in p.stage
+steps p = steps_in p.standing
 
 -- The labels and the group's names are those that lines declare.
 pub record NamesAreDeclared (kept : List (List ℕ)) (keys : GroupKeys) (d : Declared) : Type 0 where
@@ -63,13 +63,13 @@ pub record NamesAreDeclared (kept : List (List ℕ)) (keys : GroupKeys) (d : Dec
   pub clients : map node_of d.clients ≡ keys.clients.names
 
 -- What is kept is what lines declare: the group stands from its line on, the world from the first event on.
-pub record Stands (labels : List (List ℕ)) (stage : Stage) (d : Declared) : Type 0 where
-  pub named : NamesAreDeclared labels (stage_keys stage) d
-  pub group : d.group ≡ has_group stage
-  pub events : d.events ≡ has_world stage
+pub record Stands (labels : List (List ℕ)) (standing : Standing) (d : Declared) : Type 0 where
+  pub named : NamesAreDeclared labels (standing_keys standing) d
+  pub group : d.group ≡ has_group standing
+  pub events : d.events ≡ has_world standing
 
 abbrev pub IsProgress : Progress → Type 0
-IsProgress p = Stands (map string_bytes p.labels.items) p.stage p.words
+IsProgress p = Stands (map string_bytes p.labels.items) p.standing p.words
 
 -- ---- lines
 
@@ -78,11 +78,11 @@ pub record IsLine (line : Stated) : Type 0 where
   pub octets : List ℕ
   pub read : line_of octets ≡ Ok (Some line)
 
--- The line is taken behind those whose labels and stage are kept, and so much is declared behind it.
-pub record LineIsChecked (labels : List (List ℕ)) (stage : Stage) (d : Declared) (s : Stated) : Type 0 where
+-- The line is taken behind those whose labels and standing are kept, and so much is declared behind it.
+pub record LineIsChecked (labels : List (List ℕ)) (standing : Standing) (d : Declared) (s : Stated) : Type 0 where
   pub line : IsLine s
   pub before : Declared
-  pub stands : Stands labels stage before
+  pub stands : Stands labels standing before
   pub after : after_line before s ≡ Ok d
 
 -- An event that a line states can be carried out where so much is declared.

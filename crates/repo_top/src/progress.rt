@@ -11,7 +11,7 @@ ghost use Rattle.bench_world.specs.Steps.{IsReady, NamesClient};
 ghost use Rattle.bench_world.specs.Worlds.{drawing, world_of};
 ghost use Rattle.repo_top.specs.ToldTexts.{told_text};
 ghost use Rattle.repo_top.specs.Judging.{acted, acted_by, given_by, group_named, judged, judged_line, line_taken, opening_state, says, with_client_too, with_member_too};
-ghost use Rattle.repo_top.specs.Progressing.{NamesAreDeclared, LineIsChecked, IsLine, IsProgress, IsStop, IsStopOf, StatesFit, has_group, has_world, stage_keys, progress_state, steps, steps_in, world_in};
+ghost use Rattle.repo_top.specs.Progressing.{NamesAreDeclared, LineIsChecked, IsLine, IsProgress, IsStop, IsStopOf, StatesFit, has_group, has_world, standing_keys, progress_state, steps, steps_in, world_in};
 
 use crate::refusal::Refusal;
 use crate::said::said;
@@ -28,7 +28,7 @@ use std::thread::Threads;
 
 // Members and clients are declared behind the group, and events follow.
 #[derive(Drop)]
-pub(crate) enum Stage {
+pub(crate) enum Standing {
     Opening,
     Declaring(Group),
     Acting(World),
@@ -41,7 +41,7 @@ pub(crate) struct Progress {
     words: Words,
     // The labels of the members.
     labels: Vec<String>,
-    stage: Stage,
+    standing: Standing,
 }
 
 impl Progress {
@@ -55,7 +55,7 @@ impl Progress {
             alloc,
             words: Words::new(alloc),
             labels: Vec::new(alloc),
-            stage: Stage::Opening,
+            standing: Standing::Opening,
         }
     }
 
@@ -119,7 +119,7 @@ impl Progress {
         net: &N,
         draws: &D,
     ) -> Result<(), Stop>
-        requires checked { LineIsChecked (map string_bytes self.old.labels.items) self.old.stage self.old.words
+        requires checked { LineIsChecked (map string_bytes self.old.labels.items) self.old.standing self.old.words
             (stated line) }
         requires few { steps self.old < 100000 }
         requires empty { report.old.items ≡ [] }
@@ -156,7 +156,7 @@ impl Progress {
         ensures steps { OnOk result (steps self.new ≡ 0) }
         ensures err { IfErr result (λ stop. stop ≡ Stop.NoMemory) }
     {
-        self.stage = Stage::Declaring(Group::new(self.alloc, name)?);
+        self.standing = Standing::Declaring(Group::new(self.alloc, name)?);
         Ok(())
     }
 
@@ -165,22 +165,22 @@ impl Progress {
         requires key { IsKey key.now }
         requires group { self.old.words.group ≡ true }
         requires early { self.old.words.events ≡ false }
-        requires there { has_group self.old.stage ≡ true }
-        requires unchanged { has_world self.old.stage ≡ false }
-        requires apart { is_name_taken (stage_keys self.old.stage) node.now ≡ false }
-        requires few { length (stage_keys self.old.stage).members.names < node_limit }
+        requires there { has_group self.old.standing ≡ true }
+        requires unchanged { has_world self.old.standing ≡ false }
+        requires apart { is_name_taken (standing_keys self.old.standing) node.now ≡ false }
+        requires few { length (standing_keys self.old.standing).members.names < node_limit }
         requires named { NamesAreDeclared (map string_bytes self.old.labels.items ++ string_bytes label ∷ [])
-            (with_member_too node.now key.now (stage_keys self.old.stage)) self.old.words }
+            (with_member_too node.now key.now (standing_keys self.old.standing)) self.old.words }
         ensures state { OnOk result (progress_state self.new ≡ record {
           declared = self.old.words;
-          keys = with_member_too node.now key.now (stage_keys self.old.stage);
+          keys = with_member_too node.now key.now (standing_keys self.old.standing);
           world = None;
         }) }
         ensures is { OnOk result (IsProgress self.new) }
         ensures steps { OnOk result (steps self.new ≡ 0) }
         ensures err { IfErr result (λ stop. stop ≡ Stop.NoMemory) }
     {
-        self.stage.add_member(node, key)?;
+        self.standing.add_member(node, key)?;
         self.labels.push(label)?;
         Ok(())
     }
@@ -190,22 +190,22 @@ impl Progress {
         requires key { IsKey key.now }
         requires group { self.old.words.group ≡ true }
         requires early { self.old.words.events ≡ false }
-        requires there { has_group self.old.stage ≡ true }
-        requires unchanged { has_world self.old.stage ≡ false }
-        requires apart { is_name_taken (stage_keys self.old.stage) node.now ≡ false }
-        requires few { length (stage_keys self.old.stage).clients.names < node_limit }
+        requires there { has_group self.old.standing ≡ true }
+        requires unchanged { has_world self.old.standing ≡ false }
+        requires apart { is_name_taken (standing_keys self.old.standing) node.now ≡ false }
+        requires few { length (standing_keys self.old.standing).clients.names < node_limit }
         requires named { NamesAreDeclared (map string_bytes self.old.labels.items)
-            (with_client_too node.now key.now (stage_keys self.old.stage)) self.old.words }
+            (with_client_too node.now key.now (standing_keys self.old.standing)) self.old.words }
         ensures state { OnOk result (progress_state self.new ≡ record {
           declared = self.old.words;
-          keys = with_client_too node.now key.now (stage_keys self.old.stage);
+          keys = with_client_too node.now key.now (standing_keys self.old.standing);
           world = None;
         }) }
         ensures is { OnOk result (IsProgress self.new) }
         ensures steps { OnOk result (steps self.new ≡ 0) }
         ensures err { IfErr result (λ stop. stop ≡ Stop.NoMemory) }
     {
-        self.stage.add_client(node, key)
+        self.standing.add_client(node, key)
     }
 
     // Carries out the event that a line states, and writes what came of it.
@@ -219,10 +219,10 @@ impl Progress {
     ) -> Result<(), Stop>
         requires fit { StatesFit self.old.words (stated line) }
         requires named { NamesAreDeclared (map string_bytes self.old.labels.items)
-            (stage_keys self.old.stage) self.old.words }
+            (standing_keys self.old.standing) self.old.words }
         requires group { self.old.words.group ≡ true }
         requires events { self.old.words.events ≡ true }
-        requires there { has_group self.old.stage ≡ true }
+        requires there { has_group self.old.standing ≡ true }
         requires few { steps self.old < 100000 }
         requires empty { report.old.items ≡ [] }
         ensures taken { OnOk result (acted_by (given_by (D.draw draws.now) (N.passes net.now)) (progress_state self.old)
@@ -251,10 +251,10 @@ impl Progress {
         requires ready { IsReady (length self.old.words.members) (event_value event.now) }
         requires clients { NamesClient (length self.old.words.clients) (event_value event.now) }
         requires named { NamesAreDeclared (map string_bytes self.old.labels.items)
-            (stage_keys self.old.stage) self.old.words }
+            (standing_keys self.old.standing) self.old.words }
         requires group { self.old.words.group ≡ true }
         requires events { self.old.words.events ≡ true }
-        requires there { has_group self.old.stage ≡ true }
+        requires there { has_group self.old.standing ≡ true }
         requires few { steps self.old < 100000 }
         requires empty { report.old.items ≡ [] }
         ensures taken { OnOk result (acted (given_by (D.draw draws.now) (N.passes net.now)) (progress_state self.old)
@@ -265,10 +265,10 @@ impl Progress {
         ensures is { OnOk result (IsProgress self.new) }
         ensures steps { OnOk result (steps self.new ≤ steps self.old + 1) }
     {
-        let stage = mem::replace(&mut self.stage, Stage::Opening);
-        let mut world = stage.begin(self.alloc, draws)?;
+        let standing = mem::replace(&mut self.standing, Standing::Opening);
+        let mut world = standing.begin(self.alloc, draws)?;
         step(rt, &mut world, event, &self.labels, report, net, draws)?;
-        self.stage = Stage::Acting(world);
+        self.standing = Standing::Acting(world);
         Ok(())
     }
 
@@ -277,23 +277,24 @@ impl Progress {
         ensures world { option_map world_of result ≡ (progress_state self).world }
         ensures keys { IfSome result (λ world. world.keys ≡ (progress_state self).keys) }
     {
-        let Progress { stage, .. } = self;
-        match stage {
-            Stage::Acting(world) => Some(world),
+        let Progress { standing, .. } = self;
+        match standing {
+            Standing::Acting(world) => Some(world),
             _ => None,
         }
     }
 }
 
-impl Stage {
+impl Standing {
     fn add_member(&mut self, node: &Name, key: &[u8]) -> Result<(), Stop>
         requires node { IsPlainNodeName node.now }
         requires key { IsKey key.now }
         requires there { has_group self.old ≡ true }
         requires unchanged { has_world self.old ≡ false }
-        requires apart { is_name_taken (stage_keys self.old) node.now ≡ false }
-        requires few { length (stage_keys self.old).members.names < node_limit }
-        ensures keys { OnOk result (stage_keys self.new ≡ with_member_too node.now key.now (stage_keys self.old)) }
+        requires apart { is_name_taken (standing_keys self.old) node.now ≡ false }
+        requires few { length (standing_keys self.old).members.names < node_limit }
+        ensures keys { OnOk result (standing_keys self.new
+            ≡ with_member_too node.now key.now (standing_keys self.old)) }
         ensures there { OnOk result (has_group self.new ≡ true) }
         ensures world { OnOk result (world_in self.new ≡ None) }
         ensures unchanged { OnOk result (has_world self.new ≡ false) }
@@ -301,12 +302,12 @@ impl Stage {
         ensures err { IfErr result (λ stop. stop ≡ Stop.NoMemory) }
     {
         match self {
-            Stage::Opening => Err(Stop::Refused(Refusal::NoGroup)),
-            Stage::Declaring(group) => {
+            Standing::Opening => Err(Stop::Refused(Refusal::NoGroup)),
+            Standing::Declaring(group) => {
                 group.add_member(node, key)?;
                 Ok(())
             }
-            Stage::Acting(_) => Err(Stop::Refused(Refusal::Late)),
+            Standing::Acting(_) => Err(Stop::Refused(Refusal::Late)),
         }
     }
 
@@ -315,9 +316,10 @@ impl Stage {
         requires key { IsKey key.now }
         requires there { has_group self.old ≡ true }
         requires unchanged { has_world self.old ≡ false }
-        requires apart { is_name_taken (stage_keys self.old) node.now ≡ false }
-        requires few { length (stage_keys self.old).clients.names < node_limit }
-        ensures keys { OnOk result (stage_keys self.new ≡ with_client_too node.now key.now (stage_keys self.old)) }
+        requires apart { is_name_taken (standing_keys self.old) node.now ≡ false }
+        requires few { length (standing_keys self.old).clients.names < node_limit }
+        ensures keys { OnOk result (standing_keys self.new
+            ≡ with_client_too node.now key.now (standing_keys self.old)) }
         ensures there { OnOk result (has_group self.new ≡ true) }
         ensures world { OnOk result (world_in self.new ≡ None) }
         ensures unchanged { OnOk result (has_world self.new ≡ false) }
@@ -325,12 +327,12 @@ impl Stage {
         ensures err { IfErr result (λ stop. stop ≡ Stop.NoMemory) }
     {
         match self {
-            Stage::Opening => Err(Stop::Refused(Refusal::NoGroup)),
-            Stage::Declaring(group) => {
+            Standing::Opening => Err(Stop::Refused(Refusal::NoGroup)),
+            Standing::Declaring(group) => {
                 group.add_client(node, key)?;
                 Ok(())
             }
-            Stage::Acting(_) => Err(Stop::Refused(Refusal::Late)),
+            Standing::Acting(_) => Err(Stop::Refused(Refusal::Late)),
         }
     }
 
@@ -338,15 +340,15 @@ impl Stage {
     fn begin<D: Draws>(self, alloc: Global, draws: &D) -> Result<World, Stop>
         requires there { has_group self ≡ true }
         ensures world { IfOk result (λ world. world_of world ≡ unwrap_or (world_in self)
-            (opening_world (drawing (D.draw draws.now)) (length (stage_keys self).members.names))) }
-        ensures keys { IfOk result (λ world. world.keys ≡ stage_keys self) }
+            (opening_world (drawing (D.draw draws.now)) (length (standing_keys self).members.names))) }
+        ensures keys { IfOk result (λ world. world.keys ≡ standing_keys self) }
         ensures steps { IfOk result (λ world. world.steps ≡ steps_in self) }
         ensures err { IfErr result (λ stop. stop ≡ Stop.NoMemory) }
     {
         match self {
-            Stage::Opening => Err(Stop::Refused(Refusal::NoGroup)),
-            Stage::Declaring(group) => Ok(World::new(alloc, group, draws)?),
-            Stage::Acting(world) => Ok(world),
+            Standing::Opening => Err(Stop::Refused(Refusal::NoGroup)),
+            Standing::Declaring(group) => Ok(World::new(alloc, group, draws)?),
+            Standing::Acting(world) => Ok(world),
         }
     }
 }

@@ -17,5 +17,6 @@ returns-in-None c =
     let behind = c.split_at.ensures.back in
     let place = rw behind at c.in-None.ensures.place in
     let free = all_free c.args.held.now c.args.searched c.requires.within c.requires.free (sym place) in
-    let Q : Option ℕ → Type 0 = λ r. MatchOption r (LineIsBegun c.args.held.now) (λ count. HasLine count c.args.held.now) in
+    let Q : Option ℕ → Type 0 = λ r. MatchOption r (LineIsBegun c.args.held.now)
+    (λ count. HasLine count c.args.held.now) in
     subst Q (sym c.then_some.ensures) (no_line c.args.held.now free)

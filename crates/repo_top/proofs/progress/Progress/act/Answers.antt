@@ -17,13 +17,15 @@ pub returns-clause-taken : goal.returns-clause-taken
 returns-clause-taken g c =
     subst (λ (v : Verdict). OnOk c.carry_out.result
     (v ≡ says c.carry_out.new.report.items (progress_state c.carry_out.new.self)))
-    (sym (acts (given_by (g.D.Draws.draw c.args.draws.now) (g.N.Net.passes c.args.net.now)) (progress_state c.args.self.now)
+    (sym (acts (given_by (g.D.Draws.draw c.args.draws.now) (g.N.Net.passes c.args.net.now))
+    (progress_state c.args.self.now)
     c.args.self.now.words
     (stated c.args.line) (event_value c.in-Some.event) c.in-Some.ensures)) c.carry_out.ensures.taken
 
 pub returns-clause-stopped : goal.returns-clause-stopped
 returns-clause-stopped g c =
     subst (λ (v : Verdict). IfErr c.carry_out.result (IsStop v))
-    (sym (acts (given_by (g.D.Draws.draw c.args.draws.now) (g.N.Net.passes c.args.net.now)) (progress_state c.args.self.now)
+    (sym (acts (given_by (g.D.Draws.draw c.args.draws.now) (g.N.Net.passes c.args.net.now))
+    (progress_state c.args.self.now)
     c.args.self.now.words
     (stated c.args.line) (event_value c.in-Some.event) c.in-Some.ensures)) c.carry_out.ensures.stopped

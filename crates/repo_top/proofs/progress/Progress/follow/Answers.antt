@@ -10,14 +10,14 @@ use Rattle.repo_top.proofs.progress.Progress.follow.Goals as goal
 pub declare_group-requires : goal.declare_group-requires
 declare_group-requires g c =
     let one = grouped (given_by (g.D.Draws.draw c.args.draws.now) (g.N.Net.passes c.args.net.now))
-    (map string_bytes c.args.self.now.labels.items) c.args.self.now.stage c.args.self.now.words
+    (map string_bytes c.args.self.now.labels.items) c.args.self.now.standing c.args.self.now.words
     (stated c.args.line) c.in-Group.name (ap stated c.in-Group.is) c.requires.checked in
     record { name = one.plain; group = one.group; early = one.early; named = one.named }
 
 pub returns-in-Group-clause-taken : goal.returns-in-Group-clause-taken
 returns-in-Group-clause-taken g c =
     let one = grouped (given_by (g.D.Draws.draw c.args.draws.now) (g.N.Net.passes c.args.net.now))
-    (map string_bytes c.args.self.now.labels.items) c.args.self.now.stage c.args.self.now.words
+    (map string_bytes c.args.self.now.labels.items) c.args.self.now.standing c.args.self.now.words
     (stated c.args.line) c.in-Group.name (ap stated c.in-Group.is) c.requires.checked in
     declared_says c.declare_group.result _ c.args.report.now.items _ _ one.says c.requires.empty
     c.declare_group.ensures.state
@@ -25,7 +25,7 @@ returns-in-Group-clause-taken g c =
 pub declare_member-requires : goal.declare_member-requires
 declare_member-requires g c =
     let one = member_declared (given_by (g.D.Draws.draw c.args.draws.now) (g.N.Net.passes c.args.net.now))
-    (map string_bytes c.args.self.now.labels.items) c.args.self.now.stage c.args.self.now.words
+    (map string_bytes c.args.self.now.labels.items) c.args.self.now.standing c.args.self.now.words
     (stated c.args.line) (string_bytes c.in-Member.label) c.in-Member.name c.in-Member.key.items c.deref.result.now
     (ap stated c.in-Member.is) c.deref.ensures.value c.requires.checked in
     record {
@@ -43,7 +43,7 @@ declare_member-requires g c =
 pub returns-in-Member-clause-taken : goal.returns-in-Member-clause-taken
 returns-in-Member-clause-taken g c =
     let one = member_declared (given_by (g.D.Draws.draw c.args.draws.now) (g.N.Net.passes c.args.net.now))
-    (map string_bytes c.args.self.now.labels.items) c.args.self.now.stage c.args.self.now.words
+    (map string_bytes c.args.self.now.labels.items) c.args.self.now.standing c.args.self.now.words
     (stated c.args.line) (string_bytes c.in-Member.label) c.in-Member.name c.in-Member.key.items c.deref.result.now
     (ap stated c.in-Member.is) c.deref.ensures.value c.requires.checked in
     declared_says c.declare_member.result _ c.args.report.now.items _ _ one.0.says c.requires.empty
@@ -52,7 +52,7 @@ returns-in-Member-clause-taken g c =
 pub declare_client-requires : goal.declare_client-requires
 declare_client-requires g c =
     let one = client_declared (given_by (g.D.Draws.draw c.args.draws.now) (g.N.Net.passes c.args.net.now))
-    (map string_bytes c.args.self.now.labels.items) c.args.self.now.stage c.args.self.now.words
+    (map string_bytes c.args.self.now.labels.items) c.args.self.now.standing c.args.self.now.words
     (stated c.args.line) (string_bytes c.in-Client._label) c.in-Client.name c.in-Client.key.items
     c.deref-in-Client.result.now (ap stated c.in-Client.is) c.deref-in-Client.ensures.value c.requires.checked in
     record {
@@ -70,7 +70,7 @@ declare_client-requires g c =
 pub returns-in-Client-clause-taken : goal.returns-in-Client-clause-taken
 returns-in-Client-clause-taken g c =
     let one = client_declared (given_by (g.D.Draws.draw c.args.draws.now) (g.N.Net.passes c.args.net.now))
-    (map string_bytes c.args.self.now.labels.items) c.args.self.now.stage c.args.self.now.words
+    (map string_bytes c.args.self.now.labels.items) c.args.self.now.standing c.args.self.now.words
     (stated c.args.line) (string_bytes c.in-Client._label) c.in-Client.name c.in-Client.key.items
     c.deref-in-Client.result.now (ap stated c.in-Client.is) c.deref-in-Client.ensures.value c.requires.checked in
     declared_says c.declare_client.result _ c.args.report.now.items _ _ one.0.says c.requires.empty
@@ -79,42 +79,43 @@ returns-in-Client-clause-taken g c =
 pub act-requires-clause-fit : goal.act-requires-clause-fit
 act-requires-clause-fit g c κs within =
     (event_acts (given_by (g.D.Draws.draw c.args.draws.now) (g.N.Net.passes c.args.net.now))
-    (map string_bytes c.args.self.now.labels.items) c.args.self.now.stage c.args.self.now.words c.args.line
+    (map string_bytes c.args.self.now.labels.items) c.args.self.now.standing c.args.self.now.words c.args.line
     (is_event c.args.line c.in_default.not-Group c.in_default.not-Member c.in_default.not-Client)
     c.requires.checked).fit
 
 pub act-requires-clause-named : goal.act-requires-clause-named
 act-requires-clause-named g c κs within =
     (event_acts (given_by (g.D.Draws.draw c.args.draws.now) (g.N.Net.passes c.args.net.now))
-    (map string_bytes c.args.self.now.labels.items) c.args.self.now.stage c.args.self.now.words c.args.line
+    (map string_bytes c.args.self.now.labels.items) c.args.self.now.standing c.args.self.now.words c.args.line
     (is_event c.args.line c.in_default.not-Group c.in_default.not-Member c.in_default.not-Client)
     c.requires.checked).named
 
 pub act-requires-clause-group : goal.act-requires-clause-group
 act-requires-clause-group g c κs within =
     (event_acts (given_by (g.D.Draws.draw c.args.draws.now) (g.N.Net.passes c.args.net.now))
-    (map string_bytes c.args.self.now.labels.items) c.args.self.now.stage c.args.self.now.words c.args.line
+    (map string_bytes c.args.self.now.labels.items) c.args.self.now.standing c.args.self.now.words c.args.line
     (is_event c.args.line c.in_default.not-Group c.in_default.not-Member c.in_default.not-Client)
     c.requires.checked).group
 
 pub act-requires-clause-events : goal.act-requires-clause-events
 act-requires-clause-events g c κs within =
     (event_acts (given_by (g.D.Draws.draw c.args.draws.now) (g.N.Net.passes c.args.net.now))
-    (map string_bytes c.args.self.now.labels.items) c.args.self.now.stage c.args.self.now.words c.args.line
+    (map string_bytes c.args.self.now.labels.items) c.args.self.now.standing c.args.self.now.words c.args.line
     (is_event c.args.line c.in_default.not-Group c.in_default.not-Member c.in_default.not-Client)
     c.requires.checked).events
 
 pub returns-in_default-clause-taken : goal.returns-in_default-clause-taken
 returns-in_default-clause-taken g c =
     let one = event_acts (given_by (g.D.Draws.draw c.args.draws.now) (g.N.Net.passes c.args.net.now))
-    (map string_bytes c.args.self.now.labels.items) c.args.self.now.stage c.args.self.now.words c.args.line
+    (map string_bytes c.args.self.now.labels.items) c.args.self.now.standing c.args.self.now.words c.args.line
     (is_event c.args.line c.in_default.not-Group c.in_default.not-Member c.in_default.not-Client) c.requires.checked in
-    subst (λ (v : Verdict). OnOk c.act.result (v ≡ says c.act.new.report.items (progress_state c.act.new.self))) (sym one.acts)
+    subst (λ (v : Verdict). OnOk c.act.result (v ≡ says c.act.new.report.items (progress_state c.act.new.self)))
+    (sym one.acts)
     c.act.ensures.taken
 
 pub returns-in_default-clause-stopped : goal.returns-in_default-clause-stopped
 returns-in_default-clause-stopped g c =
     let one = event_acts (given_by (g.D.Draws.draw c.args.draws.now) (g.N.Net.passes c.args.net.now))
-    (map string_bytes c.args.self.now.labels.items) c.args.self.now.stage c.args.self.now.words c.args.line
+    (map string_bytes c.args.self.now.labels.items) c.args.self.now.standing c.args.self.now.words c.args.line
     (is_event c.args.line c.in_default.not-Group c.in_default.not-Member c.in_default.not-Client) c.requires.checked in
     subst (λ (v : Verdict). IfErr c.act.result (IsStop v)) (sym one.acts) c.act.ensures.stopped

@@ -12,7 +12,8 @@ returns-in_err-line-clause-stopped g c =
     stops_so c.from_residual.result (IsStop (judged (given_by (g.D.Draws.draw c.args.draws.now) (g.N.Net.passes
     c.args.net.now)) (progress_state c.args.self.now) c.args.line.now))
     (line_stop c.in_err-line.field-0.0) c.from_residual.ensures.1
-    (judged_fault (given_by (g.D.Draws.draw c.args.draws.now) (g.N.Net.passes c.args.net.now)) (progress_state c.args.self.now)
+    (judged_fault (given_by (g.D.Draws.draw c.args.draws.now) (g.N.Net.passes c.args.net.now))
+    (progress_state c.args.self.now)
     c.args.line.now c.in_err-line.field-0.0 c.in_err-line.ensures)
 
 pub returns-in-Some-clause-taken : goal.returns-in-Some-clause-taken
@@ -33,7 +34,8 @@ returns-in-Some-clause-stopped g c =
 
 pub returns-in-None-clause-taken : goal.returns-in-None-clause-taken
 returns-in-None-clause-taken g c =
-    judged_read (given_by (g.D.Draws.draw c.args.draws.now) (g.N.Net.passes c.args.net.now)) (progress_state c.args.self.now)
+    judged_read (given_by (g.D.Draws.draw c.args.draws.now) (g.N.Net.passes c.args.net.now))
+    (progress_state c.args.self.now)
     c.args.line.now
     c.in_ok-line.field-0 None c.in_ok-line.ensures c.in-None.is
     ∙ ap (λ (report : List ℕ). says report (progress_state c.args.self.now)) (sym c.requires.empty)

@@ -14,19 +14,21 @@ returns-in_err-check-clause-stopped g c =
     (IsStop (judged_line (given_by (g.D.Draws.draw c.args.draws.now) (g.N.Net.passes c.args.net.now)) (progress_state
     c.args.self.now) (stated c.args.line)))
     (check_stop c.in_err-check.field-0.0) c.from_residual.ensures.1
-    (refused_line (given_by (g.D.Draws.draw c.args.draws.now) (g.N.Net.passes c.args.net.now)) (progress_state c.args.self.now)
+    (refused_line (given_by (g.D.Draws.draw c.args.draws.now) (g.N.Net.passes c.args.net.now))
+    (progress_state c.args.self.now)
     (stated c.args.line) c.in_err-check.field-0.0 c.in_err-check.ensures.refused)
 
 pub returns-clause-taken : goal.returns-clause-taken
 returns-clause-taken g c =
-    subst (λ (v : Verdict). OnOk c.follow.result (v ≡ says c.follow.new.report.items (progress_state c.follow.new.self)))
+    subst (λ (v : Verdict). OnOk c.follow.result (v ≡ says c.follow.new.report.items
+    (progress_state c.follow.new.self)))
     (sym (line_is_taken (given_by (g.D.Draws.draw c.args.draws.now) (g.N.Net.passes c.args.net.now))
-    c.args.self.now.stage
+    c.args.self.now.standing
     c.args.self.now.words c.check.new.self (stated c.args.line) c.in_ok-check.ensures.ok)) c.follow.ensures.taken
 
 pub returns-clause-stopped : goal.returns-clause-stopped
 returns-clause-stopped g c =
     subst (λ (v : Verdict). IfErr c.follow.result (IsStop v))
     (sym (line_is_taken (given_by (g.D.Draws.draw c.args.draws.now) (g.N.Net.passes c.args.net.now))
-    c.args.self.now.stage
+    c.args.self.now.standing
     c.args.self.now.words c.check.new.self (stated c.args.line) c.in_ok-check.ensures.ok)) c.follow.ensures.stopped
