@@ -2,7 +2,6 @@ pub mod Orders
 pub mod Search
 pub mod Sets
 pub mod MapChanges
-pub mod TreeLists
 pub mod Entries
 pub mod RunOrder
 pub mod RunLists

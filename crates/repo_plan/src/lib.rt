@@ -3,12 +3,11 @@
 #![tactic(auto)]
 
 mod laws;
-mod ordered_map;
 mod part;
 mod plan;
 mod runs;
+mod sorted_map;
 pub mod table;
-mod tree;
 
 pub use laws::{
     calls_keep_plans_sound, claims_are_wanted_once, least_unclaimed_parts_are_claimed,

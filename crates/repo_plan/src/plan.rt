@@ -55,8 +55,8 @@ impl Plan {
     {
         Ok(Plan {
             known: vec![in alloc; 0; members]?,
-            done: Runs::new(alloc, 0),
-            held: Runs::new(alloc, (0, 0)),
+            done: Runs::new(alloc),
+            held: Runs::new(alloc),
             shapes: HashMap::new(alloc),
             claims: [None; 16],
             attempts: HashMap::new(alloc),

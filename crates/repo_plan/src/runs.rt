@@ -2,28 +2,27 @@
 ghost use Rattle.std.specs.Prelude.{ℕ, ◌≡◌, ◌+◌, ◌<◌, ◌≤◌, ◌||◌, ◌&&◌, [], true, false, not, length, OnOk};
 ghost use Rattle.std.specs.Ordering.{eq_by_cmp};
 ghost use Rattle.repo_plan.specs.SortedList.{IsExact, without_key, last_up_to, first_from};
-ghost use Rattle.repo_plan.specs.OrderedMap.{IsMap};
+ghost use Rattle.repo_plan.specs.SortedMap.{IsMap};
 ghost use Rattle.repo_plan.specs.Runs.{IsRuns, Number, has_number, runs_of, room_of, number_cmp, next, start_at, end_at};
 
-use crate::ordered_map::OrderedMap;
+use crate::sorted_map::SortedMap;
 use std::alloc::{AllocError, Global};
 
 // By a run's first number its last.
 #[derive(Debug, Drop)]
 pub(crate) struct Runs<P> {
-    map: OrderedMap<(P, u16), (P, u16)>,
+    map: SortedMap<(P, u16), (P, u16)>,
 }
 
 impl<P: Ord + Copy> Runs<P> {
-    // The empty set. The thing has no meaning.
-    pub(crate) fn new(alloc: Global, blank: P) -> Runs<P>
+    // The empty set.
+    pub(crate) fn new(alloc: Global) -> Runs<P>
         requires { IsExact P.cmp }
         ensures runs { runs_of result ≡ [] }
         ensures set { IsRuns P.cmp result }
     {
-        let number = (blank, 0);
         Runs {
-            map: OrderedMap::new(alloc, (number, number)),
+            map: SortedMap::new(alloc),
         }
     }
 
