@@ -85,13 +85,13 @@ pub record Stops (given : Given) (r : Reached) (line : List ℕ) (old new : Opti
 
 -- A story leaves this group behind.
 pub record EndsIn (state : State) (s : Story) : Type 0 where
-  pub keys : s.keys ≡ progress_state.keys
-  pub world : s.world ≡ progress_state.world
+  pub keys : s.keys ≡ state.keys
+  pub world : s.world ≡ state.world
 
 -- The world that is left is that of the group.
 pub record Leaving (state : State) (end : Option GroupState) : Type 0 where
-  pub world : option_map world_of end ≡ progress_state.world
-  pub keys : IfSome end (λ world. world.keys ≡ progress_state.keys)
+  pub world : option_map world_of end ≡ state.world
+  pub keys : IfSome end (λ world. world.keys ≡ state.keys)
 
 -- The world that is left is that of the story.
 pub record LeavesWorld (end : Option GroupState) (s : Story) : Type 0 where
