@@ -1,5 +1,5 @@
 -- Who holds a part gives its packet to one that asks for it, where segments' packets are told by their names and digests.
-use Rattle.std.proofs.Common.{◌≡◌, ◌≢◌, ◌⊎◌, inl, inr, ℕ, ◌-◌, ◌^◌, ◌<◌, ◌==◌, Bool, true, false, cond, List, [], ◌∷◌, ◌++◌, length, length-append, get_or, Option, Some, None, option_map, refl, sym, ap, ◌∙◌, subst, arith}
+use Rattle.std.proofs.Common.{◌≡◌, ◌≢◌, ◌⊎◌, inl, inr, ℕ, ◌-◌, ◌^◌, ◌<◌, ◌==◌, Bool, true, false, cond, List, [], ◌∷◌, ◌++◌, length, get_or, Option, Some, None, option_map, refl, sym, ap, ◌∙◌, subst, arith}
 use Rattle.std.specs.Prelude.{unwrap_or, is_some, IfSome, Result, Ok}
 use Rattle.std.proofs.lemmas.Bool.{true≢false, cases_eq, cases_lt, eq-eqb, eqb-true}
 use Rattle.std.proofs.lemmas.List.{length-map}
@@ -24,9 +24,9 @@ use Rattle.repo_plan.specs.Plan.{claim_of, is_wanted}
 use Rattle.repo_object.specs.Objects.{NamedContents, IsObject, IsPublisher, record_name, segment_name}
 use Rattle.repo_object.specs.Publication.{Listed, published_listing, record_packet, packet_at}
 use Rattle.repo_object.specs.Wants.{WantedPart, asked_name, want_record, want_segment}
-use Rattle.repo_object.proofs.Asking.{record_interest, segment_interest}
+use Rattle.repo_object.proofs.Asking.{asked_for, record_interest, segment_interest}
 use Rattle.repo_object.proofs.Publications.{some_is, SegmentPacket, listing_within_limits, record_read, record_again, segment_is, segment_read}
-use Rattle.repo_object.proofs.Telling.{records_differ, records_are_no_segments}
+use Rattle.repo_object.proofs.Telling.{last_same, records_differ, records_are_no_segments}
 use Rattle.repo_store.specs.Served.{satisfies, first_served, served_entry, served, served_part}
 use Rattle.repo_store.proofs.LawLemmas.{satisfies-Decides, served_least, served_of_part, has_value}
 use Rattle.group_model.specs.Publications.{Logs, no_object, object_at}
@@ -53,16 +53,6 @@ use Rattle.bench_world.proofs.Coming.{publisher_there, packet_is, its_octets, cl
 
 -- ---- names
 
-pub last_is : (a b : List Component) (c d : Component) → a ++ c ∷ [] ≡ b ++ d ∷ [] → (a ≡ b) × (c ≡ d)
-last_is [] [] c d e = (refl, cc)
-last_is [] (y ∷ ys) c d e = let long : 1 ≡ length (y ∷ ys ++ d ∷ []) = ap length e in absurd (omega (arith, long, length-append ys (d ∷ [])))
-last_is (x ∷ xs) [] c d e = let long : length (x ∷ xs ++ c ∷ []) ≡ 1 = ap length e in absurd (omega (arith, long, length-append xs (c ∷ [])))
-last_is (x ∷ xs) (y ∷ ys) c d e =
-    let head : x ≡ y = cc in
-    let tail : xs ++ c ∷ [] ≡ ys ++ d ∷ [] = cc in
-    let rest = last_is xs ys c d tail in
-    ((λ i. head i ∷ rest.0 i), rest.1)
-
 -- A name whose last component is no digest.
 pub record EndsPlainly (name : List Component) : Type 0 where
   pub front : List Component
@@ -72,7 +62,7 @@ pub record EndsPlainly (name : List Component) : Type 0 where
 
 -- It is no full name.
 no_full_name : (name other : List Component) (digest : List ℕ) → EndsPlainly name → name ≢ full_name other digest
-no_full_name name other digest p e = p.plain (ap (λ (c : Component). c.0) (last_is p.front other p.last (1, digest) (sym p.is ∙ e)).1)
+no_full_name name other digest p e = p.plain (ap (λ (c : Component). c.0) (last_same p.front other p.last (1, digest) (sym p.is ∙ e)).1)
 
 record_plain : (node group : List Component) (seq : ℕ) → EndsPlainly (record_name node group seq)
 record_plain node group seq = record { front = node ++ group; last = (0x3a, number_field seq); is = joined node; plain = λ e. omega (arith, e) } where
@@ -180,13 +170,9 @@ module _ (g : GroupKeys) (logs : Logs) (are : AreLogs g logs) where
   same_name name None octets d plain other (inr (inr both)) = absurd (true≢false (sym both.0))
   same_name name (Some digest) octets d plain other (inl e) = absurd (no_full_name d.name name digest other (sym e))
   same_name name (Some digest) octets d plain other (inr (inl e)) =
-      let both = last_is name d.name (1, digest) (1, sha256 octets) e in
+      let both = last_same name d.name (1, digest) (1, sha256 octets) e in
       (both.0, sym (ap (λ (c : Component). c.1) both.1))
   same_name name (Some digest) octets d plain other (inr (inr both)) = absurd (true≢false (sym both.0))
-
-  asks_for_it : (name : List Component) (digest : Option (List ℕ)) (octets : List ℕ) (d : Data) → name ≡ d.name → IfSome digest (λ x. sha256 octets ≡ x) → Satisfies (asked_name name digest) false (sha256 octets) d
-  asks_for_it name None octets d same is = inl same
-  asks_for_it name (Some digest) octets d same is = inr (inl (λ i. full_name (same i) (sym is i)))
 
   module _ (clear : AreAllClear g logs) (t u : Part) (is_t : IsPublishedPart logs t) (is_u : IsPublishedPart logs u) (y x : List ℕ) (its_t : true_packet g logs t ≡ Some y) (its_u : true_packet g logs u ≡ Some x) where
     -- Packets of one name and one digest are one.
@@ -222,7 +208,7 @@ module _ (g : GroupKeys) (logs : Logs) (are : AreLogs g logs) where
   own_asked : (t : Part) → IsPublishedPart logs t → (y : List ℕ) → true_packet g logs t ≡ Some y → satisfies (asked_name (true_want g logs t).name (true_want g logs t).digest) false y ≡ true
   own_asked t is y its =
       let pt = part_is t is y its in
-      (satisfies-Decides (asked_name (true_want g logs t).name (true_want g logs t).digest) false y pt.d pt.read).1 (asks_for_it (true_want g logs t).name (true_want g logs t).digest y pt.d (sym pt.name) pt.digest)
+      (satisfies-Decides (asked_name (true_want g logs t).name (true_want g logs t).digest) false y pt.d pt.read).1 (asked_for (true_want g logs t).name (true_want g logs t).digest y pt.d (sym pt.name) pt.digest)
 
   -- ---- what a member that holds a part gives
 

@@ -1,15 +1,16 @@
 -- The names of the keys of a group's clients.
-use Rattle.std.proofs.Common.{◌≡◌, ℕ, ◌+◌, ◌≤◌, ◌<◌, List, [], ◌∷◌, length, get_or, Some, option_map, refl, sym, ap, ◌∙◌, subst, arith}
+use Rattle.std.proofs.Common.{◌≡◌, ℕ, ◌+◌, ◌≤◌, ◌<◌, List, [], ◌∷◌, length, Some, option_map, refl, sym, ap, ◌∙◌, arith}
 use Rattle.std.specs.Prelude.{slice_get, Ok}
 use Rattle.std.proofs.lemmas.List.{length-append}
-use Rattle.std.proofs.lemmas.Option.{slice_get-get_or, slice_get-map, unwrap_or-slice_get}
+use Rattle.std.proofs.lemmas.Option.{slice_get-get_or, slice_get-map}
 use Rattle.ndn_tlv.specs.Spelling.{element, number}
 use Rattle.ndn_name.specs.Names.{Component, encoding, name_of}
 use Rattle.ndn_name.proofs.Encodings.{encoding-push, name_of-encoding}
 use Rattle.ndn_sign.specs.Ring.{NamedKey}
 use Rattle.repo_object.specs.Objects.{key_name}
 use Rattle.repo_object.proofs.NameLemmas.{IsName-key}
-use Rattle.repo_member.specs.Groups.{GroupKeys, IsPlainNodeName, HaveKeys, client_at}
+use Rattle.repo_member.specs.Groups.{GroupKeys, HaveKeys, client_at}
+use Rattle.repo_member.proofs.PublicLaws.{client_is, client_plain}
 
 pub key_short : (node : List Component) → length (encoding node) ≤ 200 → length (encoding (key_name node)) ≤ 205
 unfolding number
@@ -19,12 +20,6 @@ key_short node short =
     omega (arith, long, five, short)
 
 module _ (g : GroupKeys) (keys : HaveKeys g.clients) (client : ℕ) (there : client < length g.clients.names) where
-  at : client_at g client ≡ get_or g.clients.names client []
-  at = unwrap_or-slice_get g.clients.names client []
-
-  pub plain : IsPlainNodeName (client_at g client)
-  plain = subst IsPlainNodeName (sym at) (keys.node_names client [] there)
-
   abbrev name_in : List Component → List ℕ
   name_in node = encoding (key_name node)
 
@@ -32,8 +27,8 @@ module _ (g : GroupKeys) (keys : HaveKeys g.clients) (client : ℕ) (there : cli
   key_octets octets e =
       let found : Some octets ≡ Some (name_in (client_at g client)) =
       sym e ∙ sym (slice_get-map (λ (p : NamedKey). p.name) g.clients.ring client) ∙ ap (λ (ns : List (List ℕ)). slice_get ns client) keys.keys
-      ∙ slice_get-map name_in g.clients.names client ∙ ap (option_map name_in) (slice_get-get_or g.clients.names client [] there) ∙ ap (λ (n : List Component). Some (name_in n)) (sym at) in
+      ∙ slice_get-map name_in g.clients.names client ∙ ap (option_map name_in) (slice_get-get_or g.clients.names client [] there) ∙ ap (λ (n : List Component). Some (name_in n)) (sym (client_is g keys client there)) in
       cc
 
   pub key_read : (octets : List ℕ) → option_map (λ (p : NamedKey). p.name) (slice_get g.clients.ring client) ≡ Some octets → name_of 0 octets ≡ Ok (key_name (client_at g client))
-  key_read octets e = ap (name_of 0) (key_octets octets e) ∙ name_of-encoding 0 (key_name (client_at g client)) (IsName-key (client_at g client) plain.valid)
+  key_read octets e = ap (name_of 0) (key_octets octets e) ∙ name_of-encoding 0 (key_name (client_at g client)) (IsName-key (client_at g client) (client_plain g keys client there).valid)

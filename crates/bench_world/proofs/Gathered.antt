@@ -1,11 +1,10 @@
 -- What a member has gathered is what comes to it in the group's settle, or a part of it.
-use Rattle.std.proofs.Common.{◌≡◌, inl, inr, ℕ, ◌≤◌, ◌<◌, Bool, true, false, cond, ◌||◌, not, List, [], ◌∷◌, get_or, length, Option, Some, None, refl, sym, ap, ◌∙◌, subst, arith}
+use Rattle.std.proofs.Common.{◌≡◌, inl, inr, ℕ, ◌≤◌, ◌<◌, Bool, true, false, ◌||◌, not, List, [], ◌∷◌, get_or, length, Option, Some, None, refl, sym, ap, ◌∙◌, subst, arith}
 use Rattle.std.specs.Prelude.{is_some}
 use Rattle.std.specs.List.{list_any}
-use Rattle.std.specs.Ordering.{eq_by_cmp}
 use Rattle.std.proofs.lemmas.Bool.{true≢false, and_from, not_from_false, or_cases, or_right, cases_Bool}
 use Rattle.repo_plan.specs.declared.part.Part.{Part}
-use Rattle.repo_plan.specs.SortedList.{keys, value_of, contains}
+use Rattle.repo_plan.specs.SortedList.{keys, value_of}
 use Rattle.repo_plan.specs.Parts.{part_cmp, pair_of, record_of}
 use Rattle.repo_plan.specs.Plan.{Holdings, no_claims, is_wanted, is_unclaimed, is_claimed, is_claim_of}
 use Rattle.repo_plan.proofs.Sets.{in_filter}
@@ -23,10 +22,9 @@ use Rattle.group_model.proofs.Plans.{wanted_parts}
 use Rattle.group_model.proofs.PublicLaws.{gathering_settles}
 use Rattle.group_model.proofs.Settles.{comes_from, someone, told_by}
 use Rattle.repo_member.specs.Groups.{GroupKeys}
-use Rattle.repo_member.specs.Records.{Packet}
 use Rattle.repo_member.specs.Alone.{Alone, alone_plan}
 use Rattle.repo_member.specs.InGroup.{in_group, AreLogs}
-use Rattle.repo_member.proofs.PublicLaws.{plans_alike, true_stores}
+use Rattle.repo_member.proofs.PublicLaws.{contains-value, plans_alike, true_stores}
 use Rattle.bench_world.specs.Lending.{or_else, lent, lends}
 use Rattle.bench_world.specs.Truth.{stores}
 use Rattle.bench_world.specs.Gathering.{GainsParts, NothingLeft}
@@ -39,19 +37,12 @@ some_or : (x y : Option (List ℕ)) → is_some (or_else x y) ≡ (is_some x || 
 some_or None y = refl
 some_or (Some o) y = refl
 
-contains_value : (packets : List Packet) (t : Part) → contains part_cmp (keys packets) t ≡ is_some (value_of part_cmp packets t)
-contains_value [] t = refl
-contains_value (e ∷ es) t = go (eq_by_cmp part_cmp t e.0) (contains_value es t) where
-  go : (b : Bool) → contains part_cmp (keys es) t ≡ is_some (value_of part_cmp es t) → (b || contains part_cmp (keys es) t) ≡ is_some (cond b (Some e.1) (value_of part_cmp es t))
-  go true h = refl
-  go false h = h
-
 -- Members lend what one of them holds.
 pub lends_held : (members : List Alone) (t : Part) → lends members t ≡ someone_holds (in_groups members) t
 lends_held [] t = refl
 lends_held (a ∷ members) t =
     some_or (value_of part_cmp a.store t) (lent members t)
-    ∙ ap (λ (b : Bool). b || is_some (lent members t)) (sym (contains_value a.store t))
+    ∙ ap (λ (b : Bool). b || is_some (lent members t)) (sym (contains-value a.store t))
     ∙ ap (λ (b : Bool). stores a t || b) (lends_held members t)
 
 -- No fetcher claims a part where none claims anything.

@@ -1,5 +1,5 @@
 -- The text that is printed for a name is a text of the name.
-use Rattle.std.proofs.Common.{◌≡◌, ℕ, zero, suc, ◌+◌, ◌/◌, ◌%◌, ◌^◌, ◌<◌, ◌≤◌, Bool, true, false, cond, not, ◌&&◌, leb, eqb, List, [], ◌∷◌, ◌++◌, length, Option, Some, None, refl, sym, ap, subst, ◌∙◌, arith, ◌⊎◌, inl, inr}
+use Rattle.std.proofs.Common.{◌≡◌, ℕ, suc, ◌+◌, ◌/◌, ◌%◌, ◌^◌, ◌<◌, ◌≤◌, Bool, true, false, cond, not, ◌&&◌, leb, eqb, List, [], ◌∷◌, ◌++◌, length, Option, Some, None, refl, sym, ap, subst, ◌∙◌, arith, ◌⊎◌, inl, inr}
 use Rattle.std.specs.Prelude.{codes}
 use Rattle.std.specs.List.{flat_map}
 use Rattle.std.specs.Char.{digit_value}
@@ -9,6 +9,7 @@ use Rattle.std.proofs.lemmas.Bool.{cases_lt, lt-ltb, le-ltb, leb-true, eqb-true}
 use Rattle.std.proofs.lemmas.Nat.{be_bytes_2, be_bytes_4, be_bytes_8}
 use Rattle.ndn_tlv.specs.Elements.{IsOctets}
 use Rattle.ndn_tlv.proofs.Numbers.{wide16, wide32, wide64}
+use Rattle.ndn_tlv.proofs.Octets.{IsOctets-cons}
 use Rattle.ndn_tlv.specs.NumberField.{number_of, number_field}
 use Rattle.ndn_name.specs.Names.{Component, IsComponent, IsName}
 use Rattle.ndn_name.specs.Uri.{is_unreserved, IsPair, IsOctetText, plain, escape, IsEscaped, are_periods, guarded, IsValueText, IsDigits, IsComponentText, generic, typed, implicit_digest, parameters_digest, segment, version, sequence, Part, IsPath, IsUri, name_of_parts, hex_pair, escape_of, value_text, digest_text, in_shortest_width, plain_text, number_text, component_text, path_text, uri}
@@ -47,10 +48,6 @@ octet_text o h = by_test (is_unreserved o) refl where
 escaped-is : (octets : List ℕ) → IsOctets octets → IsEscaped octets (flat_map escape_of octets)
 escaped-is [] h = refl
 escaped-is (o ∷ octets) h = (escape_of o, flat_map escape_of octets, refl, octet_text o (h 0), escaped-is octets (λ i. h (suc i)))
-
-IsOctets-cons : (c : ℕ) (octets : List ℕ) → c < 256 → IsOctets octets → IsOctets (c ∷ octets)
-IsOctets-cons c octets small h zero = small
-IsOctets-cons c octets small h (suc i) = h i
 
 guarded_octets : (value : List ℕ) → IsOctets value → IsOctets (guarded value)
 guarded_octets value h = by_test (are_periods value) refl where

@@ -1,5 +1,5 @@
 -- Pairs of a ring, by number.
-use Rattle.std.proofs.Common.{◌≡◌, inl, inr, ℕ, suc, ◌+◌, ◌≤◌, ◌<◌, Bool, true, false, cond, not, ◌||◌, List, [], ◌∷◌, ◌++◌, length, length-append, take, Option, Some, None, position, get_or, add-one, refl, sym, ap, ◌∙◌, arith}
+use Rattle.std.proofs.Common.{◌≡◌, inl, inr, ℕ, suc, ◌+◌, ◌≤◌, ◌<◌, Bool, true, false, cond, not, ◌||◌, List, [], ◌∷◌, ◌++◌, length, length-append, take, Option, Some, None, position, get_or, add-one, refl, sym, ap, ◌∙◌, subst, arith}
 use Rattle.std.specs.Prelude.{nat_lt, is_some}
 use Rattle.std.specs.List.{All, list_any, prefix_len, position_or_len, IsDistinct}
 use Rattle.std.specs.Str.{bytes_eq}
@@ -13,11 +13,11 @@ use Rattle.std.proofs.lemmas.List.Elements.{All-nil, All-cons, All-push, All-hea
 use Rattle.ndn_name.specs.Names.{Component, encoding}
 use Rattle.repo_object.specs.Objects.{key_name}
 use Rattle.svs_vector.specs.Rosters.{has_same_octets, member_of, IsOwnName, IsRoster}
-use Rattle.repo_member.specs.Groups.{NodeKeys, GroupKeys, HaveKeys, DifferInNames, IsPlainNodeName, IsKey, is_name_taken, no_nodes, with_node}
+use Rattle.repo_member.specs.Groups.{NodeKeys, GroupKeys, HaveKeys, DifferInNames, IsPlainNodeName, IsKey, client_at, is_name_taken, no_nodes, with_node}
 use Rattle.std.specs.List.{slice_get}
 use Rattle.std.specs.Option.{option_map}
 use Rattle.std.proofs.Math.Seq.{take-suc}
-use Rattle.std.proofs.lemmas.Option.{slice_get-get_or}
+use Rattle.std.proofs.lemmas.Option.{slice_get-get_or, unwrap_or-slice_get}
 use Rattle.ndn_sign.specs.Ring.{NamedKey, pair}
 
 -- one pair more of a ring, from its name and its key
@@ -33,10 +33,19 @@ take-pair ring i name key inside is_name is_key =
     let key_same : (get_or ring i none).key ≡ key = cc in
     rw (add-one, take-suc ring i none inside, ← name_same, ← key_same) refl
 
+-- ---- clients
+
+module _ (g : GroupKeys) (keys : HaveKeys g.clients) (client : ℕ) (there : client < length g.clients.names) where
+  pub client_is : client_at g client ≡ get_or g.clients.names client []
+  client_is = unwrap_or-slice_get g.clients.names client []
+
+  pub client_plain : IsPlainNodeName (client_at g client)
+  client_plain = subst IsPlainNodeName (sym client_is) (keys.node_names client [] there)
+
 -- ---- names that differ
 
 -- names are the same where their octets are
-same_name : IsEquivalence has_same_octets
+pub same_name : IsEquivalence has_same_octets
 same_name = record {
   refl = λ x. (bytes_eq-Decides (encoding x) (encoding x)).1 refl;
   symm = λ x y. flips (encoding x) (encoding y);

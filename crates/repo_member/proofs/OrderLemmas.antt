@@ -17,7 +17,7 @@ use Rattle.repo_command.specs.Verdict.{command_verdict}
 use Rattle.repo_command.proofs.MadeLemmas.{or_bad, made_commands}
 use Rattle.repo_member.specs.Groups.{GroupKeys, IsGroup, IsPlainNodeName, node_at, client_at, client_key_at}
 use Rattle.repo_member.specs.Commanded.{coded, order_made, MadeOrdersAreTaken, OrdersBeyondAreMalformed}
-use Rattle.repo_member.proofs.GroupLemmas.{ring_length}
+use Rattle.repo_member.proofs.GroupLemmas.{client_is, client_plain, ring_length}
 use Rattle.repo_member.proofs.TrueSyncs.{number_at, ring_at}
 
 -- a command within the limits has a short name
@@ -30,24 +30,24 @@ module _ (g : GroupKeys) (number client : ℕ) (group : IsGroup g) (there : numb
   node_is : node_at g number ≡ get_or g.members.names number []
   node_is = unwrap_or-slice_get g.members.names number []
 
-  client_is : client_at g client ≡ get_or g.clients.names client []
-  client_is = unwrap_or-slice_get g.clients.names client []
-
   node_name : IsPlainNodeName (node_at g number)
   node_name = subst IsPlainNodeName (sym node_is) (group.members.node_names number [] there)
 
   client_name : IsPlainNodeName (client_at g client)
-  client_name = subst IsPlainNodeName (sym client_is) (group.clients.node_names client [] known)
+  client_name = client_plain g group.clients client known
+
+  client_same : client_at g client ≡ get_or g.clients.names client []
+  client_same = client_is g group.clients client known
 
   client_found : key_number (encoding (key_name (client_at g client))) g.clients.ring ≡ Some client
-  client_found = subst (λ (n : List Component). key_number (encoding (key_name n)) g.clients.ring ≡ Some client) (sym client_is) (number_at g.clients group.clients client known)
+  client_found = subst (λ (n : List Component). key_number (encoding (key_name n)) g.clients.ring ≡ Some client) (sym client_same) (number_at g.clients group.clients client known)
 
   key_is : slice_get g.clients.ring client ≡ Some (pair (encoding (key_name (client_at g client))) (client_key_at g client))
   key_is = slice_get-get_or g.clients.ring client (pair [] []) (omega (arith, known, ring_length g.clients group.clients)) ∙ ap (λ (q : Ring.NamedKey). Some q) made where
     made : get_or g.clients.ring client (pair [] []) ≡ pair (encoding (key_name (client_at g client))) (client_key_at g client)
     made =
         let n : (get_or g.clients.ring client (pair [] [])).name ≡ encoding (key_name (client_at g client)) =
-        ring_at g.clients group.clients client known client known ∙ ap (λ (node : List Component). encoding (key_name node)) (sym client_is) in
+        ring_at g.clients group.clients client known client known ∙ ap (λ (node : List Component). encoding (key_name node)) (sym client_same) in
         let k : (get_or g.clients.ring client (pair [] [])).key ≡ client_key_at g client = sym (ap (λ (q : Ring.NamedKey). q.key) (unwrap_or-slice_get g.clients.ring client (pair [] []))) in
         λ i. record { name = n i; key = k i }
 

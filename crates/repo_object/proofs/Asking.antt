@@ -24,7 +24,7 @@ use Rattle.repo_object.proofs.PacketSizes.{record_name-size, segment_name-size}
 
 -- ---- a packet that passes is asked for
 
-asked_for : (name : List Component) (digest : Option (List ℕ)) (octets : List ℕ) (d : Data) → name ≡ d.name → IfSome digest (λ x. sha256 octets ≡ x)
+pub asked_for : (name : List Component) (digest : Option (List ℕ)) (octets : List ℕ) (d : Data) → name ≡ d.name → IfSome digest (λ x. sha256 octets ≡ x)
     → Satisfies (asked_name name digest) false (sha256 octets) d
 asked_for name None octets d same is = inl same
 asked_for name (Some digest) octets d same is =

@@ -1,11 +1,10 @@
 -- The components of a name, read one after another, and names with one component more.
-use Rattle.std.proofs.Common.{◌≡◌, ℕ, zero, suc, ◌/◌, ◌%◌, ◌^◌, ◌<◌, ◌≤◌, List, [], ◌∷◌, ◌++◌, length, refl, sym, ap, subst, ◌∙◌, append_assoc, inl, inr, arith}
-use Rattle.std.specs.Int.{w8, w16, to_be_bytes}
-use Rattle.std.proofs.lemmas.Bool.{cases_lt, lt-ltb, le-ltb}
+use Rattle.std.proofs.Common.{◌≡◌, ℕ, zero, suc, ◌^◌, ◌<◌, ◌≤◌, List, [], ◌∷◌, ◌++◌, length, sym, ap, subst, ◌∙◌, append_assoc, arith}
 use Rattle.ndn_tlv.specs.declared.tlv_fault.TlvFault.{TlvFault}
 use Rattle.ndn_tlv.specs.Listing.{Listing}
 use Rattle.ndn_tlv.specs.Elements.{IsOctets, Item, elements}
 use Rattle.ndn_tlv.specs.NumberField.{number_field}
+use Rattle.ndn_tlv.proofs.Octets.{IsOctets-number_field}
 use Rattle.ndn_name.specs.Names.{Component, IsComponent, IsName, encoding}
 use Rattle.ndn_name.proofs.Encodings.{Reads, elements-encoding, IsName-append}
 use Rattle.repo_object.specs.Objects.{key_name}
@@ -24,25 +23,9 @@ front-size front c rest whole e =
 
 -- ---- names with a number or a key's component behind them
 
-octet : (n : ℕ) → n < 2 ^ 8 → IsOctets (n ∷ [])
-octet n low zero = low
-octet n low (suc i) = omega arith
-
-two_octets : (a b : ℕ) → a < 2 ^ 8 → b < 2 ^ 8 → IsOctets (a ∷ b ∷ [])
-two_octets a b low_a low_b zero = low_a
-two_octets a b low_a low_b (suc zero) = low_b
-two_octets a b low_a low_b (suc (suc i)) = omega arith
-
-number_octets : (n : ℕ) → n < 2 ^ 16 → IsOctets (number_field n)
-number_octets n lt =
-    elim (cases_lt n (2 ^ 8)) [
-      | inl a ↦ let is : number_field n ≡ to_be_bytes w8 n = rw (lt-ltb n (2 ^ 8) a) refl in rw is (octet (n % 256) (omega arith))
-      | inr a ↦ let is : number_field n ≡ to_be_bytes w16 n = rw (le-ltb n (2 ^ 8) a, lt-ltb n (2 ^ 16) lt) refl in rw is (two_octets (n / 256 % 256) (n % 256) (omega arith) (omega arith))
-    ]
-
 pub IsName-number : (name : List Component) (typ n : ℕ) → IsName name → 2 < typ → typ < 2 ^ 16 → n < 2 ^ 16 → IsName (name ++ (typ, number_field n) ∷ [])
 IsName-number name typ n valid above below low =
-    let component : IsComponent (typ, number_field n) = record { above = omega arith; below = omega (arith, below); digest = λ two. absurd (omega arith); long = omega (arith, number_field-two n low); octets = number_octets n low } in
+    let component : IsComponent (typ, number_field n) = record { above = omega arith; below = omega (arith, below); digest = λ two. absurd (omega arith); long = omega (arith, number_field-two n low); octets = IsOctets-number_field n } in
     IsName-append name ((typ, number_field n) ∷ []) valid (component, tt)
 
 key_octets : IsOctets (75 ∷ 69 ∷ 89 ∷ [])

@@ -25,7 +25,7 @@ use Rattle.repo_object.proofs.Publications.{some_is, SegmentPacket, record_named
 component_same : (a b : Component) (front rest : List Component) → a ∷ front ≡ b ∷ rest → (a ≡ b) × (front ≡ rest)
 component_same a b front rest e = (cc, cc)
 
-last_same : (a b : List Component) (c d : Component) → a ++ c ∷ [] ≡ b ++ d ∷ [] → (a ≡ b) × (c ≡ d)
+pub last_same : (a b : List Component) (c d : Component) → a ++ c ∷ [] ≡ b ++ d ∷ [] → (a ≡ b) × (c ≡ d)
 last_same [] [] c d e = (refl, (component_same c d [] [] e).0)
 last_same [] (y ∷ ys) c d e =
     let long : 1 ≡ length (y ∷ ys ++ d ∷ []) = ap length e in

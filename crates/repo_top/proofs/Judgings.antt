@@ -1,12 +1,11 @@
 -- What lines come to, case by case.
-use Rattle.std.proofs.Common.{◌≡◌, ◌∙◌, ℕ, ◌<◌, Bool, true, false, not, ◌||◌, List, [], ◌∷◌, ◌++◌, length, map, Option, Some, None, Ok, Err, ◌⊎◌, inl, inr, nat_le, nat_lt, cond, ◌+◌, refl, sym, ap, subst, arith, if◌then◌else◌}
-use Rattle.std.specs.List.{list_any, position, prefix_len}
+use Rattle.std.proofs.Common.{◌≡◌, ◌∙◌, ℕ, ◌<◌, Bool, true, false, not, ◌||◌, List, [], ◌∷◌, ◌++◌, length, map, Option, Some, None, Ok, Err, ◌⊎◌, inl, inr, nat_le, ◌+◌, refl, sym, ap, subst, arith, if◌then◌else◌}
+use Rattle.std.specs.List.{list_any}
 use Rattle.std.specs.Option.{option_map}
 use Rattle.std.specs.Str.{bytes_eq}
 use Rattle.std.specs.Prelude.{is_some}
-use Rattle.std.proofs.lemmas.Bool.{or_parts, cases_Bool, false_from_ne_true, le-ltb, true≢false}
+use Rattle.std.proofs.lemmas.Bool.{or_parts}
 use Rattle.std.proofs.lemmas.Bool.Decides.{nat_tests}
-use Rattle.std.proofs.lemmas.Slice.Eq.{bytes_eq-Decides}
 use Rattle.ndn_name.specs.Names.{Component, encoding}
 use Rattle.script_lang.specs.declared.line.Line.{Line}
 use Rattle.script_lang.specs.declared.line.Line.TheVariants as line
@@ -25,6 +24,7 @@ use Rattle.group_model.specs.World.{Outside, World}
 use Rattle.group_model.specs.Steps.{after_event as after_group_event}
 use Rattle.group_model.specs.Refusals as group
 use Rattle.repo_member.specs.Groups.{GroupKeys, is_name_taken}
+use Rattle.repo_member.proofs.PublicLaws.{same_name, none_found}
 use Rattle.bench_world.specs.EventValues.{EventValue, group_event, telling}
 use Rattle.repo_top.specs.declared.refusal.Refusal.TheVariants as refusal
 use Rattle.repo_top.specs.SaidEvents.{said_event}
@@ -141,27 +141,7 @@ group_declares d e name h = go d.group refl h where
   go true g k = absurd cc
   go false g k = (g, cc)
 
--- No place is found where no test passes.
-none_at : {X : Type 0} (p : X → Bool) (xs : List X) → list_any p xs ≡ false → prefix_len (λ x. not (p x)) xs ≡ length xs
-none_at p [] h = refl
-none_at p (x ∷ xs) h =
-    let both = or_parts (p x) (list_any p xs) h in
-    ap (λ (b : Bool). cond (not b) (1 + prefix_len (λ y. not (p y)) xs) 0) both.0
-    ∙ ap (λ (n : ℕ). 1 + n) (none_at p xs both.1) ∙ omega arith
-
-none_found : {X : Type 0} (p : X → Bool) (xs : List X) → list_any p xs ≡ false → position p xs ≡ None
-none_found p xs h =
-    ap (λ (n : ℕ). cond (nat_lt n (length xs)) (Some n) None) (none_at p xs h)
-    ∙ ap (λ (b : Bool). cond b (Some (length xs)) None) (le-ltb (length xs) (length xs) (omega arith))
-
 -- A name that no party has is that of nobody in the group.
-flips : (x y : List ℕ) → bytes_eq x y ≡ bytes_eq y x
-flips x y = elim (cases_Bool (bytes_eq x y)) [
-  | inl same ↦ same ∙ sym ((bytes_eq-Decides y x).1 (sym ((bytes_eq-Decides x y).0 same)))
-  | inr apart ↦ apart ∙ sym (false_from_ne_true (bytes_eq y x)
-      (λ same. true≢false (sym ((bytes_eq-Decides x y).1 (sym ((bytes_eq-Decides y x).0 same))) ∙ apart)))
-]
-
 nobody_has : (label : List ℕ) (node : List Component) (parties : List Party)
     → is_party_among (party label node) parties ≡ false
     → list_any (has_same_octets node) (map node_of parties) ≡ false
@@ -169,7 +149,7 @@ nobody_has label node [] h = refl
 nobody_has label node (q ∷ parties) h =
     let both = or_parts (bytes_eq q.label label || bytes_eq (encoding q.node) (encoding node)) _ h in
     let apart = or_parts (bytes_eq q.label label) (bytes_eq (encoding q.node) (encoding node)) both.0 in
-    rw (flips (encoding node) (encoding q.node), apart.1) (nobody_has label node parties both.1)
+    rw (same_name.symm node q.node, apart.1) (nobody_has label node parties both.1)
 
 pub is_free : (d : Declared) (keys : GroupKeys) (label : List ℕ) (node : List Component)
     → map node_of d.members ≡ keys.members.names → map node_of d.clients ≡ keys.clients.names

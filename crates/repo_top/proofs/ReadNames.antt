@@ -1,11 +1,10 @@
 -- A name that a text is the URI of is valid, where no component is a digest and it is short.
 use Rattle.std.proofs.Common.{◌≡◌, ℕ, zero, suc, ◌+◌, ◌<◌, ◌≤◌, ◌^◌, Bool, true, false, nat_le, List, [], ◌∷◌, length, length-append, sym, subst, inl, inr, arith, if◌then◌else◌}
-use Rattle.std.specs.Int.{w8, w16, w32, w64, to_be_bytes}
 use Rattle.std.specs.List.{list_any}
-use Rattle.std.proofs.lemmas.Bool.{cases_lt, lt-ltb, le-ltb, or_parts}
+use Rattle.std.proofs.lemmas.Bool.{or_parts}
 use Rattle.std.proofs.lemmas.Bool.Decides.{nat_tests}
 use Rattle.ndn_tlv.specs.Elements.{IsOctets}
-use Rattle.ndn_tlv.specs.NumberField.{number_field}
+use Rattle.ndn_tlv.proofs.Octets.{IsOctets-number_field}
 use Rattle.ndn_tlv.specs.Spelling.{head, element}
 use Rattle.ndn_name.specs.Names.{Component, IsComponent, IsName, encoding}
 use Rattle.ndn_name.specs.Uri.{IsOctetText, plain, escape, IsEscaped, are_periods, guarded, IsValueText, IsNumberText, IsComponentText, generic, typed, implicit_digest, parameters_digest, segment, version, sequence, Part, IsPath, IsRooted, IsUri, name_of_parts}
@@ -29,47 +28,8 @@ value_octets value text h = go (are_periods value) (escaped_octets (guarded valu
   go true all i = all (suc (suc (suc i)))
   go false all i = all i
 
-one_octet : (n : ℕ) → n < 2 ^ 8 → IsOctets (to_be_bytes w8 n)
-one_octet n low zero = omega arith
-one_octet n low (suc i) = omega arith
-
-two_octets : (n : ℕ) → IsOctets (to_be_bytes w16 n)
-two_octets n zero = omega arith
-two_octets n (suc zero) = omega arith
-two_octets n (suc (suc i)) = omega arith
-
-four_octets : (n : ℕ) → IsOctets (to_be_bytes w32 n)
-four_octets n zero = omega arith
-four_octets n (suc zero) = omega arith
-four_octets n (suc (suc zero)) = omega arith
-four_octets n (suc (suc (suc zero))) = omega arith
-four_octets n (suc (suc (suc (suc i)))) = omega arith
-
-eight_octets : (n : ℕ) → IsOctets (to_be_bytes w64 n)
-eight_octets n zero = omega arith
-eight_octets n (suc zero) = omega arith
-eight_octets n (suc (suc zero)) = omega arith
-eight_octets n (suc (suc (suc zero))) = omega arith
-eight_octets n (suc (suc (suc (suc zero)))) = omega arith
-eight_octets n (suc (suc (suc (suc (suc zero))))) = omega arith
-eight_octets n (suc (suc (suc (suc (suc (suc zero)))))) = omega arith
-eight_octets n (suc (suc (suc (suc (suc (suc (suc zero))))))) = omega arith
-eight_octets n (suc (suc (suc (suc (suc (suc (suc (suc i)))))))) = omega arith
-
-field_octets : (n : ℕ) → IsOctets (number_field n)
-field_octets n = elim (cases_lt n (2 ^ 8)) [
-  | inl a ↦ rw (lt-ltb n (2 ^ 8) a) (one_octet n a)
-  | inr a ↦ elim (cases_lt n (2 ^ 16)) [
-    | inl b ↦ rw (le-ltb n (2 ^ 8) a, lt-ltb n (2 ^ 16) b) (two_octets n)
-    | inr b ↦ elim (cases_lt n (2 ^ 32)) [
-      | inl d ↦ rw (le-ltb n (2 ^ 8) a, le-ltb n (2 ^ 16) b, lt-ltb n (2 ^ 32) d) (four_octets n)
-      | inr d ↦ rw (le-ltb n (2 ^ 8) a, le-ltb n (2 ^ 16) b, le-ltb n (2 ^ 32) d) (eight_octets n)
-    ]
-  ]
-]
-
 number_octets : (value text : List ℕ) → IsNumberText value text → IsOctets value
-number_octets value text h = subst IsOctets (sym h.1) (field_octets h.0)
+number_octets value text h = subst IsOctets (sym h.1) (IsOctets-number_field h.0)
 
 -- ---- components
 
