@@ -1,6 +1,6 @@
 -- Commands that clients of the group make for its members.
 use Rattle.std.proofs.Common.{◌≡◌, ℕ, ◌-◌, ◌<◌, ◌≤◌, true, ◌&&◌, List, [], length, get_or, Some, sym, ap, ◌∙◌, subst, arith}
-use Rattle.std.specs.Prelude.{slice_get, nat_le, nat_lt}
+use Rattle.std.specs.Prelude.{slice_get, nat_le, nat_lt, Result, Ok, Err}
 use Rattle.std.proofs.lemmas.Bool.{and_parts}
 use Rattle.std.proofs.lemmas.Option.{slice_get-get_or, unwrap_or-slice_get}
 use Rattle.ndn_name.specs.Names.{Component, encoding}
@@ -13,10 +13,12 @@ use Rattle.repo_object.proofs.Sizes.{named_short}
 use Rattle.repo_command.specs.declared.command.Command.{Command}
 use Rattle.repo_command.specs.declared.command.Command.TheVariants.{Insert, Check, Delete}
 use Rattle.repo_command.specs.Commands.{named_length, is_command, CommandIsSpelled}
+use Rattle.repo_command.specs.declared.command_refusal.CommandRefusal.{CommandRefusal}
 use Rattle.repo_command.specs.Verdict.{command_verdict}
 use Rattle.repo_command.proofs.MadeLemmas.{or_bad, made_commands}
+use Rattle.repo_command.proofs.TakenLemmas.{taken_commands}
 use Rattle.repo_member.specs.Groups.{GroupKeys, IsGroup, IsPlainNodeName, node_at, client_at, client_key_at}
-use Rattle.repo_member.specs.Commanded.{coded, order_made, MadeOrdersAreTaken, OrdersBeyondAreMalformed}
+use Rattle.repo_member.specs.Commanded.{coded, order_of, order_made, MadeOrdersAreTaken, OrdersBeyondAreMalformed}
 use Rattle.repo_member.proofs.GroupLemmas.{client_is, client_plain, ring_length}
 use Rattle.repo_member.proofs.TrueSyncs.{number_at, ring_at}
 
@@ -64,3 +66,16 @@ made_orders_are_taken g number client command group there known spelled is =
 pub orders_beyond : OrdersBeyondAreMalformed
 orders_beyond g number client command group there known spelled short is =
     ap coded (verdict g number client group there known command spelled short ∙ ap (or_bad client command) is)
+
+-- ---- what is taken is within the limits
+
+-- an order is the check's
+passed : (r : Result (ℕ × Command) CommandRefusal) (order : ℕ × Command) → coded r ≡ Ok order → r ≡ Ok order
+passed (Ok taken) order e = let same : taken ≡ order = cc in ap (λ (o : ℕ × Command). Ok o) same
+passed (Err refusal) order e = absurd cc
+
+pub orders_within : (g : GroupKeys) (number : ℕ) (octets : List ℕ) (client : ℕ) (command : Command)
+    → order_of g number octets ≡ Ok (client, command) → is_command command ≡ true
+orders_within g number octets client command e =
+    (taken_commands (node_at g number) g.clients.ring octets client command
+    (passed (command_verdict (node_at g number) g.clients.ring octets) (client, command) e)).0

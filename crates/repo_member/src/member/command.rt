@@ -10,7 +10,7 @@ ghost use Rattle.group_model.specs.Steps.{check_answer};
 ghost use Rattle.repo_member.specs.Gaining.{AreKept};
 ghost use Rattle.repo_member.specs.Alone.{IsOfGroup, alone_plan};
 ghost use Rattle.repo_member.specs.Deleting.{catalogued_named, alone_deletes, alone_drops, outside_all, IsHiding};
-ghost use Rattle.repo_member.specs.Commanded.{order_of, alone_after_order, alone_order_answer, alone_obeys, alone_starts, answer_to, start_answer, delete_answer, reply_to_octets, reply_named};
+ghost use Rattle.repo_member.specs.Commanded.{coded, order_of, alone_after_order, alone_order_answer, alone_obeys, alone_starts, answer_to, start_answer, delete_answer, reply_to_octets, reply_named};
 
 use super::Member;
 use crate::group::Group;
@@ -62,8 +62,34 @@ impl Member {
     {
         let alloc = *self.log.allocator();
         match check_command(alloc, octets, g.roster().name(self.number), g.clients()) {
-            Ok((_, command)) => self.obey(g, octets, command),
             Err(CommandRefusal::NoMemory) => Err(AllocError),
+            verdict => self.command_checked(g, octets, verdict),
+        }
+    }
+
+    /// Octets that the caller has checked as a command for this member are answered, and what they ask for is done, as
+    /// `command` does it. Want of memory is no verdict on them.
+    pub fn command_checked(
+        &mut self,
+        g: &Group,
+        octets: &[u8],
+        verdict: Result<(u32, Command), CommandRefusal>,
+    ) -> Result<Answered, AllocError>
+        requires group { IsOfGroup g.now self.old }
+        requires verdict { coded verdict ≡ order_of g.now self.old.number octets.now }
+        requires spelled { IfOk verdict (λ order. CommandIsSpelled order.1) }
+        ensures answer { IfOk result (λ answered. answered.answer
+            ≡ alone_order_answer (order_of g.now self.old.number octets.now) self.old) }
+        ensures reply { IfOk result (λ answered. option_map (λ r. r.items) answered.reply
+            ≡ reply_to_octets g.now self.old.number answered.answer octets.now) }
+        ensures ok { OnOk result
+            (self.new ≡ alone_after_order (order_of g.now self.old.number octets.now) self.old) }
+        ensures spelled { OnOk result
+            (IfOk (order_of g.now self.old.number octets.now) (λ order. CommandIsSpelled order.1)) }
+        ensures err { OnErr result (self.new ≡ self.old) }
+    {
+        match verdict {
+            Ok((_, command)) => self.obey(g, octets, command),
             Err(refusal) => self.answered(g, octets, Answer::only(refusal.status_code())),
         }
     }
