@@ -5,6 +5,7 @@ mod ended;
 mod faults;
 mod generated;
 mod inspected;
+mod joined;
 mod refused;
 mod rows;
 mod seeded;
