@@ -24,6 +24,3 @@ pub use event::{Event, Happened, StepFault};
 pub use laws::claimed_parts_can_be_answered;
 pub use settling::a_settle_can_be_made_again;
 pub use world::World;
-
-#[cfg(test)]
-mod tests;

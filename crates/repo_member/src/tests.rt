@@ -1,4 +1,4 @@
-ghost use Rattle.std.specs.Prelude.{◌≡◌, length, IfOk};
+ghost use Rattle.std.specs.Prelude.{◌≡◌, length};
 ghost use Rattle.repo_member.specs.Groups.{IsPlainNodeName, IsKey};
 
 mod commands;
@@ -24,13 +24,13 @@ const BOB: u32 = 1;
 const CAROL: u32 = 2;
 
 // The name of a group or a node.
-fn node_name(rt: &(impl Abort + AllocGlobal), text: &str) -> Result<Name, Fail>
-    ensures { IfOk result (λ name. IsPlainNodeName name) }
+fn node_name(rt: &(impl Abort + AllocGlobal), text: &str) -> Name
+    ensures { IsPlainNodeName result }
 {
-    let name = Name::from_uri(rt.alloc(), text)?;
+    let name = Name::from_uri(rt.alloc(), text).expect(rt, "a name");
     assert!(rt; is_object_name(&name.view()));
     assert!(rt; name.octets().len() <= NODE_NAME_LIMIT);
-    Ok(name)
+    name
 }
 
 // Adds a member of this name, or a client.
@@ -40,26 +40,26 @@ fn add(
     text: &str,
     key: &[u8],
     is_client: bool,
-) -> Result<Result<u32, GroupFault>, Fail>
+) -> Result<u32, GroupFault>
     requires { IsKey key.now }
 {
-    let name = node_name(rt, text)?;
+    let name = node_name(rt, text);
     if is_client {
-        return Ok(g.add_client(&name, key));
+        return g.add_client(&name, key);
     }
-    Ok(g.add_member(&name, key))
+    g.add_member(&name, key)
 }
 
 // The group "/g" of alice, bob and carol.
-fn three_members(rt: &(impl Abort + AllocGlobal)) -> Result<Group, Fail>
-    ensures { IfOk result (λ g. length g.members.names ≡ 3) }
+fn three_members(rt: &(impl Abort + AllocGlobal)) -> Group
+    ensures { length result.members.names ≡ 3 }
 {
-    let mut g = Group::new(rt.alloc(), &node_name(rt, "/g")?)?;
-    assert_eq!(rt; add(rt, &mut g, "/alice", b"k1", false)?, Ok(ALICE));
-    assert_eq!(rt; add(rt, &mut g, "/bob", b"k2", false)?, Ok(BOB));
-    assert_eq!(rt; add(rt, &mut g, "/carol", b"k3", false)?, Ok(CAROL));
+    let mut g = Group::new(rt.alloc(), &node_name(rt, "/g")).expect(rt, "memory");
+    assert_eq!(rt; add(rt, &mut g, "/alice", b"k1", false), Ok(ALICE));
+    assert_eq!(rt; add(rt, &mut g, "/bob", b"k2", false), Ok(BOB));
+    assert_eq!(rt; add(rt, &mut g, "/carol", b"k3", false), Ok(CAROL));
     assert_eq!(rt; g.roster().len(), 3);
-    Ok(g)
+    g
 }
 
 // A part of a publication.
@@ -72,19 +72,20 @@ fn part(publisher: u32, seq: u16, part: u8) -> Part {
 }
 
 #[test]
-fn nobody_tells_of_more_than_was_published(rt: HostRuntime) -> Result<(), Fail> {
-    let g = three_members(&rt)?;
-    let mut bob = Peer::new(&rt, &g, BOB)?;
-    refuses_five_of_its_own(&rt, &mut bob)
+fn nobody_tells_of_more_than_was_published(rt: HostRuntime) {
+    let g = three_members(&rt);
+    let mut bob = Peer::new(&rt, &g, BOB);
+    refuses_five_of_its_own(&rt, &mut bob);
+    is_unchanged(&rt, &bob);
 }
 
-fn refuses_five_of_its_own(
-    rt: &(impl Abort + AllocGlobal),
-    bob: &mut Peer<'_>,
-) -> Result<(), Fail> {
+fn refuses_five_of_its_own(rt: &impl Abort, bob: &mut Peer<'_>) {
     let ahead = HearRefusal::OwnNumberAhead { own: 0, told: 5 };
     assert_eq!(rt; bob.hear(rt, &FIVE_OF_BOB, 10), Err(ahead));
     assert_eq!(rt; bob.join_from(rt, &FIVE_OF_BOB), Err(ahead));
+}
+
+fn is_unchanged(rt: &impl Abort, bob: &Peer<'_>) {
     assert_eq!(rt; bob.numbers(rt), (0, 0, 0));
     assert_eq!(rt;
         (bob.member.log_len(), bob.member.mode()),
@@ -92,28 +93,22 @@ fn refuses_five_of_its_own(
     );
     assert_eq!(rt; bob.member.next_draw(), 1);
     assert!(rt; bob.member.catalogue().entries().is_empty());
-    Ok(())
-}
-
-// Publishes so many objects without contents.
-fn publish_many(rt: &impl Abort, peer: &mut Peer<'_>, name: &Name, count: u16) -> Result<(), Fail> {
-    for seq in 0..count {
-        assert_eq!(rt; peer.publish(rt, name, &[], 0)?.seq, seq + 1);
-    }
-    Ok(())
 }
 
 #[test]
-fn numbers_are_spent(rt: HostRuntime) -> Result<(), Fail> {
-    let g = three_members(&rt)?;
-    let mut alice = Peer::new(&rt, &g, ALICE)?;
-    spend_all(&rt, &mut alice)
+fn numbers_are_spent(rt: HostRuntime) {
+    let g = three_members(&rt);
+    let mut alice = Peer::new(&rt, &g, ALICE);
+    spend_all(&rt, &mut alice);
 }
 
 // Publishes an object without contents under each number.
-fn spend_all(rt: &(impl Abort + AllocGlobal), alice: &mut Peer<'_>) -> Result<(), Fail> {
-    let name = Name::from_uri(rt.alloc(), "/e")?;
-    publish_many(rt, alice, &name, u16::MAX)?;
+fn spend_all(rt: &(impl Abort + AllocGlobal), alice: &mut Peer<'_>) {
+    let name = Name::from_uri(rt.alloc(), "/e").expect(rt, "a name");
+    for seq in 0..u16::MAX {
+        let published = alice.publish(rt, &name, &[], 0).expect(rt, "a number");
+        assert!(rt; published.seq == seq + 1);
+    }
     let spent = PublishRefusal::NumbersSpent { log: 65_535 };
     assert_eq!(rt; alice.publish(rt, &name, &[], 0).err(), Some(spent));
     assert_eq!(rt;
@@ -121,109 +116,84 @@ fn spend_all(rt: &(impl Abort + AllocGlobal), alice: &mut Peer<'_>) -> Result<()
         (65_535, 65_536)
     );
     assert_eq!(rt; alice.member.catalogue().entries().len(), 65_535);
-    Ok(())
 }
 
-// Adds the members "/n/3" to "/n/15".
-fn fill(rt: &(impl Abort + AllocGlobal), g: &mut Group) -> Result<(), Fail> {
+#[test]
+fn groups_take_each_name_once_and_sixteen_members(rt: HostRuntime) {
+    let mut g = three_members(&rt);
+    take_each_name_once(&rt, &mut g);
+    take_sixteen(&rt, &mut g);
+}
+
+fn take_each_name_once(rt: &(impl Abort + AllocGlobal), g: &mut Group) {
+    assert_eq!(rt; add(rt, g, "/carl", b"k", true), Ok(0));
+    for (name, is_client) in [
+        ("/alice", false),
+        ("/alice", true),
+        ("/carl", false),
+        ("/carl", true),
+    ] {
+        let added = add(rt, g, name, b"k", is_client);
+        assert_eq!(rt; added, Err(GroupFault::Duplicate), "{name}");
+    }
+}
+
+// With the members "/n/3" to "/n/15" the group is full, and takes clients still.
+fn take_sixteen(rt: &(impl Abort + AllocGlobal), g: &mut Group) {
     for number in 3..16u32 {
-        let name = format!(in rt.alloc(); "/n/{number}")?;
-        assert_eq!(rt; add(rt, g, &name, b"k", false)?, Ok(number));
+        let name = format!(in rt.alloc(); "/n/{number}").expect(rt, "memory");
+        assert_eq!(rt; add(rt, g, &name, b"k", false), Ok(number));
     }
-    Ok(())
-}
-
-#[test]
-fn groups_take_each_name_once_and_sixteen_members(rt: HostRuntime) -> Result<(), Fail> {
-    let mut g = three_members(&rt)?;
-    take_each_name_once(&rt, &mut g)
-}
-
-fn take_each_name_once(rt: &(impl Abort + AllocGlobal), g: &mut Group) -> Result<(), Fail> {
-    assert_eq!(rt; add(rt, g, "/carl", b"k", true)?, Ok(0));
-    for is_client in [false, true] {
-        assert_eq!(rt;
-            add(rt, g, "/alice", b"k", is_client)?,
-            Err(GroupFault::Duplicate)
-        );
-        assert_eq!(rt;
-            add(rt, g, "/carl", b"k", is_client)?,
-            Err(GroupFault::Duplicate)
-        );
+    for (name, is_client, answer) in [
+        ("/n", false, Err(GroupFault::Full)),
+        ("/bob", false, Err(GroupFault::Duplicate)),
+        ("/n", true, Ok(1)),
+    ] {
+        assert_eq!(rt; add(rt, g, name, b"k", is_client), answer, "{name}");
     }
-    fill(rt, g)?;
-    assert_eq!(rt; add(rt, g, "/n", b"k", false)?, Err(GroupFault::Full));
-    assert_eq!(rt;
-        add(rt, g, "/bob", b"k", false)?,
-        Err(GroupFault::Duplicate)
-    );
-    assert_eq!(rt; add(rt, g, "/n", b"k", true)?, Ok(1));
     assert_eq!(rt; g.roster().len(), 16);
-    Ok(())
 }
 
-// What is printed of each.
-fn print<T: Display>(rt: &(impl Abort + AllocGlobal), table: &[(T, &str)]) -> Result<(), Fail> {
-    for (printed, text) in table {
-        assert_eq!(rt; format!(in rt.alloc(); "{printed}")?.as_str(), *text);
-    }
-    Ok(())
+// What is printed.
+fn print<T: Display>(rt: &(impl Abort + AllocGlobal), printed: &T, text: &str) {
+    let made = format!(in rt.alloc(); "{printed}").expect(rt, "memory");
+    assert!(rt; made.as_str() == text, "{made}");
+}
+
+fn print_faults(rt: &(impl Abort + AllocGlobal)) {
+    let taken = "a member or a client has the name already";
+    print(rt, &GroupFault::Duplicate, taken);
+    print(rt, &GroupFault::Full, "there are 16 of its kind already");
+    print(rt, &GroupFault::NoMemory, "out of memory");
+    print(rt, &WantFault::FetcherIdle, "the fetcher claims no part");
+    print(rt, &WantFault::NoMemory, "out of memory");
+}
+
+fn print_refusals(rt: &(impl Abort + AllocGlobal)) {
+    let spent = PublishRefusal::NumbersSpent { log: 65_535 };
+    let all = "all numbers are spent: the log has 65535 publications";
+    print(rt, &spent, all);
+    print(rt, &PublishRefusal::NoMemory, "out of memory");
+    let ahead = HearRefusal::OwnNumberAhead { own: 0, told: 5 };
+    let more = "5 publications of this member are told, and it made 0";
+    print(rt, &ahead, more);
+    let unsigned = HearRefusal::Sync(SyncRefusal::Unsigned);
+    print(rt, &unsigned, "the Interest is not signed");
+    print(rt, &HearRefusal::NoMemory, "out of memory");
+}
+
+fn print_refusals_of_parts(rt: &(impl Abort + AllocGlobal)) {
+    let idle = AcceptRefusal::FetcherIdle;
+    print(rt, &idle, "the fetcher claims no part");
+    let bad_signature = AcceptRefusal::Refused(PartRefusal::BadSignature);
+    let not_the_mac = "the signature is not the mac of what is signed";
+    print(rt, &bad_signature, not_the_mac);
+    print(rt, &AcceptRefusal::NoMemory, "out of memory");
 }
 
 #[test]
-fn refusals_are_printed(rt: HostRuntime) -> Result<(), Fail> {
-    let spent = PublishRefusal::NumbersSpent { log: 65_535 };
-    let ahead = HearRefusal::OwnNumberAhead { own: 0, told: 5 };
-    let unsigned = HearRefusal::Sync(SyncRefusal::Unsigned);
-    let bad_signature = AcceptRefusal::Refused(PartRefusal::BadSignature);
-    print(
-        &rt,
-        &[
-            (
-                GroupFault::Duplicate,
-                "a member or a client has the name already",
-            ),
-            (GroupFault::Full, "there are 16 of its kind already"),
-            (GroupFault::NoMemory, "out of memory"),
-        ],
-    )?;
-    print(
-        &rt,
-        &[
-            (
-                spent,
-                "all numbers are spent: the log has 65535 publications",
-            ),
-            (PublishRefusal::NoMemory, "out of memory"),
-        ],
-    )?;
-    print(
-        &rt,
-        &[
-            (unsigned, "the Interest is not signed"),
-            (
-                ahead,
-                "5 publications of this member are told, and it made 0",
-            ),
-            (HearRefusal::NoMemory, "out of memory"),
-        ],
-    )?;
-    print(
-        &rt,
-        &[
-            (WantFault::FetcherIdle, "the fetcher claims no part"),
-            (WantFault::NoMemory, "out of memory"),
-        ],
-    )?;
-    print(
-        &rt,
-        &[
-            (AcceptRefusal::FetcherIdle, "the fetcher claims no part"),
-            (
-                bad_signature,
-                "the signature is not the mac of what is signed",
-            ),
-            (AcceptRefusal::NoMemory, "out of memory"),
-        ],
-    )
+fn refusals_are_printed(rt: HostRuntime) {
+    print_faults(&rt);
+    print_refusals(&rt);
+    print_refusals_of_parts(&rt);
 }

@@ -1,6 +1,5 @@
-ghost use Rattle.std.specs.Prelude.{◌≡◌, ◌<◌, ◌≤◌, length, IfOk, IsTrue};
+ghost use Rattle.std.specs.Prelude.{◌≡◌, ◌<◌, ◌≤◌, length};
 ghost use Rattle.ndn_name.specs.Names.{encoding};
-ghost use Rattle.repo_object.specs.Objects.{is_object_name};
 
 mod contents;
 mod hostile;
@@ -10,10 +9,9 @@ use super::*;
 use contents::CONTENTS;
 use hostile::{FOR_THE_RECORD, FOR_THE_SEGMENT};
 use ndn_data::DataView;
-use ndn_name::{Name, NameFault};
+use ndn_name::Name;
 use ndn_sign::{KeyRing, digest};
 use repo_plan::Part;
-use std::alloc::{AllocError, Global};
 use std::process::Abort;
 use std::test::*;
 use worked::{RECORD, RECORD_DIGEST, RECORD_INTEREST, SEGMENT, SEGMENT_INTEREST};
@@ -21,70 +19,50 @@ use worked::{RECORD, RECORD_DIGEST, RECORD_INTEREST, SEGMENT, SEGMENT_INTEREST};
 const KEY: &[u8] = b"k1";
 
 // The name of a node or a group.
-fn short_name(rt: &impl Abort, alloc: Global, text: &str) -> Result<Name, NameFault>
-    ensures { IfOk result (λ name. length (encoding name) ≤ 200) }
+fn short_name(rt: &(impl Abort + AllocGlobal), text: &str) -> Name
+    ensures { length (encoding result) ≤ 200 }
 {
-    let name = Name::from_uri(alloc, text)?;
+    let name = Name::from_uri(rt.alloc(), text).expect(rt, "a name");
     assert!(rt; name.octets().len() <= NODE_NAME_LIMIT);
-    Ok(name)
+    name
 }
 
 // The object of this name whose content is cut into segments of that size.
-fn object(alloc: Global, name: &Name, content: &[u8], size: usize) -> Result<Object, CutFault>
-    requires name { IsTrue (is_object_name name.now) }
+fn object(rt: &(impl Abort + AllocGlobal), name: &Name, content: &[u8], size: usize) -> Object
     requires some { 0 < size }
     requires size { size ≤ 8000 }
 {
-    let contents = cut(alloc, content, size)?;
-    Ok(Object::new(alloc, name, &contents)?)
-}
-
-// The packets of a publication, whatever they are.
-fn published(
-    alloc: Global,
-    object: &Object,
-    seq: u16,
-    node: &Name,
-    group: &Name,
-    key: &[u8],
-) -> Result<Vec<Vec<u8>>, AllocError>
-    requires node { length (encoding node.now) ≤ 200 }
-    requires group { length (encoding group.now) ≤ 200 }
-{
-    packets_of(alloc, object, seq, node, group, key)
+    assert!(rt; is_object_name(&name.view()));
+    let contents = cut(rt.alloc(), content, size).expect(rt, "few segments");
+    Object::new(rt.alloc(), name, &contents).expect(rt, "memory")
 }
 
 // A ring with the node's key.
-fn ring_of(alloc: Global, node: &Name, key: &[u8]) -> Result<KeyRing, Fail>
+fn ring_of(rt: &(impl Abort + AllocGlobal), node: &Name, key: &[u8]) -> KeyRing
     requires { length (encoding node.now) ≤ 200 }
-    ensures { IfOk result (λ ring. 0 < length ring) }
+    ensures { 0 < length result }
 {
-    let mut ring = KeyRing::new(alloc);
-    ring.add(key_name(node)?.octets(), key)?;
-    Ok(ring)
+    let mut ring = KeyRing::new(rt.alloc());
+    let name = key_name(node).expect(rt, "memory");
+    ring.add(name.octets(), key).expect(rt, "memory");
+    ring
 }
 
-fn record_want(alloc: Global, seq: u16, node: &Name, group: &Name) -> Result<Want, AllocError>
+fn record_want(rt: &(impl Abort + AllocGlobal), seq: u16, node: &Name, group: &Name) -> Want
     requires node { length (encoding node.now) ≤ 200 }
     requires group { length (encoding group.now) ≤ 200 }
-    ensures { IfOk result (λ want. want.part.publisher ≡ 0) }
+    ensures { result.part.publisher ≡ 0 }
 {
     let part = Part {
         publisher: 0,
         seq,
         part: 0,
     };
-    want_record(alloc, part, node, group)
+    want_record(rt.alloc(), part, node, group).expect(rt, "memory")
 }
 
-fn segment_want(
-    rt: &impl Abort,
-    alloc: Global,
-    seq: u16,
-    part: u8,
-    listing: &Listing,
-) -> Result<Want, AllocError>
-    ensures { IfOk result (λ want. want.part.publisher ≡ 0) }
+fn segment_want(rt: &(impl Abort + AllocGlobal), seq: u16, part: u8, listing: &Listing) -> Want
+    ensures { result.part.publisher ≡ 0 }
 {
     let part = Part {
         publisher: 0,
@@ -93,172 +71,209 @@ fn segment_want(
     };
     assert!(rt; 0 < part.part && usize::from(part.part) <= listing.digests.len());
     assert!(rt; listing.name.octets().len() <= OBJECT_NAME_LIMIT);
-    want_segment(alloc, part, listing)
+    want_segment(rt.alloc(), part, listing).expect(rt, "memory")
 }
 
-// Checks octets for a want, each with the refusal that comes, if one does.
-fn check_all(rt: &impl Abort, want: &Want, ring: &KeyRing, cases: &[(&[u8], Option<PartRefusal>)])
+// The octets that are written as digits.
+fn octets_of(rt: &(impl Abort + AllocGlobal), digits: &str) -> Vec<u8> {
+    let mut octets = Vec::new(rt.alloc());
+    let mut rest = digits;
+    while let Some((pair, behind)) = rest.split_at_checked(2) {
+        let octet = u8::from_str_radix(pair, 16).expect(rt, "two digits");
+        octets.push(octet).expect(rt, "memory");
+        rest = behind;
+    }
+    octets
+}
+
+// Checks the octets of each row for a want, with the refusal that comes, if one does.
+fn check_all(rt: &(impl Abort + AllocGlobal), want: &Want, ring: &KeyRing, rows: &str)
     requires { want.now.part.publisher < length ring.now }
 {
-    for (octets, refusal) in cases {
-        assert_eq!(rt;
-            check_part(want, octets, ring).err(),
-            *refusal,
-            "{octets:?}"
-        );
+    for row in rows.lines() {
+        if !row.starts_with('#') {
+            checks(rt, want, ring, row);
+        }
     }
+}
+
+fn checks(rt: &(impl Abort + AllocGlobal), want: &Want, ring: &KeyRing, row: &str)
+    requires { want.now.part.publisher < length ring.now }
+{
+    let (digits, answer) = row.split_once(" => ").expect(rt, "an answer");
+    let octets = octets_of(rt, digits);
+    let refusal = check_part(want, &octets, ring).err();
+    let told = format!(in rt.alloc(); "{refusal:?}").expect(rt, "memory");
+    assert!(rt; told.as_str() == answer, "{told}: {row}");
 }
 
 #[test]
-fn worked_publication_is_written(rt: HostRuntime) -> Result<(), Fail> {
-    let alloc = rt.alloc();
-    let alice = short_name(&rt, alloc, "/alice")?;
-    let group = short_name(&rt, alloc, "/g")?;
-    let name = Name::from_uri(alloc, "/doc")?;
-    assert!(rt; is_object_name(&name.view()));
-    let object = object(alloc, &name, b"abc", 10)?;
-    let packets = published(alloc, &object, 1, &alice, &group, KEY)?;
-    assert_eq!(rt; packets.len(), 2);
-    assert_eq!(rt; packets[0].as_slice(), RECORD.as_slice());
-    assert_eq!(rt; packets[1].as_slice(), SEGMENT.as_slice());
-    let alone = [Some(RECORD.as_slice()), Some(SEGMENT.as_slice()), None];
-    for (part, packet) in alone.into_iter().enumerate() {
-        let made = packet_of(alloc, &object, 1, part as u8, &alice, &group, KEY)?;
-        assert_eq!(rt; made.as_deref(), packet);
-    }
-    come_with_digests(&rt, alloc, &object, &alice, &group, &packets)
+fn worked_publication_is_written(rt: HostRuntime) {
+    let alice = short_name(&rt, "/alice");
+    let group = short_name(&rt, "/g");
+    let name = short_name(&rt, "/doc");
+    let object = object(&rt, &name, b"abc", 10);
+    is_written_whole(&rt, &object, &alice, &group);
+    is_written_alone(&rt, &object, &alice, &group);
+    comes_with_digests(&rt, &object, &alice, &group);
 }
 
-// Sees that the first publication of an object is made of these packets, each with its digest.
-fn come_with_digests(
-    rt: &impl Abort,
-    alloc: Global,
-    object: &Object,
-    node: &Name,
-    group: &Name,
-    packets: &[Vec<u8>],
-) -> Result<(), Fail>
+fn is_written_whole(rt: &(impl Abort + AllocGlobal), object: &Object, node: &Name, group: &Name)
     requires node { length (encoding node.now) ≤ 200 }
     requires group { length (encoding group.now) ≤ 200 }
 {
-    let made = digested_packets_of(alloc, object, 1, node, group, KEY)?;
-    assert_eq!(rt; made.len(), packets.len());
-    for (one, packet) in made.iter().zip(packets) {
-        assert_eq!(rt; one.octets(), packet.as_slice());
-        assert_eq!(rt; *one.digest(), digest(packet));
+    let packets = packets_of(rt.alloc(), object, 1, node, group, KEY).expect(rt, "memory");
+    let [record, segment] = packets.as_slice() else {
+        panic!(rt; "two packets");
+    };
+    assert!(rt; record.as_slice() == RECORD.as_slice());
+    assert!(rt; segment.as_slice() == SEGMENT.as_slice());
+}
+
+fn is_written_alone(rt: &(impl Abort + AllocGlobal), object: &Object, node: &Name, group: &Name)
+    requires node { length (encoding node.now) ≤ 200 }
+    requires group { length (encoding group.now) ≤ 200 }
+{
+    let alone = [Some(RECORD.as_slice()), Some(SEGMENT.as_slice()), None];
+    for (part, packet) in alone.into_iter().enumerate() {
+        let made = packet_of(rt.alloc(), object, 1, part as u8, node, group, KEY);
+        assert!(rt; made.expect(rt, "memory").as_deref() == packet, "{part}");
     }
-    Ok(())
+}
+
+// Sees that the first publication of an object is made of the worked packets, each with its digest.
+fn comes_with_digests(rt: &(impl Abort + AllocGlobal), object: &Object, node: &Name, group: &Name)
+    requires node { length (encoding node.now) ≤ 200 }
+    requires group { length (encoding group.now) ≤ 200 }
+{
+    let made = digested_packets_of(rt.alloc(), object, 1, node, group, KEY).expect(rt, "memory");
+    assert!(rt; made.len() == 2);
+    for (one, packet) in made.iter().zip([RECORD.as_slice(), SEGMENT.as_slice()]) {
+        assert!(rt; one.octets() == packet);
+        assert!(rt; *one.digest() == digest(packet));
+    }
 }
 
 #[test]
-fn worked_record_is_checked(rt: HostRuntime) -> Result<(), Fail> {
-    let alloc = rt.alloc();
-    let alice = short_name(&rt, alloc, "/alice")?;
-    let group = short_name(&rt, alloc, "/g")?;
-    let ring = ring_of(alloc, &alice, KEY)?;
-    let want = record_want(alloc, 1, &alice, &group)?;
-    assert_eq!(rt; want.interest(), RECORD_INTEREST.as_slice());
-    check_all(&rt, &want, &ring, &FOR_THE_RECORD);
-    Ok(())
+fn worked_record_is_checked(rt: HostRuntime) {
+    let alice = short_name(&rt, "/alice");
+    let group = short_name(&rt, "/g");
+    let ring = ring_of(&rt, &alice, KEY);
+    let want = record_want(&rt, 1, &alice, &group);
+    assert!(rt; want.interest() == RECORD_INTEREST.as_slice());
+    check_all(&rt, &want, &ring, FOR_THE_RECORD);
 }
 
 #[test]
-fn worked_segment_is_checked(rt: HostRuntime) -> Result<(), Fail> {
-    let alloc = rt.alloc();
-    let alice = short_name(&rt, alloc, "/alice")?;
-    let ring = ring_of(alloc, &alice, KEY)?;
-    let listing = read_record(alloc, DataView::read(&RECORD)?.content)?;
-    record_is_written(&rt, alloc, &listing, &alice)?;
-    let want = segment_want(&rt, alloc, 1, 1, &listing)?;
-    assert_eq!(rt; want.interest(), SEGMENT_INTEREST.as_slice());
-    check_all(&rt, &want, &ring, &FOR_THE_SEGMENT);
-    Ok(())
+fn worked_segment_is_checked(rt: HostRuntime) {
+    let alice = short_name(&rt, "/alice");
+    let ring = ring_of(&rt, &alice, KEY);
+    let listing = listing_of(&rt, &RECORD);
+    record_is_written(&rt, &listing, &alice);
+    let want = segment_want(&rt, 1, 1, &listing);
+    assert!(rt; want.interest() == SEGMENT_INTEREST.as_slice());
+    check_all(&rt, &want, &ring, FOR_THE_SEGMENT);
+}
+
+// What a record lists.
+fn listing_of(rt: &(impl Abort + AllocGlobal), record: &[u8]) -> Listing {
+    let content = DataView::read(record).expect(rt, "a packet").content;
+    read_record(rt.alloc(), content).expect(rt, "a record")
 }
 
 // Sees that what the record lists is written as the record's packet, without its segment's.
-fn record_is_written(
-    rt: &impl Abort,
-    alloc: Global,
-    listing: &Listing,
-    node: &Name,
-) -> Result<(), Fail>
-    requires { length (encoding node.now) ≤ 200 }
+fn record_is_written(rt: &(impl Abort + AllocGlobal), listing: &Listing, node: &Name)
+    requires node { length (encoding node.now) ≤ 200 }
 {
-    let group = short_name(rt, alloc, "/g")?;
+    let group = short_name(rt, "/g");
     assert!(rt; listing.name.octets().len() <= OBJECT_NAME_LIMIT);
     assert!(rt; listing.digests.len() <= SEGMENT_LIMIT);
-    let packet = record_packet(alloc, listing, 1, node, &group, KEY)?;
-    assert_eq!(rt; packet.as_slice(), RECORD.as_slice());
-    Ok(())
+    let packet = record_packet(rt.alloc(), listing, 1, node, &group, KEY).expect(rt, "memory");
+    assert!(rt; packet.as_slice() == RECORD.as_slice());
 }
 
 #[test]
 fn contents_are_read_as_records(rt: HostRuntime) {
-    for (content, segments) in CONTENTS {
-        assert_eq!(rt; is_record(content), segments.is_some(), "{content:?}");
-        let read = read_record(rt.alloc(), content).map(|listing| listing.digests.len());
-        assert_eq!(rt; read, segments.ok_or(RecordFault::BadRecord), "{content:?}");
-        let first = digest_at(content, 0);
-        assert_eq!(rt;
-            first.is_some(),
-            segments.is_some_and(|n| n > 0),
-            "{content:?}"
-        );
+    for row in CONTENTS.lines() {
+        if !row.starts_with('#') {
+            is_read(&rt, row);
+        }
     }
+}
+
+fn is_read(rt: &(impl Abort + AllocGlobal), row: &str) {
+    let (digits, answer) = row.split_once(" => ").expect(rt, "an answer");
+    let segments = segments_in(rt, &octets_of(rt, digits));
+    let told = format!(in rt.alloc(); "{segments:?}").expect(rt, "memory");
+    assert!(rt; told.as_str() == answer, "{told}: {row}");
+}
+
+// How many segments a content lists where it is a record's.
+fn segments_in(rt: &(impl Abort + AllocGlobal), content: &[u8]) -> Option<usize> {
+    let segments = match read_record(rt.alloc(), content) {
+        Ok(listing) => Some(listing.digests.len()),
+        Err(RecordFault::BadRecord) => None,
+        Err(RecordFault::NoMemory) => panic!(rt; "memory"),
+    };
+    assert!(rt; is_record(content) == segments.is_some());
+    assert!(rt; digest_at(content, 0).is_some() == segments.is_some_and(|n| n > 0));
+    segments
 }
 
 // A value that may go to another thread and be let go there.
 fn goes_anywhere<T: Send + Drop>(_: T) {}
 
 #[test]
-fn publications_at_the_limits_pass(rt: HostRuntime) -> Result<(), Fail> {
-    let alloc = rt.alloc();
+fn publications_at_the_limits_pass(rt: HostRuntime) {
     let octets = [b'a'; 396];
-    let mut node = Name::new(alloc);
-    node.push(8, &octets[..198])?;
-    let mut name = Name::new(alloc);
-    name.push(8, &octets)?;
+    let node = name_of(&rt, &octets[..198]);
+    let name = name_of(&rt, &octets);
     let key = [b'k'; 128];
-    assert!(rt; node.octets().len() <= NODE_NAME_LIMIT && is_object_name(&name.view()));
-    let object = object(alloc, &name, &[b'A'; 200], 1)?;
-    let packets = published(alloc, &object, 65_535, &node, &node, &key)?;
-    let ring = ring_of(alloc, &node, &key)?;
-    let want = record_want(alloc, 65_535, &node, &node)?;
-    pass(&rt, alloc, &packets, &want, &ring)
+    assert!(rt; node.octets().len() <= NODE_NAME_LIMIT);
+    let object = object(&rt, &name, &[b'A'; 200], 1);
+    let packets = packets_of(rt.alloc(), &object, 65_535, &node, &node, &key).expect(&rt, "memory");
+    let ring = ring_of(&rt, &node, &key);
+    let want = record_want(&rt, 65_535, &node, &node);
+    pass(&rt, &packets, &want, &ring);
+}
+
+// The name of one component.
+fn name_of(rt: &(impl Abort + AllocGlobal), value: &[u8]) -> Name {
+    let mut name = Name::new(rt.alloc());
+    name.push(8, value).expect(rt, "memory");
+    name
 }
 
 // Sees that a record of the greatest publication passes, and each segment that it lists.
-fn pass(
-    rt: &impl Abort,
-    alloc: Global,
-    packets: &[Vec<u8>],
-    want: &Want,
-    ring: &KeyRing,
-) -> Result<(), Fail>
+fn pass(rt: &(impl Abort + AllocGlobal), packets: &[Vec<u8>], want: &Want, ring: &KeyRing)
     requires publisher { want.now.part.publisher < length ring.now }
     requires some { 0 < length ring.now }
 {
     let [record, segments @ ..] = packets else {
-        return Err("a record".into());
+        panic!(rt; "a record");
     };
-    assert_eq!(rt; (record.len(), segments.len()), (7_871, 200));
-    assert_eq!(rt; digest(record), RECORD_DIGEST);
-    goes_anywhere(check_part(want, record, ring)?);
-    let content = DataView::read(record)?.content;
-    let listing = read_record(alloc, content)?;
+    assert!(rt; record.len() == 7_871 && segments.len() == 200);
+    assert!(rt; digest(record) == RECORD_DIGEST);
+    goes_anywhere(check_part(want, record, ring).expect(rt, "a record"));
+    segments_pass(rt, record, segments, ring);
+}
+
+fn segments_pass(
+    rt: &(impl Abort + AllocGlobal),
+    record: &[u8],
+    segments: &[Vec<u8>],
+    ring: &KeyRing,
+)
+    requires some { 0 < length ring.now }
+{
+    let content = DataView::read(record).expect(rt, "a packet").content;
+    let listing = listing_of(rt, record);
     let mut part = 0u8;
     for segment in segments {
-        assert_eq!(rt;
-            digest_at(content, usize::from(part)),
-            Some(&digest(segment))
-        );
+        assert!(rt; digest_at(content, usize::from(part)) == Some(&digest(segment)));
         part = part.saturating_add(1);
-        let want = segment_want(rt, alloc, 65_535, part, &listing)?;
-        let checked = check_part(&want, segment, ring)?;
-        assert_eq!(rt;
-            (checked.part().part, checked.octets()),
-            (part, segment.as_slice())
-        );
+        let want = segment_want(rt, 65_535, part, &listing);
+        let checked = check_part(&want, segment, ring).expect(rt, "a segment");
+        assert!(rt; checked.part().part == part && checked.octets() == segment.as_slice());
     }
-    Ok(())
 }

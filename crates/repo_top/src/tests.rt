@@ -5,6 +5,7 @@ mod ended;
 mod faults;
 mod generated;
 mod inspected;
+mod joined;
 mod refused;
 mod rows;
 mod seeded;
@@ -15,7 +16,6 @@ mod words;
 use super::*;
 use bench_net::{Draws, FixedDraws, Net, OpenNet};
 use bench_world::World;
-use std::alloc::{AllocError, Global};
 use std::process::Abort;
 use std::str;
 use std::thread::Threads;
@@ -27,27 +27,28 @@ const PRE: &str = "group /g\nmember alice /alice 6b31\nmember bob /bob 6b32\n";
 const PRINTED: &str = "> ";
 
 // The words that the command line has.
-fn words_of(alloc: Global, text: &str) -> Result<Vec<String>, AllocError> {
-    let mut words = Vec::new(alloc);
+fn words_of(rt: &(impl Abort + AllocGlobal), text: &str) -> Vec<String> {
+    let mut words = Vec::new(rt.alloc());
     for word in text.split_whitespace() {
-        words.push(String::from_str(alloc, word)?)?;
+        let word = String::from_str(rt.alloc(), word).expect(rt, "memory");
+        words.push(word).expect(rt, "memory");
     }
-    Ok(words)
+    words
 }
 
 // Runs with these words.
-fn run_over<R: Threads + Sync + AllocGlobal, S: Source, K: Sink, N: Net + Sync, D: Draws>(
+fn run_over<R: Threads + Sync + AllocGlobal + Abort, S: Source, K: Sink, N: Net + Sync, D: Draws>(
     rt: &R,
     words: &str,
     source: &mut S,
     sink: &mut K,
     given: (&N, &D),
     end: &mut Option<World>,
-) -> Result<Status, AllocError>
+) -> Status
     requires { end.old ≡ None }
 {
-    let words = words_of(rt.alloc(), words)?;
-    Ok(run(rt, rt.alloc(), &words, source, sink, given.0, given.1, end))
+    let words = words_of(rt, words);
+    run(rt, rt.alloc(), &words, source, sink, given.0, given.1, end)
 }
 
 // Runs with these words over an open network. No world is left but by a run that is done.
@@ -56,12 +57,18 @@ fn status_of<R: Threads + Sync + AllocGlobal + Abort, S: Source, K: Sink>(
     words: &str,
     source: &mut S,
     sink: &mut K,
-) -> Result<Status, AllocError> {
+) -> Status {
     let given = (&OpenNet::new(), &FixedDraws::new(100));
     let mut end = None;
-    let answered = run_over(rt, words, source, sink, given, &mut end)?;
+    let answered = run_over(rt, words, source, sink, given, &mut end);
     assert!(rt; end.is_none() || answered == Status::Done);
-    Ok(answered)
+    answered
+}
+
+// What was answered and written is this.
+fn compare(rt: &impl Abort, came: (Status, &[u8]), wanted: Status, text: &str) {
+    assert_eq!(rt; str::from_utf8(came.1), Ok(text));
+    assert_eq!(rt; came.0, wanted);
 }
 
 // Expects a status and what is written.
@@ -71,12 +78,10 @@ fn expect_from<R: Threads + Sync + AllocGlobal + Abort, S: Source>(
     source: &mut S,
     wanted: Status,
     text: &str,
-) -> Result<(), AllocError> {
+) {
     let mut sink = VecSink::new(rt.alloc(), 100, Vec::new(rt.alloc()));
-    let answered = status_of(rt, words, source, &mut sink)?;
-    assert_eq!(rt; str::from_utf8(sink.octets()), Ok(text));
-    assert_eq!(rt; answered, wanted);
-    Ok(())
+    let answered = status_of(rt, words, source, &mut sink);
+    compare(rt, (answered, sink.octets()), wanted, text);
 }
 
 // The same over an input in pieces of so many octets.
@@ -87,34 +92,44 @@ fn expect<R: Threads + Sync + AllocGlobal + Abort>(
     input: &[u8],
     wanted: Status,
     text: &str,
-) -> Result<(), AllocError>
+)
     requires { 1 ≤ piece }
 {
-    let input = input.to_vec(rt.alloc())?;
+    let input = input.to_vec(rt.alloc()).expect(rt, "memory");
     let mut source = VecSource::new(input, piece, Vec::new(rt.alloc()));
-    expect_from(rt, words, &mut source, wanted, text)
+    expect_from(rt, words, &mut source, wanted, text);
+}
+
+// The list of one call of a source or a sink.
+fn call_alone(rt: &(impl Abort + AllocGlobal), call: u64) -> Vec<u64> {
+    vec![in rt.alloc(); call].expect(rt, "memory")
+}
+
+// Appends a text.
+fn put(rt: &impl Abort, text: &mut String, more: &str) {
+    text.push_str(more).expect(rt, "memory");
 }
 
 // The lines of a transcript without what they print.
-fn script_of(alloc: Global, head: &str, transcript: &str) -> Result<String, AllocError> {
-    let mut script = String::from_str(alloc, head)?;
+fn script_of(rt: &(impl Abort + AllocGlobal), head: &str, transcript: &str) -> String {
+    let mut script = String::from_str(rt.alloc(), head).expect(rt, "memory");
     for line in transcript.split_inclusive('\n') {
         if !line.starts_with(PRINTED) {
-            script.push_str(line)?;
+            put(rt, &mut script, line);
         }
     }
-    Ok(script)
+    script
 }
 
 // What the lines of a transcript print.
-fn report_of(alloc: Global, transcript: &str) -> Result<String, AllocError> {
-    let mut report = String::new(alloc);
+fn report_of(rt: &(impl Abort + AllocGlobal), transcript: &str) -> String {
+    let mut report = String::new(rt.alloc());
     for line in transcript.split_inclusive('\n') {
         if let Some(printed) = line.strip_prefix(PRINTED) {
-            report.push_str(printed)?;
+            put(rt, &mut report, printed);
         }
     }
-    Ok(report)
+    report
 }
 
 fn expect_transcript<R: Threads + Sync + AllocGlobal + Abort>(
@@ -122,17 +137,8 @@ fn expect_transcript<R: Threads + Sync + AllocGlobal + Abort>(
     head: &str,
     transcript: &str,
     wanted: Status,
-) -> Result<(), AllocError> {
-    let script = script_of(rt.alloc(), head, transcript)?;
-    expect_script(rt, script.as_bytes(), transcript, wanted)
-}
-
-fn expect_script<R: Threads + Sync + AllocGlobal + Abort>(
-    rt: &R,
-    script: &[u8],
-    transcript: &str,
-    wanted: Status,
-) -> Result<(), AllocError> {
-    let report = report_of(rt.alloc(), transcript)?;
-    expect(rt, "run", 100, script, wanted, &report)
+) {
+    let script = script_of(rt, head, transcript);
+    let report = report_of(rt, transcript);
+    expect(rt, "run", 100, script.as_bytes(), wanted, &report);
 }

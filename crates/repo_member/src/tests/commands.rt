@@ -1,4 +1,4 @@
-ghost use Rattle.std.specs.Prelude.{◌≡◌, ◌≤◌, length, IfOk};
+ghost use Rattle.std.specs.Prelude.{◌≡◌, ◌≤◌, length};
 ghost use Rattle.repo_command.specs.Commands.{named_length};
 
 use super::worked::ABC_DIGEST;
@@ -42,250 +42,202 @@ const FLIPPED: [u8; 123] = [
 ];
 
 // The group of alice, bob and carol with the client carl.
-fn with_carl(rt: &(impl Abort + AllocGlobal)) -> Result<Group, Fail>
-    ensures { IfOk result (λ g. length g.members.names ≡ 3) }
+fn with_carl(rt: &(impl Abort + AllocGlobal)) -> Group
+    ensures { length result.members.names ≡ 3 }
 {
-    let mut g = three_members(rt)?;
-    assert_eq!(rt; add(rt, &mut g, "/carl", b"k4", true)?, Ok(0));
+    let mut g = three_members(rt);
+    assert_eq!(rt; add(rt, &mut g, "/carl", b"k4", true), Ok(0));
     assert_eq!(rt; g.roster().len(), 3);
-    Ok(g)
+    g
 }
 
 // What alice answers where carl asks her.
-fn asks(
-    rt: &(impl Abort + AllocGlobal),
-    alice: &mut Peer<'_>,
-    command: &Command,
-) -> Result<Answer, Fail>
+fn asks(rt: &(impl Abort + AllocGlobal), alice: &mut Peer<'_>, command: &Command) -> Answer
     requires { named_length command.now ≤ OBJECT_NAME_LIMIT }
 {
-    let node = node_name(rt, "/alice")?;
-    let key_name = Name::from_uri(rt.alloc(), "/carl/KEY")?;
+    let node = node_name(rt, "/alice");
+    let key_name = Name::from_uri(rt.alloc(), "/carl/KEY").expect(rt, "a name");
     assert!(rt; key_name.octets().len() <= KEY_NAME_LIMIT);
-    let octets = make_command(rt.alloc(), &node, command, &key_name, b"k4")?;
-    let answered = alice.command(rt, &octets)?;
+    let octets = make_command(rt.alloc(), &node, command, &key_name, b"k4").expect(rt, "memory");
+    let answered = alice.command(rt, &octets).expect(rt, "memory");
     assert!(rt; answered.reply.is_some());
-    Ok(answered.answer)
+    answered.answer
 }
 
-// How process 1 stands.
-fn stands(rt: &(impl Abort + AllocGlobal), alice: &mut Peer<'_>) -> Result<(u16, u64), Fail> {
-    let answer = asks(rt, alice, &Command::Check { process: 1 })?;
-    Ok((answer.code, answer.inserted.ok_or("no number")?))
+// How a process stands.
+fn stands(rt: &(impl Abort + AllocGlobal), alice: &mut Peer<'_>, process: u64) -> Answer {
+    asks(rt, alice, &Command::Check { process })
 }
 
 // Asks to delete the objects of a name, and gives the code and how many packets were dropped.
-fn deletes(
-    rt: &(impl Abort + AllocGlobal),
-    alice: &mut Peer<'_>,
-    uri: &str,
-) -> Result<(u16, Option<u64>), Fail> {
-    let name = node_name(rt, uri)?;
-    let answer = asks(rt, alice, &Command::Delete { name })?;
-    Ok((answer.code, answer.deleted))
+fn deletes(rt: &(impl Abort + AllocGlobal), alice: &mut Peer<'_>, uri: &str) -> (u16, Option<u64>) {
+    let name = node_name(rt, uri);
+    let answer = asks(rt, alice, &Command::Delete { name });
+    (answer.code, answer.deleted)
 }
 
-#[test]
-fn blocks_publish_an_object(rt: HostRuntime) -> Result<(), Fail> {
-    let g = with_carl(&rt)?;
-    let mut alice = Peer::new(&rt, &g, ALICE)?;
-    insert_in_two_blocks(&rt, &mut alice)
+// Publishes "abc" in segments of so many octets, and gives the number.
+fn publishes(rt: &(impl Abort + AllocGlobal), peer: &mut Peer<'_>, uri: &str, size: usize) -> u16 {
+    assert!(rt; size == 1 || size == 10);
+    let contents = cut(rt.alloc(), b"abc", size).expect(rt, "few segments");
+    let name = node_name(rt, uri);
+    let published = peer.publish(rt, &name, &contents, 0).expect(rt, "a number");
+    published.seq
 }
 
-fn insert_in_two_blocks(rt: &(impl Abort + AllocGlobal), alice: &mut Peer<'_>) -> Result<(), Fail> {
-    let started = alice.command(rt, &INSERT)?;
-    assert_eq!(rt; started.answer.code, ACCEPTED);
-    assert_eq!(rt; started.reply.as_deref(), Some(ACCEPTED_1.as_slice()));
-    assert_eq!(rt; stands(rt, alice)?, (IN_PROGRESS, 0));
-    assert!(rt; matches!(alice.block(rt, 1, 7, b"x")?, Blocked::Unknown));
-    assert!(rt; matches!(alice.block(rt, 2, 5, b"x")?, Blocked::Unknown));
-    assert!(rt; matches!(alice.block(rt, 1, 5, b"ab")?, Blocked::Waiting));
-    assert!(rt; matches!(alice.block(rt, 1, 5, b"x")?, Blocked::Waiting));
-    assert_eq!(rt; stands(rt, alice)?, (IN_PROGRESS, 1));
-    let Blocked::Published(published) = alice.block(rt, 1, 6, b"c")? else {
-        return Err("no block is missing".into());
-    };
-    assert_eq!(rt; published.seq, 1);
-    assert_eq!(rt; stands(rt, alice)?, (DONE, 2));
-    assert!(rt; matches!(alice.block(rt, 1, 6, b"c")?, Blocked::Already));
-    assert_eq!(rt;
-        asks(rt, alice, &Command::Check { process: 9 })?,
-        Answer::only(NOT_FOUND)
-    );
-    assert_eq!(rt; alice.member.catalogue().entries().len(), 1);
-    assert_eq!(rt; deletes(rt, alice, "/in")?, (DONE, Some(3)));
-    assert_eq!(rt; deletes(rt, alice, "/in")?, (NOT_FOUND, None));
-    assert!(rt; alice.member.catalogue().entries().is_empty());
-    Ok(())
-}
-
-#[test]
-fn commands_are_answered(rt: HostRuntime) -> Result<(), Fail> {
-    let g = with_carl(&rt)?;
-    let mut alice = Peer::new(&rt, &g, ALICE)?;
-    delete_for_good(&rt, &mut alice)
-}
-
-// Alice hides what she published, and numbers go on.
-fn delete_for_good(rt: &(impl Abort + AllocGlobal), alice: &mut Peer<'_>) -> Result<(), Fail> {
-    refuse(rt, alice, &[5, 0], MALFORMED, false)?;
-    refuse(rt, alice, &FLIPPED, NOT_VALIDATED, true)?;
-    let contents = cut(rt.alloc(), b"abc", 1)?;
-    let doc = Name::from_uri(rt.alloc(), "/doc")?;
-    assert_eq!(rt; alice.publish(rt, &doc, &contents, 10)?.seq, 1);
-    assert_eq!(rt; deletes(rt, alice, "/doc")?, (DONE, Some(4)));
-    assert_eq!(rt; alice.member.packet(part(ALICE, 1, 0)), None);
-    assert!(rt; alice.logged(rt, part(ALICE, 1, 0))?.is_some());
-    assert_eq!(rt; alice.member.claim(1), Ok(None));
-    alice.restart(rt, 20);
-    assert_eq!(rt; alice.publish(rt, &doc, &[], 30)?.seq, 2);
-    assert_eq!(rt;
-        alice.member.catalogue().first_named(&doc.view()),
-        Some((ALICE, 2))
-    );
-    Ok(())
-}
-
-// Octets are refused with this code, and answered by a packet or not.
-fn refuse(
-    rt: &(impl Abort + AllocGlobal),
-    alice: &mut Peer<'_>,
-    octets: &[u8],
-    code: u16,
-    replied: bool,
-) -> Result<(), Fail> {
-    let answered = alice.command(rt, octets)?;
-    assert_eq!(rt; answered.answer, Answer::only(code));
-    assert_eq!(rt; answered.reply.is_some(), replied);
-    Ok(())
+// Hears what another member knows, and doesn't hold back.
+fn hears(rt: &impl Abort, peer: &mut Peer<'_>, other: &Peer<'_>) {
+    assert_eq!(rt; peer.hear_vector(rt, other), Ok(Mode::Steady));
 }
 
 // Claims a part and accepts what another member holds of it, so many times.
-fn fetch_from(
-    rt: &impl Abort,
-    other: &Peer<'_>,
-    peer: &mut Peer<'_>,
-    parts: u32,
-) -> Result<(), Fail> {
+pub(super) fn fetch_from(rt: &impl Abort, other: &Peer<'_>, peer: &mut Peer<'_>, parts: u32) {
     for _ in 0..parts {
-        let Ok(Some(part)) = peer.member.claim(1) else {
-            return Err("nothing is claimed".into());
-        };
-        let packet = other.member.packet(part).ok_or("it is not held")?;
-        assert_eq!(rt; peer.accept(rt, 1, packet)?, part);
+        let claimed = peer.member.claim(1).expect(rt, "an idle fetcher");
+        let part = claimed.expect(rt, "a wanted part");
+        let packet = other.member.packet(part).expect(rt, "a held part");
+        assert_eq!(rt; peer.accept(rt, 1, packet), Ok(part));
     }
-    Ok(())
 }
 
 #[test]
-fn others_keep_what_was_deleted(rt: HostRuntime) -> Result<(), Fail> {
-    let g = with_carl(&rt)?;
-    let mut alice = Peer::new(&rt, &g, ALICE)?;
-    insert_and_tell(&rt, &g, &mut alice)
+fn commands_are_answered(rt: HostRuntime) {
+    let g = with_carl(&rt);
+    let mut alice = Peer::new(&rt, &g, ALICE);
+    answers(&rt, &mut alice, &[5, 0], MALFORMED, false);
+    answers(&rt, &mut alice, &FLIPPED, NOT_VALIDATED, true);
 }
 
-fn insert_and_tell(
-    rt: &(impl Abort + AllocGlobal),
-    g: &Group,
-    alice: &mut Peer<'_>,
-) -> Result<(), Fail>
-    requires { length g.now.members.names ≡ 3 }
-{
-    assert_eq!(rt; alice.command(rt, &INSERT)?.answer.code, ACCEPTED);
-    assert!(rt; matches!(alice.block(rt, 1, 6, b"c")?, Blocked::Waiting));
-    assert!(rt; matches!(alice.block(rt, 1, 5, b"ab")?, Blocked::Published(_)));
-    let mut bob = Peer::new(rt, g, BOB)?;
-    fetch_the_insertion(rt, alice, &mut bob)
+// Octets are refused with this code, and answered by a packet or not.
+fn answers(rt: &impl Abort, alice: &mut Peer<'_>, octets: &[u8], code: u16, replied: bool) {
+    let answered = alice.command(rt, octets).expect(rt, "memory");
+    assert_eq!(rt; answered.answer, Answer::only(code));
+    assert!(rt; answered.reply.is_some() == replied);
 }
 
-fn fetch_the_insertion(
-    rt: &(impl Abort + AllocGlobal),
+#[test]
+fn blocks_publish_an_object(rt: HostRuntime) {
+    let g = with_carl(&rt);
+    let mut alice = Peer::new(&rt, &g, ALICE);
+    let mut bob = Peer::new(&rt, &g, BOB);
+    accepts_an_insertion(&rt, &mut alice);
+    takes_blocks(&rt, &mut alice);
+    hears(&rt, &mut bob, &alice);
+    fetch_from(&rt, &alice, &mut bob, 3);
+    deletes_once(&rt, &mut alice);
+    hears(&rt, &mut bob, &alice);
+    keeps_what_was_deleted(&rt, &bob);
+}
+
+// Alice begins process 1, and says so.
+fn accepts_an_insertion(rt: &impl Abort, alice: &mut Peer<'_>) {
+    let started = alice.command(rt, &INSERT).expect(rt, "memory");
+    assert!(rt; started.answer.code == ACCEPTED);
+    assert!(rt; started.reply.as_deref() == Some(ACCEPTED_1.as_slice()));
+}
+
+// What comes of a block, and the number of what it publishes.
+fn comes(
+    rt: &impl Abort,
     alice: &mut Peer<'_>,
-    bob: &mut Peer<'_>,
-) -> Result<(), Fail> {
-    assert_eq!(rt; bob.hear_vector(rt, alice, 0)?, Mode::Steady);
-    fetch_from(rt, alice, bob, 3)?;
-    assert_eq!(rt; deletes(rt, alice, "/in")?, (DONE, Some(3)));
-    assert_eq!(rt; bob.hear_vector(rt, alice, 0)?, Mode::Steady);
-    assert_eq!(rt; bob.member.claim(1), Ok(None));
+    process: u32,
+    index: u64,
+    content: &[u8],
+) -> (&'static str, u16) {
+    match alice
+        .block(rt, process, index, content)
+        .expect(rt, "a number")
+    {
+        Blocked::Unknown => ("unknown", 0),
+        Blocked::Waiting => ("waiting", 0),
+        Blocked::Already => ("already", 0),
+        Blocked::Published(published) => ("published", published.seq),
+    }
+}
+
+// Blocks, what comes of each, and how process 1 stands then. A block that came stays as it came first.
+const BLOCKS: [(u32, u64, &[u8], (&str, u16), (u16, u64)); 6] = [
+    (1, 7, b"x", ("unknown", 0), (IN_PROGRESS, 0)),
+    (2, 5, b"x", ("unknown", 0), (IN_PROGRESS, 0)),
+    (1, 5, b"ab", ("waiting", 0), (IN_PROGRESS, 1)),
+    (1, 5, b"x", ("waiting", 0), (IN_PROGRESS, 1)),
+    (1, 6, b"c", ("published", 1), (DONE, 2)),
+    (1, 6, b"c", ("already", 0), (DONE, 2)),
+];
+
+fn takes_blocks(rt: &(impl Abort + AllocGlobal), alice: &mut Peer<'_>) {
+    for (process, index, content, told, (code, inserted)) in BLOCKS {
+        assert_eq!(rt; comes(rt, alice, process, index, content), told);
+        let answer = stands(rt, alice, 1);
+        assert_eq!(rt; (answer.code, answer.inserted), (code, Some(inserted)));
+    }
+    assert_eq!(rt; stands(rt, alice, 9), Answer::only(NOT_FOUND));
+}
+
+// The object is deleted, and nothing of its name is left.
+fn deletes_once(rt: &(impl Abort + AllocGlobal), alice: &mut Peer<'_>) {
+    assert_eq!(rt; alice.member.catalogue().entries().len(), 1);
+    assert_eq!(rt; deletes(rt, alice, "/in"), (DONE, Some(3)));
+    assert_eq!(rt; deletes(rt, alice, "/in"), (NOT_FOUND, None));
     assert!(rt; alice.member.catalogue().entries().is_empty());
+}
+
+// Bob wants no part, and lists the object with the octets of both blocks.
+fn keeps_what_was_deleted(rt: &impl Abort, bob: &Peer<'_>) {
     let [entry] = bob.member.catalogue().entries() else {
-        return Err("one is listed".into());
+        panic!(rt; "one is listed");
     };
     assert_eq!(rt; (entry.publisher, entry.seq, entry.segments), (ALICE, 1, 2));
-    assert_eq!(rt; (entry.octets, entry.digest), (3, ABC_DIGEST));
-    Ok(())
+    assert!(rt; entry.octets == 3 && entry.digest == ABC_DIGEST);
 }
 
 #[test]
-fn nobody_holds_what_was_deleted_at_once(rt: HostRuntime) -> Result<(), Fail> {
-    let g = with_carl(&rt)?;
-    let mut alice = Peer::new(&rt, &g, ALICE)?;
-    delete_at_once(&rt, &g, &mut alice)
+fn nobody_holds_what_was_deleted_at_once(rt: HostRuntime) {
+    let g = with_carl(&rt);
+    let mut alice = Peer::new(&rt, &g, ALICE);
+    let mut bob = Peer::new(&rt, &g, BOB);
+    assert_eq!(rt; publishes(&rt, &mut alice, "/doc", 10), 1);
+    assert_eq!(rt; deletes(&rt, &mut alice, "/doc"), (DONE, Some(2)));
+    hears(&rt, &mut bob, &alice);
+    wants_what_nobody_holds(&rt, &mut bob, &alice);
 }
 
-fn delete_at_once(
-    rt: &(impl Abort + AllocGlobal),
-    g: &Group,
-    alice: &mut Peer<'_>,
-) -> Result<(), Fail>
-    requires { length g.now.members.names ≡ 3 }
-{
-    let contents = cut(rt.alloc(), b"abc", 10)?;
-    let doc = Name::from_uri(rt.alloc(), "/doc")?;
-    assert_eq!(rt; alice.publish(rt, &doc, &contents, 0)?.seq, 1);
-    assert_eq!(rt; deletes(rt, alice, "/doc")?, (DONE, Some(2)));
-    let mut bob = Peer::new(rt, g, BOB)?;
-    want_what_nobody_holds(rt, alice, &mut bob)
-}
-
-fn want_what_nobody_holds(
-    rt: &impl Abort,
-    alice: &Peer<'_>,
-    bob: &mut Peer<'_>,
-) -> Result<(), Fail> {
-    assert_eq!(rt; bob.hear_vector(rt, alice, 0)?, Mode::Steady);
+fn wants_what_nobody_holds(rt: &impl Abort, bob: &mut Peer<'_>, alice: &Peer<'_>) {
     assert!(rt; bob.member.catalogue().entries().is_empty());
     let record = part(ALICE, 1, 0);
     assert_eq!(rt; bob.member.claim(1), Ok(Some(record)));
-    assert_eq!(rt; alice.member.packet(record), None);
-    Ok(())
+    assert!(rt; alice.member.packet(record).is_none());
 }
 
 #[test]
-fn parts_stay_in_a_restart(rt: HostRuntime) -> Result<(), Fail> {
-    let g = with_carl(&rt)?;
-    let mut alice = Peer::new(&rt, &g, ALICE)?;
-    publish_and_tell(&rt, &g, &mut alice)
-}
-
-fn publish_and_tell(
-    rt: &(impl Abort + AllocGlobal),
-    g: &Group,
-    alice: &mut Peer<'_>,
-) -> Result<(), Fail>
-    requires { length g.now.members.names ≡ 3 }
-{
-    let contents = cut(rt.alloc(), b"abc", 1)?;
-    let doc = Name::from_uri(rt.alloc(), "/doc")?;
-    assert_eq!(rt; alice.publish(rt, &doc, &contents, 0)?.seq, 1);
-    let mut bob = Peer::new(rt, g, BOB)?;
-    restart_between_parts(rt, alice, &mut bob)
-}
-
-fn restart_between_parts(
-    rt: &(impl Abort + AllocGlobal),
-    alice: &Peer<'_>,
-    bob: &mut Peer<'_>,
-) -> Result<(), Fail> {
-    assert_eq!(rt; bob.hear_vector(rt, alice, 0)?, Mode::Steady);
-    fetch_from(rt, alice, bob, 1)?;
-    bob.restart(rt, 0);
+fn parts_stay_in_a_restart(rt: HostRuntime) {
+    let g = with_carl(&rt);
+    let mut alice = Peer::new(&rt, &g, ALICE);
+    let mut bob = Peer::new(&rt, &g, BOB);
+    assert_eq!(rt; publishes(&rt, &mut alice, "/doc", 1), 1);
+    hears(&rt, &mut bob, &alice);
+    fetch_from(&rt, &alice, &mut bob, 1);
+    bob.restart(&rt);
     assert_eq!(rt; bob.member.claim(1), Ok(Some(part(ALICE, 1, 1))));
-    let b = Name::from_uri(rt.alloc(), "/b")?;
-    assert_eq!(rt;
-        bob.publish(rt, &b, &cut(rt.alloc(), b"abc", 10)?, 0)?.seq,
-        1
-    );
-    Ok(())
+    assert_eq!(rt; publishes(&rt, &mut bob, "/b", 10), 1);
+    delete_for_good(&rt, &mut alice);
+    publish_anew(&rt, &mut alice);
+}
+
+// Alice hides what she published. Her log has it still.
+fn delete_for_good(rt: &(impl Abort + AllocGlobal), alice: &mut Peer<'_>) {
+    let record = part(ALICE, 1, 0);
+    assert_eq!(rt; deletes(rt, alice, "/doc"), (DONE, Some(4)));
+    assert!(rt; alice.member.packet(record).is_none());
+    assert!(rt; alice.logged(rt, record).expect(rt, "memory").is_some());
+    assert_eq!(rt; alice.member.claim(1), Ok(None));
+}
+
+// Numbers go on.
+fn publish_anew(rt: &(impl Abort + AllocGlobal), alice: &mut Peer<'_>) {
+    alice.restart(rt);
+    assert_eq!(rt; publishes(rt, alice, "/doc", 10), 2);
+    let name = node_name(rt, "/doc");
+    let first = alice.member.catalogue().first_named(&name.view());
+    assert_eq!(rt; first, Some((ALICE, 2)));
 }

@@ -1,15 +1,14 @@
-ghost use Rattle.std.specs.Prelude.{◌≡◌, ◌+◌, ◌<◌, ◌≤◌, length, vec_len, IfOk, IfSome};
+ghost use Rattle.std.specs.Prelude.{◌<◌, ◌≤◌, length};
 ghost use Rattle.std.specs.List.{All};
 ghost use Rattle.repo_object.specs.Objects.{IsContent};
 ghost use Rattle.repo_plan.specs.Calls.{IsFetcher};
 ghost use Rattle.repo_member.specs.Groups.{HaveKeys};
 ghost use Rattle.repo_member.specs.Alone.{IsOfGroup};
-ghost use Rattle.repo_member.specs.Outcomes.{IsCheckedFor};
 
 use super::{ALICE, BOB, CAROL};
 use crate::*;
 use ndn_name::Name;
-use repo_object::{Checked, Job, PartRefusal, Want, check_part, is_object_name};
+use repo_object::{Want, is_object_name};
 use repo_plan::Part;
 use std::alloc::AllocError;
 use std::process::Abort;
@@ -27,15 +26,11 @@ pub(super) struct Peer<'g> {
 }
 
 impl<'g> Peer<'g> {
-    pub(super) fn new(
-        rt: &impl AllocGlobal,
-        g: &'g Group,
-        number: u32,
-    ) -> Result<Peer<'g>, AllocError>
+    pub(super) fn new(rt: &(impl Abort + AllocGlobal), g: &'g Group, number: u32) -> Peer<'g>
         requires { number < length g.now.members.names }
     {
-        let member = Member::new(rt.alloc(), g, number, 0, DRAW)?;
-        Ok(Peer { g, member })
+        let member = Member::new(rt.alloc(), g, number, 0, DRAW).expect(rt, "memory");
+        Peer { g, member }
     }
 
     pub(super) fn publish(
@@ -69,12 +64,11 @@ impl<'g> Peer<'g> {
         &mut self,
         rt: &impl Abort,
         other: &Peer<'_>,
-        now: u32,
     ) -> Result<Mode, HearRefusal> {
         self.ready(rt);
         let told = other.member.vector();
         assert!(rt; told.members() == self.g.roster().len());
-        self.member.hear_vector(told, u64::from(now), DRAW)
+        self.member.hear_vector(told, 0, DRAW)
     }
 
     pub(super) fn join_from(
@@ -86,14 +80,9 @@ impl<'g> Peer<'g> {
         self.member.join_from(self.g, octets)
     }
 
-    pub(super) fn fire(&mut self, rt: &impl Abort, now: u32) -> Result<Fire, AllocError> {
+    pub(super) fn restart(&mut self, rt: &impl Abort) {
         self.ready(rt);
-        self.member.fire(self.g, u64::from(now), DRAW)
-    }
-
-    pub(super) fn restart(&mut self, rt: &impl Abort, now: u32) {
-        self.ready(rt);
-        self.member.restart(u64::from(now), DRAW);
+        self.member.restart(0, DRAW);
     }
 
     pub(super) fn want(&self, rt: &(impl Abort + AllocGlobal), f: u8) -> Result<Want, WantFault>
@@ -115,53 +104,6 @@ impl<'g> Peer<'g> {
         self.member.accept(self.g, f, octets)
     }
 
-    // Accepts a packet that passes for the want.
-    pub(super) fn accept_passing(
-        &mut self,
-        rt: &(impl Abort + AllocGlobal),
-        f: u8,
-        octets: &[u8],
-    ) -> Result<Part, Fail>
-        requires { IsFetcher f }
-    {
-        self.ready(rt);
-        let want = self.member.want(rt.alloc(), self.g, f)?;
-        assert!(rt; (want.part().publisher as usize) < self.g.roster().len());
-        let checked = check_part(&want, octets, self.g.members())?;
-        Ok(self.member.accept_checked(self.g, f, &checked)?)
-    }
-
-    pub(super) fn plan(
-        &self,
-        rt: &(impl Abort + AllocGlobal),
-        after: Option<Part>,
-        most: usize,
-    ) -> Result<Vec<Job>, AllocError> {
-        self.ready(rt);
-        self.member.plan(rt.alloc(), self.g, after, most)
-    }
-
-    // Takes what came of a fetch of the two least parts that are planned: of each its packet, if one came, and how often
-    // it was tried.
-    pub(super) fn take_two<'p>(
-        &mut self,
-        rt: &(impl Abort + AllocGlobal),
-        came: (Option<&'p [u8]>, u32),
-        next: (Option<&'p [u8]>, u32),
-    ) -> Result<Kept, Fail> {
-        self.ready(rt);
-        let jobs = self.member.plan(rt.alloc(), self.g, None, 2)?;
-        let [first, second] = jobs.as_slice() else {
-            return Err("two are planned".into());
-        };
-        let parts = [
-            checked(rt, self.g, first, came.0, came.1)?,
-            checked(rt, self.g, second, next.0, next.1)?,
-        ];
-        let attempts = [came.1, next.1];
-        Ok(self.member.take_outcome(self.g, &jobs, &parts, &attempts)?)
-    }
-
     pub(super) fn command(
         &mut self,
         rt: &impl Abort,
@@ -177,9 +119,8 @@ impl<'g> Peer<'g> {
         process: u32,
         index: u64,
         content: &[u8],
-    ) -> Result<Blocked, PublishRefusal>
-        requires { IsContent content.now }
-    {
+    ) -> Result<Blocked, PublishRefusal> {
+        assert!(rt; !content.is_empty() && content.len() <= 8_000);
         self.ready(rt);
         self.member.block(self.g, process, index, content, 0, DRAW)
     }
@@ -191,11 +132,6 @@ impl<'g> Peer<'g> {
     ) -> Result<Option<Vec<u8>>, AllocError> {
         self.ready(rt);
         self.member.logged(self.g, part)
-    }
-
-    pub(super) fn sync(&self, rt: &(impl Abort + AllocGlobal)) -> Result<Vec<u8>, AllocError> {
-        self.ready(rt);
-        self.member.sync(rt.alloc(), self.g)
     }
 
     pub(super) fn numbers(&self, rt: &impl Abort) -> (u16, u16, u16) {
@@ -212,25 +148,5 @@ impl<'g> Peer<'g> {
     {
         assert!(rt; self.member.vector().members() == self.g.roster().len());
         assert!(rt; self.member.next_draw() < 100_000);
-    }
-}
-
-// The packet, if one came, which passed for the job.
-fn checked<'p>(
-    rt: &impl Abort,
-    g: &'p Group,
-    job: &'p Job,
-    packet: Option<&'p [u8]>,
-    attempts: u32,
-) -> Result<Option<Checked<'p>>, PartRefusal>
-    ensures checked { IfOk result (λ part. IfSome part (IsCheckedFor g.now job.now.want)) }
-    ensures few { job.now.base + attempts < 2000 }
-{
-    assert!(rt; (job.want.part().publisher as usize) < g.roster().len());
-    assert!(rt; job.base < 1_000);
-    assert!(rt; attempts < 1_000);
-    match packet {
-        Some(octets) => Ok(Some(check_part(&job.want, octets, g.members())?)),
-        None => Ok(None),
     }
 }

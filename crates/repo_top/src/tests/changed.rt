@@ -1,6 +1,5 @@
 use super::{PRE, expect, report_of, script_of};
 use crate::*;
-use std::alloc::{AllocError, Global};
 use std::process::Abort;
 use std::test::*;
 use std::thread::Threads;
@@ -176,76 +175,71 @@ const CHANGES: [Changes; 4] = [
     },
 ];
 
-fn put_line(text: &mut String, line: &str, last: &str) -> Result<(), AllocError> {
-    write!(text, "{line} {last}\n")
+fn put_line(rt: &impl Abort, text: &mut String, line: &str, last: &str) {
+    write!(text, "{line} {last}\n").expect(rt, "memory");
 }
 
-fn put_octets(
-    alloc: Global,
-    script: &mut String,
-    line: &str,
-    octets: &[u8],
-) -> Result<(), AllocError> {
-    let digits = hex::encode(alloc, octets)?;
-    put_line(script, line, &digits)
+fn put_octets(rt: &(impl Abort + AllocGlobal), script: &mut String, line: &str, octets: &[u8]) {
+    let digits = hex::encode(rt.alloc(), octets).expect(rt, "memory");
+    put_line(rt, script, line, &digits);
 }
 
 // The octets cut, flipped, too long, and as they are.
 fn put_changes(
-    alloc: Global,
+    rt: &(impl Abort + AllocGlobal),
     script: &mut String,
     line: &str,
     octets: &mut [u8],
-) -> Result<(), AllocError> {
+) {
     for n in 1..octets.len() {
-        put_octets(alloc, script, line, &octets[..n])?;
+        put_octets(rt, script, line, &octets[..n]);
     }
     for at in 0..octets.len() {
         octets[at] ^= 1;
-        put_octets(alloc, script, line, octets)?;
+        put_octets(rt, script, line, octets);
         octets[at] ^= 1;
     }
     for n in [8_800, 8_801] {
-        put_octets(alloc, script, line, &vec![in alloc; 5; n]?)?;
+        put_long(rt, script, line, n);
     }
-    put_octets(alloc, script, line, octets)
+    put_octets(rt, script, line, octets);
 }
 
-fn put_answers(report: &mut String, changes: &Changes) -> Result<(), AllocError> {
+// So many octets 05.
+fn put_long(rt: &(impl Abort + AllocGlobal), script: &mut String, line: &str, n: usize) {
+    let octets = vec![in rt.alloc(); 5; n].expect(rt, "memory");
+    put_octets(rt, script, line, &octets);
+}
+
+fn put_answers(rt: &impl Abort, report: &mut String, changes: &Changes) {
     let [first, more] = changes.cut;
-    put_line(report, changes.line, first)?;
+    put_line(rt, report, changes.line, first);
     for _ in 2..changes.octets.len() / 2 {
-        put_line(report, changes.line, more)?;
+        put_line(rt, report, changes.line, more);
     }
     for (count, answer) in changes.flipped {
         for _ in 0..*count {
-            put_line(report, changes.line, answer)?;
+            put_line(rt, report, changes.line, answer);
         }
     }
     for answer in changes.long {
-        put_line(report, changes.line, answer)?;
+        put_line(rt, report, changes.line, answer);
     }
-    put_line(report, changes.line, changes.whole)
+    put_line(rt, report, changes.line, changes.whole);
 }
 
-fn expect_changes<R: Threads + Sync + AllocGlobal + Abort>(
-    rt: &R,
-    changes: &Changes,
-) -> Result<(), Fail> {
-    let alloc = rt.alloc();
-    let mut octets = hex::decode(alloc, changes.octets)?;
-    let mut script = script_of(alloc, PRE, changes.before)?;
-    put_changes(alloc, &mut script, changes.line, &mut octets)?;
-    let mut report = report_of(alloc, changes.before)?;
-    put_answers(&mut report, changes)?;
-    expect(rt, "run", 5_000, script.as_bytes(), Status::Done, &report)?;
-    Ok(())
+fn expect_changes<R: Threads + Sync + AllocGlobal + Abort>(rt: &R, changes: &Changes) {
+    let mut octets = hex::decode(rt.alloc(), changes.octets).expect(rt, "digits");
+    let mut script = script_of(rt, PRE, changes.before);
+    put_changes(rt, &mut script, changes.line, &mut octets);
+    let mut report = report_of(rt, changes.before);
+    put_answers(rt, &mut report, changes);
+    expect(rt, "run", 5_000, script.as_bytes(), Status::Done, &report);
 }
 
 #[test]
-fn changed_octets_are_refused(rt: HostRuntime) -> Result<(), Fail> {
+fn changed_octets_are_refused(rt: HostRuntime) {
     for changes in &CHANGES {
-        expect_changes(&rt, changes)?;
+        expect_changes(&rt, changes);
     }
-    Ok(())
 }

@@ -4,7 +4,7 @@ use super::run_over;
 use crate::*;
 use bench_net::{FixedDraws, OpenNet};
 use bench_world::World;
-use std::alloc::AllocError;
+use std::process::Abort;
 use std::test::*;
 use std::thread::Threads;
 
@@ -17,12 +17,12 @@ const FIRST: &str = "group /g\n\
     catalogue bob\n";
 
 // Runs on an input from a slice, and leaves the world.
-fn run_slice<R: Threads + Sync + AllocGlobal>(
+fn run_slice<R: Threads + Sync + AllocGlobal + Abort>(
     rt: &R,
     words: &str,
     input: &str,
     end: &mut Option<World>,
-) -> Result<Status, AllocError>
+) -> Status
     requires { end.old ≡ None }
 {
     let mut source = ReadSource::new(input.as_bytes());
@@ -42,15 +42,26 @@ fn entries(world: &World) -> Option<(usize, usize)> {
 }
 
 #[test]
-fn the_last_world_is_left(rt: HostRuntime) -> Result<(), Fail> {
+fn the_last_world_is_left(rt: HostRuntime) {
     let mut end = None;
-    assert_eq!(rt; run_slice(&rt, "run", FIRST, &mut end)?, Status::Done);
-    assert_eq!(rt; end.as_ref().and_then(entries), Some((1, 1)));
-    Ok(())
+    assert!(rt; run_slice(&rt, "run", FIRST, &mut end) == Status::Done);
+    assert!(rt; end.as_ref().and_then(entries) == Some((1, 1)));
+}
+
+// What is answered. No world is left.
+fn leaves_none<R: Threads + Sync + AllocGlobal + Abort>(
+    rt: &R,
+    words: &str,
+    input: &str,
+) -> Status {
+    let mut end = None;
+    let answered = run_slice(rt, words, input, &mut end);
+    assert!(rt; end.is_none(), "{words}");
+    answered
 }
 
 #[test]
-fn no_world_is_left(rt: HostRuntime) -> Result<(), Fail> {
+fn no_world_is_left(rt: HostRuntime) {
     for (words, input, wanted) in [
         ("run", "", Status::Done),
         ("run", "group /g\nmember alice /alice 6b31\n", Status::Done),
@@ -63,11 +74,8 @@ fn no_world_is_left(rt: HostRuntime) -> Result<(), Fail> {
             Status::Refused { line: 3, number: 4 },
         ),
     ] {
-        let mut end = None;
-        assert_eq!(rt; run_slice(&rt, words, input, &mut end)?, wanted, "{words}");
-        assert!(rt; end.is_none(), "{words}");
+        assert_eq!(rt; leaves_none(&rt, words, input), wanted, "{words}");
     }
-    Ok(())
 }
 
 #[test]

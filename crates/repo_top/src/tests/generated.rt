@@ -1,9 +1,8 @@
 ghost use Rattle.std.specs.Prelude.{◌≤◌};
 
-use super::status_of;
+use super::{call_alone, compare, status_of};
 use crate::*;
 use sha2::{Digest, Sha256};
-use std::alloc::AllocError;
 use std::process::Abort;
 use std::str;
 use std::test::*;
@@ -26,42 +25,52 @@ const SCRIPT: &str = "group /g\n\
     settle 4\n\
     summary\n";
 
-// Generates a script where one call of the sink fails. The source would fail if it were read.
-fn generated<R: Threads + Sync + AllocGlobal + Abort>(
+// Expects what is generated where one call of the sink fails. The source would fail if it were read.
+fn expect_generated<R: Threads + Sync + AllocGlobal + Abort>(
     rt: &R,
-    words: &str,
     piece: usize,
     fails: u64,
-) -> Result<(Status, Vec<u8>), AllocError>
+    wanted: Status,
+    text: &str,
+)
     requires { 1 ≤ piece }
 {
-    let alloc = rt.alloc();
-    let mut source = VecSource::new(Vec::new(alloc), 1, vec![in alloc; 1]?);
-    let mut sink = VecSink::new(alloc, piece, vec![in alloc; fails]?);
-    let answered = status_of(rt, words, &mut source, &mut sink)?;
-    Ok((answered, sink.octets().to_vec(alloc)?))
+    let mut sink = VecSink::new(rt.alloc(), piece, call_alone(rt, fails));
+    let answered = generate(rt, "gen 1 10 0", &mut sink);
+    compare(rt, (answered, sink.octets()), wanted, text);
+}
+
+fn generate<R: Threads + Sync + AllocGlobal + Abort>(
+    rt: &R,
+    words: &str,
+    sink: &mut VecSink,
+) -> Status {
+    let mut source = VecSource::new(Vec::new(rt.alloc()), 1, call_alone(rt, 1));
+    status_of(rt, words, &mut source, sink)
+}
+
+// The whole script.
+fn generated<R: Threads + Sync + AllocGlobal + Abort>(rt: &R, words: &str) -> Vec<u8> {
+    let mut sink = VecSink::new(rt.alloc(), 5_000, Vec::new(rt.alloc()));
+    assert!(rt; generate(rt, words, &mut sink) == Status::Done);
+    sink.octets().to_vec(rt.alloc()).expect(rt, "memory")
 }
 
 #[test]
-fn a_script_is_generated(rt: HostRuntime) -> Result<(), Fail> {
+fn a_script_is_generated(rt: HostRuntime) {
     for piece in [1, 7, 5_000] {
-        let (answered, script) = generated(&rt, "gen 1 10 0", piece, 0)?;
-        assert_eq!(rt; answered, Status::Done);
-        assert_eq!(rt; script.as_slice(), SCRIPT.as_bytes());
+        expect_generated(&rt, piece, 0, Status::Done, SCRIPT);
     }
     // A line in each call: the second call fails behind the group's line.
-    let (answered, script) = generated(&rt, "gen 1 10 0", 5_000, 2)?;
-    assert_eq!(rt; answered, Status::WriteFault);
-    assert_eq!(rt; script.as_slice(), b"group /g\n".as_slice());
+    let line = "group /g\n";
+    expect_generated(&rt, 5_000, 2, Status::WriteFault, line);
     // Pieces of seven octets: the third call fails inside the member's line.
-    let (answered, script) = generated(&rt, "gen 1 10 0", 7, 4)?;
-    assert_eq!(rt; answered, Status::WriteFault);
-    assert_eq!(rt; script.as_slice(), b"group /g\nmember ".as_slice());
-    Ok(())
+    let lines = "group /g\nmember ";
+    expect_generated(&rt, 7, 4, Status::WriteFault, lines);
 }
 
 #[test]
-fn the_largest_script_is_generated(rt: HostRuntime) -> Result<(), Fail> {
+fn the_largest_script_is_generated(rt: HostRuntime) {
     for (words, digest) in [
         (
             "gen 16 2000 1",
@@ -72,12 +81,13 @@ fn the_largest_script_is_generated(rt: HostRuntime) -> Result<(), Fail> {
             "a12db5b014876cc23a2a33bcd6859bd8f40404b47be304eeaf029e63de77dd75",
         ),
     ] {
-        let (answered, script) = generated(&rt, words, 5_000, 0)?;
-        assert_eq!(rt; answered, Status::Done);
-        let digits = hex::encode(rt.alloc(), Sha256::digest(&script).as_slice())?;
-        assert_eq!(rt; digits.as_str(), digest);
+        has_digest(&rt, &generated(&rt, words), digest);
     }
-    Ok(())
+}
+
+fn has_digest(rt: &(impl Abort + AllocGlobal), script: &[u8], digest: &str) {
+    let digits = hex::encode(rt.alloc(), Sha256::digest(script).as_slice());
+    assert_eq!(rt; digits.expect(rt, "memory").as_str(), digest);
 }
 
 // How many octets a line publishes, which is a multiple of 100.
@@ -88,7 +98,7 @@ fn published(line: &str) -> Option<u64> {
 }
 
 // What a script of eight members says in the end, where all of them have all that is published.
-fn summary<R: AllocGlobal>(rt: &R, script: &[u8]) -> Result<String, AllocError> {
+fn summary(rt: &(impl Abort + AllocGlobal), script: &[u8]) -> String {
     let mut octets: u64 = 0;
     for line in str::from_utf8(script).unwrap_or("").split('\n') {
         octets = octets.saturating_add(published(line).unwrap_or(0));
@@ -99,30 +109,22 @@ fn summary<R: AllocGlobal>(rt: &R, script: &[u8]) -> Result<String, AllocError> 
         write!(
             last,
             "summary m{j} entries 400 segments {segments} octets {octets}\n"
-        )?;
+        )
+        .expect(rt, "memory");
     }
-    Ok(last)
+    last
 }
 
-fn expect_summary<R: Threads + Sync + AllocGlobal + Abort>(
-    rt: &R,
-    script: Vec<u8>,
-    last: &str,
-) -> Result<(), AllocError> {
-    let alloc = rt.alloc();
-    let mut source = VecSource::new(script, 5_000, Vec::new(alloc));
-    let mut sink = VecSink::new(alloc, 5_000, Vec::new(alloc));
-    let answered = status_of(rt, "run", &mut source, &mut sink)?;
-    assert_eq!(rt; answered, Status::Done);
+fn expect_summary<R: Threads + Sync + AllocGlobal + Abort>(rt: &R, script: &[u8], last: &str) {
+    let mut source = ReadSource::new(script);
+    let mut sink = VecSink::new(rt.alloc(), 5_000, Vec::new(rt.alloc()));
+    assert!(rt; status_of(rt, "run", &mut source, &mut sink) == Status::Done);
     assert!(rt; sink.octets().ends_with(last.as_bytes()), "{last}");
-    Ok(())
 }
 
 #[test]
-fn a_generated_script_runs(rt: HostRuntime) -> Result<(), Fail> {
-    let (answered, script) = generated(&rt, "gen 8 400 1", 5_000, 0)?;
-    assert_eq!(rt; answered, Status::Done);
-    let last = summary(&rt, &script)?;
-    expect_summary(&rt, script, &last)?;
-    Ok(())
+fn a_generated_script_runs(rt: HostRuntime) {
+    let script = generated(&rt, "gen 8 400 1");
+    let last = summary(&rt, &script);
+    expect_summary(&rt, &script, &last);
 }

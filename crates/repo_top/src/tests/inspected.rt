@@ -1,6 +1,5 @@
 use super::expect;
 use crate::*;
-use std::alloc::AllocError;
 use std::process::Abort;
 use std::test::*;
 use std::thread::Threads;
@@ -12,7 +11,7 @@ const fn refused(number: u32) -> Status {
 const NAME: &str = "07 Name 6\n  08 GenericNameComponent 1 61\n  32 SegmentNameComponent 1 00\n";
 
 #[test]
-fn digits_are_inspected(rt: HostRuntime) -> Result<(), Fail> {
+fn digits_are_inspected(rt: HostRuntime) {
     for (digits, wanted, text) in [
         ("0706080161320100", Status::Done, NAME),
         (" 07 06\t080161\r\n32 010 0\n", Status::Done, NAME),
@@ -23,9 +22,8 @@ fn digits_are_inspected(rt: HostRuntime) -> Result<(), Fail> {
         ("070", refused(1), "refused 1 1 Syntax\n"),
         ("0700\x0c", refused(1), "refused 1 1 Syntax\n"),
     ] {
-        expect(&rt, "inspect", 5, digits.as_bytes(), wanted, text)?;
+        expect(&rt, "inspect", 5, digits.as_bytes(), wanted, text);
     }
-    Ok(())
 }
 
 // Inspects an input of so many octets: `front`, and then one octet again and again.
@@ -35,24 +33,23 @@ fn expect_filled<R: Threads + Sync + AllocGlobal + Abort>(
     filled: (usize, u8),
     wanted: Status,
     text: &str,
-) -> Result<(), AllocError> {
-    let mut input = front.as_bytes().to_vec(rt.alloc())?;
-    input.resize(filled.0, filled.1)?;
-    expect(rt, "inspect", 5_000, &input, wanted, text)
+) {
+    let mut input = front.as_bytes().to_vec(rt.alloc()).expect(rt, "memory");
+    input.resize(filled.0, filled.1).expect(rt, "memory");
+    expect(rt, "inspect", 5_000, &input, wanted, text);
 }
 
 #[test]
-fn so_many_octets_are_inspected(rt: HostRuntime) -> Result<(), Fail> {
+fn so_many_octets_are_inspected(rt: HostRuntime) {
     let syntax = "refused 1 1 Syntax\n";
     let limit = "refused 1 4 Limit\n";
     // 8,800 octets, and one more. Half an octet is no octet.
     let zero = "fault ZeroType 0\n";
-    expect_filled(&rt, "0000", (17_600, b'a'), refused(12), zero)?;
-    expect_filled(&rt, "0000", (17_601, b'a'), refused(1), syntax)?;
-    expect_filled(&rt, "0000", (17_602, b'a'), refused(4), limit)?;
+    expect_filled(&rt, "0000", (17_600, b'a'), refused(12), zero);
+    expect_filled(&rt, "0000", (17_601, b'a'), refused(1), syntax);
+    expect_filled(&rt, "0000", (17_602, b'a'), refused(4), limit);
     // The limit of the input comes before all else.
     let empty = "07 Name 0\n";
-    expect_filled(&rt, "0700", (16_777_216, b' '), Status::Done, empty)?;
-    expect_filled(&rt, "070g", (16_777_217, b' '), refused(4), limit)?;
-    Ok(())
+    expect_filled(&rt, "0700", (16_777_216, b' '), Status::Done, empty);
+    expect_filled(&rt, "070g", (16_777_217, b' '), refused(4), limit);
 }

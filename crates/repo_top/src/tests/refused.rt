@@ -165,9 +165,8 @@ const REFUSED: [(&str, &str, Status); 23] = [
 ];
 
 #[test]
-fn a_line_is_refused_for_its_first_reason(rt: HostRuntime) -> Result<(), Fail> {
+fn a_line_is_refused_for_its_first_reason(rt: HostRuntime) {
     for (head, transcript, wanted) in REFUSED {
-        expect_transcript(&rt, head, transcript, wanted)?;
+        expect_transcript(&rt, head, transcript, wanted);
     }
-    Ok(())
 }

@@ -426,9 +426,8 @@ const ROWS: [(&str, &str, Status); 22] = [
 ];
 
 #[test]
-fn lines_print_what_they_do(rt: HostRuntime) -> Result<(), Fail> {
+fn lines_print_what_they_do(rt: HostRuntime) {
     for (head, transcript, wanted) in ROWS {
-        expect_transcript(&rt, head, transcript, wanted)?;
+        expect_transcript(&rt, head, transcript, wanted);
     }
-    Ok(())
 }

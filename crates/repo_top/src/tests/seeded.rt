@@ -1,9 +1,7 @@
-use super::{PRE, run_over};
+use super::{PRE, compare, put, run_over};
 use crate::*;
 use bench_net::{FixedDraws, Net, Seeded, TableNet};
-use std::alloc::{AllocError, Global};
 use std::process::Abort;
-use std::str;
 use std::test::*;
 use std::thread::Threads;
 
@@ -13,19 +11,18 @@ fn expect_over<R: Threads + Sync + AllocGlobal + Abort, N: Net + Sync>(
     script: &str,
     net: &N,
     report: &str,
-) -> Result<(), AllocError> {
+) {
     let mut sink = VecSink::new(rt.alloc(), 100, Vec::new(rt.alloc()));
-    assert_eq!(rt; run_to(rt, script, &mut sink, net)?, Status::Done);
-    assert_eq!(rt; str::from_utf8(sink.octets()), Ok(report));
-    Ok(())
+    let answered = run_to(rt, script, &mut sink, net);
+    compare(rt, (answered, sink.octets()), Status::Done, report);
 }
 
-fn run_to<R: Threads + Sync + AllocGlobal, N: Net + Sync>(
+fn run_to<R: Threads + Sync + AllocGlobal + Abort, N: Net + Sync>(
     rt: &R,
     script: &str,
     sink: &mut VecSink,
     net: &N,
-) -> Result<Status, AllocError> {
+) -> Status {
     let mut source = ReadSource::new(script.as_bytes());
     let mut end = None;
     let given = (net, &FixedDraws::new(100));
@@ -33,54 +30,56 @@ fn run_to<R: Threads + Sync + AllocGlobal, N: Net + Sync>(
 }
 
 // A publication of three segments that bob fetches by so many workers.
-fn fetching(alloc: Global, lines: &[(u32, u32, u32)]) -> Result<String, AllocError> {
-    let mut script = String::from_str(alloc, PRE)?;
-    script.push_str("publish alice /doc 1 text:abc\ndeliver 1 bob\n")?;
+fn fetching(rt: &(impl Abort + AllocGlobal), lines: &[(u32, u32, u32)]) -> String {
+    let mut script = String::from_str(rt.alloc(), PRE).expect(rt, "memory");
+    put(
+        rt,
+        &mut script,
+        "publish alice /doc 1 text:abc\ndeliver 1 bob\n",
+    );
     for (workers, tries, loss) in lines {
-        write!(script, "fetch bob {workers} {tries} {loss}\n")?;
+        write!(script, "fetch bob {workers} {tries} {loss}\n").expect(rt, "memory");
     }
-    Ok(script)
+    script
 }
 
 #[test]
-fn workers_make_no_difference(rt: HostRuntime) -> Result<(), Fail> {
-    let alloc = rt.alloc();
+fn workers_make_no_difference(rt: HostRuntime) {
     for workers in [1, 2, 16] {
         let script = fetching(
-            alloc,
+            &rt,
             &[(workers, 16, 1_000), (workers, 16, 0), (workers, 16, 0)],
-        )?;
+        );
         let report = "publish alice 1 segments 3 sync 1\n\
             deliver 1 bob steady\n\
             fetch bob planned 1 kept 0 attempts 16\n\
             fetch bob planned 1 kept 1 attempts 1\n\
             fetch bob planned 3 kept 3 attempts 3\n";
-        expect_over(&rt, &script, &Seeded::new([0; 32]), report)?;
-        let script = fetching(alloc, &[(workers, 16, 500)])?;
+        expect_over(&rt, &script, &Seeded::new([0; 32]), report);
+        let script = fetching(&rt, &[(workers, 16, 500)]);
         let report = "publish alice 1 segments 3 sync 1\n\
             deliver 1 bob steady\n\
             fetch bob planned 1 kept 1 attempts 3\n";
-        expect_over(&rt, &script, &TableNet::new(3), report)?;
+        expect_over(&rt, &script, &TableNet::new(3), report);
     }
-    Ok(())
 }
 
 // Forty publications by five members, counted from 0. Those of the first or the second half, one after another.
-fn put_publications(script: &mut String, half: u32) -> Result<(), AllocError> {
+fn put_publications(rt: &impl Abort, script: &mut String, half: u32) {
     for i in 0..40u32 {
         if i / 20 == half {
             let (m, f, octets) = (1 + i % 5, 1 + i, 100 * (1 + i % 30));
             write!(
                 script,
                 "publish m{m} /site/files/f{f} 100 fill:{octets}:65\n"
-            )?;
+            )
+            .expect(rt, "memory");
         }
     }
-    Ok(())
 }
 
 // What they print, where so many sync Interests were sent besides.
-fn put_published(report: &mut String, half: u32, besides: u32) -> Result<(), AllocError> {
+fn put_published(rt: &impl Abort, report: &mut String, half: u32, besides: u32) {
     for i in 0..40u32 {
         if i / 20 == half {
             let (m, seq, segments) = (1 + i % 5, 1 + i / 5, 1 + i % 30);
@@ -88,48 +87,57 @@ fn put_published(report: &mut String, half: u32, besides: u32) -> Result<(), All
             write!(
                 report,
                 "publish m{m} {seq} segments {segments} sync {sync}\n"
-            )?;
+            )
+            .expect(rt, "memory");
         }
     }
-    Ok(())
 }
 
-fn week_script(alloc: Global) -> Result<String, AllocError> {
-    let mut script = String::from_str(alloc, "group /site/docs\n")?;
+fn week_script(rt: &(impl Abort + AllocGlobal)) -> String {
+    let mut script = String::from_str(rt.alloc(), "group /site/docs\n").expect(rt, "memory");
     for m in 1..=5 {
-        write!(script, "member m{m} /site/m{m} 6b3{m}\n")?;
+        write!(script, "member m{m} /site/m{m} 6b3{m}\n").expect(rt, "memory");
     }
-    put_publications(&mut script, 0)?;
-    script.push_str("deliver 20 m1\ndeliver 20 m2\n")?;
-    script.push_str("fetch m1 4 8 200\nfetch m2 4 8 200\nsettle 4\n")?;
-    put_publications(&mut script, 1)?;
-    script.push_str("settle 4\nsummary\n")?;
-    Ok(script)
+    put_publications(rt, &mut script, 0);
+    put(rt, &mut script, "deliver 20 m1\ndeliver 20 m2\n");
+    put(
+        rt,
+        &mut script,
+        "fetch m1 4 8 200\nfetch m2 4 8 200\nsettle 4\n",
+    );
+    put_publications(rt, &mut script, 1);
+    put(rt, &mut script, "settle 4\nsummary\n");
+    script
 }
 
 // 230 parts of 20 publications reach four members each, but for 4 that two members fetched before; then 330 parts.
-fn week_report(alloc: Global) -> Result<String, AllocError> {
-    let mut report = String::new(alloc);
-    put_published(&mut report, 0, 0)?;
-    report.push_str("deliver 20 m1 suppressed\ndeliver 20 m2 suppressed\n")?;
-    report.push_str("fetch m1 planned 4 kept 4 attempts 7\n")?;
-    report.push_str("fetch m2 planned 4 kept 4 attempts 5\n")?;
-    report.push_str("settle syncs 5 kept 912\n")?;
-    put_published(&mut report, 1, 5)?;
-    report.push_str("settle syncs 5 kept 1320\n")?;
+fn week_report(rt: &(impl Abort + AllocGlobal)) -> String {
+    let mut report = String::new(rt.alloc());
+    put_published(rt, &mut report, 0, 0);
+    put(
+        rt,
+        &mut report,
+        "deliver 20 m1 suppressed\n\
+         deliver 20 m2 suppressed\n\
+         fetch m1 planned 4 kept 4 attempts 7\n\
+         fetch m2 planned 4 kept 4 attempts 5\n\
+         settle syncs 5 kept 912\n",
+    );
+    put_published(rt, &mut report, 1, 5);
+    put(rt, &mut report, "settle syncs 5 kept 1320\n");
     for m in 1..=5 {
         write!(
             report,
             "summary m{m} entries 40 segments 520 octets 52000\n"
-        )?;
+        )
+        .expect(rt, "memory");
     }
-    Ok(report)
+    report
 }
 
 #[test]
-fn a_week_of_publications_reaches_all(rt: HostRuntime) -> Result<(), Fail> {
-    let script = week_script(rt.alloc())?;
-    let report = week_report(rt.alloc())?;
-    expect_over(&rt, &script, &Seeded::new([0; 32]), &report)?;
-    Ok(())
+fn a_week_of_publications_reaches_all(rt: HostRuntime) {
+    let script = week_script(&rt);
+    let report = week_report(&rt);
+    expect_over(&rt, &script, &Seeded::new([0; 32]), &report);
 }

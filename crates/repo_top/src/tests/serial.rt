@@ -1,7 +1,6 @@
-use super::{PRE, run_over};
+use super::{PRE, put, run_over};
 use crate::*;
 use bench_net::{FixedDraws, Net};
-use std::alloc::AllocError;
 use std::process::Abort;
 use std::sync::atomic::{AtomicBool, Ordering};
 use std::test::*;
@@ -60,31 +59,30 @@ impl Net for Gate {
 }
 
 // Four publications of one part, and then these lines, with what the last of them prints.
-fn expect_beside<R: Threads + Sync + AllocGlobal + Abort>(
-    rt: &R,
-    lines: &str,
-    last: &str,
-) -> Result<(), AllocError> {
-    let alloc = rt.alloc();
-    let mut script = String::from_str(alloc, PRE)?;
-    for name in ["/a", "/b", "/c", "/d"] {
-        write!(script, "publish alice {name} 10 text:\n")?;
-    }
-    script.push_str(lines)?;
+fn expect_beside<R: Threads + Sync + AllocGlobal + Abort>(rt: &R, lines: &str, last: &str) {
+    let script = publishing_four(rt, lines);
     let gate = Gate::new();
-    let mut sink = VecSink::new(alloc, 5_000, Vec::new(alloc));
-    assert_eq!(rt; run_gated(rt, &script, &mut sink, &gate)?, Status::Done);
+    let mut sink = VecSink::new(rt.alloc(), 5_000, Vec::new(rt.alloc()));
+    assert!(rt; run_gated(rt, &script, &mut sink, &gate) == Status::Done);
     assert!(rt; sink.octets().ends_with(last.as_bytes()), "{lines}");
     assert!(rt; gate.saw_all.load(Ordering::SeqCst), "{lines}");
-    Ok(())
 }
 
-fn run_gated<R: Threads + Sync + AllocGlobal>(
+fn publishing_four(rt: &(impl Abort + AllocGlobal), lines: &str) -> String {
+    let mut script = String::from_str(rt.alloc(), PRE).expect(rt, "memory");
+    for name in ["/a", "/b", "/c", "/d"] {
+        write!(script, "publish alice {name} 10 text:\n").expect(rt, "memory");
+    }
+    put(rt, &mut script, lines);
+    script
+}
+
+fn run_gated<R: Threads + Sync + AllocGlobal + Abort>(
     rt: &R,
     script: &str,
     sink: &mut VecSink,
     gate: &Gate,
-) -> Result<Status, AllocError> {
+) -> Status {
     let mut source = ReadSource::new(script.as_bytes());
     let mut end = None;
     let given = (gate, &FixedDraws::new(100));
@@ -92,9 +90,8 @@ fn run_gated<R: Threads + Sync + AllocGlobal>(
 }
 
 #[test]
-fn workers_ask_beside_each_other(rt: HostRuntime) -> Result<(), Fail> {
+fn workers_ask_beside_each_other(rt: HostRuntime) {
     let fetched = "fetch bob planned 4 kept 4 attempts 4\n";
-    expect_beside(&rt, "deliver 4 bob\nfetch bob 2 1 0\n", fetched)?;
-    expect_beside(&rt, "settle 2\n", "settle syncs 2 kept 4\n")?;
-    Ok(())
+    expect_beside(&rt, "deliver 4 bob\nfetch bob 2 1 0\n", fetched);
+    expect_beside(&rt, "settle 2\n", "settle syncs 2 kept 4\n");
 }

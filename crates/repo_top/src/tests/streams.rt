@@ -1,8 +1,7 @@
 ghost use Rattle.std.specs.Prelude.{◌≤◌};
 
-use super::{PRE, expect, expect_from, report_of, script_of, status_of};
+use super::{PRE, call_alone, expect, expect_from, put, report_of, script_of, status_of};
 use crate::*;
-use std::alloc::{AllocError, Global};
 use std::process::Abort;
 use std::test::*;
 use std::thread::Threads;
@@ -31,11 +30,10 @@ const ENDINGS: [(&str, u64, Status); 3] = [
 ];
 
 // Appends so many lines of comment, of 100 octets each.
-fn put_comments(script: &mut String, lines: u32) -> Result<(), AllocError> {
+fn put_comments(rt: &impl Abort, script: &mut String, lines: u32) {
     for _ in 0..lines {
-        write!(script, "{:#>99}\n", "")?;
+        write!(script, "{:#>99}\n", "").expect(rt, "memory");
     }
-    Ok(())
 }
 
 // How many octets a source of pieces of 4,096 has left, where they are few.
@@ -53,27 +51,28 @@ fn expect_ending<R: Threads + Sync + AllocGlobal + Abort>(
     source: &mut VecSource,
     fails: u64,
     wanted: Status,
-) -> Result<(), AllocError> {
-    let alloc = rt.alloc();
-    let mut sink = VecSink::new(alloc, 5_000, vec![in alloc; fails]?);
-    let answered = status_of(rt, "run", source, &mut sink)?;
+) {
+    let mut sink = VecSink::new(rt.alloc(), 5_000, call_alone(rt, fails));
+    let answered = status_of(rt, "run", source, &mut sink);
     assert_eq!(rt; answered, wanted);
-    Ok(())
 }
 
 // Of 1,000,000 octets behind the line that ends the run at most 65,536 are taken.
 #[test]
-fn little_is_read_behind_the_end(rt: HostRuntime) -> Result<(), Fail> {
-    let alloc = rt.alloc();
+fn little_is_read_behind_the_end(rt: HostRuntime) {
     for (lines, fails, wanted) in ENDINGS {
-        let mut script = String::from_str(alloc, PRE)?;
-        script.push_str(lines)?;
-        put_comments(&mut script, 10_000)?;
-        let mut source = VecSource::new(script.into_bytes(), 4_096, Vec::new(alloc));
-        expect_ending(&rt, &mut source, fails, wanted)?;
+        let mut source = commented(&rt, lines);
+        expect_ending(&rt, &mut source, fails, wanted);
         assert!(rt; octets_left(&mut source) >= 1_000_000 - 65_536);
     }
-    Ok(())
+}
+
+// A source of these lines, and of many of comment behind them.
+fn commented(rt: &(impl Abort + AllocGlobal), lines: &str) -> VecSource {
+    let mut script = String::from_str(rt.alloc(), PRE).expect(rt, "memory");
+    put(rt, &mut script, lines);
+    put_comments(rt, &mut script, 10_000);
+    VecSource::new(script.into_bytes(), 4_096, Vec::new(rt.alloc()))
 }
 
 // Each line with what it prints behind it.
@@ -92,55 +91,61 @@ const LINES: &str = "group /g\n\
     > vector bob alice=1 bob=0\n";
 
 #[test]
-fn pieces_make_no_difference(rt: HostRuntime) -> Result<(), Fail> {
-    let script = script_of(rt.alloc(), "", LINES)?;
-    let report = report_of(rt.alloc(), LINES)?;
+fn pieces_make_no_difference(rt: HostRuntime) {
+    let script = script_of(&rt, "", LINES);
+    let report = report_of(&rt, LINES);
     for piece in [1, 7, 100, 5_000] {
-        expect(&rt, "run", piece, script.as_bytes(), Status::Done, &report)?;
+        expect(&rt, "run", piece, script.as_bytes(), Status::Done, &report);
     }
     // The last line may lack its line feed.
-    let cut = script.strip_suffix('\n').ok_or("a line feed")?;
-    expect(&rt, "run", 100, cut.as_bytes(), Status::Done, &report)?;
-    Ok(())
+    let cut = script.strip_suffix('\n').expect(&rt, "a line feed");
+    expect(&rt, "run", 100, cut.as_bytes(), Status::Done, &report);
 }
 
 // Comments of so many octets, at least 32,769, in two lines.
-fn comments(alloc: Global, octets: usize) -> Result<Vec<u8>, AllocError> {
-    let mut script = Vec::new(alloc);
-    script.resize(32_767, b'#')?;
-    script.push(b'\n')?;
-    script.resize(octets.saturating_sub(1), b'#')?;
-    script.push(b'\n')?;
-    Ok(script)
+fn comments(rt: &(impl Abort + AllocGlobal), octets: usize) -> Vec<u8> {
+    let mut script = Vec::new(rt.alloc());
+    put_comment(rt, &mut script, 32_767);
+    put_comment(rt, &mut script, octets.saturating_sub(1));
+    script
+}
+
+// Comment up to so many octets, and a line feed.
+fn put_comment(rt: &impl Abort, script: &mut Vec<u8>, octets: usize) {
+    script.resize(octets, b'#').expect(rt, "memory");
+    script.push(b'\n').expect(rt, "memory");
 }
 
 // Each place of the lines comes to stand behind 65,536 octets. The last line is refused by its number.
 #[test]
-fn lines_stand_anywhere(rt: HostRuntime) -> Result<(), Fail> {
-    let alloc = rt.alloc();
-    let lines = script_of(alloc, "", LINES)?;
-    let mut report = report_of(alloc, LINES)?;
-    report.push_str("refused 10 4 Limit\n")?;
-    for before in 0..=lines.len() {
-        let mut script = comments(alloc, 65_536usize.saturating_sub(before))?;
-        script.extend_from_slice(lines.as_bytes())?;
-        script.extend_from_slice(b"settle 0\n")?;
-        expect(&rt, "run", 100_000, &script, refused(10, 4), &report)?;
+fn lines_stand_anywhere(rt: HostRuntime) {
+    let mut lines = script_of(&rt, "", LINES);
+    let length = lines.len();
+    put(&rt, &mut lines, "settle 0\n");
+    let mut report = report_of(&rt, LINES);
+    put(&rt, &mut report, "refused 10 4 Limit\n");
+    for before in 0..=length {
+        let mut script = comments(&rt, 65_536usize.saturating_sub(before));
+        script
+            .extend_from_slice(lines.as_bytes())
+            .expect(&rt, "memory");
+        expect(&rt, "run", 100_000, &script, refused(10, 4), &report);
     }
-    Ok(())
 }
 
 // A line, filled with spaces to so many octets, and what ends it.
-fn filled(alloc: Global, line: &str, octets: usize, end: &str) -> Result<Vec<u8>, AllocError> {
-    let mut script = line.as_bytes().to_vec(alloc)?;
-    script.resize(octets, b' ')?;
-    script.extend_from_slice(end.as_bytes())?;
-    Ok(script)
+fn filled(rt: &(impl Abort + AllocGlobal), line: &str, octets: usize, end: &str) -> Vec<u8> {
+    let mut script = line.as_bytes().to_vec(rt.alloc()).expect(rt, "memory");
+    script.resize(octets, b' ').expect(rt, "memory");
+    script
+        .extend_from_slice(end.as_bytes())
+        .expect(rt, "memory");
+    script
 }
 
 // A line has 32,768 octets at most, its carriage return among them.
 #[test]
-fn a_line_is_so_long(rt: HostRuntime) -> Result<(), Fail> {
+fn a_line_is_so_long(rt: HostRuntime) {
     let limit = "refused 1 4 Limit\n";
     for (line, octets, end, wanted, text) in [
         ("#", 32_768, "\n", Status::Done, ""),
@@ -155,10 +160,9 @@ fn a_line_is_so_long(rt: HostRuntime) -> Result<(), Fail> {
         ("\t", 32_769, "\n", refused(1, 4), limit),
         ("\t", 32_768, "\n", refused(1, 1), "refused 1 1 Syntax\n"),
     ] {
-        let script = filled(rt.alloc(), line, octets, end)?;
-        expect(&rt, "run", 5_000, &script, wanted, text)?;
+        let script = filled(&rt, line, octets, end);
+        expect(&rt, "run", 5_000, &script, wanted, text);
     }
-    Ok(())
 }
 
 // A source that gives one line so often.
@@ -199,56 +203,46 @@ fn expect_repeated<R: Threads + Sync + AllocGlobal + Abort>(
     times: u64,
     wanted: Status,
     text: &str,
-) -> Result<(), AllocError> {
+) {
     let mut source = Repeated {
-        line: filled(rt.alloc(), "", line.0, line.1)?,
+        line: filled(rt, "", line.0, line.1),
         at: 0,
         times,
     };
-    expect_from(rt, "run", &mut source, wanted, text)
+    expect_from(rt, "run", &mut source, wanted, text);
 }
 
 // A script without an end ends at a limit, and so does one that goes right past it.
 #[test]
-fn an_endless_script_ends(rt: HostRuntime) -> Result<(), Fail> {
+fn an_endless_script_ends(rt: HostRuntime) {
     for (octets, end, wanted, text) in [
         (1, "", refused(1, 4), "refused 1 4 Limit\n"),
         (1, "\n", refused(100_001, 4), "refused 100001 4 Limit\n"),
         (32_767, "\n", refused(513, 4), "refused 513 4 Limit\n"),
     ] {
-        expect_repeated(&rt, (octets, end), u64::MAX, wanted, text)?;
+        expect_repeated(&rt, (octets, end), u64::MAX, wanted, text);
     }
-    Ok(())
 }
 
 // 100,000 lines, and 16,777,216 octets.
 #[test]
-fn a_script_is_so_long(rt: HostRuntime) -> Result<(), Fail> {
-    expect_repeated(&rt, (0, "\n"), 100_000, Status::Done, "")?;
-    expect_repeated(&rt, (32_767, "\n"), 512, Status::Done, "")?;
-    Ok(())
+fn a_script_is_so_long(rt: HostRuntime) {
+    expect_repeated(&rt, (0, "\n"), 100_000, Status::Done, "");
+    expect_repeated(&rt, (32_767, "\n"), 512, Status::Done, "");
 }
 
 // Of 1,001 settles the last is too many.
 #[test]
-fn settles_are_counted(rt: HostRuntime) -> Result<(), Fail> {
-    let alloc = rt.alloc();
-    let mut script = String::from_str(alloc, PRE)?;
-    let mut report = String::new(alloc);
+fn settles_are_counted(rt: HostRuntime) {
+    let mut script = String::from_str(rt.alloc(), PRE).expect(&rt, "memory");
+    let mut report = String::new(rt.alloc());
     for _ in 0..1_000 {
-        script.push_str("settle 1\n")?;
-        report.push_str("settle syncs 2 kept 0\n")?;
+        put(&rt, &mut script, "settle 1\n");
+        put(&rt, &mut report, "settle syncs 2 kept 0\n");
     }
-    expect(&rt, "run", 5_000, script.as_bytes(), Status::Done, &report)?;
-    script.push_str("settle 1\n")?;
-    report.push_str("refused 1004 10 TooLarge\n")?;
-    expect(
-        &rt,
-        "run",
-        5_000,
-        script.as_bytes(),
-        refused(1_004, 10),
-        &report,
-    )?;
-    Ok(())
+    expect(&rt, "run", 5_000, script.as_bytes(), Status::Done, &report);
+    put(&rt, &mut script, "settle 1\n");
+    put(&rt, &mut report, "refused 1004 10 TooLarge\n");
+    let wanted = refused(1_004, 10);
+    expect(&rt, "run", 5_000, script.as_bytes(), wanted, &report);
 }
