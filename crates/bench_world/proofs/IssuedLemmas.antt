@@ -1,6 +1,6 @@
 -- Which commands were made, also when one more is.
-use Rattle.std.proofs.Common.{◌≡◌, ℕ, ◌+◌, ◌<◌, ◌≤◌, Bool, true, false, ◌||◌, List, [], ◌∷◌, ◌++◌, map, length, length-append, get_or, Option, None, Some, refl, sym, ap, ◌∙◌, subst, arith, if◌then◌else◌}
-use Rattle.std.specs.Prelude.{Result, Ok, Err, slice_get}
+use Rattle.std.proofs.Common.{◌≡◌, ℕ, ◌+◌, ◌<◌, ◌≤◌, Bool, true, false, ◌||◌, ◌&&◌, List, [], ◌∷◌, ◌++◌, map, length, length-append, get_or, Option, None, Some, refl, sym, ap, ◌∙◌, subst, arith, if◌then◌else◌}
+use Rattle.std.specs.Prelude.{Result, Ok, Err, slice_get, ◌==◌}
 use Rattle.std.specs.List.{list_any, All}
 use Rattle.std.proofs.lemmas.Bool.{true≢false}
 use Rattle.std.proofs.lemmas.List.{map-append, get_or_append_left}
@@ -13,8 +13,18 @@ use Rattle.group_model.specs.World.{Issued, World}
 use Rattle.group_model.specs.Refusals.{Refusal, unless, if_unissued}
 use Rattle.bench_world.specs.declared.issued.IssuedCommand.{IssuedCommand}
 use Rattle.bench_world.specs.Commanding.{is_that, may_order}
-use Rattle.bench_world.specs.IssuedCommands.{issued_of, is_same, is_same-Decides}
+use Rattle.bench_world.specs.contracts.issued.IssuedCommandEq.TheImpl.Laws.{laws-law}
+use Rattle.bench_world.specs.IssuedCommands.{issued_of, is_same, derived_is_equal, same_is}
 use Rattle.bench_world.specs.IssuedFields.{no_command, commands_made}
+
+-- ---- the group's test of one that was made
+
+-- Both are the same where the group has the second as that command.
+pub that_is_same : (a b : IssuedCommand) → is_that (a.member, a.client, a.command) (issued_of b) ≡ is_same a b
+that_is_same a b =
+    ap (λ (t : Bool). (b.member == a.member) && ((b.client == a.client) && t))
+    (sym (derived_is_equal b.command a.command))
+    ∙ (laws-law).symm b a
 
 -- ---- one command more is put in
 
@@ -46,7 +56,7 @@ module _ (ks : List IssuedCommand) (new : IssuedCommand) where
     where
       found : (b : Bool) → is_same c new ≡ b → list_any (is_same new) ks ≡ true → list_any (is_same c) ks ≡ (list_any (is_same c) ks || b)
       found true e there =
-          let yes : list_any (is_same c) ks ≡ true = ap (λ (x : IssuedCommand). list_any (is_same x) ks) ((is_same-Decides c new).0 e) ∙ there in
+          let yes : list_any (is_same c) ks ≡ true = ap (λ (x : IssuedCommand). list_any (is_same x) ks) (same_is c new e) ∙ there in
           rw yes refl
       found false e there = sym (or_false (list_any (is_same c) ks))
 
@@ -75,7 +85,7 @@ module _ (ks : List IssuedCommand) (new : IssuedCommand) where
     answers_more answers c =
         ap (list_any (is_that (c.member, c.client, c.command))) made_more
         ∙ list_any-append (is_that (c.member, c.client, c.command)) (commands_made ks old) (issued_of new ∷ [])
-        ∙ (λ i. answers c i || or_false (is_same c new) i)
+        ∙ (λ i. answers c i || (ap (λ (t : Bool). t || false) (that_is_same c new) ∙ or_false (is_same c new)) i)
         ∙ sym (put c)
 
 -- What the fields are then.
@@ -89,7 +99,7 @@ pub put_in : (ks keys : List IssuedCommand) (new : IssuedCommand) (made old : Li
     → made ≡ old ++ k ∷ [] → k < length keys → (c : IssuedCommand) × (slice_get keys k ≡ Some c) × (is_same new c ≡ true)
     → All (λ j. j < length ks) old → PutIn ks keys new made old
 put_in ks keys new made old k keys_are pushed inside (c, at, same) within =
-    let stands : get_or keys k no_command ≡ new = get_or_from_slice_get keys k c no_command at ∙ sym ((is_same-Decides new c).0 same) in
+    let stands : get_or keys k no_command ≡ new = get_or_from_slice_get keys k c no_command at ∙ sym (same_is new c same) in
     let inside_more : k < length (insert_key is_same ks new) = subst (λ (xs : List IssuedCommand). k < length xs) keys_are inside in
     let stands_more : get_or (insert_key is_same ks new) k no_command ≡ new = subst (λ (xs : List IssuedCommand). get_or xs k no_command ≡ new) keys_are stands in
     let so : PutIn ks (insert_key is_same ks new) new made old = record {

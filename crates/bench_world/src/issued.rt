@@ -1,42 +1,19 @@
 // The commands that clients made.
 ghost use Rattle.std.specs.Prelude.{◌≡◌, ◌-◌, ◌<◌, [], ◌∷◌, ◌++◌, max, OnOk, OnErr};
-ghost use Rattle.group_model.specs.Commands.{is_equal_name, is_equal_command};
 ghost use Rattle.bench_world.specs.Commanding.{is_issued};
 
 use indexmap::IndexSet;
-use ndn_name::Name;
 use repo_command::Command;
 use std::alloc::{AllocError, Global};
 use std::hash::{Hash, Hasher};
 use std::marker::Model;
 
 // A command that a client made for a member.
-#[derive(Drop)]
+#[derive(PartialEq, Eq, Drop)]
 pub(crate) struct IssuedCommand {
     pub(crate) member: u32,
     pub(crate) client: u32,
     pub(crate) command: Command,
-}
-
-impl PartialEq for IssuedCommand {
-    ghost use Rattle.std.specs.Cmp.{partial_equiv_from_equiv};
-    ghost use Rattle.bench_world.specs.IssuedCommands.{is_same, is_same_equiv};
-
-    ghost eq = { is_same };
-
-    ghost laws = { partial_equiv_from_equiv is_same_equiv };
-
-    fn eq(&self, other: &IssuedCommand) -> bool {
-        other.member == self.member
-            && other.client == self.client
-            && is_same(&other.command, &self.command)
-    }
-}
-
-impl Eq for IssuedCommand {
-    ghost use Rattle.bench_world.specs.IssuedCommands.{is_same_equiv};
-
-    ghost laws = { is_same_equiv };
 }
 
 impl Hash for IssuedCommand {
@@ -68,7 +45,8 @@ impl Hash for IssuedCommand {
 pub(crate) struct IssuedCommands {
     // Each command that was made, once.
     commands: IndexSet<IssuedCommand>,
-    // Which was made when, by its number among them.
+    // Which was made when, by its number among them. Only clauses read it: the group lists a command as often as it was
+    // made, and a ghost field is no list.
     made: Vec<usize>,
     spare: usize,
 }
@@ -129,55 +107,4 @@ impl IssuedCommands {
     {
         self.commands.contains(command)
     }
-}
-
-// Whether these are one command.
-fn is_same(a: &Command, b: &Command) -> bool
-    ensures { result ≡ is_equal_command a.now b.now }
-{
-    match a {
-        Command::Insert { name, first, last } => is_insertion(b, name, *first, *last),
-        Command::Check { process } => is_check(b, *process),
-        Command::Delete { name } => is_deletion(b, name),
-    }
-}
-
-fn is_insertion(command: &Command, name: &Name, first: u64, last: u64) -> bool
-    ensures { result ≡ is_equal_command (Command.Insert name.now first last) command.now }
-{
-    match command {
-        Command::Insert {
-            name: other,
-            first: other_first,
-            last: other_last,
-        } => is_same_name(name, other) && first == *other_first && last == *other_last,
-        Command::Check { .. } => false,
-        Command::Delete { .. } => false,
-    }
-}
-
-fn is_check(command: &Command, process: u64) -> bool
-    ensures { result ≡ is_equal_command (Command.Check process) command.now }
-{
-    match command {
-        Command::Insert { .. } => false,
-        Command::Check { process: other } => process == *other,
-        Command::Delete { .. } => false,
-    }
-}
-
-fn is_deletion(command: &Command, name: &Name) -> bool
-    ensures { result ≡ is_equal_command (Command.Delete name.now) command.now }
-{
-    match command {
-        Command::Insert { .. } => false,
-        Command::Check { .. } => false,
-        Command::Delete { name: other } => is_same_name(name, other),
-    }
-}
-
-fn is_same_name(a: &Name, b: &Name) -> bool
-    ensures { result ≡ is_equal_name a.now b.now }
-{
-    a.view().compare(&b.view()).is_eq()
 }
