@@ -1,6 +1,7 @@
 -- Which commands were made, also when one more is.
-use Rattle.std.proofs.Common.{◌≡◌, ℕ, ◌+◌, ◌<◌, ◌≤◌, Bool, true, false, ◌||◌, ◌&&◌, List, [], ◌∷◌, ◌++◌, map, length, length-append, get_or, Option, None, Some, refl, sym, ap, ◌∙◌, subst, arith, if◌then◌else◌}
-use Rattle.std.specs.Prelude.{Result, Ok, Err, slice_get, ◌==◌}
+use Rattle.std.proofs.Common.{◌≡◌, ℕ, ◌+◌, ◌<◌, ◌≤◌, Bool, true, false, ◌||◌, ◌&&◌, List, [], ◌∷◌, ◌++◌, ◌⊎◌, inl, inr, map, length, length-append, get_or, Option, None, Some, refl, sym, ap, ◌∙◌, subst, arith, if◌then◌else◌}
+use Rattle.std.specs.Prelude.{Result, Ok, Err, IfErr, slice_get, ◌==◌}
+use Rattle.std.specs.Result.{IsErrAnd}
 use Rattle.std.specs.List.{list_any, All}
 use Rattle.std.proofs.lemmas.Bool.{true≢false}
 use Rattle.std.proofs.lemmas.List.{map-append, get_or_append_left}
@@ -11,11 +12,14 @@ use Rattle.indexmap.specs.IndexSet.{insert_key}
 use Rattle.repo_command.specs.declared.command.Command.{Command}
 use Rattle.group_model.specs.World.{Issued, World}
 use Rattle.group_model.specs.Refusals.{Refusal, unless, if_unissued}
+use Rattle.bench_world.specs.declared.event.StepFault.{StepFault}
+use Rattle.bench_world.specs.declared.event.StepFault.TheVariants as fault
 use Rattle.bench_world.specs.declared.issued.IssuedCommand.{IssuedCommand}
 use Rattle.bench_world.specs.Commanding.{is_that, may_order}
 use Rattle.bench_world.specs.contracts.issued.IssuedCommandEq.TheImpl.Laws.{laws-law}
 use Rattle.bench_world.specs.IssuedCommands.{issued_of, is_same, derived_is_equal, same_is}
 use Rattle.bench_world.specs.IssuedFields.{no_command, commands_made}
+use Rattle.bench_world.specs.Steps.{IsFaultOf}
 
 -- ---- the group's test of one that was made
 
@@ -116,6 +120,21 @@ pub may_taken : (w : World) (m : ℕ) (r : Result (ℕ × Command) ℕ) → may_
 may_taken w m (Ok order) e = ap (λ (b : Bool). unless b Refusal.Foreign) e
 may_taken w m (Err code) e = refl
 
-pub may_foreign : (w : World) (m : ℕ) (r : Result (ℕ × Command) ℕ) → may_order w.issued m r ≡ false → if_unissued w m r ≡ Some Refusal.Foreign
+may_foreign : (w : World) (m : ℕ) (r : Result (ℕ × Command) ℕ) → may_order w.issued m r ≡ false → if_unissued w m r ≡ Some Refusal.Foreign
 may_foreign w m (Ok order) e = ap (λ (b : Bool). unless b Refusal.Foreign) e
 may_foreign w m (Err code) e = absurd (true≢false e)
+
+-- What keeps an order from being carried out is want of memory, or that it is foreign.
+pub order_fault : (w : World) (m : ℕ) (r : Result (ℕ × Command) ℕ) (told : StepFault)
+    → (told ≡ fault.NoMemory) ⊎ ((told ≡ fault.Foreign) × (may_order w.issued m r ≡ false))
+    → IsFaultOf (if_unissued w m r) told
+order_fault w m r told (inl memory) = subst (IsFaultOf (if_unissued w m r)) (sym memory) tt
+order_fault w m r told (inr (foreign, e)) =
+    subst (IsFaultOf (if_unissued w m r)) (sym foreign)
+    (subst (λ (why : Option Refusal). IsFaultOf why fault.Foreign) (sym (may_foreign w m r e)) refl)
+
+-- The `?` hands a fault on as it is.
+pub same_fault : {A : Type 0} (r : Result A StepFault) (told : StepFault) (P : StepFault → Type 0)
+    → IsErrAnd r (λ f. f ≡ told) → P told → IfErr r P
+same_fault (Ok x) told P is p = tt
+same_fault (Err f) told P is p = subst P (sym is) p

@@ -1,12 +1,12 @@
 // Commands.
-ghost use Rattle.std.specs.Prelude.{◌≡◌, ◌⊎◌, ◌+◌, ◌<◌, ◌≤◌, true, None, IsTrue, length, map, IfOk, IfErr, OnOk, OnErr, option_map};
+ghost use Rattle.std.specs.Prelude.{◌≡◌, ◌⊎◌, ◌+◌, ◌<◌, ◌≤◌, true, false, None, IsTrue, length, map, IfOk, IfErr, OnOk, OnErr, option_map};
 ghost use Rattle.repo_object.specs.Objects.{key_name, is_object_name};
 ghost use Rattle.repo_command.specs.Commands.{is_command, CommandIsSpelled};
 ghost use Rattle.group_model.specs.Limits.{IsShortInsertion};
 ghost use Rattle.group_model.specs.Refusals.{refusal};
 ghost use Rattle.group_model.specs.Steps.{after_event, after_issue, command_answer};
 ghost use Rattle.repo_member.specs.Groups.{client_at};
-ghost use Rattle.repo_member.specs.Commanded.{order_of, order_made};
+ghost use Rattle.repo_member.specs.Commanded.{coded, order_of, order_made};
 ghost use Rattle.bench_world.specs.Serving.{keyed};
 ghost use Rattle.bench_world.specs.Worlds.{world_of};
 ghost use Rattle.bench_world.specs.Commanding.{may_order};
@@ -190,11 +190,9 @@ impl World {
             (group_event self.old.keys (EventValue.Order m octets.now)))) }
         ensures err { OnErr result (self.new ≡ self.old) }
     {
-        if !may_order(self.alloc, &self.group, &self.issued, m, octets)? {
-            return Err(StepFault::Foreign);
-        }
+        let verdict = order_verdict(self.alloc, &self.group, &self.issued, m, octets)?;
         let member = &mut self.members[m as usize];
-        let answered = match member.command(&self.group, octets) {
+        let answered = match member.command_checked(&self.group, octets, verdict) {
             Ok(answered) => answered,
             Err(_) => return Err(StepFault::NoMemory),
         };
@@ -244,16 +242,21 @@ fn made(
     Ok(octets)
 }
 
-// Whether octets that pass as a command for a member are one that their client made for it. Others are answered at once.
-fn may_order(
+// The verdict on octets that a member is given as a command. They are foreign where they pass, and the client whose command
+// they are made none of that kind for the member.
+fn order_verdict(
     alloc: Global,
     g: &Group,
     issued: &IssuedCommands,
     m: u32,
     octets: &[u8],
-) -> Result<bool, AllocError>
+) -> Result<Result<(u32, Command), CommandRefusal>, StepFault>
     requires { m < length g.now.members.names }
-    ensures { IfOk result (λ may. may ≡ may_order issued.now.commands m (order_of g.now m octets.now)) }
+    ensures verdict { IfOk result (λ verdict. coded verdict ≡ order_of g.now m octets.now) }
+    ensures spelled { IfOk result (λ verdict. IfOk verdict (λ order. CommandIsSpelled order.1)) }
+    ensures issued { OnOk result (may_order issued.now.commands m (order_of g.now m octets.now) ≡ true) }
+    ensures refused { IfErr result (λ fault. (fault ≡ StepFault.NoMemory) ⊎ ((fault ≡ StepFault.Foreign)
+        × (may_order issued.now.commands m (order_of g.now m octets.now) ≡ false))) }
 {
     match check_command(alloc, octets, g.roster().name(m), g.clients()) {
         Ok((client, command)) => {
@@ -262,10 +265,14 @@ fn may_order(
                 client,
                 command,
             };
-            Ok(issued.has(&order))
+            if issued.has(&order) {
+                Ok(Ok((client, order.command)))
+            } else {
+                Err(StepFault::Foreign)
+            }
         }
-        Err(CommandRefusal::NoMemory) => Err(AllocError),
-        Err(_) => Ok(true),
+        Err(CommandRefusal::NoMemory) => Err(StepFault::NoMemory),
+        refused => Ok(refused),
     }
 }
 
