@@ -1,5 +1,7 @@
 -- Where a list of different things has one, also when one more is put in.
-use Rattle.std.proofs.Common.{◌≡◌, ℕ, suc, ◌+◌, ◌<◌, ◌≤◌, Bool, true, false, not, cond, ltb, eqb, ◌||◌, List, [], ◌∷◌, ◌++◌, map, length, get_or, position, Option, Some, None, refl, sym, ap, ◌∙◌, arith, if◌then◌else◌}
+use Rattle.std.proofs.Common.{◌≡◌, ℕ, suc, ◌+◌, ◌<◌, ◌≤◌, Bool, true, false, not, cond, ltb, eqb, ◌||◌, List, [], ◌∷◌}
+use Rattle.std.proofs.Common.{◌++◌, map, length, get_or, position, Option, Some, None, refl, sym, ap, ◌∙◌, arith}
+use Rattle.std.proofs.Common.{if◌then◌else◌}
 use Rattle.std.specs.List.{list_any, prefix_len, position_or_len}
 use Rattle.std.specs.Str.{bytes_eq}
 use Rattle.std.proofs.lemmas.Bool.{ltb-true, ltb-false, lt-ltb, le-ltb}
@@ -23,16 +25,20 @@ module _ {X Y : Type 0} (f : X → Y) where
   list_any-map p [] = refl
   list_any-map p (x ∷ xs) = ap (λ (b : Bool). p (f x) || b) (list_any-map p xs)
 
-  insert_if : (b : Bool) (xs : List X) (x : X) → map f (if b then xs else xs ++ x ∷ []) ≡ (if b then map f xs else map f xs ++ f x ∷ [])
+  insert_if : (b : Bool) (xs : List X) (x : X)
+      → map f (if b then xs else xs ++ x ∷ []) ≡ (if b then map f xs else map f xs ++ f x ∷ [])
   insert_if true xs x = refl
   insert_if false xs x = map-append f xs (x ∷ [])
 
-  pub insert_key-map : (E : Y → Y → Bool) (xs : List X) (x : X) → map f (insert_key (λ a b. E (f a) (f b)) xs x) ≡ insert_key E (map f xs) (f x)
+  pub insert_key-map : (E : Y → Y → Bool) (xs : List X) (x : X)
+      → map f (insert_key (λ a b. E (f a) (f b)) xs x) ≡ insert_key E (map f xs) (f x)
   insert_key-map E xs x =
-      insert_if (list_any (λ y. E (f x) (f y)) xs) xs x ∙ ap (λ (b : Bool). if b then map f xs else map f xs ++ f x ∷ []) (sym (list_any-map (E (f x)) xs))
+      insert_if (list_any (λ y. E (f x) (f y)) xs) xs x
+      ∙ ap (λ (b : Bool). if b then map f xs else map f xs ++ f x ∷ []) (sym (list_any-map (E (f x)) xs))
 
 module _ {X : Type 0} (p : X → Bool) where
-  any_step : (b : Bool) (here there : ℕ) (rest : Bool) → rest ≡ ltb here there → (b || rest) ≡ ltb (cond (not b) (1 + here) 0) (suc there)
+  any_step : (b : Bool) (here there : ℕ) (rest : Bool) → rest ≡ ltb here there
+      → (b || rest) ≡ ltb (cond (not b) (1 + here) 0) (suc there)
   any_step true here there rest e = grind arith
   any_step false here there rest e = let shift : ltb here there ≡ ltb (1 + here) (suc there) = grind arith in e ∙ shift
 
@@ -57,7 +63,9 @@ module _ {X : Type 0} (p : X → Bool) where
 
   pub place_missing : (xs : List X) → position p xs ≡ None → position_or_len p xs ≡ length xs
   place_missing xs e =
-      let le : length xs ≤ position_or_len p xs = ltb-false (position_or_len p xs) (length xs) (cond_none (ltb (position_or_len p xs) (length xs)) (position_or_len p xs) e) in
+      let le : length xs ≤ position_or_len p xs =
+      ltb-false (position_or_len p xs) (length xs)
+      (cond_none (ltb (position_or_len p xs) (length xs)) (position_or_len p xs) e) in
       omega (arith, le, prefix_len-le-length (λ x. not (p x)) xs)
 
   pub found_at : (xs : List X) (j : ℕ) → position_or_len p xs ≡ j → j < length xs → position p xs ≡ Some j

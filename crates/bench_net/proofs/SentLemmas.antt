@@ -1,5 +1,7 @@
 -- The pairs of a sender and a vector's number tell as the packets do, also when one more is sent.
-use Rattle.std.proofs.Common.{◌≡◌, ℕ, suc, ◌+◌, ◌<◌, ◌≤◌, Bool, true, false, not, cond, ltb, eqb, ◌||◌, ◌&&◌, List, [], ◌∷◌, ◌++◌, map, length, get_or, position, Vec, Option, Result, Ok, IfOk, Some, None, refl, sym, ap, subst, ◌∙◌, arith, if◌then◌else◌}
+use Rattle.std.proofs.Common.{◌≡◌, ℕ, suc, ◌+◌, ◌<◌, ◌≤◌, Bool, true, false, not, cond, ltb, eqb, ◌||◌, ◌&&◌, List, []}
+use Rattle.std.proofs.Common.{◌∷◌, ◌++◌, map, length, get_or, position, Vec, Option, Result, Ok, IfOk, Some, None, refl}
+use Rattle.std.proofs.Common.{sym, ap, subst, ◌∙◌, arith, if◌then◌else◌}
 use Rattle.std.specs.List.{list_any, position_or_len, All}
 use Rattle.std.specs.Option.{option_map_or}
 use Rattle.std.specs.Str.{bytes_eq}
@@ -14,7 +16,8 @@ use Rattle.indexmap.specs.IndexSet.{insert_key}
 use Rattle.bench_net.specs.SentList.{SentPacket, sent_packet, was_sent}
 use Rattle.bench_net.specs.declared.sent.Packet.{Packet}
 use Rattle.bench_net.specs.SentFields.{lists_of, packets_of, is_told, TellsOf}
-use Rattle.bench_net.proofs.Places.{place-map, position-map, insert_key-map, any_within, place_found, place_missing, found_at, missing_at}
+use Rattle.bench_net.proofs.Places.{place-map, position-map, insert_key-map, any_within, place_found, place_missing}
+use Rattle.bench_net.proofs.Places.{found_at, missing_at}
 
 equal : (v w : List ℕ) → bytes_eq v w ≡ true → v ≡ w
 equal v w = (bytes_eq-Decides v w).0
@@ -30,7 +33,8 @@ pub record PutIn (ks more : List (List ℕ)) (w : List ℕ) (i : ℕ) : Type 0 w
   pub stands : get_or more i [] ≡ w
   pub found : (v : List ℕ) (j : ℕ) → position (bytes_eq v) ks ≡ Some j → position (bytes_eq v) more ≡ Some j
   pub itself : position (bytes_eq w) more ≡ Some i
-  pub missing : (v : List ℕ) → position (bytes_eq v) ks ≡ None → bytes_eq v w ≡ false → position (bytes_eq v) more ≡ None
+  pub missing : (v : List ℕ) → position (bytes_eq v) ks ≡ None → bytes_eq v w ≡ false
+      → position (bytes_eq v) more ≡ None
   pub fresh : position (bytes_eq w) ks ≡ None → i ≡ length ks
 
 module _ (ks : List (List ℕ)) (w : List ℕ) where
@@ -55,13 +59,16 @@ module _ (ks : List (List ℕ)) (w : List ℕ) where
   push_found v j h =
       let at = place_found (bytes_eq v) ks j h in
       let differs : eqb j (length ks) ≡ false = grind (arith, at.1) in
-      found_at (bytes_eq v) (ks ++ w ∷ []) j (position_or_len_push (bytes_eq v) ks w ∙ rw (at.0, differs) refl) (omega (arith, at.1, length-append ks (w ∷ [])))
+      found_at (bytes_eq v) (ks ++ w ∷ []) j (position_or_len_push (bytes_eq v) ks w ∙ rw (at.0, differs) refl)
+      (omega (arith, at.1, length-append ks (w ∷ [])))
 
-  push_missing : (v : List ℕ) → position (bytes_eq v) ks ≡ None → bytes_eq v w ≡ false → position (bytes_eq v) (ks ++ w ∷ []) ≡ None
+  push_missing : (v : List ℕ) → position (bytes_eq v) ks ≡ None → bytes_eq v w ≡ false
+      → position (bytes_eq v) (ks ++ w ∷ []) ≡ None
   push_missing v h differs =
       let at = place_missing (bytes_eq v) ks h in
       let here : eqb (length ks) (length ks) ≡ true = grind arith in
-      let place : position_or_len (bytes_eq v) (ks ++ w ∷ []) ≡ length ks + 1 = position_or_len_push (bytes_eq v) ks w ∙ rw (at, here, differs) refl in
+      let place : position_or_len (bytes_eq v) (ks ++ w ∷ []) ≡ length ks + 1 =
+      position_or_len_push (bytes_eq v) ks w ∙ rw (at, here, differs) refl in
       missing_at (bytes_eq v) (ks ++ w ∷ []) (omega (arith, place, length-append ks (w ∷ [])))
 
   gone : list_any (bytes_eq w) ks ≡ false → PutIn ks (ks ++ w ∷ []) w (position_or_len (bytes_eq w) ks)
@@ -70,7 +77,8 @@ module _ (ks : List (List ℕ)) (w : List ℕ) where
       let le : length ks ≤ i = ltb-false i (length ks) (sym (any_within (bytes_eq w) ks) ∙ e) in
       let end : i ≡ length ks = omega (arith, le, prefix_len-le-length (λ x. not (bytes_eq w x)) ks) in
       let here : eqb (length ks) (length ks) ≡ true = grind arith in
-      let place : position_or_len (bytes_eq w) (ks ++ w ∷ []) ≡ i = position_or_len_push (bytes_eq w) ks w ∙ rw (end, here, same w) (omega arith) in
+      let place : position_or_len (bytes_eq w) (ks ++ w ∷ []) ≡ i =
+      position_or_len_push (bytes_eq w) ks w ∙ rw (end, here, same w) (omega arith) in
       let longer = length-append ks (w ∷ []) in
       record {
         longer = omega (arith, longer);
@@ -86,7 +94,8 @@ module _ (ks : List (List ℕ)) (w : List ℕ) where
   pub put_in : PutIn ks (insert_key bytes_eq ks w) w (position_or_len (bytes_eq w) ks)
   put_in = by (list_any (bytes_eq w) ks) refl
     where
-      by : (b : Bool) → list_any (bytes_eq w) ks ≡ b → PutIn ks (if b then ks else ks ++ w ∷ []) w (position_or_len (bytes_eq w) ks)
+      by : (b : Bool) → list_any (bytes_eq w) ks ≡ b
+          → PutIn ks (if b then ks else ks ++ w ∷ []) w (position_or_len (bytes_eq w) ks)
       by true e = there e
       by false e = gone e
 
@@ -111,28 +120,37 @@ and_false true = refl
 and_false false = refl
 
 -- a pair that is put in is found, and no other
-pair_put : (told : List (ℕ × ℕ)) (new pair : ℕ × ℕ) → list_any (is_pair pair) (insert_key is_pair told new) ≡ (list_any (is_pair pair) told || is_pair pair new)
+pair_put : (told : List (ℕ × ℕ)) (new pair : ℕ × ℕ)
+    → list_any (is_pair pair) (insert_key is_pair told new) ≡ (list_any (is_pair pair) told || is_pair pair new)
 pair_put told new pair = by (list_any (is_pair new) told) refl
   where
-    found : (c : Bool) → is_pair pair new ≡ c → list_any (is_pair new) told ≡ true → list_any (is_pair pair) told ≡ (list_any (is_pair pair) told || c)
+    found : (c : Bool) → is_pair pair new ≡ c → list_any (is_pair new) told ≡ true
+        → list_any (is_pair pair) told ≡ (list_any (is_pair pair) told || c)
     found true e there =
-        let yes : list_any (is_pair pair) told ≡ true = ap (λ (p : ℕ × ℕ). list_any (is_pair p) told) (pair_equal pair new e) ∙ there in
+        let yes : list_any (is_pair pair) told ≡ true =
+        ap (λ (p : ℕ × ℕ). list_any (is_pair p) told) (pair_equal pair new e) ∙ there in
         rw yes refl
     found false e there = sym (or_false (list_any (is_pair pair) told))
 
-    by : (b : Bool) → list_any (is_pair new) told ≡ b → list_any (is_pair pair) (if b then told else told ++ new ∷ []) ≡ (list_any (is_pair pair) told || is_pair pair new)
+    by : (b : Bool) → list_any (is_pair new) told ≡ b
+        → list_any (is_pair pair) (if b then told else told ++ new ∷ [])
+        ≡ (list_any (is_pair pair) told || is_pair pair new)
     by true e = found (is_pair pair new) refl e
-    by false e = list_any-append (is_pair pair) told (new ∷ []) ∙ ap (λ (c : Bool). list_any (is_pair pair) told || c) (or_false (is_pair pair new))
+    by false e =
+        list_any-append (is_pair pair) told (new ∷ [])
+        ∙ ap (λ (c : Bool). list_any (is_pair pair) told || c) (or_false (is_pair pair new))
 
 -- no pair tells of a vector that is not there
-none_behind : (told : List (ℕ × ℕ)) (sender end : ℕ) → All (λ pair. pair.1 < end) told → list_any (is_pair (sender, end)) told ≡ false
+none_behind : (told : List (ℕ × ℕ)) (sender end : ℕ) → All (λ pair. pair.1 < end) told
+    → list_any (is_pair (sender, end)) told ≡ false
 none_behind told sender end below =
     list_any_none (is_pair (sender, end)) told (λ k d h. let lt = below k d h in differs (get_or told k d) lt)
   where
     differs : (pair : ℕ × ℕ) → pair.1 < end → is_pair (sender, end) pair ≡ false
     differs (t, j) lt = let no : eqb end j ≡ false = grind arith in rw no (and_false (eqb sender t))
 
-within_put : (told : List (ℕ × ℕ)) (sender i low high : ℕ) → low ≤ high → i < high → All (λ pair. pair.1 < low) told → All (λ pair. pair.1 < high) (insert_key is_pair told (sender, i))
+within_put : (told : List (ℕ × ℕ)) (sender i low high : ℕ) → low ≤ high → i < high → All (λ pair. pair.1 < low) told
+    → All (λ pair. pair.1 < high) (insert_key is_pair told (sender, i))
 within_put told sender i low high le lt below = by (list_any (is_pair (sender, i)) told)
   where
     higher : All (λ pair. pair.1 < high) told
@@ -144,7 +162,8 @@ within_put told sender i low high le lt below = by (list_any (is_pair (sender, i
 
 -- ---- one packet more
 
-module _ (ks : List (List ℕ)) (told : List (ℕ × ℕ)) (packets : List SentPacket) (tells : TellsOf ks told packets) (sender : ℕ) (w octets : List ℕ) where
+module _ (ks : List (List ℕ)) (told : List (ℕ × ℕ)) (packets : List SentPacket) (tells : TellsOf ks told packets)
+    (sender : ℕ) (w octets : List ℕ) where
   abbrev number : ℕ
   number = position_or_len (bytes_eq w) ks
 
@@ -158,15 +177,19 @@ module _ (ks : List (List ℕ)) (told : List (ℕ × ℕ)) (packets : List SentP
   put = put_in ks w
 
   -- what the pairs tell of a vector that was there
-  told_there : (s : ℕ) (v : List ℕ) (j : ℕ) → position (bytes_eq v) ks ≡ Some j → is_told s v more pairs ≡ (is_told s v ks told || (eqb s sender && bytes_eq v w))
+  told_there : (s : ℕ) (v : List ℕ) (j : ℕ) → position (bytes_eq v) ks ≡ Some j
+      → is_told s v more pairs ≡ (is_told s v ks told || (eqb s sender && bytes_eq v w))
   told_there s v j at =
       let known = put.found v j at in
-      rw (at, known) (pair_put told (sender, number) (s, j) ∙ ap (λ (b : Bool). list_any (is_pair (s, j)) told || (eqb s sender && b)) (numbers_are (bytes_eq v w) refl))
+      rw (at, known)
+      (pair_put told (sender, number) (s, j)
+      ∙ ap (λ (b : Bool). list_any (is_pair (s, j)) told || (eqb s sender && b)) (numbers_are (bytes_eq v w) refl))
     where
       numbers_are : (b : Bool) → bytes_eq v w ≡ b → eqb j number ≡ b
       numbers_are true e =
           let v-is = equal v w e in
-          let at-w : position (bytes_eq w) ks ≡ Some j = ap (λ (x : List ℕ). position (bytes_eq x) ks) (sym v-is) ∙ at in
+          let at-w : position (bytes_eq w) ks ≡ Some j =
+          ap (λ (x : List ℕ). position (bytes_eq x) ks) (sym v-is) ∙ at in
           let is : number ≡ j = (place_found (bytes_eq w) ks j at-w).0 in
           grind arith
       numbers_are false e = by (eqb j number) refl
@@ -183,17 +206,21 @@ module _ (ks : List (List ℕ)) (told : List (ℕ × ℕ)) (packets : List SentP
               absurd (let no : true ≡ false = sym both ∙ e in cc)
 
   -- and of one that was not
-  told_new : (s : ℕ) (v : List ℕ) → position (bytes_eq v) ks ≡ None → is_told s v more pairs ≡ (is_told s v ks told || (eqb s sender && bytes_eq v w))
+  told_new : (s : ℕ) (v : List ℕ) → position (bytes_eq v) ks ≡ None
+      → is_told s v more pairs ≡ (is_told s v ks told || (eqb s sender && bytes_eq v w))
   told_new s v none = by (bytes_eq v w) refl
     where
       by : (b : Bool) → bytes_eq v w ≡ b → is_told s v more pairs ≡ (is_told s v ks told || (eqb s sender && b))
       by true e =
           let v-is = equal v w e in
-          let at-w : position (bytes_eq w) ks ≡ None = ap (λ (x : List ℕ). position (bytes_eq x) ks) (sym v-is) ∙ none in
-          let known : position (bytes_eq v) more ≡ Some number = ap (λ (x : List ℕ). position (bytes_eq x) more) v-is ∙ put.itself in
+          let at-w : position (bytes_eq w) ks ≡ None =
+          ap (λ (x : List ℕ). position (bytes_eq x) ks) (sym v-is) ∙ none in
+          let known : position (bytes_eq v) more ≡ Some number =
+          ap (λ (x : List ℕ). position (bytes_eq x) more) v-is ∙ put.itself in
           let here : eqb number number ≡ true = grind arith in
           let end : number ≡ length ks = put.fresh at-w in
-          let nobody : list_any (is_pair (s, number)) told ≡ false = ap (λ (n : ℕ). list_any (is_pair (s, n)) told) end ∙ none_behind told s (length ks) tells.within in
+          let nobody : list_any (is_pair (s, number)) told ≡ false =
+          ap (λ (n : ℕ). list_any (is_pair (s, n)) told) end ∙ none_behind told s (length ks) tells.within in
           rw (none, known) (pair_put told (sender, number) (s, number) ∙ rw (nobody, here) refl)
       by false e =
           let known = put.missing v none e in
@@ -202,7 +229,8 @@ module _ (ks : List (List ℕ)) (told : List (ℕ × ℕ)) (packets : List SentP
   told_more : (s : ℕ) (v : List ℕ) → is_told s v more pairs ≡ (is_told s v ks told || (eqb s sender && bytes_eq v w))
   told_more s v = by (position (bytes_eq v) ks) refl
     where
-      by : (r : Option ℕ) → position (bytes_eq v) ks ≡ r → is_told s v more pairs ≡ (is_told s v ks told || (eqb s sender && bytes_eq v w))
+      by : (r : Option ℕ) → position (bytes_eq v) ks ≡ r
+          → is_told s v more pairs ≡ (is_told s v ks told || (eqb s sender && bytes_eq v w))
       by (Some j) e = told_there s v j e
       by None e = told_new s v e
 
@@ -210,7 +238,8 @@ module _ (ks : List (List ℕ)) (told : List (ℕ × ℕ)) (packets : List SentP
   tells_more = record {
     within = within_put told sender number (length ks) (length more) put.longer put.within tells.within;
     answers = λ s v.
-        list_any-append (λ (p : SentPacket). eqb s p.sender && bytes_eq v p.vector) packets (sent_packet sender w octets ∷ [])
+        list_any-append (λ (p : SentPacket). eqb s p.sender && bytes_eq v p.vector) packets
+        (sent_packet sender w octets ∷ [])
         ∙ ap (λ (b : Bool). was_sent s v packets || b) (or_false (eqb s sender && bytes_eq v w))
         ∙ ap (λ (b : Bool). b || (eqb s sender && bytes_eq v w)) (tells.answers s v)
         ∙ sym (told_more s v);
@@ -225,7 +254,8 @@ module _ {X : Type 0} (vectors : List (Vec ℕ X)) (told : List (ℕ × ℕ)) (s
   pub told_none : position (λ y. bytes_eq v y.items) vectors ≡ None → is_told sender v (lists_of vectors) told ≡ false
   told_none e = rw (position-map (λ (y : Vec ℕ X). y.items) (bytes_eq v) vectors, e) refl
 
-  pub told_some : (i : ℕ) → position (λ y. bytes_eq v y.items) vectors ≡ Some i → is_told sender v (lists_of vectors) told ≡ list_any (is_pair (sender, i)) told
+  pub told_some : (i : ℕ) → position (λ y. bytes_eq v y.items) vectors ≡ Some i
+      → is_told sender v (lists_of vectors) told ≡ list_any (is_pair (sender, i)) told
   told_some i e = rw (position-map (λ (y : Vec ℕ X). y.items) (bytes_eq v) vectors, e) refl
 
 packets_same : (ks more : List (List ℕ)) (packets : List Packet) → All (λ (p : Packet). p.vector < length ks) packets
@@ -236,7 +266,8 @@ packets_same ks more (p ∷ ps) within kept =
     let rest = packets_same ks more ps (All-tail (λ (p : Packet). p.vector < length ks) p ps within) kept in
     rw (here, rest) refl
 
-module _ {X : Type 0} (vs more : List (Vec ℕ X)) (told pairs : List (ℕ × ℕ)) (old new : List Packet) (v : Vec ℕ X) (p : Packet)
+module _ {X : Type 0} (vs more : List (Vec ℕ X)) (told pairs : List (ℕ × ℕ)) (old new : List Packet) (v : Vec ℕ X)
+    (p : Packet)
     (vectors : more ≡ insert_key (λ x y. bytes_eq x.items y.items) vs v)
     (index : p.vector ≡ position_or_len (λ y. bytes_eq v.items y.items) vs)
     (pair : pairs ≡ insert_key is_pair told (p.sender, p.vector))
@@ -258,19 +289,27 @@ module _ {X : Type 0} (vs more : List (Vec ℕ X)) (told pairs : List (ℕ × �
   long_more : length (lists_of more) ≡ length more
   long_more = length-map more (λ (y : Vec ℕ X). y.items)
 
-  pub sent : packets_of (lists_of more) new ≡ packets_of (lists_of vs) old ++ sent_packet p.sender v.items p.octets.items ∷ []
+  pub sent : packets_of (lists_of more) new
+      ≡ packets_of (lists_of vs) old ++ sent_packet p.sender v.items p.octets.items ∷ []
   sent =
       let view = λ (q : Packet). sent_packet q.sender (get_or (lists_of more) q.vector []) q.octets.items in
-      let same_old : packets_of (lists_of more) old ≡ packets_of (lists_of vs) old = packets_same (lists_of vs) (lists_of more) old (λ k d h. let lt = within k d h in omega (arith, lt, long)) in_lists.kept in
+      let same_old : packets_of (lists_of more) old ≡ packets_of (lists_of vs) old =
+      packets_same (lists_of vs) (lists_of more) old (λ k d h. let lt = within k d h in omega (arith, lt, long))
+      in_lists.kept in
       let here : get_or (lists_of more) p.vector [] ≡ v.items = in_lists.stands in
       ap (packets_of (lists_of more)) push ∙ map-append view old (p ∷ []) ∙ rw (same_old, here) refl
 
   pub still_within : All (λ (p : Packet). p.vector < length more) new
   still_within =
-      rw push (All-push (λ (p : Packet). p.vector < length more) old p (λ k d h. let lt = within k d h in omega (arith, lt, in_lists.longer, long, long_more)) (omega (arith, in_lists.within, long_more)))
+      rw push (All-push (λ (p : Packet). p.vector < length more) old p
+      (λ k d h. let lt = within k d h in omega (arith, lt, in_lists.longer, long, long_more))
+      (omega (arith, in_lists.within, long_more)))
 
   pub still_tells : TellsOf (lists_of more) pairs (packets_of (lists_of more) new)
-  still_tells = rw (sent, lists, pair, place) (tells_more (lists_of vs) told (packets_of (lists_of vs) old) tells p.sender v.items p.octets.items)
+  still_tells =
+      rw (sent, lists, pair, place)
+      (tells_more (lists_of vs) told (packets_of (lists_of vs) old) tells p.sender v.items p.octets.items)
 
 pub length-packets_of : (ks : List (List ℕ)) (packets : List Packet) → length (packets_of ks packets) ≡ length packets
-length-packets_of ks packets = length-map packets (λ (p : Packet). sent_packet p.sender (get_or ks p.vector []) p.octets.items)
+length-packets_of ks packets =
+    length-map packets (λ (p : Packet). sent_packet p.sender (get_or ks p.vector []) p.octets.items)

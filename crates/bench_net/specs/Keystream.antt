@@ -1,5 +1,5 @@
--- The answers of a seeded network: 32-bit words of ChaCha with 8 rounds, whose key is the seed, by stream and place (the
--- layout with a 64-bit block counter and a 64-bit stream number).
+-- The answers of a seeded network: 32-bit words of ChaCha with 8 rounds, whose key is the seed, by stream and place
+-- (the layout with a 64-bit block counter and a 64-bit stream number).
 use Rattle.std.specs.Prelude.{ℕ, ◌+◌, ◌*◌, ◌%◌, ◌^◌, Bool, List, nat_le}
 use Rattle.rand_chacha.specs.ChaCha.{word_at, key_of}
 

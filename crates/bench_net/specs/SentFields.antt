@@ -1,5 +1,6 @@
 -- How what was sent is kept: each vector that was told of once, and each packet with its vector's number.
-use Rattle.std.specs.Prelude.{◌≡◌, ℕ, ◌+◌, ◌<◌, ◌≤◌, Bool, false, List, [], map, length, slice_index_or, Vec, vec_capacity, position, ◌==◌, ◌&&◌}
+use Rattle.std.specs.Prelude.{◌≡◌, ℕ, ◌+◌, ◌<◌, ◌≤◌, Bool, false, List, [], map, length, slice_index_or, Vec}
+use Rattle.std.specs.Prelude.{vec_capacity, position, ◌==◌, ◌&&◌}
 use Rattle.std.specs.List.{list_any, All}
 use Rattle.std.specs.Option.{option_map_or}
 use Rattle.std.specs.Str.{bytes_eq}
@@ -20,7 +21,8 @@ packets_of vectors packets =
 -- The answer that the vectors and the pairs of a sender and a vector's number give.
 abbrev pub is_told : ℕ → List ℕ → List (List ℕ) → List (ℕ × ℕ) → Bool
 is_told sender vector vectors told =
-    option_map_or (λ i. list_any (λ pair. (sender == pair.0) && (i == pair.1)) told) (position (bytes_eq vector) vectors) false
+    option_map_or (λ i. list_any (λ pair. (sender == pair.0) && (i == pair.1)) told)
+    (position (bytes_eq vector) vectors) false
 
 -- The pairs tell of the vectors, and as the packets do.
 pub record TellsOf (vectors : List (List ℕ)) (told : List (ℕ × ℕ)) (packets : List SentPacket) : Type 0 where

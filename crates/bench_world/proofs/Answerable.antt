@@ -1,5 +1,7 @@
--- Who holds a part gives its packet to one that asks for it, where segments' packets are told by their names and digests.
-use Rattle.std.proofs.Common.{◌≡◌, ◌≢◌, ◌⊎◌, inl, inr, ℕ, ◌-◌, ◌^◌, ◌<◌, ◌==◌, Bool, true, false, cond, List, [], ◌∷◌, ◌++◌, length, get_or, Option, Some, None, option_map, refl, sym, ap, ◌∙◌, subst, arith}
+-- Who holds a part gives its packet to one that asks for it, where segments' packets are told by their names and
+-- digests.
+use Rattle.std.proofs.Common.{◌≡◌, ◌≢◌, ◌⊎◌, inl, inr, ℕ, ◌-◌, ◌^◌, ◌<◌, ◌==◌, Bool, true, false, cond, List, [], ◌∷◌}
+use Rattle.std.proofs.Common.{◌++◌, length, get_or, Option, Some, None, option_map, refl, sym, ap, ◌∙◌, subst, arith}
 use Rattle.std.specs.Prelude.{unwrap_or, is_some, IfSome, Result, Ok}
 use Rattle.std.proofs.lemmas.Bool.{true≢false, cases_eq, cases_lt, eq-eqb, eqb-true}
 use Rattle.std.proofs.lemmas.List.{length-map}
@@ -25,7 +27,8 @@ use Rattle.repo_object.specs.Objects.{NamedContents, IsObject, IsPublisher, reco
 use Rattle.repo_object.specs.Publication.{Listed, published_listing, record_packet, packet_at}
 use Rattle.repo_object.specs.Wants.{WantedPart, asked_name, want_record, want_segment}
 use Rattle.repo_object.proofs.Asking.{asked_for, record_interest, segment_interest}
-use Rattle.repo_object.proofs.Publications.{some_is, SegmentPacket, listing_within_limits, record_read, record_again, segment_is, segment_read}
+use Rattle.repo_object.proofs.Publications.{some_is, SegmentPacket, listing_within_limits, record_read, record_again}
+use Rattle.repo_object.proofs.Publications.{segment_is, segment_read}
 use Rattle.repo_object.proofs.Telling.{last_same, records_differ, records_are_no_segments}
 use Rattle.repo_store.specs.Served.{satisfies, first_served, served_entry, served, served_part}
 use Rattle.repo_store.proofs.LawLemmas.{satisfies-Decides, served_least, served_of_part, has_value}
@@ -62,11 +65,18 @@ pub record EndsPlainly (name : List Component) : Type 0 where
 
 -- It is no full name.
 no_full_name : (name other : List Component) (digest : List ℕ) → EndsPlainly name → name ≢ full_name other digest
-no_full_name name other digest p e = p.plain (ap (λ (c : Component). c.0) (last_same p.front other p.last (1, digest) (sym p.is ∙ e)).1)
+no_full_name name other digest p e =
+    p.plain (ap (λ (c : Component). c.0) (last_same p.front other p.last (1, digest) (sym p.is ∙ e)).1)
 
 record_plain : (node group : List Component) (seq : ℕ) → EndsPlainly (record_name node group seq)
-record_plain node group seq = record { front = node ++ group; last = (0x3a, number_field seq); is = joined node; plain = λ e. omega (arith, e) } where
-  joined : (xs : List Component) → xs ++ group ++ (0x3a, number_field seq) ∷ [] ≡ (xs ++ group) ++ (0x3a, number_field seq) ∷ []
+record_plain node group seq = record {
+  front = node ++ group;
+  last = (0x3a, number_field seq);
+  is = joined node;
+  plain = λ e. omega (arith, e);
+} where
+  joined : (xs : List Component)
+      → xs ++ group ++ (0x3a, number_field seq) ∷ [] ≡ (xs ++ group) ++ (0x3a, number_field seq) ∷ []
   joined [] = refl
   joined (x ∷ xs) = ap (λ (ys : List Component). x ∷ ys) (joined xs)
 
@@ -78,7 +88,9 @@ segment_plain name i = record { front = name; last = (0x32, number_field i); is 
 module _ (g : GroupKeys) (logs : Logs) (are : AreLogs g logs) where
   module _ (pair : Pair) (there : IsPublished logs pair) where
     object_within : IsObject (object_at logs pair)
-    object_within = are.objects pair.0 [] (publisher_there logs pair there) (pair.1 - 1) no_object (omega (arith, there.from_one, there.to_last))
+    object_within =
+        are.objects pair.0 [] (publisher_there logs pair there) (pair.1 - 1) no_object
+        (omega (arith, there.from_one, there.to_last))
 
     low_number : pair.1 < 2 ^ 16
     low_number = omega (arith, there.to_last, are.few pair.0 [] (publisher_there logs pair there))
@@ -87,13 +99,17 @@ module _ (g : GroupKeys) (logs : Logs) (are : AreLogs g logs) where
     member_there = omega (arith, publisher_there logs pair there, are.width)
 
     node_plain : IsPlainNodeName (node_at g pair.0)
-    node_plain = subst IsPlainNodeName (sym (unwrap_or-slice_get g.members.names pair.0 [])) (are.group.members.node_names pair.0 [] member_there)
+    node_plain =
+        subst IsPlainNodeName (sym (unwrap_or-slice_get g.members.names pair.0 []))
+        (are.group.members.node_names pair.0 [] member_there)
 
     publisher_within : IsPublisher (publisher_at g pair.0)
-    publisher_within = record { node = (node_plain.valid, node_plain.short); group = (are.group.name.valid, are.group.name.short) }
+    publisher_within =
+        record { node = (node_plain.valid, node_plain.short); group = (are.group.name.valid, are.group.name.short) }
 
   -- Members' names differ.
-  same_publisher : (p q : ℕ) → p < length g.members.names → q < length g.members.names → node_at g p ≡ node_at g q → p ≡ q
+  same_publisher : (p q : ℕ) → p < length g.members.names → q < length g.members.names → node_at g p ≡ node_at g q
+      → p ≡ q
   same_publisher p q lp lq e = elim (cases_eq p q) [
     | inl same ↦ same
     | inr apart ↦ absurd (elim (cases_lt p q) [
@@ -104,16 +120,25 @@ module _ (g : GroupKeys) (logs : Logs) (are : AreLogs g logs) where
     at : (k : ℕ) → get_or g.members.names k [] ≡ node_at g k
     at k = sym (unwrap_or-slice_get g.members.names k [])
 
-    differ : (k j : ℕ) → k < j → j < length g.members.names → get_or g.members.names k [] ≡ get_or g.members.names j [] → ⊥
+    differ : (k j : ℕ) → k < j → j < length g.members.names → get_or g.members.names k [] ≡ get_or g.members.names j []
+        → ⊥
     differ k j l inside h =
         let same : has_same_octets (get_or g.members.names k []) (get_or g.members.names j []) ≡ true =
-        (bytes_eq-Decides (encoding (get_or g.members.names k [])) (encoding (get_or g.members.names j []))).1 (ap encoding h) in
-        true≢false (sym same ∙ apart_from_distinct has_same_octets g.members.names k j [] are.group.members.roster.different l inside)
+        (bytes_eq-Decides (encoding (get_or g.members.names k [])) (encoding (get_or g.members.names j []))).1
+        (ap encoding h) in
+        true≢false (sym same
+        ∙ apart_from_distinct has_same_octets g.members.names k j [] are.group.members.roster.different l inside)
 
-  segment_of : (t : Part) → IsPublishedPart logs t → (octets : List ℕ) → true_packet g logs t ≡ Some octets → (t.part == 0) ≡ false → SegmentPacket (publisher_at g t.publisher) (object_at logs (pair_of t)) (t.part - 1) octets
+  segment_of : (t : Part) → IsPublishedPart logs t → (octets : List ℕ) → true_packet g logs t ≡ Some octets
+      → (t.part == 0) ≡ false
+      → SegmentPacket (publisher_at g t.publisher) (object_at logs (pair_of t)) (t.part - 1) octets
   segment_of t is octets its p =
-      segment_is (publisher_at g t.publisher) (object_at logs (pair_of t)) (publisher_within (pair_of t) is.there) (object_within (pair_of t) is.there) t.seq t.part octets
-      (elim (cases_eq t.part 0) [ inl z ↦ absurd (true≢false (sym (eq-eqb t.part 0 z) ∙ p)) | inr n ↦ omega (arith, n) ]) its
+      segment_is (publisher_at g t.publisher) (object_at logs (pair_of t)) (publisher_within (pair_of t) is.there)
+      (object_within (pair_of t) is.there) t.seq t.part octets
+      (elim (cases_eq t.part 0) [
+        | inl z ↦ absurd (true≢false (sym (eq-eqb t.part 0 z) ∙ p))
+        | inr n ↦ omega (arith, n)
+      ]) its
 
   -- What octets are as the packet of a part that is wanted so: what they are read as, and what asks for them.
   pub record IsPartOf (octets : List ℕ) (want : WantedPart) : Type 0 where
@@ -124,22 +149,34 @@ module _ (g : GroupKeys) (logs : Logs) (are : AreLogs g logs) where
     pub plain : EndsPlainly want.name
     pub interest : interest_of want.interest ≡ Ok (read_plain (asked_name want.name want.digest) false)
 
-  part_is : (t : Part) → IsPublishedPart logs t → (octets : List ℕ) → true_packet g logs t ≡ Some octets → IsPartOf octets (true_want g logs t)
+  part_is : (t : Part) → IsPublishedPart logs t → (octets : List ℕ) → true_packet g logs t ≡ Some octets
+      → IsPartOf octets (true_want g logs t)
   part_is t is octets its = go (t.part == 0) refl where
     object : NamedContents
     object = object_at logs (pair_of t)
 
-    go : (b : Bool) → (t.part == 0) ≡ b → IsPartOf octets (cond b (want_record t (node_at g t.publisher) g.name) (want_segment t (published_listing (publisher_at g t.publisher) (object_at logs (pair_of t)))))
+    go : (b : Bool) → (t.part == 0) ≡ b
+        → IsPartOf octets
+        (cond b (want_record t (node_at g t.publisher) g.name)
+        (want_segment t (published_listing (publisher_at g t.publisher) (object_at logs (pair_of t)))))
     go true p =
         let zero : t.part ≡ 0 = eqb-true t.part 0 p in
         let within = publisher_within (pair_of t) is.there in
         let low = low_number (pair_of t) is.there in
-        let same : record_packet (publisher_at g t.publisher) t.seq (published_listing (publisher_at g t.publisher) (object_at logs (pair_of t))) ≡ octets =
-        some_is (record_packet (publisher_at g t.publisher) t.seq (published_listing (publisher_at g t.publisher) (object_at logs (pair_of t)))) octets
+        let same : record_packet (publisher_at g t.publisher) t.seq
+        (published_listing (publisher_at g t.publisher) (object_at logs (pair_of t)))
+        ≡ octets =
+        some_is (record_packet (publisher_at g t.publisher) t.seq
+        (published_listing (publisher_at g t.publisher) (object_at logs (pair_of t)))) octets
         (ap (packet_at (publisher_at g t.publisher) t.seq (object_at logs (pair_of t))) (sym zero) ∙ its) in
         record {
-          d = record_read (publisher_at g t.publisher) (object_at logs (pair_of t)) within (object_within (pair_of t) is.there) t.seq;
-          read = ap data_of (sym same) ∙ record_again (publisher_at g t.publisher) (object_at logs (pair_of t)) within (object_within (pair_of t) is.there) t.seq low;
+          d =
+              record_read (publisher_at g t.publisher) (object_at logs (pair_of t)) within
+              (object_within (pair_of t) is.there) t.seq;
+          read =
+              ap data_of (sym same)
+              ∙ record_again (publisher_at g t.publisher) (object_at logs (pair_of t)) within
+              (object_within (pair_of t) is.there) t.seq low;
           name = refl;
           digest = tt;
           plain = record_plain (node_at g t.publisher) g.name t.seq;
@@ -156,14 +193,20 @@ module _ (g : GroupKeys) (logs : Logs) (are : AreLogs g logs) where
           digest = subst P (sym s.digest) refl;
           plain = segment_plain (object_at logs (pair_of t)).name (t.part - 1);
           interest =
-              segment_interest t listing (sha256 octets) (listing_within_limits (publisher_at g t.publisher) (object_at logs (pair_of t)) (object_within (pair_of t) is.there)) s.digest (length-sha256 _) (IsOctets-sha256 octets)
-              ∙ ap (λ (o : Option (List ℕ)). let r : Result Interest PacketFault = Ok (read_plain (asked_name (segment_name (object_at logs (pair_of t)).name (t.part - 1)) o) false) in r) (sym s.digest);
+              segment_interest t listing (sha256 octets)
+              (listing_within_limits (publisher_at g t.publisher) (object_at logs (pair_of t))
+              (object_within (pair_of t) is.there)) s.digest (length-sha256 _) (IsOctets-sha256 octets)
+              ∙ ap (λ (o : Option (List ℕ)).
+              let r : Result Interest PacketFault =
+              Ok (read_plain (asked_name (segment_name (object_at logs (pair_of t)).name (t.part - 1)) o) false) in
+              r) (sym s.digest);
         }
 
   -- ---- what asks for a packet asks for no other
 
   -- By name, and by digest where one is known.
-  same_name : (name : List Component) (digest : Option (List ℕ)) (octets : List ℕ) (d : Data) → EndsPlainly name → EndsPlainly d.name → Satisfies (asked_name name digest) false (sha256 octets) d
+  same_name : (name : List Component) (digest : Option (List ℕ)) (octets : List ℕ) (d : Data) → EndsPlainly name
+      → EndsPlainly d.name → Satisfies (asked_name name digest) false (sha256 octets) d
       → (name ≡ d.name) × IfSome digest (λ x. sha256 octets ≡ x)
   same_name name None octets d plain other (inl e) = (e, tt)
   same_name name None octets d plain other (inr (inl e)) = absurd (no_full_name name d.name (sha256 octets) plain e)
@@ -174,41 +217,61 @@ module _ (g : GroupKeys) (logs : Logs) (are : AreLogs g logs) where
       (both.0, sym (ap (λ (c : Component). c.1) both.1))
   same_name name (Some digest) octets d plain other (inr (inr both)) = absurd (true≢false (sym both.0))
 
-  module _ (clear : AreAllClear g logs) (t u : Part) (is_t : IsPublishedPart logs t) (is_u : IsPublishedPart logs u) (y x : List ℕ) (its_t : true_packet g logs t ≡ Some y) (its_u : true_packet g logs u ≡ Some x) where
+  module _ (clear : AreAllClear g logs) (t u : Part) (is_t : IsPublishedPart logs t) (is_u : IsPublishedPart logs u)
+      (y x : List ℕ) (its_t : true_packet g logs t ≡ Some y) (its_u : true_packet g logs u ≡ Some x) where
     -- Packets of one name and one digest are one.
-    same_octets : (true_want g logs t).name ≡ (true_want g logs u).name → IfSome (true_want g logs t).digest (λ digest. sha256 x ≡ digest) → x ≡ y
+    same_octets : (true_want g logs t).name ≡ (true_want g logs u).name
+        → IfSome (true_want g logs t).digest (λ digest. sha256 x ≡ digest) → x ≡ y
     same_octets named digested = go (t.part == 0) (u.part == 0) refl refl named digested where
       go : (b c : Bool) → (t.part == 0) ≡ b → (u.part == 0) ≡ c
-          → (cond b (want_record t (node_at g t.publisher) g.name) (want_segment t (published_listing (publisher_at g t.publisher) (object_at logs (pair_of t))))).name
-          ≡ (cond c (want_record u (node_at g u.publisher) g.name) (want_segment u (published_listing (publisher_at g u.publisher) (object_at logs (pair_of u))))).name
-          → IfSome (cond b (want_record t (node_at g t.publisher) g.name) (want_segment t (published_listing (publisher_at g t.publisher) (object_at logs (pair_of t))))).digest (λ digest. sha256 x ≡ digest)
+          → (cond b (want_record t (node_at g t.publisher) g.name)
+          (want_segment t (published_listing (publisher_at g t.publisher) (object_at logs (pair_of t))))).name
+          ≡ (cond c (want_record u (node_at g u.publisher) g.name)
+          (want_segment u (published_listing (publisher_at g u.publisher) (object_at logs (pair_of u))))).name
+          → IfSome (cond b (want_record t (node_at g t.publisher) g.name)
+          (want_segment t (published_listing (publisher_at g t.publisher) (object_at logs (pair_of t))))).digest
+          (λ digest. sha256 x ≡ digest)
           → x ≡ y
       go true true p q e h =
-          let both = records_differ (node_at g t.publisher) (node_at g u.publisher) g.name t.seq u.seq (low_number (pair_of t) is_t.there) (low_number (pair_of u) is_u.there) e in
-          let publisher : t.publisher ≡ u.publisher = same_publisher t.publisher u.publisher (member_there (pair_of t) is_t.there) (member_there (pair_of u) is_u.there) both.0 in
+          let both =
+          records_differ (node_at g t.publisher) (node_at g u.publisher) g.name t.seq u.seq
+          (low_number (pair_of t) is_t.there) (low_number (pair_of u) is_u.there) e in
+          let publisher : t.publisher ≡ u.publisher =
+          same_publisher t.publisher u.publisher (member_there (pair_of t) is_t.there)
+          (member_there (pair_of u) is_u.there) both.0 in
           let part : t.part ≡ u.part = eqb-true t.part 0 p ∙ sym (eqb-true u.part 0 q) in
           let same : t ≡ u = λ i. record { publisher = publisher i; seq = both.1 i; part = part i } in
           some_is x y (sym its_u ∙ ap (true_packet g logs) (sym same) ∙ its_t)
-      go true false p q e h = absurd (records_are_no_segments (node_at g t.publisher) g.name (object_at logs (pair_of u)).name t.seq (u.part - 1) e)
-      go false true p q e h = absurd (records_are_no_segments (node_at g u.publisher) g.name (object_at logs (pair_of t)).name u.seq (t.part - 1) (sym e))
+      go true false p q e h =
+          absurd (records_are_no_segments (node_at g t.publisher) g.name (object_at logs (pair_of u)).name t.seq
+          (u.part - 1) e)
+      go false true p q e h =
+          absurd (records_are_no_segments (node_at g u.publisher) g.name (object_at logs (pair_of t)).name u.seq
+          (t.part - 1) (sym e))
       go false false p q e h =
           let st = segment_of t is_t y its_t p in
           let su = segment_of u is_u x its_u q in
-          let digest : sha256 x ≡ sha256 y = subst (λ (o : Option (List ℕ)). IfSome o (λ digest. sha256 x ≡ digest)) st.digest h in
+          let digest : sha256 x ≡ sha256 y =
+          subst (λ (o : Option (List ℕ)). IfSome o (λ digest. sha256 x ≡ digest)) st.digest h in
           sym (clear (pair_of t) (pair_of u) (t.part - 1) (u.part - 1) y x st.stands su.stands e (sym digest))
 
     pub asked_is : satisfies (asked_name (true_want g logs t).name (true_want g logs t).digest) false x ≡ true → x ≡ y
     asked_is sat =
         let pt = part_is t is_t y its_t in
         let pu = part_is u is_u x its_u in
-        let both = same_name (true_want g logs t).name (true_want g logs t).digest x pu.d pt.plain (subst EndsPlainly (sym pu.name) pu.plain)
-        ((satisfies-Decides (asked_name (true_want g logs t).name (true_want g logs t).digest) false x pu.d pu.read).0 sat) in
+        let both =
+        same_name (true_want g logs t).name (true_want g logs t).digest x pu.d pt.plain
+        (subst EndsPlainly (sym pu.name) pu.plain)
+        ((satisfies-Decides (asked_name (true_want g logs t).name (true_want g logs t).digest) false x pu.d pu.read).0
+        sat) in
         same_octets (both.0 ∙ pu.name) both.1
 
-  own_asked : (t : Part) → IsPublishedPart logs t → (y : List ℕ) → true_packet g logs t ≡ Some y → satisfies (asked_name (true_want g logs t).name (true_want g logs t).digest) false y ≡ true
+  own_asked : (t : Part) → IsPublishedPart logs t → (y : List ℕ) → true_packet g logs t ≡ Some y
+      → satisfies (asked_name (true_want g logs t).name (true_want g logs t).digest) false y ≡ true
   own_asked t is y its =
       let pt = part_is t is y its in
-      (satisfies-Decides (asked_name (true_want g logs t).name (true_want g logs t).digest) false y pt.d pt.read).1 (asked_for (true_want g logs t).name (true_want g logs t).digest y pt.d (sym pt.name) pt.digest)
+      (satisfies-Decides (asked_name (true_want g logs t).name (true_want g logs t).digest) false y pt.d pt.read).1
+      (asked_for (true_want g logs t).name (true_want g logs t).digest y pt.d (sym pt.name) pt.digest)
 
   -- ---- what a member that holds a part gives
 
@@ -217,18 +280,28 @@ module _ (g : GroupKeys) (logs : Logs) (are : AreLogs g logs) where
     stored_there t x e =
         let held = truly.sound.held t (sym (has_value a.store t) ∙ ap is_some e) in
         record {
-          there = record { from_one = held.known.from_one; to_last = let no_more = truly.sound.known t.publisher in omega (arith, held.known.to_known, no_more) };
+          there = record {
+            from_one = held.known.from_one;
+            to_last = let no_more = truly.sound.known t.publisher in omega (arith, held.known.to_known, no_more);
+          };
           counted = held.counted;
         }
 
-    first_is : (interest : List ℕ) (i : Interest) → interest_of interest ≡ Ok i → served_part interest a.store ≡ Ok (option_map (λ s. s.0) (first_served i a.store))
+    first_is : (interest : List ℕ) (i : Interest) → interest_of interest ≡ Ok i
+        → served_part interest a.store ≡ Ok (option_map (λ s. s.0) (first_served i a.store))
     unfolding served_entry
-    first_is interest i e = ap (λ (r : Result Interest PacketFault). (r >>= λ j. let z : Result (Option Packet) PacketFault = Ok (first_served j a.store) in z) >>= λ o. let z : Result (Option Part) PacketFault = Ok (option_map (λ s. s.0) o) in z) e
+    first_is interest i e =
+        ap (λ (r : Result Interest PacketFault). (r
+        >>= λ j. let z : Result (Option Packet) PacketFault = Ok (first_served j a.store) in z)
+        >>= λ o. let z : Result (Option Part) PacketFault = Ok (option_map (λ s. s.0) o) in z) e
 
-    pub gives_its : AreAllClear g logs → (t : Part) → IsPublishedPart logs t → contains part_cmp (keys a.store) t ≡ true → came_of g logs (keys a.store) t ≡ Its
+    pub gives_its : AreAllClear g logs → (t : Part) → IsPublishedPart logs t → contains part_cmp (keys a.store) t ≡ true
+        → came_of g logs (keys a.store) t ≡ Its
     gives_its clear t is holds =
-        ap (λ (es : List Packet). judged_packet g logs t (found (served (true_want g logs t).interest es))) (sym (stores_those g logs a truly))
-        ∙ go (option_map (λ s. s.0) (first_served asking a.store)) (first_is (true_want g logs t).interest asking interest) where
+        ap (λ (es : List Packet). judged_packet g logs t (found (served (true_want g logs t).interest es)))
+        (sym (stores_those g logs a truly))
+        ∙ go (option_map (λ s. s.0) (first_served asking a.store))
+        (first_is (true_want g logs t).interest asking interest) where
           y : List ℕ
           y = unwrap_or (true_packet g logs t) []
 
@@ -238,38 +311,57 @@ module _ (g : GroupKeys) (logs : Logs) (are : AreLogs g logs) where
           asking : Interest
           asking = read_plain (asked_name (true_want g logs t).name (true_want g logs t).digest) false
 
-          interest : interest_of (true_want g logs t).interest ≡ Ok (read_plain (asked_name (true_want g logs t).name (true_want g logs t).digest) false)
+          interest : interest_of (true_want g logs t).interest
+              ≡ Ok (read_plain (asked_name (true_want g logs t).name (true_want g logs t).digest) false)
           interest = (part_is t is (unwrap_or (true_packet g logs t) []) (packet_is g logs t are is)).interest
 
-          stored : (o : Option (List ℕ)) → value_of part_cmp a.store t ≡ o → value_of part_cmp a.store t ≡ Some (unwrap_or (true_packet g logs t) [])
+          stored : (o : Option (List ℕ)) → value_of part_cmp a.store t ≡ o
+              → value_of part_cmp a.store t ≡ Some (unwrap_or (true_packet g logs t) [])
           stored None e = absurd (true≢false (sym holds ∙ sym (has_value a.store t) ∙ ap is_some e))
           stored (Some x) e = e ∙ sym (truly.packets t x e) ∙ packet_is g logs t are is
 
-          go : (o : Option Part) → served_part (true_want g logs t).interest a.store ≡ Ok o → judged_packet g logs t (found (served (true_want g logs t).interest a.store)) ≡ Its
+          go : (o : Option Part) → served_part (true_want g logs t).interest a.store ≡ Ok o
+              → judged_packet g logs t (found (served (true_want g logs t).interest a.store)) ≡ Its
           go None e =
-              let none = served_least (true_want g logs t).interest a.store (read_plain (asked_name (true_want g logs t).name (true_want g logs t).digest) false) None truly.sound.in_order.held interest e in
-              absurd (true≢false (sym (own_asked t is (unwrap_or (true_packet g logs t) []) its) ∙ none refl t (unwrap_or (true_packet g logs t) []) (stored (value_of part_cmp a.store t) refl)))
+              let none =
+              served_least (true_want g logs t).interest a.store
+              (read_plain (asked_name (true_want g logs t).name (true_want g logs t).digest) false) None
+              truly.sound.in_order.held interest e in
+              absurd
+              (true≢false (sym (own_asked t is (unwrap_or (true_packet g logs t) []) its)
+              ∙ none refl t (unwrap_or (true_packet g logs t) []) (stored (value_of part_cmp a.store t) refl)))
           go (Some u) e =
-              let found_u = (served_least (true_want g logs t).interest a.store (read_plain (asked_name (true_want g logs t).name (true_want g logs t).digest) false) (Some u) truly.sound.in_order.held interest e).1 in
+              let found_u =
+              (served_least (true_want g logs t).interest a.store
+              (read_plain (asked_name (true_want g logs t).name (true_want g logs t).digest) false) (Some u)
+              truly.sound.in_order.held interest e).1 in
               let same : found_u.octets ≡ unwrap_or (true_packet g logs t) [] =
-              asked_is clear t u is (stored_there u found_u.octets found_u.stored) (unwrap_or (true_packet g logs t) []) found_u.octets its (truly.packets u found_u.octets found_u.stored) found_u.satisfied in
+              asked_is clear t u is (stored_there u found_u.octets found_u.stored) (unwrap_or (true_packet g logs t) [])
+              found_u.octets its (truly.packets u found_u.octets found_u.stored) found_u.satisfied in
               ap (λ (r : Result (Option (List ℕ)) PacketFault). judged_packet g logs t (found r))
-              (served_of_part (true_want g logs t).interest a.store u truly.sound.in_order.held e ∙ ap (λ (o : Option (List ℕ)). let r : Result (Option (List ℕ)) PacketFault = Ok o in r) found_u.stored)
-              ∙ its_octets g logs t are is found_u.octets ((bytes_eq-Decides found_u.octets (unwrap_or (true_packet g logs t) [])).1 same)
+              (served_of_part (true_want g logs t).interest a.store u truly.sound.in_order.held e
+              ∙ ap (λ (o : Option (List ℕ)). let r : Result (Option (List ℕ)) PacketFault = Ok o in r) found_u.stored)
+              ∙ its_octets g logs t are is found_u.octets
+              ((bytes_eq-Decides found_u.octets (unwrap_or (true_packet g logs t) [])).1 same)
 
 -- ---- worlds
 
-module _ (s : GroupState) (is : IsTrueState s) (clear : AreAllClear s.keys (logs_around s.members)) (j f : ℕ) (t : Part) (there : j < length s.members) (claim : claim_at (world_of s) j f ≡ Some t) where
+module _ (s : GroupState) (is : IsTrueState s) (clear : AreAllClear s.keys (logs_around s.members)) (j f : ℕ) (t : Part)
+    (there : j < length s.members) (claim : claim_at (world_of s) j f ≡ Some t) where
   claimed : claim_of (alone_plan (alone_at s.members j)) f ≡ Some t
   claimed = sym (ap (λ (x : Member). get_or x.claims (f - 1) None) (member_at s.members j)) ∙ claim
 
   pub held_is_kept : (q : ℕ) → q < length s.members → member_holds (member (world_of s) q) t ≡ true → IsKept s j f q
   held_is_kept q other holds =
-      let published = claim_published s.keys (logs_around s.members) (alone_at s.members j) is.are (is.members j there) f t claimed in
-      let stored : contains part_cmp (keys (alone_at s.members q).store) t ≡ true = sym (ap (λ (x : Member). contains part_cmp x.held t) (member_at s.members q)) ∙ holds in
+      let published =
+      claim_published s.keys (logs_around s.members) (alone_at s.members j) is.are (is.members j there) f t claimed in
+      let stored : contains part_cmp (keys (alone_at s.members q).store) t ≡ true =
+      sym (ap (λ (x : Member). contains part_cmp x.held t) (member_at s.members q)) ∙ holds in
       let came : came_from (keyed s.keys) (world_of s) q (claim_at (world_of s) j f) ≡ Its =
-      ap (came_from (keyed s.keys) (world_of s) q) claim ∙ ap (λ (x : Member). came_of s.keys (logs_around s.members) x.held t) (member_at s.members q)
-      ∙ gives_its s.keys (logs_around s.members) is.are (alone_at s.members q) (is.members q other) clear t published stored in
+      ap (came_from (keyed s.keys) (world_of s) q) claim
+      ∙ ap (λ (x : Member). came_of s.keys (logs_around s.members) x.held t) (member_at s.members q)
+      ∙ gives_its s.keys (logs_around s.members) is.are (alone_at s.members q) (is.members q other) clear t published
+      stored in
       record {
         taken = λ i. if_idle_or_foreign (claim i) (came i);
         told = ap (λ (k : Came). answer_told j f (passes_checks k)) came;
@@ -277,11 +369,15 @@ module _ (s : GroupState) (is : IsTrueState s) (clear : AreAllClear s.keys (logs
 
   pub publisher_is_kept : IsKept s j f t.publisher ⊎ (member_hides (member (world_of s) t.publisher) (pair_of t) ≡ true)
   publisher_is_kept =
-      let published = claim_published s.keys (logs_around s.members) (alone_at s.members j) is.are (is.members j there) f t claimed in
+      let published =
+      claim_published s.keys (logs_around s.members) (alone_at s.members j) is.are (is.members j there) f t claimed in
       let many : length (logs_around s.members) ≡ length s.members = many_logs s.members in
-      let other : t.publisher < length s.members = let l = publisher_there (logs_around s.members) (pair_of t) published.there in omega (arith, l, many) in
-      let among : j < length (in_groups s.members) = subst (λ (n : ℕ). j < n) (sym (length-map s.members in_group)) there in
-      let wanted : is_wanted (plan_of (logs_around s.members) (member (world_of s) j)) t ≡ true = ((sound_state s is).members j among).claimed (f - 1) t claim in
+      let other : t.publisher < length s.members =
+      let l = publisher_there (logs_around s.members) (pair_of t) published.there in omega (arith, l, many) in
+      let among : j < length (in_groups s.members) =
+      subst (λ (n : ℕ). j < n) (sym (length-map s.members in_group)) there in
+      let wanted : is_wanted (plan_of (logs_around s.members) (member (world_of s) j)) t ≡ true =
+      ((sound_state s is).members j among).claimed (f - 1) t claim in
       elim (publisher_holds (keyed s.keys) (world_of s) (sound_state s is) j t among wanted) [
         | inl holds ↦ inl (held_is_kept t.publisher other holds)
         | inr hidden ↦ inr hidden

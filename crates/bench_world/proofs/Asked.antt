@@ -1,5 +1,6 @@
 -- What comes of a claim of a member among others, which is taken out and put back.
-use Rattle.std.proofs.Common.{◌≡◌, ◌≢◌, ◌⊎◌, inl, inr, ℕ, ◌<◌, List, length, set, Option, Some, None, option_map, sym, ap, ◌∙◌, subst, arith}
+use Rattle.std.proofs.Common.{◌≡◌, ◌≢◌, ◌⊎◌, inl, inr, ℕ, ◌<◌, List, length, set, Option, Some, None, option_map, sym}
+use Rattle.std.proofs.Common.{ap, ◌∙◌, subst, arith}
 use Rattle.std.specs.Prelude.{IfOk, IfErr, OnOk, OnErr, Result, Ok, Err}
 use Rattle.std.specs.List.{remove, insert}
 use Rattle.repo_plan.specs.declared.part.Part.{Part}
@@ -22,7 +23,8 @@ use Rattle.bench_world.specs.declared.event.StepFault.{StepFault}
 use Rattle.bench_world.specs.declared.answering.Fed.{Fed}
 use Rattle.bench_world.specs.Worlds.{alone_at, AreTrueMembers, MembersAreNumbered}
 use Rattle.bench_world.specs.Serving.{octets_as, judged_packet, found}
-use Rattle.bench_world.specs.Answering.{answered, claim_in, came_in, came_for, fed_as, kept_of, accepts_claimed, after_claimed}
+use Rattle.bench_world.specs.Answering.{answered, claim_in, came_in, came_for, fed_as, kept_of, accepts_claimed}
+use Rattle.bench_world.specs.Answering.{after_claimed}
 use Rattle.bench_world.proofs.Coming.{claim_published, claim_of_another, publisher_there}
 use Rattle.bench_world.proofs.TakenOut.{put_in, put_back}
 
@@ -42,57 +44,86 @@ if_err (Err e) p f = f e p
 
 -- ---- a member and its claim
 
-module _ (g : GroupKeys) (logs : Logs) (ms : List Alone) (are : AreLogs g logs) (numbers : MembersAreNumbered ms) (truly : AreTrueMembers g logs ms) (wide : length ms ≡ length logs)
-    (m : ℕ) (there : m < length ms) (f : ℕ) (want : WantedPart) (claim : claim_of (alone_plan (alone_at ms m)) f ≡ Some want.part) where
+module _ (g : GroupKeys) (logs : Logs) (ms : List Alone) (are : AreLogs g logs) (numbers : MembersAreNumbered ms)
+    (truly : AreTrueMembers g logs ms) (wide : length ms ≡ length logs)
+    (m : ℕ) (there : m < length ms) (f : ℕ) (want : WantedPart)
+    (claim : claim_of (alone_plan (alone_at ms m)) f ≡ Some want.part) where
   -- The publisher of what is claimed is another member.
   pub publisher_in : want.part.publisher < length ms
-  publisher_in = let p = publisher_there logs (pair_of want.part) (claim_published g logs (alone_at ms m) are (truly m there) f want.part claim).there in omega (arith, p, wide)
+  publisher_in =
+      let p =
+      publisher_there logs (pair_of want.part)
+      (claim_published g logs (alone_at ms m) are (truly m there) f want.part claim).there in
+      omega (arith, p, wide)
 
   pub publisher_other : want.part.publisher ≢ m
-  publisher_other same = claim_of_another g logs (alone_at ms m) are (truly m there) f want.part claim (same ∙ sym (numbers m there))
+  publisher_other same =
+      claim_of_another g logs (alone_at ms m) are (truly m there) f want.part claim (same ∙ sym (numbers m there))
 
   module _ (want_is : want ≡ true_want g logs want.part) where
     -- So it can be asked for.
     pub can_ask : IsFetcher f → (x p : Alone) → x ≡ alone_at ms m → p ≡ alone_at ms want.part.publisher
-        → AreLogs g logs × (IsTrueMember g logs p × (p.number ≡ want.part.publisher × (IsTrueMember g logs x × (IsFetcher f × (claim_of (alone_plan x) f ≡ Some want.part × want ≡ true_want g logs want.part)))))
+        → AreLogs g logs
+        × (IsTrueMember g logs p
+        × (p.number ≡ want.part.publisher
+        × (IsTrueMember g logs x
+        × (IsFetcher f × (claim_of (alone_plan x) f ≡ Some want.part × want ≡ true_want g logs want.part)))))
     can_ask fetcher x p x_is p_is = (
       are,
       (
         subst (IsTrueMember g logs) (sym p_is) (truly want.part.publisher publisher_in),
         (
           ap (λ (a : Alone). a.number) p_is ∙ numbers want.part.publisher publisher_in,
-          (subst (IsTrueMember g logs) (sym x_is) (truly m there), (fetcher, (ap (λ (a : Alone). claim_of (alone_plan a) f) x_is ∙ claim, want_is))),
+          (
+            subst (IsTrueMember g logs) (sym x_is) (truly m there),
+            (fetcher, (ap (λ (a : Alone). claim_of (alone_plan a) f) x_is ∙ claim, want_is)),
+          ),
         ),
       ),
     )
 
     -- What a member serves is what the group says that it gives.
-    pub served_is : (q : ℕ) → q < length ms → (b : Alone) → b ≡ alone_at ms q → judged_packet g logs want.part (found (served want.interest b.store)) ≡ came_in g logs ms q (claim_in ms m f)
+    pub served_is : (q : ℕ) → q < length ms → (b : Alone) → b ≡ alone_at ms q
+        → judged_packet g logs want.part (found (served want.interest b.store)) ≡ came_in g logs ms q (claim_in ms m f)
     served_is q other b b_is =
         ap (λ (a : Alone). judged_packet g logs want.part (found (served want.interest a.store))) b_is
-        ∙ ap (λ (es : List Packet). judged_packet g logs want.part (found (served want.interest es))) (stores_those g logs (alone_at ms q) (truly q other))
-        ∙ ap (λ (w : WantedPart). judged_packet g logs want.part (found (served w.interest (true_packets g logs (keys (alone_at ms q).store))))) want_is
+        ∙ ap (λ (es : List Packet). judged_packet g logs want.part (found (served want.interest es)))
+        (stores_those g logs (alone_at ms q) (truly q other))
+        ∙ ap (λ (w : WantedPart).
+        judged_packet g logs want.part (found (served w.interest (true_packets g logs (keys (alone_at ms q).store)))))
+        want_is
         ∙ ap (came_in g logs ms q) (sym claim)
 
   -- ---- by what came
 
   module _ (came k : Came) (same : k ≡ came) where
-    pub kept_so : {E : Type 0} (r : Result (Option ℕ) E) → IfOk r (λ kept. answered g logs (Some want.part) k ≡ Ok kept) → IfOk r (λ kept. answered g logs (claim_in ms m f) came ≡ Ok kept)
-    kept_so r h = subst (λ (o : Option Part). IfOk r (λ kept. answered g logs o came ≡ Ok kept)) (sym claim) (subst (λ (c : Came). IfOk r (λ kept. answered g logs (Some want.part) c ≡ Ok kept)) same h)
+    pub kept_so : {E : Type 0} (r : Result (Option ℕ) E) → IfOk r (λ kept. answered g logs (Some want.part) k ≡ Ok kept)
+        → IfOk r (λ kept. answered g logs (claim_in ms m f) came ≡ Ok kept)
+    kept_so r h =
+        subst (λ (o : Option Part). IfOk r (λ kept. answered g logs o came ≡ Ok kept)) (sym claim)
+        (subst (λ (c : Came). IfOk r (λ kept. answered g logs (Some want.part) c ≡ Ok kept)) same h)
 
-    pub fed_so : {E : Type 0} (octets : List ℕ) (r : Result Fed E) → IfOk r (λ fed. answered g logs (Some want.part) k ≡ Ok (kept_of octets fed)) → IfOk r (λ fed. answered g logs (claim_in ms m f) came ≡ Ok (kept_of octets fed))
+    pub fed_so : {E : Type 0} (octets : List ℕ) (r : Result Fed E)
+        → IfOk r (λ fed. answered g logs (Some want.part) k ≡ Ok (kept_of octets fed))
+        → IfOk r (λ fed. answered g logs (claim_in ms m f) came ≡ Ok (kept_of octets fed))
     fed_so octets r h =
         subst (λ (o : Option Part). IfOk r (λ fed. answered g logs o came ≡ Ok (kept_of octets fed))) (sym claim)
         (subst (λ (c : Came). IfOk r (λ fed. answered g logs (Some want.part) c ≡ Ok (kept_of octets fed))) same h)
 
-    pub refused_so : {T : Type 0} (r : Result T StepFault) → IfErr r (λ fault. (fault ≡ StepFault.NoMemory) ⊎ (answered g logs (Some want.part) k ≡ Err fault))
+    pub refused_so : {T : Type 0} (r : Result T StepFault)
+        → IfErr r (λ fault. (fault ≡ StepFault.NoMemory) ⊎ (answered g logs (Some want.part) k ≡ Err fault))
         → IfErr r (λ fault. (fault ≡ StepFault.NoMemory) ⊎ (answered g logs (claim_in ms m f) came ≡ Err fault))
     refused_so r h =
-        subst (λ (o : Option Part). IfErr r (λ fault. (fault ≡ StepFault.NoMemory) ⊎ (answered g logs o came ≡ Err fault))) (sym claim)
-        (subst (λ (c : Came). IfErr r (λ fault. (fault ≡ StepFault.NoMemory) ⊎ (answered g logs (Some want.part) c ≡ Err fault))) same h)
+        subst
+        (λ (o : Option Part). IfErr r (λ fault. (fault ≡ StepFault.NoMemory) ⊎ (answered g logs o came ≡ Err fault)))
+        (sym claim)
+        (subst (λ (c : Came).
+        IfErr r (λ fault. (fault ≡ StepFault.NoMemory) ⊎ (answered g logs (Some want.part) c ≡ Err fault))) same h)
 
-    module _ (mid new : List Alone) (x y : Alone) (x_is : x ≡ alone_at ms m) (mid_is : mid ≡ remove ms m) (new_is : new ≡ insert mid m y) where
-      pub members_so : {T E : Type 0} (r : Result T E) → OnOk r (y ≡ accepts_claimed g logs f want.part k x) → OnOk r (new ≡ set ms m (after_claimed g logs f (claim_in ms m f) came (alone_at ms m)))
+    module _ (mid new : List Alone) (x y : Alone) (x_is : x ≡ alone_at ms m) (mid_is : mid ≡ remove ms m)
+        (new_is : new ≡ insert mid m y) where
+      pub members_so : {T E : Type 0} (r : Result T E) → OnOk r (y ≡ accepts_claimed g logs f want.part k x)
+          → OnOk r (new ≡ set ms m (after_claimed g logs f (claim_in ms m f) came (alone_at ms m)))
       members_so r h = on_ok r h (λ e.
           put_in ms mid new m y there mid_is new_is
           ∙ ap (set ms m) (e ∙ ap (accepts_claimed g logs f want.part k) x_is
@@ -103,13 +134,22 @@ module _ (g : GroupKeys) (logs : Logs) (ms : List Alone) (are : AreLogs g logs) 
       still_so r h = on_err r h (λ e. put_back ms mid new m y there mid_is new_is (e ∙ x_is))
 
   -- It isn't refused for want of a claim.
-  pub busy_so : {T : Type 0} (k : Came) (r : Result T StepFault) → IfErr r (λ fault. (fault ≡ StepFault.NoMemory) ⊎ (answered g logs (Some want.part) k ≡ Err fault))
-      → (r ≡ Err (StepFault.Refused 7) → claim_in ms m f ≡ None) × (claim_in ms m f ≡ None → r ≡ Err (StepFault.Refused 7))
-  busy_so k r h = (λ e. absurd (go k (subst (λ x. IfErr x (λ fault. (fault ≡ StepFault.NoMemory) ⊎ (answered g logs (Some want.part) k ≡ Err fault))) e h)), λ none. absurd (claims (sym claim ∙ none))) where
+  pub busy_so : {T : Type 0} (k : Came) (r : Result T StepFault)
+      → IfErr r (λ fault. (fault ≡ StepFault.NoMemory) ⊎ (answered g logs (Some want.part) k ≡ Err fault))
+      → (r ≡ Err (StepFault.Refused 7) → claim_in ms m f ≡ None)
+      × (claim_in ms m f ≡ None → r ≡ Err (StepFault.Refused 7))
+  busy_so k r h = (
+    λ e. absurd
+        (go k (subst
+        (λ x. IfErr x (λ fault. (fault ≡ StepFault.NoMemory) ⊎ (answered g logs (Some want.part) k ≡ Err fault))) e h)),
+    λ none. absurd (claims (sym claim ∙ none)),
+  ) where
     claims : Some want.part ≡ None → ⊥
     claims e = cc
 
-    go : (k : Came) → (StepFault.Refused 7 ≡ StepFault.NoMemory) ⊎ (answered g logs (Some want.part) k ≡ Err (StepFault.Refused 7)) → ⊥
+    go : (k : Came)
+        → (StepFault.Refused 7 ≡ StepFault.NoMemory) ⊎ (answered g logs (Some want.part) k ≡ Err (StepFault.Refused 7))
+        → ⊥
     go k (inl memory) = cc
     go Nothing (inr e) = cc
     go Its (inr e) = cc
@@ -120,16 +160,25 @@ module _ (g : GroupKeys) (logs : Logs) (ms : List Alone) (are : AreLogs g logs) 
   pub came_for_it : (octets : List ℕ) → octets_as g logs want.part octets ≡ came_for g logs octets (claim_in ms m f)
   came_for_it octets = ap (came_for g logs octets) (sym claim)
 
-  pub told_so : {E : Type 0} (octets : List ℕ) (r : Result Fed E) → IfOk r (λ fed. fed ≡ fed_as g logs octets want.part) → IfOk r (λ fed. option_map (fed_as g logs octets) (claim_in ms m f) ≡ Some fed)
-  told_so octets r h = subst (λ (o : Option Part). IfOk r (λ fed. option_map (fed_as g logs octets) o ≡ Some fed)) (sym claim) (go r h) where
-    go : {E : Type 0} (r : Result Fed E) → IfOk r (λ fed. fed ≡ fed_as g logs octets want.part) → IfOk r (λ fed. Some (fed_as g logs octets want.part) ≡ Some fed)
-    go (Ok fed) e = ap (λ (x : Fed). let o : Option Fed = Some x in o) (sym e)
-    go (Err x) e = tt
+  pub told_so : {E : Type 0} (octets : List ℕ) (r : Result Fed E) → IfOk r (λ fed. fed ≡ fed_as g logs octets want.part)
+      → IfOk r (λ fed. option_map (fed_as g logs octets) (claim_in ms m f) ≡ Some fed)
+  told_so octets r h =
+      subst (λ (o : Option Part). IfOk r (λ fed. option_map (fed_as g logs octets) o ≡ Some fed)) (sym claim)
+      (go r h) where
+        go : {E : Type 0} (r : Result Fed E) → IfOk r (λ fed. fed ≡ fed_as g logs octets want.part)
+            → IfOk r (λ fed. Some (fed_as g logs octets want.part) ≡ Some fed)
+        go (Ok fed) e = ap (λ (x : Fed). let o : Option Fed = Some x in o) (sym e)
+        go (Err x) e = tt
 
   -- They are foreign where they pass and aren't the publisher's.
-  pub foreign_so : {T : Type 0} (octets : List ℕ) (r : Result T StepFault) → IfErr r (λ fault. (fault ≡ StepFault.NoMemory) ⊎ ((fault ≡ StepFault.Foreign) × (octets_as g logs want.part octets ≡ Another)))
-      → IfErr r (λ fault. (fault ≡ StepFault.NoMemory) ⊎ (answered g logs (Some want.part) (octets_as g logs want.part octets) ≡ Err fault))
+  pub foreign_so : {T : Type 0} (octets : List ℕ) (r : Result T StepFault)
+      → IfErr r (λ fault.
+      (fault ≡ StepFault.NoMemory) ⊎ ((fault ≡ StepFault.Foreign) × (octets_as g logs want.part octets ≡ Another)))
+      → IfErr r (λ fault.
+      (fault ≡ StepFault.NoMemory) ⊎ (answered g logs (Some want.part) (octets_as g logs want.part octets) ≡ Err fault))
   foreign_so octets r h = if_err r h (λ fault k. elim k [
     | inl memory ↦ inl memory
-    | inr foreign ↦ inr (ap (answered g logs (Some want.part)) foreign.1 ∙ ap (λ (e : StepFault). let a : Result (Option ℕ) StepFault = Err e in a) (sym foreign.0))
+    | inr foreign ↦
+        inr (ap (answered g logs (Some want.part)) foreign.1
+        ∙ ap (λ (e : StepFault). let a : Result (Option ℕ) StepFault = Err e in a) (sym foreign.0))
   ])

@@ -1,11 +1,13 @@
 -- What a block of an insertion makes of a world.
-use Rattle.std.proofs.Common.{◌≡◌, inl, inr, ℕ, ◌+◌, ◌≤◌, ◌<◌, Bool, true, false, cond, not, Some, None, Result, Ok, Err, List, [], ◌++◌, length, get_or, set, refl, sym, ap, ◌∙◌, subst, arith}
+use Rattle.std.proofs.Common.{◌≡◌, inl, inr, ℕ, ◌+◌, ◌≤◌, ◌<◌, Bool, true, false, cond, not, Some, None, Result, Ok}
+use Rattle.std.proofs.Common.{Err, List, [], ◌++◌, length, get_or, set, refl, sym, ap, ◌∙◌, subst, arith}
 use Rattle.std.specs.Prelude.{nat_le, ◌↔◌, IsTrue, unwrap_or}
 use Rattle.std.specs.List.{All}
 use Rattle.std.specs.Ordering.{nat_cmp, eq_by_cmp}
 use Rattle.std.proofs.lemmas.Bool.{cases_eq, cases_Bool, false_from_ne_true, leb-true, leb-false, le-leb, lt-ltb}
 use Rattle.std.proofs.lemmas.Cmp.{nat_cmp_total}
-use Rattle.std.proofs.lemmas.List.{length-map, length-set, map-set, set-set, set-get_or, get_or-set_same, get_or-set_other}
+use Rattle.std.proofs.lemmas.List.{length-map, length-set, map-set, set-set, set-get_or, get_or-set_same}
+use Rattle.std.proofs.lemmas.List.{get_or-set_other}
 use Rattle.bench_net.specs.SentList.{SentPacket}
 use Rattle.repo_plan.specs.SortedList.{value_of}
 use Rattle.repo_plan.proofs.Orders.{Exact, nat_same, nat_itself}
@@ -21,7 +23,8 @@ use Rattle.group_model.specs.Events.{Event}
 use Rattle.group_model.specs.Limits.{IsWithinSteps, IsMemberWithin}
 use Rattle.group_model.specs.Member.{Member}
 use Rattle.group_model.specs.Refusals.{Refusal, unless, if_whole, refusal}
-use Rattle.group_model.specs.Steps.{after_publish, after_block, after_event, block_at, with_process_at, next_seq_at, next_sync}
+use Rattle.group_model.specs.Steps.{after_publish, after_block, after_event, block_at, with_process_at, next_seq_at}
+use Rattle.group_model.specs.Steps.{next_sync}
 use Rattle.group_model.specs.World.{World, member}
 use Rattle.repo_member.specs.declared.member.block.Blocked.{Blocked}
 use Rattle.repo_member.specs.declared.member.block.Blocked.TheVariants as blocked
@@ -35,19 +38,23 @@ use Rattle.repo_member.specs.TrueMembers.{IsTrueMember}
 use Rattle.repo_member.proofs.PublicLaws.{block_states_alike, inserts_true}
 use Rattle.bench_world.specs.Blocks.{after_blocked, blocked_told}
 use Rattle.bench_world.specs.EventValues.{Told, block_told}
-use Rattle.bench_world.specs.Worlds.{GroupState, IsTrueState, IsTrueSync, nobody, alone_at, in_groups, logs_around, MembersAreNumbered, AreTrueMembers, sync_in, world_of, drawing}
+use Rattle.bench_world.specs.Worlds.{GroupState, IsTrueState, IsTrueSync, nobody, alone_at, in_groups, logs_around}
+use Rattle.bench_world.specs.Worlds.{MembersAreNumbered, AreTrueMembers, sync_in, world_of, drawing}
 use Rattle.bench_world.proofs.Objects.{log_is, sent_is, world_sent, state_sent}
-use Rattle.bench_world.proofs.States.{truly, number_is, member_is, old_at, in_world, member_at, member_within, many, logs_are, set_truly, set_numbers, changed_state, stepped_at}
+use Rattle.bench_world.proofs.States.{truly, number_is, member_is, old_at, in_world, member_at, member_within, many}
+use Rattle.bench_world.proofs.States.{logs_are, set_truly, set_numbers, changed_state, stepped_at}
 
 exact_numbers : Exact nat_cmp
 exact_numbers = record { total = nat_cmp_total; same = nat_same; itself = nat_itself }
 
 few_indexes : (p : Process) → length (object_of p).contents ≤ 200 → length (indexes p) ≤ 200
-few_indexes p few = subst (λ (n : ℕ). n ≤ 200) (length-map (indexes p) (λ index. unwrap_or (value_of nat_cmp p.blocks index) [])) few
+few_indexes p few =
+    subst (λ (n : ℕ). n ≤ 200) (length-map (indexes p) (λ index. unwrap_or (value_of nat_cmp p.blocks index) [])) few
 
 -- ---- a member with another insertion process
 
-module _ (s : GroupState) (is : IsTrueState s) (m : ℕ) (there : m < length s.members) (old : Alone) (old_is : old ≡ get_or s.members m old) (number : ℕ) (p : Process) where
+module _ (s : GroupState) (is : IsTrueState s) (m : ℕ) (there : m < length s.members) (old : Alone)
+    (old_is : old ≡ get_or s.members m old) (number : ℕ) (p : Process) where
   abbrev kept : Alone
   kept = alone_keeps number p old
 
@@ -57,31 +64,51 @@ module _ (s : GroupState) (is : IsTrueState s) (m : ℕ) (there : m < length s.m
   keeping_world : world_of keeping ≡ with_process_at (world_of s) m number p
   keeping_world =
       ap (λ (ms : List Member). let w : World = record (world_of s) { members = ms } in w)
-      (map-set in_group s.members m kept ∙ ap (λ (x : Member). set (in_groups s.members) m (group.member_with_process number p x)) (sym (member_is s is m there old old_is)))
+      (map-set in_group s.members m kept
+      ∙ ap (λ (x : Member). set (in_groups s.members) m (group.member_with_process number p x))
+      (sym (member_is s is m there old old_is)))
 
   kept_numbers : MembersAreNumbered keeping.members
   kept_numbers = set_numbers s.members m there kept (number_is s is m there old old_is) is.numbers
 
   kept_truly : AreTrueMembers s.keys (logs_around s.members) keeping.members
-  kept_truly = set_truly s.members m there kept s.keys (logs_around s.members) is.members (inserts_true s.keys (logs_around s.members) (with_process number p old.insertions) old (truly s is m there old old_is))
+  kept_truly =
+      set_truly s.members m there kept s.keys (logs_around s.members) is.members
+      (inserts_true s.keys (logs_around s.members) (with_process number p old.insertions) old
+      (truly s is m there old old_is))
 
   kept_logs : logs_around keeping.members ≡ logs_around s.members
-  kept_logs = logs_are s.keys (logs_around s.members) keeping.members (length-set s.members m kept ∙ many s is) kept_numbers kept_truly
+  kept_logs =
+      logs_are s.keys (logs_around s.members) keeping.members (length-set s.members m kept ∙ many s is) kept_numbers
+      kept_truly
 
   module _ (few : length (indexes p) ≤ 200) where
     kept_within : IsMemberWithin s.steps (in_group kept)
-    kept_within = record { draws = before.draws; tried = before.tried; blocks = λ n q found. at n q (eq_by_cmp nat_cmp n number) (sym (value_of-with_value exact_numbers number p old.insertions.processes n) ∙ found) } where
+    kept_within = record {
+      draws = before.draws;
+      tried = before.tried;
+      blocks =
+          λ n q found. at n q (eq_by_cmp nat_cmp n number)
+          (sym (value_of-with_value exact_numbers number p old.insertions.processes n) ∙ found);
+    } where
       before : IsMemberWithin s.steps (in_group old)
-      before = subst (λ (a : Alone). IsMemberWithin s.steps (in_group a)) (sym (old_at s is m there old old_is)) (member_within s is m)
+      before =
+          subst (λ (a : Alone). IsMemberWithin s.steps (in_group a)) (sym (old_at s is m there old old_is))
+          (member_within s is m)
 
-      at : (n : ℕ) (q : Process) (b : Bool) → cond b (Some p) (value_of nat_cmp old.insertions.processes n) ≡ Some q → length (indexes q) ≤ 200
+      at : (n : ℕ) (q : Process) (b : Bool) → cond b (Some p) (value_of nat_cmp old.insertions.processes n) ≡ Some q
+          → length (indexes q) ≤ 200
       at n q true e = let same : p ≡ q = cc in subst (λ (x : Process). length (indexes x) ≤ 200) same few
       at n q false e = before.blocks n q e
 
     each_within : (j : ℕ) → IsMemberWithin s.steps (member (world_of keeping) j)
     each_within j = subst (IsMemberWithin s.steps) (sym (member_at keeping.members j)) (elim (cases_eq j m) [
-      | inl same ↦ subst (λ (a : Alone). IsMemberWithin s.steps (in_group a)) (sym (ap (alone_at keeping.members) same ∙ get_or-set_same s.members m kept nobody there)) kept_within
-      | inr other ↦ subst (λ (a : Alone). IsMemberWithin s.steps (in_group a)) (sym (get_or-set_other s.members m j kept nobody other)) (member_within s is j)
+      | inl same ↦
+          subst (λ (a : Alone). IsMemberWithin s.steps (in_group a))
+          (sym (ap (alone_at keeping.members) same ∙ get_or-set_same s.members m kept nobody there)) kept_within
+      | inr other ↦
+          subst (λ (a : Alone). IsMemberWithin s.steps (in_group a))
+          (sym (get_or-set_other s.members m j kept nobody other)) (member_within s is j)
     ])
 
     keeping_within : IsWithinSteps s.steps (world_of keeping)
@@ -89,17 +116,22 @@ module _ (s : GroupState) (is : IsTrueState s) (m : ℕ) (there : m < length s.m
       moment = is.within.moment;
       sent = is.within.sent;
       published = subst (λ (ls : Logs). length (published ls) ≤ s.steps) (sym kept_logs) is.within.published;
-      segments = subst (λ (ls : Logs). (i k : ℕ) → length (get_or (get_or ls i []) k no_object).contents ≤ 200) (sym kept_logs) is.within.segments;
+      segments =
+          subst (λ (ls : Logs). (i k : ℕ) → length (get_or (get_or ls i []) k no_object).contents ≤ 200) (sym kept_logs)
+          is.within.segments;
       members = each_within;
       tally = is.within.tally;
     }
 
     keeping_state : IsTrueState keeping
-    keeping_state = changed_state s is keeping.members s.sent s.moment s.tally s.steps (length-set s.members m kept) kept_numbers kept_truly is.sent is.steps keeping_within
+    keeping_state =
+        changed_state s is keeping.members s.sent s.moment s.tally s.steps (length-set s.members m kept) kept_numbers
+        kept_truly is.sent is.steps keeping_within
 
 -- ---- a block
 
-module _ (s : GroupState) (is : IsTrueState s) (m : ℕ) (there : m < length s.members) (old : Alone) (old_is : old ≡ get_or s.members m old) (process index : ℕ) (content : List ℕ) where
+module _ (s : GroupState) (is : IsTrueState s) (m : ℕ) (there : m < length s.members) (old : Alone)
+    (old_is : old ≡ get_or s.members m old) (process index : ℕ) (content : List ℕ) where
   abbrev comes_to : BlockState
   comes_to = alone_block old process index content
 
@@ -110,25 +142,34 @@ module _ (s : GroupState) (is : IsTrueState s) (m : ℕ) (there : m < length s.m
   state_is = block_states_alike (world_of s) m process index content old (in_world s is m there old old_is)
 
   abbrev IsSpent : {A : Type 0} → Result A PublishRefusal → Type 0
-  IsSpent r = (log : ℕ) → (r ≡ Err (NumbersSpent log)) ↔ (IsTrue (is_last comes_to) × (log ≡ length old.log) × (65535 ≤ length old.log))
+  IsSpent r =
+      (log : ℕ)
+      → (r ≡ Err (NumbersSpent log)) ↔ (IsTrue (is_last comes_to) × (log ≡ length old.log) × (65535 ≤ length old.log))
 
   -- It is refused where it would complete an object and all numbers are spent.
-  pub block_refused : {A : Type 0} (draw : ℕ → ℕ → ℕ) (r : Result A PublishRefusal) (log : ℕ) → r ≡ Err (NumbersSpent log) → IsSpent r → refusal (drawing draw) (world_of s) event ≡ Some Refusal.NumbersSpent
+  pub block_refused : {A : Type 0} (draw : ℕ → ℕ → ℕ) (r : Result A PublishRefusal) (log : ℕ)
+      → r ≡ Err (NumbersSpent log) → IsSpent r → refusal (drawing draw) (world_of s) event ≡ Some Refusal.NumbersSpent
   block_refused draw r log is_err spent =
       let all = (spent log).0 is_err in
       ap (if_whole (world_of s) m) state_is ∙ go comes_to all.0 all.2 where
-        go : (x : BlockState) → IsTrue (is_last x) → 65535 ≤ length old.log → if_whole (world_of s) m x ≡ Some Refusal.NumbersSpent
+        go : (x : BlockState) → IsTrue (is_last x) → 65535 ≤ length old.log
+            → if_whole (world_of s) m x ≡ Some Refusal.NumbersSpent
         go Unknown h most = absurd cc
         go Already h most = absurd cc
         go (Waiting p) h most = absurd cc
         go (Whole p) h most =
             let l = log_is s is m there old old_is in
-            ap (λ (c : Bool). unless (not c) Refusal.NumbersSpent) (le-leb 65535 (length (member (world_of s) m).log) (omega (arith, most, l)))
+            ap (λ (c : Bool). unless (not c) Refusal.NumbersSpent)
+            (le-leb 65535 (length (member (world_of s) m).log) (omega (arith, most, l)))
 
   -- One that is taken finds a number where it completes an object.
-  pub finds_number : {A : Type 0} (r : Result A PublishRefusal) (x : A) → r ≡ Ok x → IsSpent r → IsTrue (is_last comes_to) → length old.log < 65535
+  pub finds_number : {A : Type 0} (r : Result A PublishRefusal) (x : A) → r ≡ Ok x → IsSpent r
+      → IsTrue (is_last comes_to) → length old.log < 65535
   finds_number r x is_ok spent last = elim (cases_Bool (nat_le 65535 (length old.log))) [
-    | inl most ↦ absurd (let e : r ≡ Err (NumbersSpent (length old.log)) = (spent (length old.log)).1 (last, refl, leb-true 65535 (length old.log) most) in cc)
+    | inl most ↦
+        absurd (let e : r ≡ Err (NumbersSpent (length old.log)) =
+        (spent (length old.log)).1 (last, refl, leb-true 65535 (length old.log) most) in
+        cc)
     | inr less ↦ leb-false 65535 (length old.log) less
   ]
 
@@ -142,29 +183,41 @@ module _ (s : GroupState) (is : IsTrueState s) (m : ℕ) (there : m < length s.m
       go (Whole p) h =
           let less = h refl in
           let l = log_is s is m there old old_is in
-          ap (λ (c : Bool). unless (not c) Refusal.NumbersSpent) (false_from_ne_true (nat_le 65535 (length (member (world_of s) m).log)) (λ e.
-          let most : 65535 ≤ length (member (world_of s) m).log = leb-true 65535 (length (member (world_of s) m).log) e in omega (arith, most, less, l)))
+          ap (λ (c : Bool). unless (not c) Refusal.NumbersSpent)
+          (false_from_ne_true (nat_le 65535 (length (member (world_of s) m).log)) (λ e.
+          let most : 65535 ≤ length (member (world_of s) m).log =
+          leb-true 65535 (length (member (world_of s) m).log) e in
+          omega (arith, most, less, l)))
 
-    module _ (b : Alone) (draw : ℕ → ℕ → ℕ) (n : ℕ) (n_is : n ≡ draw m old.machine.draws) (b_is : b ≡ alone_blocks s.keys process index content s.moment n old)
+    module _ (b : Alone) (draw : ℕ → ℕ → ℕ) (n : ℕ) (n_is : n ≡ draw m old.machine.draws)
+        (b_is : b ≡ alone_blocks s.keys process index content s.moment n old)
         (x : Blocked) (tells : TellsBlock s.keys old b comes_to x) where
       -- What is told of it.
-      pub told_so : (told : Told) (k : ℕ) → told ≡ blocked_told m k x → k ≡ length s.sent + 1 → told ≡ block_told m (next_seq_at (world_of s) m) (next_sync (world_of s)) (block_at (world_of s) m process index content)
-      told_so told k e k_is = e ∙ go comes_to x tells ∙ ap (block_told m (next_seq_at (world_of s) m) (next_sync (world_of s))) (sym state_is) where
-        seq_so : (seq : ℕ) → seq ≡ length old.log + 1 → seq ≡ next_seq_at (world_of s) m
-        seq_so seq h = let l = log_is s is m there old old_is in omega (arith, h, l)
+      pub told_so : (told : Told) (k : ℕ) → told ≡ blocked_told m k x → k ≡ length s.sent + 1
+          → told ≡ block_told m (next_seq_at (world_of s) m) (next_sync (world_of s))
+          (block_at (world_of s) m process index content)
+      told_so told k e k_is =
+          e
+          ∙ go comes_to x tells
+          ∙ ap (block_told m (next_seq_at (world_of s) m) (next_sync (world_of s))) (sym state_is) where
+            seq_so : (seq : ℕ) → seq ≡ length old.log + 1 → seq ≡ next_seq_at (world_of s) m
+            seq_so seq h = let l = log_is s is m there old old_is in omega (arith, h, l)
 
-        sync_so : k ≡ next_sync (world_of s)
-        sync_so = let l = length-map s.sent sync_in in omega (arith, k_is, l)
+            sync_so : k ≡ next_sync (world_of s)
+            sync_so = let l = length-map s.sent sync_in in omega (arith, k_is, l)
 
-        go : (c : BlockState) (y : Blocked) → TellsBlock s.keys old b c y → blocked_told m k y ≡ block_told m (next_seq_at (world_of s) m) (next_sync (world_of s)) c
-        go Unknown blocked.Unknown t = refl
-        go Already blocked.Already t = refl
-        go (Waiting p) blocked.Waiting t = refl
-        go (Whole p) (blocked.Published one) t = λ i. Told.BlockPublished m (seq_so one.seq t.0 i) (sync_so i)
-        go _ _ t = absurd t
+            go : (c : BlockState) (y : Blocked) → TellsBlock s.keys old b c y
+                → blocked_told m k y ≡ block_told m (next_seq_at (world_of s) m) (next_sync (world_of s)) c
+            go Unknown blocked.Unknown t = refl
+            go Already blocked.Already t = refl
+            go (Waiting p) blocked.Waiting t = refl
+            go (Whole p) (blocked.Published one) t = λ i. Told.BlockPublished m (seq_so one.seq t.0 i) (sync_so i)
+            go _ _ t = absurd t
 
-      module _ (few : s.steps < 100000) (objects : CompletesAnObject comes_to) (sent reserved : List SentPacket) (vector : List ℕ)
-          (reserved_is : reserved ≡ s.sent) (vector_is : vector ≡ old.known) (sent_from : sent ≡ after_blocked m vector x reserved) where
+      module _ (few : s.steps < 100000) (objects : CompletesAnObject comes_to) (sent reserved : List SentPacket)
+          (vector : List ℕ)
+          (reserved_is : reserved ≡ s.sent) (vector_is : vector ≡ old.known)
+          (sent_from : sent ≡ after_blocked m vector x reserved) where
         abbrev after : GroupState
         after = record s { members = set s.members m b; sent = sent; steps = s.steps + 1 }
 
@@ -174,57 +227,90 @@ module _ (s : GroupState) (is : IsTrueState s) (m : ℕ) (there : m < length s.m
           pub state : IsTrueState after
 
         -- nothing is sent
-        unsent : (w : World) → w ≡ after_event (drawing draw) (world_of s) event → IsTrueMember s.keys (logs_around s.members) b → b.number ≡ m → sent ≡ s.sent → world_of after ≡ w → IsAfter w
+        unsent : (w : World) → w ≡ after_event (drawing draw) (world_of s) event
+            → IsTrueMember s.keys (logs_around s.members) b → b.number ≡ m → sent ≡ s.sent → world_of after ≡ w
+            → IsAfter w
         unsent w w_is true_ number same e = record {
           world = e;
-          state = stepped_at s is few (drawing draw) (λ t. omega arith) event tt m there b number true_ sent s.moment s.tally (subst (All (IsTrueSync s.keys (logs_around s.members))) (sym same) is.sent) (e ∙ w_is);
+          state =
+              stepped_at s is few (drawing draw) (λ t. omega arith) event tt m there b number true_ sent s.moment
+              s.tally (subst (All (IsTrueSync s.keys (logs_around s.members))) (sym same) is.sent) (e ∙ w_is);
         }
 
         -- the member is as before
-        still : world_of s ≡ after_event (drawing draw) (world_of s) event → b ≡ old → sent ≡ s.sent → IsAfter (world_of s)
+        still : world_of s ≡ after_event (drawing draw) (world_of s) event → b ≡ old → sent ≡ s.sent
+            → IsAfter (world_of s)
         still w_is same none =
-            let back : set s.members m b ≡ s.members = ap (set s.members m) (same ∙ old_at s is m there old old_is) ∙ set-get_or s.members m nobody in
-            unsent (world_of s) w_is (subst (IsTrueMember s.keys (logs_around s.members)) (sym same) (truly s is m there old old_is)) (ap (λ (a : Alone). a.number) same ∙ number_is s is m there old old_is) none
+            let back : set s.members m b ≡ s.members =
+            ap (set s.members m) (same ∙ old_at s is m there old old_is) ∙ set-get_or s.members m nobody in
+            unsent (world_of s) w_is
+            (subst (IsTrueMember s.keys (logs_around s.members)) (sym same) (truly s is m there old old_is))
+            (ap (λ (a : Alone). a.number) same ∙ number_is s is m there old old_is) none
             (λ i. world_of (record s { members = back i; sent = none i; steps = s.steps + 1 }))
 
         -- another block is missing
-        waits : (p : Process) → with_process_at (world_of s) m process p ≡ after_event (drawing draw) (world_of s) event → b ≡ alone_keeps process p old → sent ≡ s.sent → IsAfter (with_process_at (world_of s) m process p)
+        waits : (p : Process) → with_process_at (world_of s) m process p ≡ after_event (drawing draw) (world_of s) event
+            → b ≡ alone_keeps process p old → sent ≡ s.sent → IsAfter (with_process_at (world_of s) m process p)
         waits p w_is keeps none =
             unsent (with_process_at (world_of s) m process p) w_is
-            (subst (IsTrueMember s.keys (logs_around s.members)) (sym keeps) (inserts_true s.keys (logs_around s.members) (with_process process p old.insertions) old (truly s is m there old old_is)))
+            (subst (IsTrueMember s.keys (logs_around s.members)) (sym keeps)
+            (inserts_true s.keys (logs_around s.members) (with_process process p old.insertions) old
+            (truly s is m there old old_is)))
             (ap (λ (a : Alone). a.number) keeps ∙ number_is s is m there old old_is) none
-            ((λ i. world_of (record s { members = set s.members m (keeps i); sent = none i; steps = s.steps + 1 })) ∙ keeping_world s is m there old old_is process p)
+            ((λ i. world_of (record s { members = set s.members m (keeps i); sent = none i; steps = s.steps + 1 }))
+            ∙ keeping_world s is m there old old_is process p)
 
         -- the object is published by the member with a closed process
-        publishes : (p : Process) → IsObject (object_of p) → length old.log < 65535 → b ≡ own.alone_publishes_whole s.keys process s.moment n p old → (y : Blocked) → TellsBlock s.keys old b (Whole p) y → sent ≡ after_blocked m old.known y s.sent
+        publishes : (p : Process) → IsObject (object_of p) → length old.log < 65535
+            → b ≡ own.alone_publishes_whole s.keys process s.moment n p old → (y : Blocked)
+            → TellsBlock s.keys old b (Whole p) y → sent ≡ after_blocked m old.known y s.sent
             → IsAfter (after_publish (drawing draw) (with_process_at (world_of s) m process (closed p)) m (object_of p))
         publishes p object less e (blocked.Published one) t so =
             let now : Alone = alone_keeps process (closed p) old in
             let s1 : GroupState = record s { members = set s.members m now } in
-            let is1 : IsTrueState s1 = keeping_state s is m there old old_is process (closed p) (few_indexes p object.few) in
+            let is1 : IsTrueState s1 =
+            keeping_state s is m there old old_is process (closed p) (few_indexes p object.few) in
             let there1 : m < length s1.members = let l = length-set s.members m now in omega (arith, there, l) in
             let now_is : now ≡ get_or s1.members m now = sym (get_or-set_same s.members m now now there) in
-            let b_now : b ≡ alone_publishes s1.keys (object_of p) s1.moment n now = e ∙ ap (λ (c : Bool). cond c (alone_publishes s.keys (object_of p) s.moment n now) old) (lt-ltb (length old.log) 65535 less) in
-            let told : sent ≡ s1.sent ++ _ = sent_is s1 is1 m there1 now now_is b draw n n_is (object_of p) b_now sent s.sent old.known one.seq one.sync.items refl refl t.0 t.1 so in
+            let b_now : b ≡ alone_publishes s1.keys (object_of p) s1.moment n now =
+            e
+            ∙ ap (λ (c : Bool). cond c (alone_publishes s.keys (object_of p) s.moment n now) old)
+            (lt-ltb (length old.log) 65535 less) in
+            let told : sent ≡ s1.sent ++ _ =
+            sent_is s1 is1 m there1 now now_is b draw n n_is (object_of p) b_now sent s.sent old.known one.seq
+            one.sync.items refl refl t.0 t.1 so in
             let twice : set s1.members m b ≡ set s.members m b = set-set s.members m now b in
             record {
-              world = ap (λ (ms : List Alone). world_of (record s { members = ms; sent = sent; steps = s.steps + 1 })) (sym twice)
+              world =
+                  ap (λ (ms : List Alone). world_of (record s { members = ms; sent = sent; steps = s.steps + 1 }))
+                  (sym twice)
                   ∙ world_sent s1 is1 m there1 now now_is b draw n n_is (object_of p) b_now sent told
-                  ∙ ap (λ (w : World). after_publish (drawing draw) w m (object_of p)) (keeping_world s is m there old old_is process (closed p));
-              state = subst (λ (ms : List Alone). IsTrueState (record s { members = ms; sent = sent; steps = s.steps + 1 })) twice
+                  ∙ ap (λ (w : World). after_publish (drawing draw) w m (object_of p))
+                  (keeping_world s is m there old old_is process (closed p));
+              state =
+                  subst (λ (ms : List Alone). IsTrueState (record s { members = ms; sent = sent; steps = s.steps + 1 }))
+                  twice
                   (state_sent s1 is1 m there1 now now_is b draw n n_is (object_of p) b_now few object less sent told);
             }
         publishes p object less e _ t so = absurd t
 
         pub after_so : IsAfter (after_event (drawing draw) (world_of s) event)
-        after_so = subst IsAfter (sym is_event) (go comes_to (sym is_event) room b_is objects x tells (sent_from ∙ (λ i. after_blocked m (vector_is i) x (reserved_is i)))) where
-          is_event : after_event (drawing draw) (world_of s) event ≡ after_block (drawing draw) (world_of s) m process comes_to
-          is_event = ap (after_block (drawing draw) (world_of s) m process) state_is
+        after_so =
+            subst IsAfter (sym is_event)
+            (go comes_to (sym is_event) room b_is objects x tells
+            (sent_from ∙ (λ i. after_blocked m (vector_is i) x (reserved_is i)))) where
+              is_event : after_event (drawing draw) (world_of s) event
+                  ≡ after_block (drawing draw) (world_of s) m process comes_to
+              is_event = ap (after_block (drawing draw) (world_of s) m process) state_is
 
-          go : (c : BlockState) → after_block (drawing draw) (world_of s) m process c ≡ after_event (drawing draw) (world_of s) event → (IsTrue (is_last c) → length old.log < 65535) → b ≡ own.after_block s.keys process s.moment n old c → CompletesAnObject c
-              → (y : Blocked) → TellsBlock s.keys old b c y → sent ≡ after_blocked m old.known y s.sent → IsAfter (after_block (drawing draw) (world_of s) m process c)
-          go (Whole p) w_is h e object y t so = publishes p object (h refl) e y t so
-          go Unknown w_is h e object blocked.Unknown t so = still w_is e so
-          go Already w_is h e object blocked.Already t so = still w_is e so
-          go (Waiting p) w_is h e object blocked.Waiting t so = waits p w_is e so
-          go _ w_is h e object _ t so = absurd t
+              go : (c : BlockState)
+                  → after_block (drawing draw) (world_of s) m process c ≡ after_event (drawing draw) (world_of s) event
+                  → (IsTrue (is_last c) → length old.log < 65535) → b ≡ own.after_block s.keys process s.moment n old c
+                  → CompletesAnObject c
+                  → (y : Blocked) → TellsBlock s.keys old b c y → sent ≡ after_blocked m old.known y s.sent
+                  → IsAfter (after_block (drawing draw) (world_of s) m process c)
+              go (Whole p) w_is h e object y t so = publishes p object (h refl) e y t so
+              go Unknown w_is h e object blocked.Unknown t so = still w_is e so
+              go Already w_is h e object blocked.Already t so = still w_is e so
+              go (Waiting p) w_is h e object blocked.Waiting t so = waits p w_is e so
+              go _ w_is h e object _ t so = absurd t

@@ -1,6 +1,8 @@
 -- What a phase brings for the parts that a member asks for.
-use Rattle.std.proofs.Common.{◌≡◌, inl, inr, ℕ, suc, zero, ◌+◌, ◌≤◌, ◌<◌, Bool, true, false, cond, ◌==◌, List, [], ◌∷◌, map, length, replicate, Option, Some, None, refl, sym, ap, ◌∙◌, subst, arith}
-use Rattle.std.specs.Prelude.{is_some, unwrap_or, find, filter, option_map, slice_get, sum_by, IfSome, IsOk, Result, Ok, Err}
+use Rattle.std.proofs.Common.{◌≡◌, inl, inr, ℕ, suc, zero, ◌+◌, ◌≤◌, ◌<◌, Bool, true, false, cond, ◌==◌, List, [], ◌∷◌}
+use Rattle.std.proofs.Common.{map, length, replicate, Option, Some, None, refl, sym, ap, ◌∙◌, subst, arith}
+use Rattle.std.specs.Prelude.{is_some, unwrap_or, find, filter, option_map, slice_get, sum_by, IfSome, IsOk, Result, Ok}
+use Rattle.std.specs.Prelude.{Err}
 use Rattle.std.specs.List.{All}
 use Rattle.std.proofs.lemmas.List.Sums.{sum_by-cons}
 use Rattle.std.proofs.lemmas.Bool.{true≢false}
@@ -37,15 +39,21 @@ use Rattle.bench_world.proofs.Attempts.{none_comes, some_comes}
 
 module _ (g : GroupKeys) (logs : Logs) where
   -- What is lent is the packet of its part.
-  pub lends_true : (others : List Alone) → AreTrueMembers g logs others → (t : Part) (octets : List ℕ) → lent others t ≡ Some octets → true_packet g logs t ≡ Some octets
+  pub lends_true : (others : List Alone) → AreTrueMembers g logs others → (t : Part) (octets : List ℕ)
+      → lent others t ≡ Some octets → true_packet g logs t ≡ Some octets
   lends_true [] truly t octets e = absurd (none-some octets e)
-  lends_true (m ∷ ms) truly t octets e = go (value_of part_cmp m.store t) refl (lends_true ms (λ j l. truly (suc j) (omega (arith, l))) t octets) where
-    go : (o : Option (List ℕ)) → value_of part_cmp m.store t ≡ o → (lent ms t ≡ Some octets → true_packet g logs t ≡ Some octets) → true_packet g logs t ≡ Some octets
-    go None h rest = rest (sym (ap (λ (x : Option (List ℕ)). or_else x (lent ms t)) h) ∙ e)
-    go (Some x) h rest = (truly 0 (omega arith)).packets t octets (h ∙ sym (ap (λ (y : Option (List ℕ)). or_else y (lent ms t)) h) ∙ e)
+  lends_true (m ∷ ms) truly t octets e =
+      go (value_of part_cmp m.store t) refl (lends_true ms (λ j l. truly (suc j) (omega (arith, l))) t octets) where
+        go : (o : Option (List ℕ)) → value_of part_cmp m.store t ≡ o
+            → (lent ms t ≡ Some octets → true_packet g logs t ≡ Some octets) → true_packet g logs t ≡ Some octets
+        go None h rest = rest (sym (ap (λ (x : Option (List ℕ)). or_else x (lent ms t)) h) ∙ e)
+        go (Some x) h rest =
+            (truly 0 (omega arith)).packets t octets
+            (h ∙ sym (ap (λ (y : Option (List ℕ)). or_else y (lent ms t)) h) ∙ e)
 
   -- One of the members lends what one of them stores.
-  stored_lent : (others : List Alone) (k : ℕ) (t : Part) (octets : List ℕ) → lent_at (slice_get others k) t ≡ Some octets → is_some (lent others t) ≡ true
+  stored_lent : (others : List Alone) (k : ℕ) (t : Part) (octets : List ℕ)
+      → lent_at (slice_get others k) t ≡ Some octets → is_some (lent others t) ≡ true
   stored_lent [] k t octets e = absurd (none-some octets e)
   stored_lent (m ∷ ms) zero t octets e = ap (λ (o : Option (List ℕ)). is_some (or_else o (lent ms t))) e
   stored_lent (m ∷ ms) (suc k) t octets e = go (value_of part_cmp m.store t) (stored_lent ms k t octets e) where
@@ -53,42 +61,57 @@ module _ (g : GroupKeys) (logs : Logs) where
     go None h = h
     go (Some x) h = refl
 
-  stored_true : (others : List Alone) (k : ℕ) (t : Part) (octets : List ℕ) → AreTrueMembers g logs others → lent_at (slice_get others k) t ≡ Some octets → true_packet g logs t ≡ Some octets
+  stored_true : (others : List Alone) (k : ℕ) (t : Part) (octets : List ℕ) → AreTrueMembers g logs others
+      → lent_at (slice_get others k) t ≡ Some octets → true_packet g logs t ≡ Some octets
   stored_true [] k t octets truly e = absurd (none-some octets e)
   stored_true (m ∷ ms) zero t octets truly e = (truly 0 (omega arith)).packets t octets e
   stored_true (m ∷ ms) (suc k) t octets truly e = stored_true ms k t octets (λ j l. truly (suc j) (omega (arith, l))) e
 
   -- Whoever is asked first, what is lent is the same.
-  pub first_is_lent : (others : List Alone) (asker : ℕ) (t : Part) → AreTrueMembers g logs others → lent_first others asker t ≡ lent others t
-  first_is_lent others asker t truly = go (lent_at (slice_get others (place_among_others asker t.publisher)) t) (lent others t) refl refl where
-    go : (x y : Option (List ℕ)) → lent_at (slice_get others (place_among_others asker t.publisher)) t ≡ x → lent others t ≡ y → or_else x y ≡ y
-    go None y e f = refl
-    go (Some octets) None e f = absurd (true≢false (sym (stored_lent others (place_among_others asker t.publisher) t octets e) ∙ ap is_some f))
-    go (Some octets) (Some other) e f = sym (stored_true others (place_among_others asker t.publisher) t octets truly e) ∙ lends_true others truly t other f
+  pub first_is_lent : (others : List Alone) (asker : ℕ) (t : Part) → AreTrueMembers g logs others
+      → lent_first others asker t ≡ lent others t
+  first_is_lent others asker t truly =
+      go (lent_at (slice_get others (place_among_others asker t.publisher)) t) (lent others t) refl refl where
+        go : (x y : Option (List ℕ)) → lent_at (slice_get others (place_among_others asker t.publisher)) t ≡ x
+            → lent others t ≡ y → or_else x y ≡ y
+        go None y e f = refl
+        go (Some octets) None e f =
+            absurd
+            (true≢false (sym (stored_lent others (place_among_others asker t.publisher) t octets e) ∙ ap is_some f))
+        go (Some octets) (Some other) e f =
+            sym (stored_true others (place_among_others asker t.publisher) t octets truly e)
+            ∙ lends_true others truly t other f
 
 -- ---- what is checked
 
 module _ (g : GroupKeys) (want : WantedPart) where
-  checked_if : (v : Result Data PartRefusal) (octets : List ℕ) (x : CheckedPart) → if_passed v (checked_part want g.members.ring octets) ≡ Some x → IsCheckedFor g want x
-  checked_if (Ok d) octets x e = subst (λ o. IfSome o (IsCheckedFor g want)) e (record { same = refl; key_name = refl; key = refl })
+  checked_if : (v : Result Data PartRefusal) (octets : List ℕ) (x : CheckedPart)
+      → if_passed v (checked_part want g.members.ring octets) ≡ Some x → IsCheckedFor g want x
+  checked_if (Ok d) octets x e =
+      subst (λ o. IfSome o (IsCheckedFor g want)) e (record { same = refl; key_name = refl; key = refl })
   checked_if (Err refusal) octets x e = absurd (none-some x e)
 
-  checked_for : (reply : Option (List ℕ)) (x : CheckedPart) → checked_reply want g.members.ring reply ≡ Some x → IsCheckedFor g want x
+  checked_for : (reply : Option (List ℕ)) (x : CheckedPart) → checked_reply want g.members.ring reply ≡ Some x
+      → IsCheckedFor g want x
   checked_for None x e = absurd (none-some x e)
   checked_for (Some octets) x e = checked_if (ring_verdict want g.members.ring octets) octets x e
 
-  passed_whole : (octets : List ℕ) (v : Result Data PartRefusal) → IsOk v → if_passed v (checked_part want g.members.ring octets) ≡ Some (checked_part want g.members.ring octets)
+  passed_whole : (octets : List ℕ) (v : Result Data PartRefusal) → IsOk v
+      → if_passed v (checked_part want g.members.ring octets) ≡ Some (checked_part want g.members.ring octets)
   passed_whole octets (Ok d) h = refl
   passed_whole octets (Err refusal) h = absurd (true≢false (sym h))
 
 -- ---- what comes can be taken
 
 module _ (answer : WantedPart → ℕ → Option (List ℕ)) (g : GroupKeys) (tries : ℕ) where
-  one_tried : (job : Job) (part : Option CheckedPart) (n : ℕ) → IsFirst (brings answer g.members.ring job) tries part n → (IfSome part (IsCheckedFor g job.want)) × (n ≤ tries)
-  one_tried job (Some x) n f = (checked_for g job.want (answer job.want (job.base + f.0 + 1)) x f.3, omega (arith, f.1, f.2))
+  one_tried : (job : Job) (part : Option CheckedPart) (n : ℕ) → IsFirst (brings answer g.members.ring job) tries part n
+      → (IfSome part (IsCheckedFor g job.want)) × (n ≤ tries)
+  one_tried job (Some x) n f =
+      (checked_for g job.want (answer job.want (job.base + f.0 + 1)) x f.3, omega (arith, f.1, f.2))
   one_tried job None n f = (tt, omega (arith, f.0))
 
-  pub were_tried : (jobs : List Job) (parts : List (Option CheckedPart)) (ns : List ℕ) → All (CanBeTried (length g.members.ring) tries) jobs → AreFirst answer g.members.ring tries jobs parts ns
+  pub were_tried : (jobs : List Job) (parts : List (Option CheckedPart)) (ns : List ℕ)
+      → All (CanBeTried (length g.members.ring) tries) jobs → AreFirst answer g.members.ring tries jobs parts ns
       → WereTried g jobs parts ns
   were_tried [] [] [] can f = tt
   were_tried (job ∷ jobs) (part ∷ parts) (n ∷ ns) can f =
@@ -101,7 +124,8 @@ module _ (answer : WantedPart → ℕ → Option (List ℕ)) (g : GroupKeys) (tr
   were_tried (j ∷ js) (p ∷ ps) [] can f = absurd f
 
   -- So it can where no attempt is counted.
-  pub none_counted : (jobs : List Job) (parts : List (Option CheckedPart)) (ns : List ℕ) → All (CanBeTried (length g.members.ring) tries) jobs → AreFirst answer g.members.ring tries jobs parts ns
+  pub none_counted : (jobs : List Job) (parts : List (Option CheckedPart)) (ns : List ℕ)
+      → All (CanBeTried (length g.members.ring) tries) jobs → AreFirst answer g.members.ring tries jobs parts ns
       → WereTried g jobs parts (replicate (length jobs) 0)
   none_counted [] [] [] can f = tt
   none_counted (job ∷ jobs) (part ∷ parts) (n ∷ ns) can f =
@@ -113,9 +137,11 @@ module _ (answer : WantedPart → ℕ → Option (List ℕ)) (g : GroupKeys) (tr
   none_counted (j ∷ js) [] ns can f = absurd f
   none_counted (j ∷ js) (p ∷ ps) [] can f = absurd f
 
-  pub first_lengths : (jobs : List Job) (parts : List (Option CheckedPart)) (ns : List ℕ) → AreFirst answer g.members.ring tries jobs parts ns → (length parts ≡ length jobs) × (length ns ≡ length jobs)
+  pub first_lengths : (jobs : List Job) (parts : List (Option CheckedPart)) (ns : List ℕ)
+      → AreFirst answer g.members.ring tries jobs parts ns → (length parts ≡ length jobs) × (length ns ≡ length jobs)
   first_lengths [] [] [] f = (refl, refl)
-  first_lengths (job ∷ jobs) (part ∷ parts) (n ∷ ns) f = let r = first_lengths jobs parts ns f.1 in (omega (arith, r.0), omega (arith, r.1))
+  first_lengths (job ∷ jobs) (part ∷ parts) (n ∷ ns) f =
+      let r = first_lengths jobs parts ns f.1 in (omega (arith, r.0), omega (arith, r.1))
   first_lengths [] [] (n ∷ ns) f = absurd f
   first_lengths [] (p ∷ ps) ns f = absurd f
   first_lengths (j ∷ js) [] ns f = absurd f
@@ -123,92 +149,139 @@ module _ (answer : WantedPart → ℕ → Option (List ℕ)) (g : GroupKeys) (tr
 
 -- ---- how much came
 
-pub counted : (jobs : List Job) (parts : List (Option CheckedPart)) (ns : List ℕ) → length parts ≡ length jobs → length ns ≡ length jobs → length (filter is_some parts) ≡ length (that_came (outcome_of jobs parts ns))
+pub counted : (jobs : List Job) (parts : List (Option CheckedPart)) (ns : List ℕ) → length parts ≡ length jobs
+    → length ns ≡ length jobs → length (filter is_some parts) ≡ length (that_came (outcome_of jobs parts ns))
 counted [] [] ns e f = refl
 counted [] (p ∷ ps) ns e f = absurd (omega (arith, e))
 counted (job ∷ jobs) [] ns e f = absurd (omega (arith, e))
 counted (job ∷ jobs) (p ∷ ps) [] e f = absurd (omega (arith, f))
 counted (job ∷ jobs) (None ∷ ps) (n ∷ ns) e f = counted jobs ps ns (omega (arith, e)) (omega (arith, f))
-counted (job ∷ jobs) (Some c ∷ ps) (n ∷ ns) e f = ap (λ (k : ℕ). suc k) (counted jobs ps ns (omega (arith, e)) (omega (arith, f)))
+counted (job ∷ jobs) (Some c ∷ ps) (n ∷ ns) e f =
+    ap (λ (k : ℕ). suc k) (counted jobs ps ns (omega (arith, e)) (omega (arith, f)))
 
-pub octets_sum : (f : Part → ℕ) (jobs : List Job) (parts : List (Option CheckedPart)) (ns : List ℕ) → length parts ≡ length jobs → length ns ≡ length jobs
-    → ((x : Fetched) (octets : List ℕ) → In x (outcome_of jobs parts ns) → x.packet ≡ Some octets → f x.part ≡ length octets) → sum_by octets_in parts ≡ sum_by f (that_came (outcome_of jobs parts ns))
+pub octets_sum : (f : Part → ℕ) (jobs : List Job) (parts : List (Option CheckedPart)) (ns : List ℕ)
+    → length parts ≡ length jobs → length ns ≡ length jobs
+    → ((x : Fetched) (octets : List ℕ) → In x (outcome_of jobs parts ns) → x.packet ≡ Some octets
+    → f x.part ≡ length octets)
+    → sum_by octets_in parts ≡ sum_by f (that_came (outcome_of jobs parts ns))
 octets_sum f [] [] ns e h each = refl
 octets_sum f [] (p ∷ ps) ns e h each = absurd (omega (arith, e))
 octets_sum f (job ∷ jobs) [] ns e h each = absurd (omega (arith, e))
 octets_sum f (job ∷ jobs) (p ∷ ps) [] e h each = absurd (omega (arith, h))
 octets_sum f (job ∷ jobs) (None ∷ ps) (n ∷ ns) e h each =
     let head : sum_by octets_in (None ∷ ps) ≡ octets_in None + sum_by octets_in ps = sum_by-cons octets_in None ps in
-    let rest : sum_by octets_in ps ≡ sum_by f (that_came (outcome_of jobs ps ns)) = octets_sum f jobs ps ns (omega (arith, e)) (omega (arith, h)) (λ x octets i q. each x octets (inr i) q) in
+    let rest : sum_by octets_in ps ≡ sum_by f (that_came (outcome_of jobs ps ns)) =
+    octets_sum f jobs ps ns (omega (arith, e)) (omega (arith, h)) (λ x octets i q. each x octets (inr i) q) in
     omega (arith, head, rest)
 octets_sum f (job ∷ jobs) (Some c ∷ ps) (n ∷ ns) e h each =
-    let rest = octets_sum f jobs ps ns (omega (arith, e)) (omega (arith, h)) (λ x octets i q. each x octets (inr i) q) in
-    let one : f job.want.part ≡ length c.octets = each (record { part = job.want.part; packet = Some c.octets; attempts = n }) c.octets (inl refl) refl in
-    sum_by-cons octets_in (Some c) ps ∙ (λ i. sym one i + rest i) ∙ sym (sum_by-cons f job.want.part (that_came (outcome_of jobs ps ns)))
+    let rest =
+    octets_sum f jobs ps ns (omega (arith, e)) (omega (arith, h)) (λ x octets i q. each x octets (inr i) q) in
+    let one : f job.want.part ≡ length c.octets =
+    each (record { part = job.want.part; packet = Some c.octets; attempts = n }) c.octets (inl refl) refl in
+    sum_by-cons octets_in (Some c) ps
+    ∙ (λ i. sym one i + rest i)
+    ∙ sym (sum_by-cons f job.want.part (that_came (outcome_of jobs ps ns)))
 
 -- ---- the jobs of a member
 
 pub want_part : (g : GroupKeys) (a : Alone) (t : Part) → (want_of g a.store t).part ≡ t
 want_part g a t = go (t.part == 0) where
-  go : (b : Bool) → (cond b (want_record t (node_at g t.publisher) g.name) (want_segment t (unwrap_or (listing_at a.store (pair_of t)) nothing_listed))).part ≡ t
+  go : (b : Bool)
+      → (cond b (want_record t (node_at g t.publisher) g.name)
+      (want_segment t (unwrap_or (listing_at a.store (pair_of t)) nothing_listed))).part
+      ≡ t
   go true = refl
   go false = refl
 
-module _ (passes : ℕ → ℕ → ℕ → ℕ → ℕ → ℕ → Bool) (g : GroupKeys) (logs : Logs) (a : Alone) (others : List Alone) (asker : ℕ) (loss : Option ℕ) (are : AreLogs g logs) (truly : IsTrueMember g logs a) (all : AreTrueMembers g logs others) where
+module _ (passes : ℕ → ℕ → ℕ → ℕ → ℕ → ℕ → Bool) (g : GroupKeys) (logs : Logs) (a : Alone) (others : List Alone)
+    (asker : ℕ) (loss : Option ℕ) (are : AreLogs g logs) (truly : IsTrueMember g logs a)
+    (all : AreTrueMembers g logs others) where
   abbrev answer : WantedPart → ℕ → Option (List ℕ)
   answer = lent_answer passes others asker loss
 
   brought : (t : Part) (before : ℕ) → brings answer g.members.ring (job_for g a t) before
-      ≡ checked_reply (want_of g a.store t) g.members.ring (if_comes (attempt_comes passes asker loss t (attempts_of (alone_plan a) t + before + 1)) (lent others t))
+      ≡ checked_reply (want_of g a.store t) g.members.ring
+      (if_comes (attempt_comes passes asker loss t (attempts_of (alone_plan a) t + before + 1)) (lent others t))
   brought t before =
-      ap (λ (q : Part). checked_reply (want_of g a.store t) g.members.ring (if_comes (attempt_comes passes asker loss q (attempts_of (alone_plan a) t + before + 1)) (lent_first others asker q))) (want_part g a t)
-      ∙ ap (λ (o : Option (List ℕ)). checked_reply (want_of g a.store t) g.members.ring (if_comes (attempt_comes passes asker loss t (attempts_of (alone_plan a) t + before + 1)) o)) (first_is_lent g logs others asker t all)
+      ap (λ (q : Part). checked_reply (want_of g a.store t) g.members.ring
+      (if_comes (attempt_comes passes asker loss q (attempts_of (alone_plan a) t + before + 1))
+      (lent_first others asker q))) (want_part g a t)
+      ∙ ap (λ (o : Option (List ℕ)). checked_reply (want_of g a.store t) g.members.ring
+      (if_comes (attempt_comes passes asker loss t (attempts_of (alone_plan a) t + before + 1)) o))
+      (first_is_lent g logs others asker t all)
 
   nothing_comes : (want : WantedPart) (b : Bool) → checked_reply want g.members.ring (if_comes b None) ≡ None
   nothing_comes want true = refl
   nothing_comes want false = refl
 
-  octets_if : (b : Bool) (c : CheckedPart) (octets : List ℕ) → c.octets ≡ octets → option_map (λ (c : CheckedPart). c.octets) (cond b (let o : Option CheckedPart = Some c in o) None) ≡ cond b (Some octets) None
+  octets_if : (b : Bool) (c : CheckedPart) (octets : List ℕ) → c.octets ≡ octets
+      → option_map (λ (c : CheckedPart). c.octets) (cond b (let o : Option CheckedPart = Some c in o) None)
+      ≡ cond b (Some octets) None
   octets_if true c octets e = ap (λ (o : List ℕ). Some o) e
   octets_if false c octets e = refl
 
   module _ (tries : ℕ) where
     -- What comes of one part.
-    one_comes : (t : Part) → is_wanted (alone_plan a) t ≡ true → (part : Option CheckedPart) (n : ℕ) → IsFirst (brings answer g.members.ring (job_for g a t)) tries part n
-        → (option_map (λ c. c.octets) part ≡ (fetched_one (attempt_comes passes asker loss) others tries a t).packet) × (n ≡ (fetched_one (attempt_comes passes asker loss) others tries a t).attempts)
+    one_comes : (t : Part) → is_wanted (alone_plan a) t ≡ true → (part : Option CheckedPart) (n : ℕ)
+        → IsFirst (brings answer g.members.ring (job_for g a t)) tries part n
+        → (option_map (λ c. c.octets) part ≡ (fetched_one (attempt_comes passes asker loss) others tries a t).packet)
+        × (n ≡ (fetched_one (attempt_comes passes asker loss) others tries a t).attempts)
     one_comes t w part n f = go (lent others t) refl where
       p : ℕ → Bool
       p k = attempt_comes passes asker loss t (attempts_of (alone_plan a) t + k)
 
-      whole : (octets : List ℕ) → lent others t ≡ Some octets → (b : Bool) → checked_reply (want_of g a.store t) g.members.ring (if_comes b (Some octets)) ≡ cond b (Some (checked_part (want_of g a.store t) g.members.ring octets)) None
+      whole : (octets : List ℕ) → lent others t ≡ Some octets → (b : Bool)
+          → checked_reply (want_of g a.store t) g.members.ring (if_comes b (Some octets))
+          ≡ cond b (Some (checked_part (want_of g a.store t) g.members.ring octets)) None
       whole octets e true =
           passed_whole g (want_of g a.store t) octets (ring_verdict (want_of g a.store t) g.members.ring octets)
           (packets_pass_for_members g logs a t octets are truly w (lends_true g logs others all t octets e))
       whole octets e false = refl
 
       go : (o : Option (List ℕ)) → lent others t ≡ o
-          → (option_map (λ c. c.octets) part ≡ cond (is_some (cond (is_some o) (find (λ k. attempt_comes passes asker loss t (attempts_of (alone_plan a) t + k)) (numbers_from 1 tries)) None)) o None)
-          × (n ≡ unwrap_or (cond (is_some o) (find (λ k. attempt_comes passes asker loss t (attempts_of (alone_plan a) t + k)) (numbers_from 1 tries)) None) tries)
+          → (option_map (λ c. c.octets) part
+          ≡ cond
+          (is_some (cond (is_some o)
+          (find (λ k. attempt_comes passes asker loss t (attempts_of (alone_plan a) t + k)) (numbers_from 1 tries))
+          None)) o None)
+          × (n
+          ≡ unwrap_or (cond (is_some o)
+          (find (λ k. attempt_comes passes asker loss t (attempts_of (alone_plan a) t + k)) (numbers_from 1 tries))
+          None) tries)
       go None e =
           let r = none_comes (brings answer g.members.ring (job_for g a t)) tries part n (λ b.
-          brought t b ∙ ap (λ (o : Option (List ℕ)). checked_reply (want_of g a.store t) g.members.ring (if_comes (attempt_comes passes asker loss t (attempts_of (alone_plan a) t + b + 1)) o)) e
-          ∙ nothing_comes (want_of g a.store t) (attempt_comes passes asker loss t (attempts_of (alone_plan a) t + b + 1))) f in
+          brought t b
+          ∙ ap (λ (o : Option (List ℕ)). checked_reply (want_of g a.store t) g.members.ring
+          (if_comes (attempt_comes passes asker loss t (attempts_of (alone_plan a) t + b + 1)) o)) e
+          ∙ nothing_comes (want_of g a.store t)
+          (attempt_comes passes asker loss t (attempts_of (alone_plan a) t + b + 1))) f in
           (ap (option_map (λ (c : CheckedPart). c.octets)) r.0, r.1)
       go (Some octets) e =
           let c : CheckedPart = checked_part (want_of g a.store t) g.members.ring octets in
-          let r = some_comes (brings answer g.members.ring (job_for g a t)) tries (λ k. attempt_comes passes asker loss t (attempts_of (alone_plan a) t + k)) (checked_part (want_of g a.store t) g.members.ring octets) (λ b.
+          let r =
+          some_comes (brings answer g.members.ring (job_for g a t)) tries
+          (λ k. attempt_comes passes asker loss t (attempts_of (alone_plan a) t + k))
+          (checked_part (want_of g a.store t) g.members.ring octets) (λ b.
           let k : attempts_of (alone_plan a) t + b + 1 ≡ attempts_of (alone_plan a) t + (b + 1) = omega arith in
-          brought t b ∙ ap (λ (o : Option (List ℕ)). checked_reply (want_of g a.store t) g.members.ring (if_comes (attempt_comes passes asker loss t (attempts_of (alone_plan a) t + b + 1)) o)) e
+          brought t b
+          ∙ ap (λ (o : Option (List ℕ)). checked_reply (want_of g a.store t) g.members.ring
+          (if_comes (attempt_comes passes asker loss t (attempts_of (alone_plan a) t + b + 1)) o)) e
           ∙ whole octets e (attempt_comes passes asker loss t (attempts_of (alone_plan a) t + b + 1))
-          ∙ ap (λ (m : ℕ). cond (attempt_comes passes asker loss t m) (let o : Option CheckedPart = Some (checked_part (want_of g a.store t) g.members.ring octets) in o) None) k) part n f in (
+          ∙ ap (λ (m : ℕ). cond (attempt_comes passes asker loss t m)
+          (let o : Option CheckedPart = Some (checked_part (want_of g a.store t) g.members.ring octets) in o) None) k)
+          part n f in (
             ap (option_map (λ (c : CheckedPart). c.octets)) r.0
-                ∙ octets_if (is_some (find (λ k. attempt_comes passes asker loss t (attempts_of (alone_plan a) t + k)) (numbers_from 1 tries))) (checked_part (want_of g a.store t) g.members.ring octets) octets refl,
+                ∙ octets_if
+                (is_some (find (λ k. attempt_comes passes asker loss t (attempts_of (alone_plan a) t + k))
+                (numbers_from 1 tries))) (checked_part (want_of g a.store t) g.members.ring octets) octets refl,
             r.1,
           )
 
     -- What comes of all.
-    pub fetched_is : (ts : List Part) → ((t : Part) → In t ts → is_wanted (alone_plan a) t ≡ true) → (parts : List (Option CheckedPart)) (ns : List ℕ)
-        → AreFirst answer g.members.ring tries (map (job_for g a) ts) parts ns → outcome_of (map (job_for g a) ts) parts ns ≡ fetched_all (attempt_comes passes asker loss) others tries a ts
+    pub fetched_is : (ts : List Part) → ((t : Part) → In t ts → is_wanted (alone_plan a) t ≡ true)
+        → (parts : List (Option CheckedPart)) (ns : List ℕ)
+        → AreFirst answer g.members.ring tries (map (job_for g a) ts) parts ns
+        → outcome_of (map (job_for g a) ts) parts ns ≡ fetched_all (attempt_comes passes asker loss) others tries a ts
     fetched_is [] w [] [] f = refl
     fetched_is [] w [] (n ∷ ns) f = absurd f
     fetched_is [] w (p ∷ ps) ns f = absurd f
@@ -223,14 +296,20 @@ module _ (passes : ℕ → ℕ → ℕ → ℕ → ℕ → ℕ → Bool) (g : Gr
         λ i. record { part = part i; packet = packet i; attempts = attempts i } ∷ rest i
 
   -- Where every attempt comes through, one is enough.
-  through : loss ≡ None → (t : Part) → (fetched_one (attempt_comes passes asker loss) others 1 a t).packet ≡ lent others t
-  through e t = ap (λ (l : Option ℕ). (fetched_one (attempt_comes passes asker l) others 1 a t).packet) e ∙ same (lent others t) where
-    same : (o : Option (List ℕ)) → cond (is_some (cond (is_some o) (let x : Option ℕ = Some 1 in x) None)) o None ≡ o
-    same None = refl
-    same (Some octets) = refl
+  through : loss ≡ None → (t : Part)
+      → (fetched_one (attempt_comes passes asker loss) others 1 a t).packet ≡ lent others t
+  through e t =
+      ap (λ (l : Option ℕ). (fetched_one (attempt_comes passes asker l) others 1 a t).packet) e
+      ∙ same (lent others t) where
+        same : (o : Option (List ℕ))
+            → cond (is_some (cond (is_some o) (let x : Option ℕ = Some 1 in x) None)) o None ≡ o
+        same None = refl
+        same (Some octets) = refl
 
-  pub lent_is : loss ≡ None → (ts : List Part) → ((t : Part) → In t ts → is_wanted (alone_plan a) t ≡ true) → (parts : List (Option CheckedPart)) (ns : List ℕ)
-      → AreFirst answer g.members.ring 1 (map (job_for g a) ts) parts ns → outcome_of (map (job_for g a) ts) parts (replicate (length (map (job_for g a) ts)) 0) ≡ lent_all others ts
+  pub lent_is : loss ≡ None → (ts : List Part) → ((t : Part) → In t ts → is_wanted (alone_plan a) t ≡ true)
+      → (parts : List (Option CheckedPart)) (ns : List ℕ)
+      → AreFirst answer g.members.ring 1 (map (job_for g a) ts) parts ns
+      → outcome_of (map (job_for g a) ts) parts (replicate (length (map (job_for g a) ts)) 0) ≡ lent_all others ts
   lent_is e [] w [] [] f = refl
   lent_is e [] w [] (n ∷ ns) f = absurd f
   lent_is e [] w (p ∷ ps) ns f = absurd f
@@ -248,7 +327,8 @@ pub came_lent : (others : List Alone) (ts : List Part) → that_came (lent_all o
 came_lent others [] = refl
 came_lent others (t ∷ ts) = go (lends others t) (came_lent others ts) where
   go : (b : Bool) → that_came (lent_all others ts) ≡ filter (lends others) ts
-      → asked_for (cond b (lent_one others t ∷ filter (λ (x : Fetched). is_some x.packet) (lent_all others ts)) (filter (λ (x : Fetched). is_some x.packet) (lent_all others ts)))
+      → asked_for (cond b (lent_one others t ∷ filter (λ (x : Fetched). is_some x.packet) (lent_all others ts))
+      (filter (λ (x : Fetched). is_some x.packet) (lent_all others ts)))
       ≡ cond b (t ∷ filter (lends others) ts) (filter (lends others) ts)
   go true h = ap (λ (us : List Part). t ∷ us) h
   go false h = h

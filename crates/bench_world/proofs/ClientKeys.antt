@@ -15,7 +15,9 @@ use Rattle.repo_member.proofs.PublicLaws.{client_is, client_plain}
 pub key_short : (node : List Component) → length (encoding node) ≤ 200 → length (encoding (key_name node)) ≤ 205
 unfolding number
 key_short node short =
-    let long : length (encoding (key_name node)) ≡ length (encoding node) + length (element 8 (75 ∷ 69 ∷ 89 ∷ [])) = ap length (encoding-push node (8, 75 ∷ 69 ∷ 89 ∷ [])) ∙ length-append (encoding node) (element 8 (75 ∷ 69 ∷ 89 ∷ [])) in
+    let long : length (encoding (key_name node)) ≡ length (encoding node) + length (element 8 (75 ∷ 69 ∷ 89 ∷ [])) =
+    ap length (encoding-push node (8, 75 ∷ 69 ∷ 89 ∷ []))
+    ∙ length-append (encoding node) (element 8 (75 ∷ 69 ∷ 89 ∷ [])) in
     let five : length (element 8 (75 ∷ 69 ∷ 89 ∷ [])) ≡ 5 = refl in
     omega (arith, long, five, short)
 
@@ -23,12 +25,23 @@ module _ (g : GroupKeys) (keys : HaveKeys g.clients) (client : ℕ) (there : cli
   abbrev name_in : List Component → List ℕ
   name_in node = encoding (key_name node)
 
-  pub key_octets : (octets : List ℕ) → option_map (λ (p : NamedKey). p.name) (slice_get g.clients.ring client) ≡ Some octets → octets ≡ encoding (key_name (client_at g client))
+  pub key_octets : (octets : List ℕ)
+      → option_map (λ (p : NamedKey). p.name) (slice_get g.clients.ring client) ≡ Some octets
+      → octets ≡ encoding (key_name (client_at g client))
   key_octets octets e =
       let found : Some octets ≡ Some (name_in (client_at g client)) =
-      sym e ∙ sym (slice_get-map (λ (p : NamedKey). p.name) g.clients.ring client) ∙ ap (λ (ns : List (List ℕ)). slice_get ns client) keys.keys
-      ∙ slice_get-map name_in g.clients.names client ∙ ap (option_map name_in) (slice_get-get_or g.clients.names client [] there) ∙ ap (λ (n : List Component). Some (name_in n)) (sym (client_is g keys client there)) in
+      sym e
+      ∙ sym (slice_get-map (λ (p : NamedKey). p.name) g.clients.ring client)
+      ∙ ap (λ (ns : List (List ℕ)). slice_get ns client) keys.keys
+      ∙ slice_get-map name_in g.clients.names client
+      ∙ ap (option_map name_in) (slice_get-get_or g.clients.names client [] there)
+      ∙ ap (λ (n : List Component). Some (name_in n)) (sym (client_is g keys client there)) in
       cc
 
-  pub key_read : (octets : List ℕ) → option_map (λ (p : NamedKey). p.name) (slice_get g.clients.ring client) ≡ Some octets → name_of 0 octets ≡ Ok (key_name (client_at g client))
-  key_read octets e = ap (name_of 0) (key_octets octets e) ∙ name_of-encoding 0 (key_name (client_at g client)) (IsName-key (client_at g client) (client_plain g keys client there).valid)
+  pub key_read : (octets : List ℕ)
+      → option_map (λ (p : NamedKey). p.name) (slice_get g.clients.ring client) ≡ Some octets
+      → name_of 0 octets ≡ Ok (key_name (client_at g client))
+  key_read octets e =
+      ap (name_of 0) (key_octets octets e)
+      ∙ name_of-encoding 0 (key_name (client_at g client))
+      (IsName-key (client_at g client) (client_plain g keys client there).valid)

@@ -1,5 +1,6 @@
 -- Packets that come for what fetchers claim.
-use Rattle.std.proofs.Common.{◌≡◌, ◌≢◌, ◌⊎◌, inl, inr, ℕ, ◌-◌, ◌≤◌, ◌<◌, Bool, true, false, cond, ◌==◌, List, [], length, get_or, Option, Some, None, refl, sym, ap, ◌∙◌, subst, arith}
+use Rattle.std.proofs.Common.{◌≡◌, ◌≢◌, ◌⊎◌, inl, inr, ℕ, ◌-◌, ◌≤◌, ◌<◌, Bool, true, false, cond, ◌==◌, List, []}
+use Rattle.std.proofs.Common.{length, get_or, Option, Some, None, refl, sym, ap, ◌∙◌, subst, arith}
 use Rattle.std.specs.Prelude.{unwrap_or, is_ok, IsOk, IsSomeAnd, IfSome, Result, Ok, Err}
 use Rattle.std.specs.Str.{bytes_eq}
 use Rattle.std.proofs.lemmas.Bool.{true≢false}
@@ -31,7 +32,8 @@ use Rattle.repo_member.specs.Groups.{GroupKeys, HaveKeys, node_at, publisher_at}
 use Rattle.repo_member.specs.Alone.{Alone, alone_plan, want_of, alone_accepts}
 use Rattle.repo_member.specs.InGroup.{in_group, AreLogs, true_packet}
 use Rattle.repo_member.specs.TrueMembers.{IsTrueMember, true_want}
-use Rattle.repo_member.proofs.PublicLaws.{true_stores, plans_alike, wants_published, wants_are_true, packets_are_there, packets_pass}
+use Rattle.repo_member.proofs.PublicLaws.{true_stores, plans_alike, wants_published, wants_are_true, packets_are_there}
+use Rattle.repo_member.proofs.PublicLaws.{packets_pass}
 use Rattle.repo_object.specs.Verdict.{publisher_key}
 use Rattle.repo_member.specs.Outcomes.{IsCheckedFor}
 use Rattle.bench_world.specs.declared.event.StepFault.{StepFault}
@@ -69,7 +71,8 @@ module _ (g : GroupKeys) (logs : Logs) (t : Part) (are : AreLogs g logs) (is : I
   not_none none = let h = packet_is in cc
 
   size_of_it : size_of g logs t ≡ length (unwrap_or (true_packet g logs t) [])
-  size_of_it = ap (λ (b : Bool). cond b (length (unwrap_or (true_packet g logs t) [])) 0) ((parts_are_those logs t).1 is)
+  size_of_it =
+      ap (λ (b : Bool). cond b (length (unwrap_or (true_packet g logs t) [])) 0) ((parts_are_those logs t).1 is)
 
   module _ (octets : List ℕ) (same : bytes_eq octets (unwrap_or (true_packet g logs t) []) ≡ true) where
     pub octets_are : octets ≡ unwrap_or (true_packet g logs t) []
@@ -78,8 +81,10 @@ module _ (g : GroupKeys) (logs : Logs) (t : Part) (are : AreLogs g logs) (is : I
     -- They pass, so they are told as the publisher's.
     pub its_octets : octets_as g logs t octets ≡ Its
     its_octets =
-        let its : true_packet g logs t ≡ Some octets = packet_is ∙ ap (λ (o : List ℕ). let p : Option (List ℕ) = Some o in p) (sym octets_are) in
-        ap (λ (b : Bool). cond b (cond (bytes_eq octets (unwrap_or (true_packet g logs t) [])) Its Another) Nothing) (passed (ring_verdict (true_want g logs t) g.members.ring octets) (packets_pass g logs t octets are is its))
+        let its : true_packet g logs t ≡ Some octets =
+        packet_is ∙ ap (λ (o : List ℕ). let p : Option (List ℕ) = Some o in p) (sym octets_are) in
+        ap (λ (b : Bool). cond b (cond (bytes_eq octets (unwrap_or (true_packet g logs t) [])) Its Another) Nothing)
+        (passed (ring_verdict (true_want g logs t) g.members.ring octets) (packets_pass g logs t octets are is its))
         ∙ ap (λ (b : Bool). cond b Its Another) same where
           passed : (r : Result Data PartRefusal) → IsOk r → is_ok r ≡ true
           passed (Ok d) h = refl
@@ -91,17 +96,23 @@ module _ (g : GroupKeys) (logs : Logs) (t : Part) (are : AreLogs g logs) (is : I
 -- ---- what a publisher stores and logs
 
 module _ (g : GroupKeys) (logs : Logs) (a : Alone) (truly : IsTrueMember g logs a) (t : Part) where
-  pub stored_same : (octets packet : List ℕ) → Some packet ≡ value_of part_cmp a.store t → bytes_eq octets packet ≡ bytes_eq octets (unwrap_or (true_packet g logs t) [])
-  stored_same octets packet e = ap (λ (o : Option (List ℕ)). bytes_eq octets (unwrap_or o [])) (sym (truly.packets t packet (sym e)))
+  pub stored_same : (octets packet : List ℕ) → Some packet ≡ value_of part_cmp a.store t
+      → bytes_eq octets packet ≡ bytes_eq octets (unwrap_or (true_packet g logs t) [])
+  stored_same octets packet e =
+      ap (λ (o : Option (List ℕ)). bytes_eq octets (unwrap_or o [])) (sym (truly.packets t packet (sym e)))
 
 -- ---- what octets are
 
 module _ (g : GroupKeys) (logs : Logs) (t : Part) (octets : List ℕ) where
   -- They don't pass.
-  pub refused_nothing : (refusal : PartRefusal) → ring_verdict (true_want g logs t) g.members.ring octets ≡ Err refusal → octets_as g logs t octets ≡ Nothing
-  refused_nothing refusal e = ap (λ (r : Result Data PartRefusal). cond (is_ok r) (cond (bytes_eq octets (unwrap_or (true_packet g logs t) [])) Its Another) Nothing) e
+  pub refused_nothing : (refusal : PartRefusal) → ring_verdict (true_want g logs t) g.members.ring octets ≡ Err refusal
+      → octets_as g logs t octets ≡ Nothing
+  refused_nothing refusal e =
+      ap (λ (r : Result Data PartRefusal).
+      cond (is_ok r) (cond (bytes_eq octets (unwrap_or (true_packet g logs t) [])) Its Another) Nothing) e
 
-  pub refused_fed : (refusal : PartRefusal) → ring_verdict (true_want g logs t) g.members.ring octets ≡ Err refusal → Fed.Refused refusal ≡ fed_as g logs octets t
+  pub refused_fed : (refusal : PartRefusal) → ring_verdict (true_want g logs t) g.members.ring octets ≡ Err refusal
+      → Fed.Refused refusal ≡ fed_as g logs octets t
   refused_fed refusal e = sym (ap fed_by e)
 
   -- They pass.
@@ -111,17 +122,24 @@ module _ (g : GroupKeys) (logs : Logs) (t : Part) (octets : List ℕ) where
     go (Ok d) k = refl
     go (Err refusal) k = absurd (true≢false (sym k))
 
-  pub passed_another : IsOk (ring_verdict (true_want g logs t) g.members.ring octets) → bytes_eq octets (unwrap_or (true_packet g logs t) []) ≡ false → octets_as g logs t octets ≡ Another
-  passed_another h other = go (ring_verdict (true_want g logs t) g.members.ring octets) h ∙ ap (λ (b : Bool). cond b Its Another) other where
-    go : (r : Result Data PartRefusal) → IsOk r → cond (is_ok r) (cond (bytes_eq octets (unwrap_or (true_packet g logs t) [])) Its Another) Nothing ≡ cond (bytes_eq octets (unwrap_or (true_packet g logs t) [])) Its Another
-    go (Ok d) k = refl
-    go (Err refusal) k = absurd (true≢false (sym k))
+  pub passed_another : IsOk (ring_verdict (true_want g logs t) g.members.ring octets)
+      → bytes_eq octets (unwrap_or (true_packet g logs t) []) ≡ false → octets_as g logs t octets ≡ Another
+  passed_another h other =
+      go (ring_verdict (true_want g logs t) g.members.ring octets) h ∙ ap (λ (b : Bool). cond b Its Another) other where
+        go : (r : Result Data PartRefusal) → IsOk r
+            → cond (is_ok r) (cond (bytes_eq octets (unwrap_or (true_packet g logs t) [])) Its Another) Nothing
+            ≡ cond (bytes_eq octets (unwrap_or (true_packet g logs t) [])) Its Another
+        go (Ok d) k = refl
+        go (Err refusal) k = absurd (true≢false (sym k))
 
 -- ---- what a fetcher claims
 
-module _ (g : GroupKeys) (logs : Logs) (a : Alone) (are : AreLogs g logs) (truly : IsTrueMember g logs a) (f : ℕ) (t : Part) (claim : claim_of (alone_plan a) f ≡ Some t) where
+module _ (g : GroupKeys) (logs : Logs) (a : Alone) (are : AreLogs g logs) (truly : IsTrueMember g logs a) (f : ℕ)
+    (t : Part) (claim : claim_of (alone_plan a) f ≡ Some t) where
   pub claim_wanted : is_wanted (alone_plan a) t ≡ true
-  claim_wanted = subst (λ (p : Holdings). is_wanted p t ≡ true) (sym (plans_alike g logs a are (true_stores g logs a truly))) (truly.sound.claimed (f - 1) t claim)
+  claim_wanted =
+      subst (λ (p : Holdings). is_wanted p t ≡ true) (sym (plans_alike g logs a are (true_stores g logs a truly)))
+      (truly.sound.claimed (f - 1) t claim)
 
   pub claim_published : IsPublishedPart logs t
   claim_published = wants_published g logs a t are truly claim_wanted
@@ -132,45 +150,64 @@ module _ (g : GroupKeys) (logs : Logs) (a : Alone) (are : AreLogs g logs) (truly
   -- Its publisher is another member.
   pub claim_of_another : t.publisher ≢ a.number
   claim_of_another own =
-      let is : IsWantedPart logs (in_group a) t = (tests_those logs (in_group a) t).0 (truly.sound.claimed (f - 1) t claim) in
-      let own_held : (member_hides (in_group a) (t.publisher, t.seq) ≡ true) ⊎ ((x : ℕ) → x ≤ count logs (t.publisher, t.seq) → member_holds (in_group a) (part_of (t.publisher, t.seq) x) ≡ true) =
-      subst (λ (p : ℕ). IsPublished logs (p, t.seq) → (member_hides (in_group a) (p, t.seq) ≡ true) ⊎ ((x : ℕ) → x ≤ count logs (p, t.seq) → member_holds (in_group a) (part_of (p, t.seq) x) ≡ true)) (sym own) (truly.sound.own_held t.seq) claim_published.there in
+      let is : IsWantedPart logs (in_group a) t =
+      (tests_those logs (in_group a) t).0 (truly.sound.claimed (f - 1) t claim) in
+      let own_held : (member_hides (in_group a) (t.publisher, t.seq) ≡ true)
+      ⊎ ((x : ℕ) → x ≤ count logs (t.publisher, t.seq)
+      → member_holds (in_group a) (part_of (t.publisher, t.seq) x) ≡ true) =
+      subst (λ (p : ℕ). IsPublished logs (p, t.seq)
+      → (member_hides (in_group a) (p, t.seq) ≡ true)
+      ⊎ ((x : ℕ) → x ≤ count logs (p, t.seq) → member_holds (in_group a) (part_of (p, t.seq) x) ≡ true)) (sym own)
+      (truly.sound.own_held t.seq) claim_published.there in
       elim own_held [
         | inl hidden ↦ true≢false (sym hidden ∙ is.not_hidden)
         | inr held ↦ true≢false (sym (held t.part claim_published.counted) ∙ is.not_held)
       ]
 
   -- The packet of the part is accepted, where octets that are it came.
-  pub accepts_its : (octets : List ℕ) → bytes_eq octets (unwrap_or (true_packet g logs t) []) ≡ true → alone_accepts f t octets a ≡ accepts_claimed g logs f t (octets_as g logs t octets) a
+  pub accepts_its : (octets : List ℕ) → bytes_eq octets (unwrap_or (true_packet g logs t) []) ≡ true
+      → alone_accepts f t octets a ≡ accepts_claimed g logs f t (octets_as g logs t octets) a
   accepts_its octets same =
       ap (λ (o : List ℕ). alone_accepts f t o a) (octets_are g logs t are claim_published octets same)
       ∙ ap (λ (c : Came). accepts_claimed g logs f t c a) (sym (its_octets g logs t are claim_published octets same))
 
   -- The ring has its publisher's key.
   pub key_there : t.publisher < length g.members.ring
-  key_there = let there = claim_published.there in let long : length g.members.ring ≡ length g.members.names = ring_length g are.group.members in omega (arith, long, are.width, publisher_there logs (pair_of t) there)
+  key_there =
+      let there = claim_published.there in
+      let long : length g.members.ring ≡ length g.members.names = ring_length g are.group.members in
+      omega (arith, long, are.width, publisher_there logs (pair_of t) there)
 
 -- The want of a claim is the group's.
-pub want_true : (g : GroupKeys) (logs : Logs) (a : Alone) → AreLogs g logs → IsTrueMember g logs a → (f : ℕ) (want : WantedPart)
+pub want_true : (g : GroupKeys) (logs : Logs) (a : Alone) → AreLogs g logs → IsTrueMember g logs a
+    → (f : ℕ) (want : WantedPart)
     → IsSomeAnd (claim_of (alone_plan a) f) (λ part. want ≡ want_of g a.store part) → want ≡ true_want g logs want.part
 want_true g logs a are truly f want h = go (claim_of (alone_plan a) f) refl h where
-  go : (o : Option Part) → claim_of (alone_plan a) f ≡ o → IsSomeAnd o (λ part. want ≡ want_of g a.store part) → want ≡ true_want g logs want.part
+  go : (o : Option Part) → claim_of (alone_plan a) f ≡ o → IsSomeAnd o (λ part. want ≡ want_of g a.store part)
+      → want ≡ true_want g logs want.part
   go None e k = absurd k
   go (Some t) e k =
       let same : want ≡ true_want g logs t = k ∙ claim_want g logs a are truly f t e in
       same ∙ ap (true_want g logs) (sym (ap (λ (w : WantedPart). w.part) same ∙ want_part t)) where
         want_part : (u : Part) → (true_want g logs u).part ≡ u
         want_part u = by_kind (u.part == 0) where
-          by_kind : (b : Bool) → (cond b (want_record u (node_at g u.publisher) g.name) (want_segment u (published_listing (publisher_at g u.publisher) (object_at logs (pair_of u))))).part ≡ u
+          by_kind : (b : Bool)
+              → (cond b (want_record u (node_at g u.publisher) g.name)
+              (want_segment u (published_listing (publisher_at g u.publisher) (object_at logs (pair_of u))))).part
+              ≡ u
           by_kind true = refl
           by_kind false = refl
 
 -- ---- what an accepted packet comes to
 
-module _ (g : GroupKeys) (logs : Logs) (a : Alone) (are : AreLogs g logs) (truly : IsTrueMember g logs a) (f : ℕ) (t : Part) (claim : claim_of (alone_plan a) f ≡ Some t) where
+module _ (g : GroupKeys) (logs : Logs) (a : Alone) (are : AreLogs g logs) (truly : IsTrueMember g logs a) (f : ℕ)
+    (t : Part) (claim : claim_of (alone_plan a) f ≡ Some t) where
   -- What passed for the published part passed for what the fetcher claims.
-  pub checked_for_claim : (octets : List ℕ) (c : CheckedPart) (want : WantedPart) → want ≡ true_want g logs t → c ≡ checked_part want g.members.ring octets → IfSome (claim_of (alone_plan a) f) (λ part. IsCheckedFor g (want_of g a.store part) c)
-  checked_for_claim octets c want want_is c_is = subst (λ (o : Option Part). IfSome o (λ part. IsCheckedFor g (want_of g a.store part) c)) (sym claim)
+  pub checked_for_claim : (octets : List ℕ) (c : CheckedPart) (want : WantedPart) → want ≡ true_want g logs t
+      → c ≡ checked_part want g.members.ring octets
+      → IfSome (claim_of (alone_plan a) f) (λ part. IsCheckedFor g (want_of g a.store part) c)
+  checked_for_claim octets c want want_is c_is =
+      subst (λ (o : Option Part). IfSome o (λ part. IsCheckedFor g (want_of g a.store part) c)) (sym claim)
       (subst (λ (x : CheckedPart). IsCheckedFor g (want_of g a.store t) x) (sym c_is)
       (record {
         same = same;
@@ -181,7 +218,9 @@ module _ (g : GroupKeys) (logs : Logs) (a : Alone) (are : AreLogs g logs) (truly
         same = want_is ∙ sym (claim_want g logs a are truly f t claim)
 
   -- What is kept has the size of the part's packet.
-  pub keeps_its : (octets : List ℕ) → bytes_eq octets (unwrap_or (true_packet g logs t) []) ≡ true → answered g logs (Some t) (octets_as g logs t octets) ≡ Ok (Some (length octets))
+  pub keeps_its : (octets : List ℕ) → bytes_eq octets (unwrap_or (true_packet g logs t) []) ≡ true
+      → answered g logs (Some t) (octets_as g logs t octets) ≡ Ok (Some (length octets))
   keeps_its octets same =
       ap (answered g logs (Some t)) (its_octets g logs t are (claim_published g logs a are truly f t claim) octets same)
-      ∙ ap (λ (n : ℕ). let r : Result (Option ℕ) StepFault = Ok (Some n) in r) (its_size g logs t are (claim_published g logs a are truly f t claim) octets same)
+      ∙ ap (λ (n : ℕ). let r : Result (Option ℕ) StepFault = Ok (Some n) in r)
+      (its_size g logs t are (claim_published g logs a are truly f t claim) octets same)

@@ -1,5 +1,6 @@
 -- What a delivery makes of a world.
-use Rattle.std.proofs.Common.{◌≡◌, ℕ, ◌+◌, ◌-◌, ◌≤◌, ◌<◌, ◌==◌, Bool, true, false, cond, List, map, length, get_or, set, Option, Some, None, option_map, refl, sym, ap, ◌∙◌, subst, arith}
+use Rattle.std.proofs.Common.{◌≡◌, ℕ, ◌+◌, ◌-◌, ◌≤◌, ◌<◌, ◌==◌, Bool, true, false, cond, List, map, length, get_or, set}
+use Rattle.std.proofs.Common.{Option, Some, None, option_map, refl, sym, ap, ◌∙◌, subst, arith}
 use Rattle.std.specs.Prelude.{slice_get, nat_le, ◌&&◌, Ok, IsOkAnd}
 use Rattle.std.proofs.lemmas.Bool.{eqb-true, eqb-false, le-leb, leb-false, leb-true}
 use Rattle.std.proofs.lemmas.List.{length-map, map-set, get_or-map}
@@ -16,14 +17,16 @@ use Rattle.repo_member.specs.InGroup.{in_group}
 use Rattle.repo_member.specs.Verdicts.{sync_of, hear_verdict}
 use Rattle.repo_member.specs.TrueMembers.{IsTrueMember}
 use Rattle.repo_member.proofs.PublicLaws.{syncs_are_taken, hears_true}
-use Rattle.bench_world.specs.Worlds.{GroupState, IsTrueState, IsTrueSync, in_groups, logs_around, sync_in, world_of, no_packet, drawing}
+use Rattle.bench_world.specs.Worlds.{GroupState, IsTrueState, IsTrueSync, in_groups, logs_around, sync_in, world_of}
+use Rattle.bench_world.specs.Worlds.{no_packet, drawing}
 use Rattle.bench_world.proofs.States.{truly, number_is, member_is, stepped_at}
 
 -- ---- packets by number
 
 -- There is a packet of a number, or none.
 data AtNumber (packets : List SentPacket) (k : ℕ) : Type 0 where
-  There : 1 ≤ k → k ≤ length packets → sent_octets packets k ≡ Some (get_or packets (k - 1) no_packet).octets → AtNumber packets k
+  There : 1 ≤ k → k ≤ length packets → sent_octets packets k ≡ Some (get_or packets (k - 1) no_packet).octets
+      → AtNumber packets k
   Nowhere : (nat_le 1 k && nat_le k (length packets)) ≡ false → sent_octets packets k ≡ None → AtNumber packets k
 
 and_false : (b : Bool) → (b && false) ≡ false
@@ -36,15 +39,20 @@ at_number packets k = go (k == 0) (nat_le k (length packets)) refl refl where
   read b = cond b None (option_map (λ (y : SentPacket). y.octets) (slice_get packets (k - 1)))
 
   go : (b c : Bool) → (k == 0) ≡ b → nat_le k (length packets) ≡ c → AtNumber packets k
-  go true c p q = Nowhere (let z : k ≡ 0 = eqb-true k 0 p in ap (λ (n : ℕ). nat_le 1 n && nat_le n (length packets)) z) (ap read p)
+  go true c p q =
+      Nowhere (let z : k ≡ 0 = eqb-true k 0 p in ap (λ (n : ℕ). nat_le 1 n && nat_le n (length packets)) z) (ap read p)
   go false c p q = inside c q (let z : k ≡ 0 → ⊥ = eqb-false k 0 p in omega (arith, z)) where
     inside : (c : Bool) → nat_le k (length packets) ≡ c → 1 ≤ k → AtNumber packets k
     inside true q one =
         let last : k ≤ length packets = leb-true k (length packets) q in
-        There one last (ap read p ∙ ap (option_map (λ (y : SentPacket). y.octets)) (slice_get-get_or packets (k - 1) no_packet (omega (arith, one, last))))
+        There one last
+        (ap read p ∙ ap (option_map (λ (y : SentPacket). y.octets))
+        (slice_get-get_or packets (k - 1) no_packet (omega (arith, one, last))))
     inside false q one =
         let out : length packets < k = leb-false k (length packets) q in
-        Nowhere (ap (λ (b : Bool). nat_le 1 k && b) q ∙ and_false (nat_le 1 k)) (ap read p ∙ ap (option_map (λ (y : SentPacket). y.octets)) (slice_get_past packets (k - 1) (omega (arith, one, out))))
+        Nowhere (ap (λ (b : Bool). nat_le 1 k && b) q ∙ and_false (nat_le 1 k))
+        (ap read p
+        ∙ ap (option_map (λ (y : SentPacket). y.octets)) (slice_get_past packets (k - 1) (omega (arith, one, out))))
 
 pub record IsThere (packets : List SentPacket) (k : ℕ) (x : List ℕ) : Type 0 where
   pub first : 1 ≤ k
@@ -54,10 +62,15 @@ pub record IsThere (packets : List SentPacket) (k : ℕ) (x : List ℕ) : Type 0
 pub there : (packets : List SentPacket) (k : ℕ) (x : List ℕ) → Some x ≡ sent_octets packets k → IsThere packets k x
 there packets k x e = go (at_number packets k) where
   go : AtNumber packets k → IsThere packets k x
-  go (There one last at) = record { first = one; last = last; octets = let h : Some x ≡ Some (get_or packets (k - 1) no_packet).octets = e ∙ at in cc }
+  go (There one last at) = record {
+    first = one;
+    last = last;
+    octets = let h : Some x ≡ Some (get_or packets (k - 1) no_packet).octets = e ∙ at in cc;
+  }
   go (Nowhere none at) = absurd (let h : Some x ≡ None = e ∙ at in cc)
 
-pub nowhere : (packets : List SentPacket) (k : ℕ) → None ≡ sent_octets packets k → (nat_le 1 k && nat_le k (length packets)) ≡ false
+pub nowhere : (packets : List SentPacket) (k : ℕ) → None ≡ sent_octets packets k
+    → (nat_le 1 k && nat_le k (length packets)) ≡ false
 nowhere packets k e = go (at_number packets k) where
   go : AtNumber packets k → (nat_le 1 k && nat_le k (length packets)) ≡ false
   go (There one last at) = absurd (let h : None ≡ Some (get_or packets (k - 1) no_packet).octets = e ∙ at in cc)
@@ -86,32 +99,66 @@ module _ (s : GroupState) (is : IsTrueState s) (k : ℕ) (one : 1 ≤ k) (last :
   sent_is = get_or-map sync_in s.sent (k - 1) no_packet no_sync (omega (arith, one, last))
 
   -- Its octets are those of the sync Interest.
-  pub octets_are : (get_or s.sent (k - 1) no_packet).octets ≡ sync_of s.keys (sent_at (world_of s) k).sender (sent_at (world_of s) k).vector
+  pub octets_are : (get_or s.sent (k - 1) no_packet).octets
+      ≡ sync_of s.keys (sent_at (world_of s) k).sender (sent_at (world_of s) k).vector
   octets_are = sync.octets ∙ ap (λ (p : SyncInterest). sync_of s.keys p.sender p.vector) (sym sent_is)
 
   module _ (m : ℕ) (there : m < length s.members) (old b : Alone) (old_is : old ≡ get_or s.members m old) where
-    pub heard_is : (octets : List ℕ) (moment draw : ℕ) → octets ≡ (get_or s.sent (k - 1) no_packet).octets → IsOkAnd (hear_verdict s.keys old octets) (λ v. b ≡ alone_hears v moment draw old) → b ≡ alone_hears (get_or s.sent (k - 1) no_packet).vector moment draw old
+    pub heard_is : (octets : List ℕ) (moment draw : ℕ) → octets ≡ (get_or s.sent (k - 1) no_packet).octets
+        → IsOkAnd (hear_verdict s.keys old octets) (λ v. b ≡ alone_hears v moment draw old)
+        → b ≡ alone_hears (get_or s.sent (k - 1) no_packet).vector moment draw old
     heard_is octets moment draw at heard =
         let taken : hear_verdict s.keys old octets ≡ Ok (get_or s.sent (k - 1) no_packet).vector =
-        ap (hear_verdict s.keys old) (at ∙ sync.octets) ∙ syncs_are_taken s.keys (logs_around s.members) old (get_or s.sent (k - 1) no_packet).sender (get_or s.sent (k - 1) no_packet).vector is.are (truly s is m there old old_is) sync.sender sync.vector in
+        ap (hear_verdict s.keys old) (at ∙ sync.octets)
+        ∙ syncs_are_taken s.keys (logs_around s.members) old (get_or s.sent (k - 1) no_packet).sender
+        (get_or s.sent (k - 1) no_packet).vector is.are (truly s is m there old old_is) sync.sender sync.vector in
         subst (λ r. IsOkAnd r (λ v. b ≡ alone_hears v moment draw old)) taken heard
 
     told_is : (sent_at (world_of s) k).vector ≡ (get_or s.sent (k - 1) no_packet).vector
     told_is = ap (λ (p : SyncInterest). p.vector) sent_is
 
-    module _ (draws : ℕ → ℕ → ℕ) (draw : ℕ) (e : b ≡ alone_hears (get_or s.sent (k - 1) no_packet).vector s.moment draw old) (d : draw ≡ draws m old.machine.draws) where
-      pub heard_world : world_of (record s { members = set s.members m b; tally = record s.tally { delivered = s.tally.delivered + 1 }; steps = s.steps + 1 }) ≡ after_deliver (drawing draws) (world_of s) m (sent_at (world_of s) k).vector
+    module _ (draws : ℕ → ℕ → ℕ) (draw : ℕ)
+        (e : b ≡ alone_hears (get_or s.sent (k - 1) no_packet).vector s.moment draw old)
+        (d : draw ≡ draws m old.machine.draws) where
+      pub heard_world : world_of (record s {
+        members = set s.members m b;
+        tally = record s.tally { delivered = s.tally.delivered + 1 };
+        steps = s.steps + 1;
+      })
+          ≡ after_deliver (drawing draws) (world_of s) m (sent_at (world_of s) k).vector
       heard_world =
-          let changed : in_groups (set s.members m b) ≡ set (in_groups s.members) m (group.learns (drawn (drawing draws) (world_of s) m) s.moment (sent_at (world_of s) k).vector (member (world_of s) m)) =
+          let changed : in_groups (set s.members m b)
+          ≡ set (in_groups s.members) m
+          (group.learns (drawn (drawing draws) (world_of s) m) s.moment (sent_at (world_of s) k).vector
+          (member (world_of s) m)) =
           map-set in_group s.members m b
           ∙ ap (set (in_groups s.members) m) (ap in_group e
           ∙ ap (λ (n : ℕ). group.learns n s.moment (get_or s.sent (k - 1) no_packet).vector (in_group old)) d
-          ∙ ap (λ (x : Member). group.learns (draws m x.machine.draws) s.moment (get_or s.sent (k - 1) no_packet).vector x) (sym (member_is s is m there old old_is))
-          ∙ ap (λ (v : List ℕ). group.learns (drawn (drawing draws) (world_of s) m) s.moment v (member (world_of s) m)) (sym told_is)) in
-          ap (λ (ms : List Member). let w : World = record { members = ms; sent = map sync_in s.sent; moment = s.moment; issued = s.issued; tally = record s.tally { delivered = s.tally.delivered + 1 } } in w) changed
+          ∙ ap
+          (λ (x : Member). group.learns (draws m x.machine.draws) s.moment (get_or s.sent (k - 1) no_packet).vector x)
+          (sym (member_is s is m there old old_is))
+          ∙ ap (λ (v : List ℕ). group.learns (drawn (drawing draws) (world_of s) m) s.moment v (member (world_of s) m))
+          (sym told_is)) in
+          ap (λ (ms : List Member).
+          let w : World = record {
+            members = ms;
+            sent = map sync_in s.sent;
+            moment = s.moment;
+            issued = s.issued;
+            tally = record s.tally { delivered = s.tally.delivered + 1 };
+          } in
+          w) changed
 
-      pub heard_state : s.steps < 100000 → IsTrueState (record s { members = set s.members m b; tally = record s.tally { delivered = s.tally.delivered + 1 }; steps = s.steps + 1 })
+      pub heard_state : s.steps < 100000
+          → IsTrueState (record s {
+            members = set s.members m b;
+            tally = record s.tally { delivered = s.tally.delivered + 1 };
+            steps = s.steps + 1;
+          })
       heard_state few =
-          stepped_at s is few (drawing draws) (λ t. omega arith) (Event.Deliver k m) tt m there b (ap (λ (a : Alone). a.number) e ∙ number_is s is m there old old_is)
-          (subst (IsTrueMember s.keys (logs_around s.members)) (sym e) (hears_true s.keys (logs_around s.members) (get_or s.sent (k - 1) no_packet).vector s.moment draw old sync.vector (truly s is m there old old_is)))
+          stepped_at s is few (drawing draws) (λ t. omega arith) (Event.Deliver k m) tt m there b
+          (ap (λ (a : Alone). a.number) e ∙ number_is s is m there old old_is)
+          (subst (IsTrueMember s.keys (logs_around s.members)) (sym e)
+          (hears_true s.keys (logs_around s.members) (get_or s.sent (k - 1) no_packet).vector s.moment draw old
+          sync.vector (truly s is m there old old_is)))
           s.sent s.moment (record s.tally { delivered = s.tally.delivered + 1 }) is.sent heard_world

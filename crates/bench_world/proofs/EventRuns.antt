@@ -1,5 +1,6 @@
 -- Lists of events that are carried out one after another.
-use Rattle.std.proofs.Common.{◌≡◌, ℕ, ◌+◌, ◌<◌, Option, List, [], ◌∷◌, ◌++◌, None, length, get_or, take, refl, sym, ap, ◌∙◌, subst, arith}
+use Rattle.std.proofs.Common.{◌≡◌, ℕ, ◌+◌, ◌<◌, Option, List, [], ◌∷◌, ◌++◌, None, length, get_or, take, refl, sym, ap}
+use Rattle.std.proofs.Common.{◌∙◌, subst, arith}
 use Rattle.std.specs.List.{take-map}
 use Rattle.std.proofs.lemmas.List.{length-map, map-append, take_more, take_all, get_or-map}
 use Rattle.group_model.specs.Events as group
@@ -21,21 +22,25 @@ use Rattle.bench_world.specs.Worlds.{GroupState, world_of}
 
 -- ---- lists
 
-after_append : (out : Outside) (w : World) (xs ys : List group.Event) → after_events out w (xs ++ ys) ≡ after_events out (after_events out w xs) ys
+after_append : (out : Outside) (w : World) (xs ys : List group.Event)
+    → after_events out w (xs ++ ys) ≡ after_events out (after_events out w xs) ys
 after_append out w [] ys = refl
 after_append out w (x ∷ xs) ys = after_append out (after_event out w x) xs ys
 
-taken_append : (out : Outside) (w : World) (xs ys : List group.Event) → EventsAreTaken out w xs → EventsAreTaken out (after_events out w xs) ys → EventsAreTaken out w (xs ++ ys)
+taken_append : (out : Outside) (w : World) (xs ys : List group.Event) → EventsAreTaken out w xs
+    → EventsAreTaken out (after_events out w xs) ys → EventsAreTaken out w (xs ++ ys)
 taken_append out w [] ys a b = b
 taken_append out w (x ∷ xs) ys a b = (a.0, taken_append out (after_event out w x) xs ys a.1 b)
 
-taken_split : (out : Outside) (w : World) (xs ys : List group.Event) → EventsAreTaken out w (xs ++ ys) → EventsAreTaken out w xs × EventsAreTaken out (after_events out w xs) ys
+taken_split : (out : Outside) (w : World) (xs ys : List group.Event) → EventsAreTaken out w (xs ++ ys)
+    → EventsAreTaken out w xs × EventsAreTaken out (after_events out w xs) ys
 taken_split out w [] ys a = (tt, a)
 taken_split out w (x ∷ xs) ys a = let r = taken_split out (after_event out w x) xs ys a.1 in ((a.0, r.0), r.1)
 
 -- ---- one event
 
-pub named_ready : (n : ℕ) (w : World) (g : GroupKeys) (e : EventValue) → length w.members ≡ n → IsReady n e → NamesThose w (group_event g e)
+pub named_ready : (n : ℕ) (w : World) (g : GroupKeys) (e : EventValue) → length w.members ≡ n → IsReady n e
+    → NamesThose w (group_event g e)
 named_ready n w g (EventValue.Publish m name size content) many r = omega (arith, many, r.0)
 named_ready n w g (EventValue.Deliver k m) many r = omega (arith, many, r)
 named_ready n w g (EventValue.Sync k) many r = tt
@@ -46,7 +51,8 @@ named_ready n w g (EventValue.Vector m) many r = omega (arith, many, r)
 named_ready n w g (EventValue.Catalogue m) many r = omega (arith, many, r)
 named_ready n w g (EventValue.Claim m f) many r = (omega (arith, many, r.0), r.1.from_one, r.1.to_last)
 named_ready n w g (EventValue.Lose m f) many r = (omega (arith, many, r.0), r.1.from_one, r.1.to_last)
-named_ready n w g (EventValue.Answer m f q) many r = ((omega (arith, many, r.0), r.1.from_one, r.1.to_last), omega (arith, many, r.2))
+named_ready n w g (EventValue.Answer m f q) many r =
+    ((omega (arith, many, r.0), r.1.from_one, r.1.to_last), omega (arith, many, r.2))
 named_ready n w g (EventValue.Fetch m workers tries loss) many r = omega (arith, many, r.0)
 named_ready n w g (EventValue.Settle workers) many r = tt
 named_ready n w g (EventValue.Dump m p s x) many r = omega (arith, many, r.0)
@@ -62,14 +68,18 @@ named_ready n w g EventValue.Summary many r = tt
 named_ready n w g EventValue.Traffic many r = tt
 
 module _ (out : Outside) (g : GroupKeys) (begun : World) (events : List Event) where
-  module _ (i : ℕ) (inside : i < length events) (item : Event) (item_is : item ≡ get_or events i item) (mid new : World) (n : ℕ) (many : length mid.members ≡ n) (ready : IsReady n (event_value item))
-      (taken : EventsAreTaken out begun (group_events g (event_values (take i events)))) (world : mid ≡ after_events out begun (group_events g (event_values (take i events)))) where
-    one_more : group_events g (event_values (take (i + 1) events)) ≡ group_events g (event_values (take i events)) ++ group_event g (event_value item) ∷ []
+  module _ (i : ℕ) (inside : i < length events) (item : Event) (item_is : item ≡ get_or events i item) (mid new : World)
+      (n : ℕ) (many : length mid.members ≡ n) (ready : IsReady n (event_value item))
+      (taken : EventsAreTaken out begun (group_events g (event_values (take i events))))
+      (world : mid ≡ after_events out begun (group_events g (event_values (take i events)))) where
+    one_more : group_events g (event_values (take (i + 1) events))
+        ≡ group_events g (event_values (take i events)) ++ group_event g (event_value item) ∷ []
     one_more =
         ap (λ (es : List Event). group_events g (event_values es)) (take_more events i item inside)
         ∙ ap (group_events g) (map-append event_value (take i events) (get_or events i item ∷ []))
         ∙ map-append (group_event g) (event_values (take i events)) (event_value (get_or events i item) ∷ [])
-        ∙ ap (λ (e : Event). group_events g (event_values (take i events)) ++ group_event g (event_value e) ∷ []) (sym item_is)
+        ∙ ap (λ (e : Event). group_events g (event_values (take i events)) ++ group_event g (event_value e) ∷ [])
+        (sym item_is)
 
     pub at_place : (none : EventValue) → get_or (event_values events) i none ≡ event_value item
     at_place none = get_or-map event_value events i item none inside ∙ ap event_value (sym item_is)
@@ -78,44 +88,66 @@ module _ (out : Outside) (g : GroupKeys) (begun : World) (events : List Event) w
     take_values = ap (group_events g) (take-map event_value i events)
 
     -- The fault of this event is that of the list.
-    pub stopped_here : (out_ : Outside) (begun_ mid_ new_ : GroupState) (fault : StepFault) → out ≡ out_ → world_of begun_ ≡ begun → begun_.keys ≡ g → world_of mid_ ≡ mid → IsFaultOf (refusal out mid (group_event g (event_value item))) fault → StandsAsBefore (event_value item) mid_ new_
+    pub stopped_here : (out_ : Outside) (begun_ mid_ new_ : GroupState) (fault : StepFault) → out ≡ out_
+        → world_of begun_ ≡ begun → begun_.keys ≡ g → world_of mid_ ≡ mid
+        → IsFaultOf (refusal out mid (group_event g (event_value item))) fault
+        → StandsAsBefore (event_value item) mid_ new_
         → IsStopped out_ begun_ (event_values events) i fault new_
     stopped_here out_ begun_ mid_ new_ fault out_is begun_is keys_are mid_is because stands = record {
       inside = let k = length-map events event_value in omega (arith, inside, k);
-      taken = let e : group_events begun_.keys (take i (event_values events)) ≡ group_events g (event_values (take i events)) = ap (λ (h : GroupKeys). group_events h (take i (event_values events))) keys_are ∙ take_values in
-          subst (λ (o : Outside). EventsAreTaken o (world_of begun_) (group_events begun_.keys (take i (event_values events)))) out_is
-          (subst (λ (w : World). EventsAreTaken out w (group_events begun_.keys (take i (event_values events)))) (sym begun_is) (subst (EventsAreTaken out begun) (sym e) taken));
+      taken =
+          let e : group_events begun_.keys (take i (event_values events))
+          ≡ group_events g (event_values (take i events)) =
+          ap (λ (h : GroupKeys). group_events h (take i (event_values events))) keys_are ∙ take_values in
+          subst (λ (o : Outside).
+          EventsAreTaken o (world_of begun_) (group_events begun_.keys (take i (event_values events)))) out_is
+          (subst (λ (w : World). EventsAreTaken out w (group_events begun_.keys (take i (event_values events))))
+          (sym begun_is) (subst (EventsAreTaken out begun) (sym e) taken));
       before = mid_;
       world =
-          let e : group_events begun_.keys (take i (event_values events)) ≡ group_events g (event_values (take i events)) = ap (λ (h : GroupKeys). group_events h (take i (event_values events))) keys_are ∙ take_values in
+          let e : group_events begun_.keys (take i (event_values events))
+          ≡ group_events g (event_values (take i events)) =
+          ap (λ (h : GroupKeys). group_events h (take i (event_values events))) keys_are ∙ take_values in
           mid_is ∙ world ∙ ap (after_events out begun) (sym e)
           ∙ (λ j. after_events (out_is j) (sym begun_is j) (group_events begun_.keys (take i (event_values events))));
       stands = subst (λ (v : EventValue). StandsAsBefore v mid_ new_) (sym (at_place EventValue.Traffic)) stands;
       because = subst (λ (r : Option Refusal). IsFaultOf r fault)
-          (λ j. refusal (out_is j) (sym mid_is j) (group_event (sym keys_are j) (sym (at_place EventValue.Traffic) j))) because;
+          (λ j. refusal (out_is j) (sym mid_is j) (group_event (sym keys_are j) (sym (at_place EventValue.Traffic) j)))
+          because;
     }
 
-    module _ (not_refused : refusal out mid (group_event g (event_value item)) ≡ None) (step_world : new ≡ after_event out mid (group_event g (event_value item))) where
+    module _ (not_refused : refusal out mid (group_event g (event_value item)) ≡ None)
+        (step_world : new ≡ after_event out mid (group_event g (event_value item))) where
       is_taken : EventIsTaken out mid (group_event g (event_value item))
       is_taken = record { named = named_ready n mid g (event_value item) many ready; taken = not_refused }
 
       pub taken_more : EventsAreTaken out begun (group_events g (event_values (take (i + 1) events)))
-      taken_more = subst (EventsAreTaken out begun) (sym one_more) (taken_append out begun (group_events g (event_values (take i events))) (group_event g (event_value item) ∷ []) taken (subst (λ (w : World). EventIsTaken out w (group_event g (event_value item))) world is_taken, tt))
+      taken_more =
+          subst (EventsAreTaken out begun) (sym one_more)
+          (taken_append out begun (group_events g (event_values (take i events)))
+          (group_event g (event_value item) ∷ []) taken
+          (subst (λ (w : World). EventIsTaken out w (group_event g (event_value item))) world is_taken, tt))
 
       pub many_more : IsSoundGroup begun → length new.members ≡ n
       many_more sound =
           ap (λ (w : World). length w.members) step_world
-          ∙ (lasts out mid (group_event g (event_value item)) is_taken (subst IsSoundGroup (sym world) (sound_after_all out (group_events g (event_values (take i events))) begun taken sound))).width ∙ many
+          ∙ (lasts out mid (group_event g (event_value item)) is_taken
+          (subst IsSoundGroup (sym world)
+          (sound_after_all out (group_events g (event_values (take i events))) begun taken sound))).width
+          ∙ many
 
       pub world_more : new ≡ after_events out begun (group_events g (event_values (take (i + 1) events)))
       world_more =
           step_world ∙ ap (λ (w : World). after_event out w (group_event g (event_value item))) world
-          ∙ sym (after_append out begun (group_events g (event_values (take i events))) (group_event g (event_value item) ∷ []))
+          ∙ sym (after_append out begun (group_events g (event_values (take i events)))
+          (group_event g (event_value item) ∷ []))
           ∙ ap (after_events out begun) (sym one_more)
 
   -- ---- all of them
 
-  module _ (sound : IsSoundGroup begun) (n : ℕ) (all : n ≡ length events) (last : World) (taken : EventsAreTaken out begun (group_events g (event_values (take n events)))) (world : last ≡ after_events out begun (group_events g (event_values (take n events)))) where
+  module _ (sound : IsSoundGroup begun) (n : ℕ) (all : n ≡ length events) (last : World)
+      (taken : EventsAreTaken out begun (group_events g (event_values (take n events))))
+      (world : last ≡ after_events out begun (group_events g (event_values (take n events)))) where
     whole : group_events g (event_values (take n events)) ≡ group_events g (event_values events)
     whole = ap (λ (es : List Event). group_events g (event_values es)) (take_all n events (omega (arith, all)))
 
@@ -128,7 +160,9 @@ module _ (out : Outside) (g : GroupKeys) (begun : World) (events : List Event) w
     pub all_joined : ListLawFrom out begun (group_events g (event_values events)) last
     all_joined first later e tells hidden wanted =
         let split = taken_split out begun first later (subst (EventsAreTaken out begun) e all_taken) in
-        let last_is : last ≡ after_events out (after_events out begun first) later = all_world ∙ ap (after_events out begun) e ∙ after_append out begun first later in
+        let last_is : last ≡ after_events out (after_events out begun first) later =
+        all_world ∙ ap (after_events out begun) e ∙ after_append out begun first later in
         subst AllJoined (sym last_is)
-        (told_of_all out (after_events out begun first) (sound_after_all out first begun split.0 sound) later split.1 tells
+        (told_of_all out (after_events out begun first) (sound_after_all out first begun split.0 sound) later split.1
+        tells
         (subst NothingHidden last_is hidden) (subst NothingWanted last_is wanted))

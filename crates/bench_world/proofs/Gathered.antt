@@ -1,5 +1,6 @@
 -- What a member has gathered is what comes to it in the group's settle, or a part of it.
-use Rattle.std.proofs.Common.{◌≡◌, inl, inr, ℕ, ◌≤◌, ◌<◌, Bool, true, false, ◌||◌, not, List, [], ◌∷◌, get_or, length, Option, Some, None, refl, sym, ap, ◌∙◌, subst, arith}
+use Rattle.std.proofs.Common.{◌≡◌, inl, inr, ℕ, ◌≤◌, ◌<◌, Bool, true, false, ◌||◌, not, List, [], ◌∷◌, get_or, length}
+use Rattle.std.proofs.Common.{Option, Some, None, refl, sym, ap, ◌∙◌, subst, arith}
 use Rattle.std.specs.Prelude.{is_some}
 use Rattle.std.specs.List.{list_any}
 use Rattle.std.proofs.lemmas.Bool.{true≢false, and_from, not_from_false, or_cases, or_right, cases_Bool}
@@ -57,15 +58,22 @@ module _ (w : World) (group : IsSoundGroup w) (j : ℕ) (there : j < length w.me
     known_is = ap (λ (x : Member). x.known) gathering.same
 
     someone_has : (t : Part) → member_holds new t ≡ true → someone_holds w.members t ≡ true
-    someone_has t h = elim (gathering.came t h) [ inl was ↦ someone w.members (member w j) t (in_at w.members j no_member there) was | inr holds ↦ holds ]
+    someone_has t h = elim (gathering.came t h) [
+      | inl was ↦ someone w.members (member w j) t (in_at w.members j no_member there) was
+      | inr holds ↦ holds
+    ]
 
     not_hidden : (t : Part) → member_holds new t ≡ true → member_hides (member w j) (pair_of t) ≡ false
     not_hidden t h = elim (cases_Bool (member_hides (member w j) (pair_of t))) [
-      | inl on ↦ absurd (true≢false (sym h ∙ (sound.hidden (pair_of t) (ap (λ (x : Member). member_hides x (pair_of t)) gathering.same ∙ on)).none_held t.part))
+      | inl on ↦
+          absurd (true≢false
+          (sym h ∙ (sound.hidden (pair_of t)
+          (ap (λ (x : Member). member_hides x (pair_of t)) gathering.same ∙ on)).none_held t.part))
       | inr off ↦ off
     ]
 
-    comes_new : (t : Part) → member_holds new t ≡ true → member_holds (member w j) t ≡ false → member_holds (settled_member w (member w j)) t ≡ true
+    comes_new : (t : Part) → member_holds new t ≡ true → member_holds (member w j) t ≡ false
+        → member_holds (settled_member w (member w j)) t ≡ true
     comes_new t h fresh =
         let held = sound.held t h in
         let comes : comes_to w (member w j) t ≡ true = comes_from w (member w j) t (record {
@@ -76,7 +84,11 @@ module _ (w : World) (group : IsSoundGroup w) (j : ℕ) (there : j < length w.me
           fresh = fresh;
         }) in
         held_new (new_parts w (member w j)) (member w j) t
-        (in_filter (comes_to w (member w j)) (all_parts (logs w)) t (in_all_parts (logs w) t (record { there = known_published (logs w) new.known (pair_of t) sound.known held.known; counted = held.counted })) comes)
+        (in_filter (comes_to w (member w j)) (all_parts (logs w)) t
+        (in_all_parts (logs w) t (record {
+          there = known_published (logs w) new.known (pair_of t) sound.known held.known;
+          counted = held.counted;
+        })) comes)
 
     pub partly_settled : IsPartlySettled w (member w j) new
     partly_settled = record {
@@ -88,7 +100,9 @@ module _ (w : World) (group : IsSoundGroup w) (j : ℕ) (there : j < length w.me
       next_process = ap (λ (x : Member). x.next_process) gathering.same;
       claims = inr (ap (λ (x : Member). x.claims) gathering.same);
       width = sound.width ∙ sym (group.members j there).width;
-      known_more = λ p. subst (λ (v : List ℕ). get_or (member w j).known p 0 ≤ get_or v p 0) (sym known_is) (told_by w group j there j p there);
+      known_more =
+          λ p. subst (λ (v : List ℕ). get_or (member w j).known p 0 ≤ get_or v p 0) (sym known_is)
+          (told_by w group j there j p there);
       known_less = λ p. ap_le p;
       kept = gathering.kept;
       came = λ t h. elim (cases_Bool (member_holds (member w j) t)) [
@@ -97,7 +111,9 @@ module _ (w : World) (group : IsSoundGroup w) (j : ℕ) (there : j < length w.me
       ];
     } where
       ap_le : (p : ℕ) → get_or new.known p 0 ≤ get_or (settled_vector w) p 0
-      ap_le p = let e : get_or new.known p 0 ≡ get_or (settled_vector w) p 0 = ap (λ (v : List ℕ). get_or v p 0) known_is in omega (arith, e)
+      ap_le p =
+          let e : get_or new.known p 0 ≡ get_or (settled_vector w) p 0 = ap (λ (v : List ℕ). get_or v p 0) known_is in
+          omega (arith, e)
 
   -- So has a member that is as it was.
   pub partly_begun : IsPartlySettled w (member w j) (member w j)
@@ -118,8 +134,11 @@ module _ (w : World) (group : IsSoundGroup w) (j : ℕ) (there : j < length w.me
 
 -- ---- a member that gathers
 
-module _ (g : GroupKeys) (w : World) (group : IsSoundGroup w) (are : AreLogs g (logs w)) (j : ℕ) (there : j < length w.members) (others : List Alone) (old new : Alone)
-    (learnt : in_group old ≡ learnt_member w (member w j)) (someones : (t : Part) → (stores old t || lends others t) ≡ someone_holds w.members t) (number : new.number ≡ j) (gains : GainsParts g (logs w) others old new) where
+module _ (g : GroupKeys) (w : World) (group : IsSoundGroup w) (are : AreLogs g (logs w)) (j : ℕ)
+    (there : j < length w.members) (others : List Alone) (old new : Alone)
+    (learnt : in_group old ≡ learnt_member w (member w j))
+    (someones : (t : Part) → (stores old t || lends others t) ≡ someone_holds w.members t) (number : new.number ≡ j)
+    (gains : GainsParts g (logs w) others old new) where
   same : in_group new ≡ record (learnt_member w (member w j)) { held = keys new.store }
   same = ap in_group gains.same ∙ ap (λ (x : Member). let y : Member = record x { held = keys new.store } in y) learnt
 
@@ -130,7 +149,10 @@ module _ (g : GroupKeys) (w : World) (group : IsSoundGroup w) (are : AreLogs g (
   gathering = record {
     same = same;
     kept = λ t h. gains.kept t (stores_held t ∙ h);
-    came = λ t h. elim (gains.came t h) [ inl was ↦ inl (sym (stores_held t) ∙ was) | inr lent_ ↦ inr (sym (someones t) ∙ or_right (stores old t) (lends others t) lent_) ];
+    came = λ t h. elim (gains.came t h) [
+      | inl was ↦ inl (sym (stores_held t) ∙ was)
+      | inr lent_ ↦ inr (sym (someones t) ∙ or_right (stores old t) (lends others t) lent_)
+    ];
   }
 
   sound : IsSoundMember (logs w) j (in_group new)
@@ -139,16 +161,20 @@ module _ (g : GroupKeys) (w : World) (group : IsSoundGroup w) (are : AreLogs g (
   module _ (left : NothingLeft others new) where
     unclaimed : (t : Part) → is_wanted (alone_plan new) t ≡ true → is_unclaimed (alone_plan new) t ≡ true
     unclaimed t wanted = and_from (is_wanted (alone_plan new) t) (not (is_claimed (alone_plan new) t)) wanted
-        (not_from_false (is_claimed (alone_plan new) t) (ap (λ (x : Member). list_any (is_claim_of t) x.claims) same ∙ none_claimed t))
+        (not_from_false (is_claimed (alone_plan new) t)
+        (ap (λ (x : Member). list_any (is_claim_of t) x.claims) same ∙ none_claimed t))
 
     -- What it wants nobody holds.
     gathered : HasGathered w (in_group new)
     gathered t wanted = elim (cases_Bool (someone_holds w.members t)) [
       | inl someone_ ↦
-          let want : is_wanted (alone_plan new) t ≡ true = subst (λ (p : Holdings). is_wanted p t ≡ true) (sym (plans_alike g (logs w) new are (true_stores g (logs w) new gains.truly))) wanted in
+          let want : is_wanted (alone_plan new) t ≡ true =
+          subst (λ (p : Holdings). is_wanted p t ≡ true)
+          (sym (plans_alike g (logs w) new are (true_stores g (logs w) new gains.truly))) wanted in
           let none : lends others t ≡ false = left t (unclaimed t want) in
           elim (or_cases (stores old t) (lends others t) (someones t ∙ someone_)) [
-            | inl was ↦ absurd (true≢false (sym (gains.kept t was) ∙ (wanted_parts (logs w) (in_group new) t wanted).not_held))
+            | inl was ↦
+                absurd (true≢false (sym (gains.kept t was) ∙ (wanted_parts (logs w) (in_group new) t wanted).not_held))
             | inr lent_ ↦ absurd (true≢false (sym lent_ ∙ none))
           ]
       | inr off ↦ off
@@ -166,5 +192,8 @@ module _ (g : GroupKeys) (w : World) (group : IsSoundGroup w) (are : AreLogs g (
       from_or : (x : Bool) → (x || true) ≡ true
       from_or true = refl
       from_or false = refl
-    go false false true e f h = elim (gains.came t h) [ inl was ↦ absurd (true≢false (sym was ∙ e)) | inr lent_ ↦ absurd (true≢false (sym lent_ ∙ f)) ]
+    go false false true e f h = elim (gains.came t h) [
+      | inl was ↦ absurd (true≢false (sym was ∙ e))
+      | inr lent_ ↦ absurd (true≢false (sym lent_ ∙ f))
+    ]
     go false false false e f h = refl

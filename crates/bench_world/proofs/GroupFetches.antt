@@ -1,5 +1,6 @@
 -- What a member fetches is what comes to it in the group's fetch.
-use Rattle.std.proofs.Common.{◌≡◌, inl, inr, ℕ, suc, zero, ◌+◌, ◌<◌, Bool, true, false, cond, ◌||◌, List, [], ◌∷◌, map, length, get_or, set, take, Option, Some, None, refl, sym, ap, ◌∙◌, subst, arith}
+use Rattle.std.proofs.Common.{◌≡◌, inl, inr, ℕ, suc, zero, ◌+◌, ◌<◌, Bool, true, false, cond, ◌||◌, List, [], ◌∷◌, map}
+use Rattle.std.proofs.Common.{length, get_or, set, take, Option, Some, None, refl, sym, ap, ◌∙◌, subst, arith}
 use Rattle.std.specs.Prelude.{is_some, unwrap_or, find, filter, sum, sum_by, IfSome}
 use Rattle.std.specs.List.{All}
 use Rattle.std.proofs.lemmas.Bool.{cases_eq}
@@ -14,7 +15,8 @@ use Rattle.repo_plan.proofs.Scans.{behind_none}
 use Rattle.group_model.specs.Member.{Member}
 use Rattle.group_model.specs.Events.{Event}
 use Rattle.group_model.specs.World.{World, Outside, no_member, member, logs, someone_holds}
-use Rattle.group_model.specs.Steps.{others_of, planned_parts, attempt, fetched_parts, attempts_for, attempts_made, fetches, after_fetch, after_event}
+use Rattle.group_model.specs.Steps.{others_of, planned_parts, attempt, fetched_parts, attempts_for, attempts_made}
+use Rattle.group_model.specs.Steps.{fetches, after_fetch, after_event}
 use Rattle.repo_member.specs.Groups.{GroupKeys}
 use Rattle.repo_member.specs.Alone.{Alone, Fetched, alone_plan, alone_takes}
 use Rattle.repo_member.specs.InGroup.{in_group, AreLogs, asked_for, that_came, AreTries}
@@ -39,32 +41,56 @@ module _ (passes : Part → ℕ → Bool) (others : List Alone) (tries : ℕ) (a
   asked_same [] = refl
   asked_same (t ∷ ts) = ap (λ (us : List Part). t ∷ us) (asked_same ts)
 
-  came_some : (t : Part) → is_some (fetched_one passes others tries a t).packet ≡ is_some (attempt_at passes others tries a t)
-  came_some t = go (lent others t) (find (λ n. passes t (attempts_of (alone_plan a) t + n)) (numbers_from 1 tries)) where
-    go : (l : Option (List ℕ)) (e : Option ℕ) → is_some (cond (is_some (cond (is_some l) e None)) l None) ≡ is_some (cond (is_some l) e None)
-    go None e = refl
-    go (Some o) None = refl
-    go (Some o) (Some n) = refl
+  came_some : (t : Part)
+      → is_some (fetched_one passes others tries a t).packet ≡ is_some (attempt_at passes others tries a t)
+  came_some t =
+      go (lent others t) (find (λ n. passes t (attempts_of (alone_plan a) t + n)) (numbers_from 1 tries)) where
+        go : (l : Option (List ℕ)) (e : Option ℕ)
+            → is_some (cond (is_some (cond (is_some l) e None)) l None) ≡ is_some (cond (is_some l) e None)
+        go None e = refl
+        go (Some o) None = refl
+        go (Some o) (Some n) = refl
 
-  came_same : (ts : List Part) → that_came (fetched_all passes others tries a ts) ≡ filter (λ t. is_some (attempt_at passes others tries a t)) ts
+  came_same : (ts : List Part)
+      → that_came (fetched_all passes others tries a ts) ≡ filter (λ t. is_some (attempt_at passes others tries a t)) ts
   came_same [] = refl
-  came_same (t ∷ ts) = go (is_some (fetched_one passes others tries a t).packet) (is_some (attempt_at passes others tries a t)) (came_some t) (came_same ts) where
-    go : (b c : Bool) → b ≡ c → that_came (fetched_all passes others tries a ts) ≡ filter (λ u. is_some (attempt_at passes others tries a u)) ts
-        → asked_for (cond b (fetched_one passes others tries a t ∷ filter (λ (x : Fetched). is_some x.packet) (fetched_all passes others tries a ts)) (filter (λ (x : Fetched). is_some x.packet) (fetched_all passes others tries a ts)))
-        ≡ cond c (t ∷ filter (λ u. is_some (attempt_at passes others tries a u)) ts) (filter (λ u. is_some (attempt_at passes others tries a u)) ts)
-    go b c e h = subst (λ (x : Bool). asked_for (cond b (fetched_one passes others tries a t ∷ filter (λ (y : Fetched). is_some y.packet) (fetched_all passes others tries a ts)) (filter (λ (y : Fetched). is_some y.packet) (fetched_all passes others tries a ts)))
-        ≡ cond x (t ∷ filter (λ u. is_some (attempt_at passes others tries a u)) ts) (filter (λ u. is_some (attempt_at passes others tries a u)) ts)) e (same b h)
-      where
-        same : (b : Bool) → that_came (fetched_all passes others tries a ts) ≡ filter (λ u. is_some (attempt_at passes others tries a u)) ts
-            → asked_for (cond b (fetched_one passes others tries a t ∷ filter (λ (x : Fetched). is_some x.packet) (fetched_all passes others tries a ts)) (filter (λ (x : Fetched). is_some x.packet) (fetched_all passes others tries a ts)))
-            ≡ cond b (t ∷ filter (λ u. is_some (attempt_at passes others tries a u)) ts) (filter (λ u. is_some (attempt_at passes others tries a u)) ts)
-        same true h = ap (λ (us : List Part). t ∷ us) h
-        same false h = h
+  came_same (t ∷ ts) =
+      go (is_some (fetched_one passes others tries a t).packet) (is_some (attempt_at passes others tries a t))
+      (came_some t) (came_same ts) where
+        go : (b c : Bool) → b ≡ c
+            → that_came (fetched_all passes others tries a ts)
+            ≡ filter (λ u. is_some (attempt_at passes others tries a u)) ts
+            → asked_for
+            (cond b (fetched_one passes others tries a t
+            ∷ filter (λ (x : Fetched). is_some x.packet) (fetched_all passes others tries a ts))
+            (filter (λ (x : Fetched). is_some x.packet) (fetched_all passes others tries a ts)))
+            ≡ cond c (t ∷ filter (λ u. is_some (attempt_at passes others tries a u)) ts)
+            (filter (λ u. is_some (attempt_at passes others tries a u)) ts)
+        go b c e h =
+            subst (λ (x : Bool). asked_for
+            (cond b (fetched_one passes others tries a t
+            ∷ filter (λ (y : Fetched). is_some y.packet) (fetched_all passes others tries a ts))
+            (filter (λ (y : Fetched). is_some y.packet) (fetched_all passes others tries a ts)))
+            ≡ cond x (t ∷ filter (λ u. is_some (attempt_at passes others tries a u)) ts)
+            (filter (λ u. is_some (attempt_at passes others tries a u)) ts)) e (same b h)
+          where
+            same : (b : Bool)
+                → that_came (fetched_all passes others tries a ts)
+                ≡ filter (λ u. is_some (attempt_at passes others tries a u)) ts
+                → asked_for
+                (cond b (fetched_one passes others tries a t
+                ∷ filter (λ (x : Fetched). is_some x.packet) (fetched_all passes others tries a ts))
+                (filter (λ (x : Fetched). is_some x.packet) (fetched_all passes others tries a ts)))
+                ≡ cond b (t ∷ filter (λ u. is_some (attempt_at passes others tries a u)) ts)
+                (filter (λ u. is_some (attempt_at passes others tries a u)) ts)
+            same true h = ap (λ (us : List Part). t ∷ us) h
+            same false h = h
 
 -- ---- all but one member
 
 -- Someone holds a part among all but one as where that one is nobody.
-pub removed : (members : List Alone) (j : ℕ) (t : Part) → someone_holds (in_groups (others_than j members)) t ≡ someone_holds (set (in_groups members) j no_member) t
+pub removed : (members : List Alone) (j : ℕ) (t : Part)
+    → someone_holds (in_groups (others_than j members)) t ≡ someone_holds (set (in_groups members) j no_member) t
 removed [] zero t = refl
 removed [] (suc j) t = refl
 removed (a ∷ members) zero t = refl
@@ -75,7 +101,8 @@ filter_same p q [] e = refl
 filter_same p q (x ∷ xs) e = (λ i. cond (e x i) (x ∷ filter_same p q xs e i) (filter_same p q xs e i))
 
 -- Sums of attempts that were counted part by part.
-tried_sum : (f : Part → ℕ) (xs : List Fetched) → All (λ x. x.attempts ≡ f x.part) xs → sum (map (λ (x : Fetched). x.attempts) xs) ≡ sum_by f (asked_for xs)
+tried_sum : (f : Part → ℕ) (xs : List Fetched) → All (λ x. x.attempts ≡ f x.part) xs
+    → sum (map (λ (x : Fetched). x.attempts) xs) ≡ sum_by f (asked_for xs)
 tried_sum f [] all = refl
 tried_sum f (x ∷ xs) all =
     let head : x.attempts ≡ f x.part = all 0 x (omega arith) in
@@ -84,7 +111,9 @@ tried_sum f (x ∷ xs) all =
     let two = sum_by-cons f x.part (asked_for xs) in
     one ∙ (λ i. head i + rest i) ∙ sym two
 
-module _ (passes : ℕ → ℕ → ℕ → ℕ → ℕ → ℕ → Bool) (draw : ℕ → ℕ → ℕ) (g : GroupKeys) (w : World) (are : AreLogs g (logs w)) (members : List Alone) (begun : in_groups members ≡ w.members) (numbers : MembersAreNumbered members) (truly : AreTrueMembers g (logs w) members)
+module _ (passes : ℕ → ℕ → ℕ → ℕ → ℕ → ℕ → Bool) (draw : ℕ → ℕ → ℕ) (g : GroupKeys) (w : World)
+    (are : AreLogs g (logs w)) (members : List Alone) (begun : in_groups members ≡ w.members)
+    (numbers : MembersAreNumbered members) (truly : AreTrueMembers g (logs w) members)
     (j : ℕ) (there : j < length members) (tries loss : ℕ) where
   abbrev pub out : Outside
   out = outside g draw passes
@@ -99,28 +128,42 @@ module _ (passes : ℕ → ℕ → ℕ → ℕ → ℕ → ℕ → Bool) (draw :
   here = alone_at members j
 
   abbrev pub fetched : List Fetched
-  fetched = fetched_all (attempt_comes passes j (Some loss)) (others_than j members) tries (alone_at members j) (next_parts None (alone_at members j))
+  fetched =
+      fetched_all (attempt_comes passes j (Some loss)) (others_than j members) tries (alone_at members j)
+      (next_parts None (alone_at members j))
 
   member_is : member w j ≡ in_group here
   member_is = ap (λ (ms : List Member). get_or ms j no_member) (sym begun) ∙ member_of members j there
 
   is_member : IsMemberOf w j here
-  is_member = record { there = let e : length w.members ≡ length members = sym (ap length begun) ∙ length-map members in_group in omega (arith, there, e); number = numbers j there; same = member_is }
+  is_member = record {
+    there =
+        let e : length w.members ≡ length members = sym (ap length begun) ∙ length-map members in_group in
+        omega (arith, there, e);
+    number = numbers j there;
+    same = member_is;
+  }
 
   is_true : IsTrueIn g w here
   is_true = record { published = are; stores = true_stores g (logs w) here (truly j there) }
 
   lends_same : (t : Part) → lends others t ≡ someone_holds (others_of w j) t
-  lends_same t = lends_held others t ∙ removed members j t ∙ ap (λ (ms : List Member). someone_holds (set ms j no_member) t) begun
+  lends_same t =
+      lends_held others t ∙ removed members j t ∙ ap (λ (ms : List Member). someone_holds (set ms j no_member) t) begun
 
   attempt_same : (t : Part) → attempt_at way others tries here t ≡ attempt out w j tries loss t
   attempt_same t =
       let tried : here.attempts ≡ (member w j).attempts = ap (λ (m : Member). m.attempts) (sym member_is) in
-      ap (λ (b : Bool). cond b (find (λ n. passes j t.publisher t.seq t.part (unwrap_or (value_of part_cmp here.attempts t) 0 + n) loss) (numbers_from 1 tries)) None) (lends_same t)
-      ∙ (λ i. cond (someone_holds (others_of w j) t) (find (λ n. passes j t.publisher t.seq t.part (unwrap_or (value_of part_cmp (tried i) t) 0 + n) loss) (numbers_from 1 tries)) None)
+      ap (λ (b : Bool). cond b
+      (find (λ n. passes j t.publisher t.seq t.part (unwrap_or (value_of part_cmp here.attempts t) 0 + n) loss)
+      (numbers_from 1 tries)) None) (lends_same t)
+      ∙ (λ i. cond (someone_holds (others_of w j) t)
+      (find (λ n. passes j t.publisher t.seq t.part (unwrap_or (value_of part_cmp (tried i) t) 0 + n) loss)
+      (numbers_from 1 tries)) None)
 
   planned_same : next_parts None here ≡ planned_parts w j
-  planned_same = ap (take 4096) (behind_none (unclaimed (alone_plan here)) ∙ sym (open_parts_alike w j g here is_member is_true))
+  planned_same =
+      ap (take 4096) (behind_none (unclaimed (alone_plan here)) ∙ sym (open_parts_alike w j g here is_member is_true))
 
   pub planned_are : length (next_parts None here) ≡ length (planned_parts w j)
   planned_are = ap length planned_same
@@ -128,13 +171,15 @@ module _ (passes : ℕ → ℕ → ℕ → ℕ → ℕ → ℕ → Bool) (draw :
   pub came_are : that_came fetched ≡ fetched_parts out w j tries loss
   came_are =
       came_same way others tries here (next_parts None here)
-      ∙ filter_same (λ t. is_some (attempt_at way others tries here t)) (λ t. is_some (attempt out w j tries loss t)) (next_parts None here) (λ t. ap is_some (attempt_same t))
+      ∙ filter_same (λ t. is_some (attempt_at way others tries here t)) (λ t. is_some (attempt out w j tries loss t))
+      (next_parts None here) (λ t. ap is_some (attempt_same t))
       ∙ ap (filter (λ t. is_some (attempt out w j tries loss t))) planned_same
 
   tried_are : AreTries (attempts_for out w j tries loss) fetched
   tried_are = all_from_in (λ (x : Fetched). x.attempts ≡ attempts_for out w j tries loss x.part) fetched (λ x i.
       let r = from_map (fetched_one way others tries here) (next_parts None here) x i in
-      subst (λ (y : Fetched). y.attempts ≡ attempts_for out w j tries loss y.part) (sym r.2) (ap (λ (o : Option ℕ). unwrap_or o tries) (attempt_same r.0)))
+      subst (λ (y : Fetched). y.attempts ≡ attempts_for out w j tries loss y.part) (sym r.2)
+      (ap (λ (o : Option ℕ). unwrap_or o tries) (attempt_same r.0)))
 
   outcome : IsOutcomeIn out w j tries loss fetched
   outcome = record {
@@ -150,10 +195,13 @@ module _ (passes : ℕ → ℕ → ℕ → ℕ → ℕ → ℕ → Bool) (draw :
 
   -- The member afterwards is what the event makes of it.
   fetched_in : member (after_event out w (Event.Fetch j tries loss)) j ≡ in_group (alone_takes fetched here)
-  fetched_in = fetch_is_event out w j tries loss fetched here is_member (true_is_alone g (logs w) here (truly j there)).in_order outcome
+  fetched_in =
+      fetch_is_event out w j tries loss fetched here is_member (true_is_alone g (logs w) here (truly j there)).in_order
+      outcome
 
   fetched_member : in_group (alone_takes fetched here) ≡ fetches out w j tries loss (member w j)
-  fetched_member = sym fetched_in ∙ get_or-set_same w.members j (fetches out w j tries loss (member w j)) no_member is_member.there
+  fetched_member =
+      sym fetched_in ∙ get_or-set_same w.members j (fetches out w j tries loss (member w j)) no_member is_member.there
 
   from_packet : (b : Bool) (o : Option (List ℕ)) (octets : List ℕ) → cond b o None ≡ Some octets → o ≡ Some octets
   from_packet true o octets e = e
@@ -162,8 +210,10 @@ module _ (passes : ℕ → ℕ → ℕ → ℕ → ℕ → ℕ → Bool) (draw :
   fetched_truly : IsTrueMember g (logs w) (alone_takes fetched here)
   fetched_truly =
       takes_true g (logs w) fetched here are
-      (all_from_in (λ (x : Fetched). IfSome x.packet (IsTrueArrival g (logs w) here x.part)) fetched (λ x i. one x i x.packet refl)) (truly j there) where
-        one : (x : Fetched) → In x fetched → (o : Option (List ℕ)) → x.packet ≡ o → IfSome o (IsTrueArrival g (logs w) here x.part)
+      (all_from_in (λ (x : Fetched). IfSome x.packet (IsTrueArrival g (logs w) here x.part)) fetched
+      (λ x i. one x i x.packet refl)) (truly j there) where
+        one : (x : Fetched) → In x fetched → (o : Option (List ℕ)) → x.packet ≡ o
+            → IfSome o (IsTrueArrival g (logs w) here x.part)
         one x i None e = tt
         one x i (Some octets) e =
             let r = from_map (fetched_one way others tries here) (next_parts None here) x i in
@@ -171,7 +221,8 @@ module _ (passes : ℕ → ℕ → ℕ → ℕ → ℕ → ℕ → Bool) (draw :
             (record {
               unclaimed = next_unclaimed here None r.0 r.1;
               packet = lends_true g (logs w) others (others_true g (logs w) members others j truly refl) r.0 octets
-                  (from_packet (is_some (attempt_at way others tries here r.0)) (lent others r.0) octets (sym (ap (λ (y : Fetched). y.packet) r.2) ∙ e));
+                  (from_packet (is_some (attempt_at way others tries here r.0)) (lent others r.0) octets
+                  (sym (ap (λ (y : Fetched). y.packet) r.2) ∙ e));
             })
 
   module _ (new : List Alone) (new_is : new ≡ set members j (alone_takes fetched here)) where
@@ -196,12 +247,19 @@ module _ (passes : ℕ → ℕ → ℕ → ℕ → ℕ → ℕ → Bool) (draw :
 
     pub fetched_all_truly : AreTrueMembers g (logs w) new
     fetched_all_truly i l = elim (cases_eq i j) [
-      | inl same ↦ subst (λ (k : ℕ). IsTrueMember g (logs w) (alone_at new k)) (sym same) (subst (IsTrueMember g (logs w)) (sym at_here) fetched_truly)
+      | inl same ↦
+          subst (λ (k : ℕ). IsTrueMember g (logs w) (alone_at new k)) (sym same)
+          (subst (IsTrueMember g (logs w)) (sym at_here) fetched_truly)
       | inr other ↦ subst (IsTrueMember g (logs w)) (sym (elsewhere i other)) (truly i (omega (arith, l, new_len)))
     ]
 
     pub fetched_numbers : MembersAreNumbered new
     fetched_numbers i l = elim (cases_eq i j) [
-      | inl same ↦ ap (λ (k : ℕ). (alone_at new k).number) same ∙ ap (λ (a : Alone). a.number) at_here ∙ taker_number fetched here ∙ numbers j there ∙ sym same
+      | inl same ↦
+          ap (λ (k : ℕ). (alone_at new k).number) same
+          ∙ ap (λ (a : Alone). a.number) at_here
+          ∙ taker_number fetched here
+          ∙ numbers j there
+          ∙ sym same
       | inr other ↦ ap (λ (a : Alone). a.number) (elsewhere i other) ∙ numbers i (omega (arith, l, new_len))
     ]

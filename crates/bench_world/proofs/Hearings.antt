@@ -1,5 +1,6 @@
 -- What octets that a member hears make of a world.
-use Rattle.std.proofs.Common.{◌≡◌, ◌⊎◌, inl, inr, ℕ, ◌+◌, ◌<◌, ◌==◌, Bool, true, false, cond, ◌&&◌, ◌||◌, List, [], ◌∷◌, map, length, get_or, set, Some, None, refl, sym, ap, ◌∙◌, subst, arith}
+use Rattle.std.proofs.Common.{◌≡◌, ◌⊎◌, inl, inr, ℕ, ◌+◌, ◌<◌, ◌==◌, Bool, true, false, cond, ◌&&◌, ◌||◌, List, [], ◌∷◌}
+use Rattle.std.proofs.Common.{map, length, get_or, set, Some, None, refl, sym, ap, ◌∙◌, subst, arith}
 use Rattle.std.specs.Prelude.{nat_lt, slice_index, Result, Ok, Err}
 use Rattle.std.specs.List.{All, list_any}
 use Rattle.std.specs.Str.{bytes_eq}
@@ -28,7 +29,8 @@ use Rattle.repo_member.specs.TrueMembers.{IsTrueMember}
 use Rattle.repo_member.proofs.PublicLaws.{hears_true}
 use Rattle.bench_world.specs.declared.event.StepFault.{StepFault}
 use Rattle.bench_world.specs.declared.event.StepFault.TheVariants as fault
-use Rattle.bench_world.specs.Worlds.{GroupState, IsTrueState, IsTrueSync, in_groups, logs_around, sync_in, world_of, drawing}
+use Rattle.bench_world.specs.Worlds.{GroupState, IsTrueState, IsTrueSync, in_groups, logs_around, sync_in, world_of}
+use Rattle.bench_world.specs.Worlds.{drawing}
 use Rattle.bench_world.specs.Readings.{read_as}
 use Rattle.bench_world.specs.Hearing.{told_sync}
 use Rattle.bench_world.specs.Steps.{IsFaultOf}
@@ -45,110 +47,194 @@ both_true true b f g = sym (f refl)
 both_true false true f g = g refl
 both_true false false f g = refl
 
-same_test : (sender : ℕ) (v : List ℕ) (p : SentPacket) → ((sender == p.sender) && bytes_eq v p.vector) ≡ ((p.sender == sender) && bytes_eq p.vector v)
+same_test : (sender : ℕ) (v : List ℕ) (p : SentPacket)
+    → ((sender == p.sender) && bytes_eq v p.vector) ≡ ((p.sender == sender) && bytes_eq p.vector v)
 same_test sender v p =
-    let one : (sender == p.sender) ≡ (p.sender == sender) = both_true (sender == p.sender) (p.sender == sender) (λ h. eq-eqb p.sender sender (sym (eqb-true sender p.sender h))) (λ h. eq-eqb sender p.sender (sym (eqb-true p.sender sender h))) in
-    let two : bytes_eq v p.vector ≡ bytes_eq p.vector v = both_true (bytes_eq v p.vector) (bytes_eq p.vector v) (λ h. (bytes_eq-Decides p.vector v).1 (sym ((bytes_eq-Decides v p.vector).0 h))) (λ h. (bytes_eq-Decides v p.vector).1 (sym ((bytes_eq-Decides p.vector v).0 h))) in
+    let one : (sender == p.sender) ≡ (p.sender == sender) =
+    both_true (sender == p.sender) (p.sender == sender) (λ h. eq-eqb p.sender sender (sym (eqb-true sender p.sender h)))
+    (λ h. eq-eqb sender p.sender (sym (eqb-true p.sender sender h))) in
+    let two : bytes_eq v p.vector ≡ bytes_eq p.vector v =
+    both_true (bytes_eq v p.vector) (bytes_eq p.vector v)
+    (λ h. (bytes_eq-Decides p.vector v).1 (sym ((bytes_eq-Decides v p.vector).0 h)))
+    (λ h. (bytes_eq-Decides v p.vector).1 (sym ((bytes_eq-Decides p.vector v).0 h))) in
     λ i. one i && two i
 
-sent_alike : (s : GroupState) (sender : ℕ) (v : List ℕ) → was_sent sender v s.sent ≡ has_sent (world_of s) (record { sender = sender; vector = v })
+sent_alike : (s : GroupState) (sender : ℕ) (v : List ℕ)
+    → was_sent sender v s.sent ≡ has_sent (world_of s) (record { sender = sender; vector = v })
 sent_alike s sender v = go s.sent where
-  go : (ps : List SentPacket) → was_sent sender v ps ≡ list_any (λ (x : SyncInterest). x.sender == sender && bytes_eq x.vector v) (map sync_in ps)
+  go : (ps : List SentPacket)
+      → was_sent sender v ps
+      ≡ list_any (λ (x : SyncInterest). x.sender == sender && bytes_eq x.vector v) (map sync_in ps)
   go [] = refl
   go (p ∷ ps) = let head = same_test sender v p in let tail = go ps in λ i. head i || tail i
 
-sent_vector : (g : GroupKeys) (logs : Logs) (sender : ℕ) (v : List ℕ) (ps : List SentPacket) → was_sent sender v ps ≡ true → All (IsTrueSync g logs) ps → IsTrueVector logs v
+sent_vector : (g : GroupKeys) (logs : Logs) (sender : ℕ) (v : List ℕ) (ps : List SentPacket)
+    → was_sent sender v ps ≡ true → All (IsTrueSync g logs) ps → IsTrueVector logs v
 sent_vector g logs sender v [] h all = absurd (true≢false (sym h))
-sent_vector g logs sender v (p ∷ ps) h all = elim (or_cases ((sender == p.sender) && bytes_eq v p.vector) (was_sent sender v ps) h) [
-  | inl here ↦
-      let both = and_parts (sender == p.sender) (bytes_eq v p.vector) here in
-      subst (IsTrueVector logs) (sym ((bytes_eq-Decides v p.vector).0 both.1)) (All-head (IsTrueSync g logs) p ps all).vector
-  | inr later ↦ sent_vector g logs sender v ps later (All-tail (IsTrueSync g logs) p ps all)
-]
+sent_vector g logs sender v (p ∷ ps) h all =
+    elim (or_cases ((sender == p.sender) && bytes_eq v p.vector) (was_sent sender v ps) h) [
+      | inl here ↦
+          let both = and_parts (sender == p.sender) (bytes_eq v p.vector) here in
+          subst (IsTrueVector logs) (sym ((bytes_eq-Decides v p.vector).0 both.1))
+          (All-head (IsTrueSync g logs) p ps all).vector
+      | inr later ↦ sent_vector g logs sender v ps later (All-tail (IsTrueSync g logs) p ps all)
+    ]
 
 -- ---- the world
 
-module _ (s : GroupState) (is : IsTrueState s) (m : ℕ) (there : m < length s.members) (old : Alone) (old_is : old ≡ get_or s.members m old) (r : Result (ℕ × List ℕ) SyncRefusal) where
-  too_much : (sync : SyncInterest) → tells_too_much (world_of s) m sync ≡ nat_lt (length old.log) (slice_index sync.vector m)
-  too_much sync = ap (λ (x : Member). nat_lt (length x.log) (slice_index sync.vector m)) (member_is s is m there old old_is)
+module _ (s : GroupState) (is : IsTrueState s) (m : ℕ) (there : m < length s.members) (old : Alone)
+    (old_is : old ≡ get_or s.members m old) (r : Result (ℕ × List ℕ) SyncRefusal) where
+  too_much : (sync : SyncInterest)
+      → tells_too_much (world_of s) m sync ≡ nat_lt (length old.log) (slice_index sync.vector m)
+  too_much sync =
+      ap (λ (x : Member). nat_lt (length x.log) (slice_index sync.vector m)) (member_is s is m there old old_is)
 
   -- ---- octets that are refused
 
-  module _ (draws : ℕ → ℕ → ℕ) (x : HearRefusal) (x_is : (x ≡ hear.NoMemory) ⊎ (told_sync (length old.log) m r ≡ Err x)) where
+  module _ (draws : ℕ → ℕ → ℕ) (x : HearRefusal)
+      (x_is : (x ≡ hear.NoMemory) ⊎ (told_sync (length old.log) m r ≡ Err x)) where
     -- They change nothing, are not foreign, and their refusal is told.
-    refused_by : (r : Result (ℕ × List ℕ) SyncRefusal) → told_sync (length old.log) m r ≡ Err x → (if_unsent (world_of s) m (read_as r) ≡ None) × (after_hear (drawing draws) (world_of s) m (read_as r) ≡ world_of s) × (hear_told (drawing draws) (world_of s) m r ≡ Told.HearRefused m x)
+    refused_by : (r : Result (ℕ × List ℕ) SyncRefusal) → told_sync (length old.log) m r ≡ Err x
+        → (if_unsent (world_of s) m (read_as r) ≡ None)
+        × (after_hear (drawing draws) (world_of s) m (read_as r) ≡ world_of s)
+        × (hear_told (drawing draws) (world_of s) m r ≡ Told.HearRefused m x)
     refused_by (Err refusal) e = (refl, refl, (let same : hear.Sync refusal ≡ x = cc in ap (Told.HearRefused m) same))
     refused_by (Ok told) e = go (nat_lt (length old.log) (slice_index told.1 m)) refl e where
-      much : (b : Bool) → nat_lt (length old.log) (slice_index told.1 m) ≡ b → tells_too_much (world_of s) m (made told) ≡ b
+      much : (b : Bool) → nat_lt (length old.log) (slice_index told.1 m) ≡ b
+          → tells_too_much (world_of s) m (made told) ≡ b
       much b p = too_much (made told) ∙ p
 
-      go : (b : Bool) → nat_lt (length old.log) (slice_index told.1 m) ≡ b → cond b (Err (hear.OwnNumberAhead (length old.log) (slice_index told.1 m))) (Ok (made told)) ≡ Err x
-          → (if_unsent (world_of s) m (Some (made told)) ≡ None) × (after_hear (drawing draws) (world_of s) m (Some (made told)) ≡ world_of s) × (hear_told (drawing draws) (world_of s) m (Ok told) ≡ Told.HearRefused m x)
+      go : (b : Bool) → nat_lt (length old.log) (slice_index told.1 m) ≡ b
+          → cond b (Err (hear.OwnNumberAhead (length old.log) (slice_index told.1 m))) (Ok (made told)) ≡ Err x
+          → (if_unsent (world_of s) m (Some (made told)) ≡ None)
+          × (after_hear (drawing draws) (world_of s) m (Some (made told)) ≡ world_of s)
+          × (hear_told (drawing draws) (world_of s) m (Ok told) ≡ Told.HearRefused m x)
       go true p h =
           let same : hear.OwnNumberAhead (length old.log) (slice_index told.1 m) ≡ x = cc in (
             ap (λ (b : Bool). cond b None (unless (has_sent (world_of s) (made told)) Refusal.Foreign)) (much true p),
             ap (λ (b : Bool). cond b (world_of s) (after_deliver (drawing draws) (world_of s) m told.1)) (much true p),
-            ap (λ (b : Bool). cond b (Told.HearRefused m (hear.OwnNumberAhead (length (member (world_of s) m).log) (slice_index told.1 m))) (mode_told m (mode_at (after_deliver (drawing draws) (world_of s) m told.1) m))) (much true p)
-                ∙ ap (λ (y : Member). Told.HearRefused m (hear.OwnNumberAhead (length y.log) (slice_index told.1 m))) (member_is s is m there old old_is) ∙ ap (Told.HearRefused m) same,
+            ap (λ (b : Bool). cond b
+                (Told.HearRefused m (hear.OwnNumberAhead (length (member (world_of s) m).log) (slice_index told.1 m)))
+                (mode_told m (mode_at (after_deliver (drawing draws) (world_of s) m told.1) m))) (much true p)
+                ∙ ap (λ (y : Member). Told.HearRefused m (hear.OwnNumberAhead (length y.log) (slice_index told.1 m)))
+                (member_is s is m there old old_is)
+                ∙ ap (Told.HearRefused m) same,
           )
       go false p h = absurd cc
 
-    pub refused_so : (x ≡ hear.NoMemory → ⊥) → (if_unsent (world_of s) m (read_as r) ≡ None) × (after_hear (drawing draws) (world_of s) m (read_as r) ≡ world_of s) × (hear_told (drawing draws) (world_of s) m r ≡ Told.HearRefused m x)
+    pub refused_so : (x ≡ hear.NoMemory → ⊥)
+        → (if_unsent (world_of s) m (read_as r) ≡ None)
+        × (after_hear (drawing draws) (world_of s) m (read_as r) ≡ world_of s)
+        × (hear_told (drawing draws) (world_of s) m r ≡ Told.HearRefused m x)
     refused_so other = elim x_is [ inl memory ↦ absurd (other memory) | inr e ↦ refused_by r e ]
 
   -- ---- octets that are taken
 
-  module _ (sender : ℕ) (v : List ℕ) (e : told_sync (length old.log) m r ≡ Ok (record { sender = sender; vector = v })) where
+  module _ (sender : ℕ) (v : List ℕ)
+      (e : told_sync (length old.log) m r ≡ Ok (record { sender = sender; vector = v })) where
     read : (r ≡ Ok (sender, v)) × (nat_lt (length old.log) (slice_index v m) ≡ false)
     read = by r e where
-      by : (r : Result (ℕ × List ℕ) SyncRefusal) → told_sync (length old.log) m r ≡ Ok (record { sender = sender; vector = v }) → (r ≡ Ok (sender, v)) × (nat_lt (length old.log) (slice_index v m) ≡ false)
+      by : (r : Result (ℕ × List ℕ) SyncRefusal)
+          → told_sync (length old.log) m r ≡ Ok (record { sender = sender; vector = v })
+          → (r ≡ Ok (sender, v)) × (nat_lt (length old.log) (slice_index v m) ≡ false)
       by (Err refusal) h = absurd cc
       by (Ok told) h = go (nat_lt (length old.log) (slice_index told.1 m)) refl h where
-        go : (b : Bool) → nat_lt (length old.log) (slice_index told.1 m) ≡ b → cond b (Err (hear.OwnNumberAhead (length old.log) (slice_index told.1 m))) (Ok (made told)) ≡ Ok (record { sender = sender; vector = v })
-            → (let r : Result (ℕ × List ℕ) SyncRefusal = Ok told in r ≡ Ok (sender, v)) × (nat_lt (length old.log) (slice_index v m) ≡ false)
+        go : (b : Bool) → nat_lt (length old.log) (slice_index told.1 m) ≡ b
+            → cond b (Err (hear.OwnNumberAhead (length old.log) (slice_index told.1 m))) (Ok (made told))
+            ≡ Ok (record { sender = sender; vector = v })
+            → (let r : Result (ℕ × List ℕ) SyncRefusal = Ok told in r ≡ Ok (sender, v))
+            × (nat_lt (length old.log) (slice_index v m) ≡ false)
         go true p h = absurd cc
         go false p h =
-            let same : made told ≡ record { sender = sender; vector = v } = cc in
-            ((λ i. Ok ((same i).sender, (same i).vector)), ap (λ (y : SyncInterest). nat_lt (length old.log) (slice_index y.vector m)) (sym same) ∙ p)
+            let same : made told ≡ record { sender = sender; vector = v } = cc in (
+              (λ i. Ok ((same i).sender, (same i).vector)),
+              ap (λ (y : SyncInterest). nat_lt (length old.log) (slice_index y.vector m)) (sym same) ∙ p,
+            )
 
     few_told : tells_too_much (world_of s) m (record { sender = sender; vector = v }) ≡ false
     few_told = too_much (record { sender = sender; vector = v }) ∙ read.1
 
-    unsent : if_unsent (world_of s) m (read_as r) ≡ unless (has_sent (world_of s) (record { sender = sender; vector = v })) Refusal.Foreign
-    unsent = ap (λ y. if_unsent (world_of s) m (read_as y)) read.0 ∙ ap (λ (b : Bool). cond b None (unless (has_sent (world_of s) (record { sender = sender; vector = v })) Refusal.Foreign)) few_told
+    unsent : if_unsent (world_of s) m (read_as r)
+        ≡ unless (has_sent (world_of s) (record { sender = sender; vector = v })) Refusal.Foreign
+    unsent =
+        ap (λ y. if_unsent (world_of s) m (read_as y)) read.0
+        ∙ ap (λ (b : Bool).
+        cond b None (unless (has_sent (world_of s) (record { sender = sender; vector = v })) Refusal.Foreign)) few_told
 
     -- They are foreign where the signer didn't send the vector.
-    pub foreign_so : (x : StepFault) → (x ≡ fault.NoMemory) ⊎ ((x ≡ fault.Foreign) × (was_sent sender v s.sent ≡ false)) → IsFaultOf (if_unsent (world_of s) m (read_as r)) x
+    pub foreign_so : (x : StepFault) → (x ≡ fault.NoMemory) ⊎ ((x ≡ fault.Foreign) × (was_sent sender v s.sent ≡ false))
+        → IsFaultOf (if_unsent (world_of s) m (read_as r)) x
     foreign_so x h = elim h [
       | inl memory ↦ subst (IsFaultOf (if_unsent (world_of s) m (read_as r))) (sym memory) tt
-      | inr foreign ↦ subst (λ y. IsFaultOf y x) (sym (unsent ∙ ap (λ (b : Bool). unless b Refusal.Foreign) (sym (sent_alike s sender v) ∙ foreign.1))) (subst (IsFaultOf (Some Refusal.Foreign)) (sym foreign.0) refl)
+      | inr foreign ↦
+          subst (λ y. IsFaultOf y x)
+          (sym (unsent ∙ ap (λ (b : Bool). unless b Refusal.Foreign) (sym (sent_alike s sender v) ∙ foreign.1)))
+          (subst (IsFaultOf (Some Refusal.Foreign)) (sym foreign.0) refl)
     ]
 
     module _ (has : was_sent sender v s.sent ≡ true) where
       pub sent_taken : if_unsent (world_of s) m (read_as r) ≡ None
       sent_taken = unsent ∙ ap (λ (b : Bool). unless b Refusal.Foreign) (sym (sent_alike s sender v) ∙ has)
 
-      module _ (draws : ℕ → ℕ → ℕ) (b : Alone) (draw : ℕ) (b_is : b ≡ alone_hears v s.moment draw old) (draw_is : draw ≡ draws m old.machine.draws) where
-        delivered : world_of (record s { members = set s.members m b; tally = record s.tally { delivered = s.tally.delivered + 1 }; steps = s.steps + 1 }) ≡ after_deliver (drawing draws) (world_of s) m v
+      module _ (draws : ℕ → ℕ → ℕ) (b : Alone) (draw : ℕ) (b_is : b ≡ alone_hears v s.moment draw old)
+          (draw_is : draw ≡ draws m old.machine.draws) where
+        delivered : world_of (record s {
+          members = set s.members m b;
+          tally = record s.tally { delivered = s.tally.delivered + 1 };
+          steps = s.steps + 1;
+        })
+            ≡ after_deliver (drawing draws) (world_of s) m v
         delivered =
-            let changed : in_groups (set s.members m b) ≡ set (in_groups s.members) m (group.learns (drawn (drawing draws) (world_of s) m) s.moment v (member (world_of s) m)) =
+            let changed : in_groups (set s.members m b)
+            ≡ set (in_groups s.members) m
+            (group.learns (drawn (drawing draws) (world_of s) m) s.moment v (member (world_of s) m)) =
             map-set in_group s.members m b
             ∙ ap (set (in_groups s.members) m) (ap in_group b_is
             ∙ ap (λ (n : ℕ). group.learns n s.moment v (in_group old)) draw_is
-            ∙ ap (λ (y : Member). group.learns (draws m y.machine.draws) s.moment v y) (sym (member_is s is m there old old_is))) in
-            ap (λ (ms : List Member). let w : World = record { members = ms; sent = map sync_in s.sent; moment = s.moment; issued = s.issued; tally = record s.tally { delivered = s.tally.delivered + 1 } } in w) changed
+            ∙ ap (λ (y : Member). group.learns (draws m y.machine.draws) s.moment v y)
+            (sym (member_is s is m there old old_is))) in
+            ap (λ (ms : List Member).
+            let w : World = record {
+              members = ms;
+              sent = map sync_in s.sent;
+              moment = s.moment;
+              issued = s.issued;
+              tally = record s.tally { delivered = s.tally.delivered + 1 };
+            } in
+            w) changed
 
-        pub heard_world : world_of (record s { members = set s.members m b; tally = record s.tally { delivered = s.tally.delivered + 1 }; steps = s.steps + 1 }) ≡ after_hear (drawing draws) (world_of s) m (read_as r)
-        heard_world = delivered ∙ sym (ap (λ y. after_hear (drawing draws) (world_of s) m (read_as y)) read.0 ∙ ap (λ (c : Bool). cond c (world_of s) (after_deliver (drawing draws) (world_of s) m v)) few_told)
+        pub heard_world : world_of (record s {
+          members = set s.members m b;
+          tally = record s.tally { delivered = s.tally.delivered + 1 };
+          steps = s.steps + 1;
+        })
+            ≡ after_hear (drawing draws) (world_of s) m (read_as r)
+        heard_world =
+            delivered
+            ∙ sym (ap (λ y. after_hear (drawing draws) (world_of s) m (read_as y)) read.0
+            ∙ ap (λ (c : Bool). cond c (world_of s) (after_deliver (drawing draws) (world_of s) m v)) few_told)
 
-        pub heard_state : s.steps < 100000 → IsTrueState (record s { members = set s.members m b; tally = record s.tally { delivered = s.tally.delivered + 1 }; steps = s.steps + 1 })
+        pub heard_state : s.steps < 100000
+            → IsTrueState (record s {
+              members = set s.members m b;
+              tally = record s.tally { delivered = s.tally.delivered + 1 };
+              steps = s.steps + 1;
+            })
         heard_state few =
-            stepped_at s is few (drawing draws) (λ t. omega arith) (Event.Hear m (read_as r)) tt m there b (ap (λ (a : Alone). a.number) b_is ∙ number_is s is m there old old_is)
-            (subst (IsTrueMember s.keys (logs_around s.members)) (sym b_is) (hears_true s.keys (logs_around s.members) v s.moment draw old (sent_vector s.keys (logs_around s.members) sender v s.sent has is.sent) (truly s is m there old old_is)))
+            stepped_at s is few (drawing draws) (λ t. omega arith) (Event.Hear m (read_as r)) tt m there b
+            (ap (λ (a : Alone). a.number) b_is ∙ number_is s is m there old old_is)
+            (subst (IsTrueMember s.keys (logs_around s.members)) (sym b_is)
+            (hears_true s.keys (logs_around s.members) v s.moment draw old
+            (sent_vector s.keys (logs_around s.members) sender v s.sent has is.sent) (truly s is m there old old_is)))
             s.sent s.moment (record s.tally { delivered = s.tally.delivered + 1 }) is.sent heard_world
 
-        pub heard_told : (mode : Mode) → mode ≡ mode_of b.machine.heard → mode_told m mode ≡ hear_told (drawing draws) (world_of s) m r
+        pub heard_told : (mode : Mode) → mode ≡ mode_of b.machine.heard
+            → mode_told m mode ≡ hear_told (drawing draws) (world_of s) m r
         heard_told mode mode_is =
-            ap (mode_told m) (mode_is ∙ ap (λ (y : Member). mode_of y.machine.heard) (sym (member_set s.members m b there)) ∙ ap (λ (w : World). mode_at w m) delivered)
+            ap (mode_told m)
+            (mode_is ∙ ap (λ (y : Member). mode_of y.machine.heard) (sym (member_set s.members m b there))
+            ∙ ap (λ (w : World). mode_at w m) delivered)
             ∙ sym (ap (hear_told (drawing draws) (world_of s) m) read.0
-            ∙ ap (λ (c : Bool). cond c (Told.HearRefused m (hear.OwnNumberAhead (length (member (world_of s) m).log) (slice_index v m))) (mode_told m (mode_at (after_deliver (drawing draws) (world_of s) m v) m))) few_told)
+            ∙ ap (λ (c : Bool). cond c
+            (Told.HearRefused m (hear.OwnNumberAhead (length (member (world_of s) m).log) (slice_index v m)))
+            (mode_told m (mode_at (after_deliver (drawing draws) (world_of s) m v) m))) few_told)

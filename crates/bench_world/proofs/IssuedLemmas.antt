@@ -1,5 +1,7 @@
 -- Which commands were made, also when one more is.
-use Rattle.std.proofs.Common.{◌≡◌, ℕ, ◌+◌, ◌<◌, ◌≤◌, Bool, true, false, ◌||◌, ◌&&◌, List, [], ◌∷◌, ◌++◌, ◌⊎◌, inl, inr, map, length, length-append, get_or, Option, None, Some, refl, sym, ap, ◌∙◌, subst, arith, if◌then◌else◌}
+use Rattle.std.proofs.Common.{◌≡◌, ℕ, ◌+◌, ◌<◌, ◌≤◌, Bool, true, false, ◌||◌, ◌&&◌, List, [], ◌∷◌, ◌++◌, ◌⊎◌, inl, inr}
+use Rattle.std.proofs.Common.{map, length, length-append, get_or, Option, None, Some, refl, sym, ap, ◌∙◌, subst, arith}
+use Rattle.std.proofs.Common.{if◌then◌else◌}
 use Rattle.std.specs.Prelude.{Result, Ok, Err, IfErr, slice_get, ◌==◌}
 use Rattle.std.specs.Result.{IsErrAnd}
 use Rattle.std.specs.List.{list_any, All}
@@ -58,15 +60,20 @@ module _ (ks : List IssuedCommand) (new : IssuedCommand) where
   put : (c : IssuedCommand) → list_any (is_same c) more ≡ (list_any (is_same c) ks || is_same c new)
   put c = by (list_any (is_same new) ks) refl
     where
-      found : (b : Bool) → is_same c new ≡ b → list_any (is_same new) ks ≡ true → list_any (is_same c) ks ≡ (list_any (is_same c) ks || b)
+      found : (b : Bool) → is_same c new ≡ b → list_any (is_same new) ks ≡ true
+          → list_any (is_same c) ks ≡ (list_any (is_same c) ks || b)
       found true e there =
-          let yes : list_any (is_same c) ks ≡ true = ap (λ (x : IssuedCommand). list_any (is_same x) ks) (same_is c new e) ∙ there in
+          let yes : list_any (is_same c) ks ≡ true =
+          ap (λ (x : IssuedCommand). list_any (is_same x) ks) (same_is c new e) ∙ there in
           rw yes refl
       found false e there = sym (or_false (list_any (is_same c) ks))
 
-      by : (b : Bool) → list_any (is_same new) ks ≡ b → list_any (is_same c) (if b then ks else ks ++ new ∷ []) ≡ (list_any (is_same c) ks || is_same c new)
+      by : (b : Bool) → list_any (is_same new) ks ≡ b
+          → list_any (is_same c) (if b then ks else ks ++ new ∷ []) ≡ (list_any (is_same c) ks || is_same c new)
       by true e = found (is_same c new) refl e
-      by false e = list_any-append (is_same c) ks (new ∷ []) ∙ ap (λ (b : Bool). list_any (is_same c) ks || b) (or_false (is_same c new))
+      by false e =
+          list_any-append (is_same c) ks (new ∷ [])
+          ∙ ap (λ (b : Bool). list_any (is_same c) ks || b) (or_false (is_same c new))
 
   same_before : (made : List ℕ) → All (λ k. k < length ks) made → commands_made more made ≡ commands_made ks made
   same_before [] within = refl
@@ -75,17 +82,22 @@ module _ (ks : List IssuedCommand) (new : IssuedCommand) where
       let behind = same_before rest (All-tail (λ k. k < length ks) k rest within) in
       λ i. issued_of (here i) ∷ behind i
 
-  module _ (made old : List ℕ) (k : ℕ) (pushed : made ≡ old ++ k ∷ []) (inside : k < length more) (stands : get_or more k no_command ≡ new) (within : All (λ j. j < length ks) old) where
+  module _ (made old : List ℕ) (k : ℕ) (pushed : made ≡ old ++ k ∷ []) (inside : k < length more)
+      (stands : get_or more k no_command ≡ new) (within : All (λ j. j < length ks) old) where
     made_more : commands_made more made ≡ commands_made ks old ++ issued_of new ∷ []
     made_more =
         ap (commands_made more) pushed ∙ map-append (λ j. issued_of (get_or more j no_command)) old (k ∷ [])
         ∙ (λ i. same_before old within i ++ issued_of (stands i) ∷ [])
 
     within_more : All (λ j. j < length more) made
-    within_more = rw pushed (All-push (λ j. j < length more) old k (λ j d h. let lt = within j d h in omega (arith, lt, longer)) inside)
+    within_more =
+        rw pushed
+        (All-push (λ j. j < length more) old k (λ j d h. let lt = within j d h in omega (arith, lt, longer)) inside)
 
-    answers_more : ((c : IssuedCommand) → list_any (is_that (c.member, c.client, c.command)) (commands_made ks old) ≡ list_any (is_same c) ks)
-        → (c : IssuedCommand) → list_any (is_that (c.member, c.client, c.command)) (commands_made more made) ≡ list_any (is_same c) more
+    answers_more : ((c : IssuedCommand)
+        → list_any (is_that (c.member, c.client, c.command)) (commands_made ks old) ≡ list_any (is_same c) ks)
+        → (c : IssuedCommand)
+        → list_any (is_that (c.member, c.client, c.command)) (commands_made more made) ≡ list_any (is_same c) more
     answers_more answers c =
         ap (list_any (is_that (c.member, c.client, c.command))) made_more
         ∙ list_any-append (is_that (c.member, c.client, c.command)) (commands_made ks old) (issued_of new ∷ [])
@@ -96,16 +108,23 @@ module _ (ks : List IssuedCommand) (new : IssuedCommand) where
 pub record PutIn (ks more : List IssuedCommand) (new : IssuedCommand) (made old : List ℕ) : Type 0 where
   pub listed : commands_made more made ≡ commands_made ks old ++ issued_of new ∷ []
   pub within : All (λ j. j < length more) made
-  pub answers : ((c : IssuedCommand) → list_any (is_that (c.member, c.client, c.command)) (commands_made ks old) ≡ list_any (is_same c) ks)
-      → (c : IssuedCommand) → list_any (is_that (c.member, c.client, c.command)) (commands_made more made) ≡ list_any (is_same c) more
+  pub answers : ((c : IssuedCommand)
+      → list_any (is_that (c.member, c.client, c.command)) (commands_made ks old) ≡ list_any (is_same c) ks)
+      → (c : IssuedCommand)
+      → list_any (is_that (c.member, c.client, c.command)) (commands_made more made) ≡ list_any (is_same c) more
 
-pub put_in : (ks keys : List IssuedCommand) (new : IssuedCommand) (made old : List ℕ) (k : ℕ) → keys ≡ insert_key is_same ks new
-    → made ≡ old ++ k ∷ [] → k < length keys → (c : IssuedCommand) × (slice_get keys k ≡ Some c) × (is_same new c ≡ true)
+pub put_in : (ks keys : List IssuedCommand) (new : IssuedCommand) (made old : List ℕ) (k : ℕ)
+    → keys ≡ insert_key is_same ks new
+    → made ≡ old ++ k ∷ [] → k < length keys
+    → (c : IssuedCommand) × (slice_get keys k ≡ Some c) × (is_same new c ≡ true)
     → All (λ j. j < length ks) old → PutIn ks keys new made old
 put_in ks keys new made old k keys_are pushed inside (c, at, same) within =
-    let stands : get_or keys k no_command ≡ new = get_or_from_slice_get keys k c no_command at ∙ sym (same_is new c same) in
-    let inside_more : k < length (insert_key is_same ks new) = subst (λ (xs : List IssuedCommand). k < length xs) keys_are inside in
-    let stands_more : get_or (insert_key is_same ks new) k no_command ≡ new = subst (λ (xs : List IssuedCommand). get_or xs k no_command ≡ new) keys_are stands in
+    let stands : get_or keys k no_command ≡ new =
+    get_or_from_slice_get keys k c no_command at ∙ sym (same_is new c same) in
+    let inside_more : k < length (insert_key is_same ks new) =
+    subst (λ (xs : List IssuedCommand). k < length xs) keys_are inside in
+    let stands_more : get_or (insert_key is_same ks new) k no_command ≡ new =
+    subst (λ (xs : List IssuedCommand). get_or xs k no_command ≡ new) keys_are stands in
     let so : PutIn ks (insert_key is_same ks new) new made old = record {
       listed = made_more ks new made old k pushed inside_more stands_more within;
       within = within_more ks new made old k pushed inside_more stands_more within;
@@ -116,11 +135,13 @@ put_in ks keys new made old k keys_are pushed inside (c, at, same) within =
 -- ---- what may be carried out
 
 -- An order that may be carried out isn't refused, and another is foreign.
-pub may_taken : (w : World) (m : ℕ) (r : Result (ℕ × Command) ℕ) → may_order w.issued m r ≡ true → if_unissued w m r ≡ None
+pub may_taken : (w : World) (m : ℕ) (r : Result (ℕ × Command) ℕ) → may_order w.issued m r ≡ true
+    → if_unissued w m r ≡ None
 may_taken w m (Ok order) e = ap (λ (b : Bool). unless b Refusal.Foreign) e
 may_taken w m (Err code) e = refl
 
-may_foreign : (w : World) (m : ℕ) (r : Result (ℕ × Command) ℕ) → may_order w.issued m r ≡ false → if_unissued w m r ≡ Some Refusal.Foreign
+may_foreign : (w : World) (m : ℕ) (r : Result (ℕ × Command) ℕ) → may_order w.issued m r ≡ false
+    → if_unissued w m r ≡ Some Refusal.Foreign
 may_foreign w m (Ok order) e = ap (λ (b : Bool). unless b Refusal.Foreign) e
 may_foreign w m (Err code) e = absurd (true≢false e)
 

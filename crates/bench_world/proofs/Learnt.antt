@@ -1,5 +1,6 @@
 -- What all members have learnt in a settle.
-use Rattle.std.proofs.Common.{◌≡◌, inl, inr, ℕ, suc, zero, ◌≤◌, ◌<◌, List, [], ◌∷◌, map, length, get_or, refl, sym, ap, ◌∙◌, subst, arith}
+use Rattle.std.proofs.Common.{◌≡◌, inl, inr, ℕ, suc, zero, ◌≤◌, ◌<◌, List, [], ◌∷◌, map, length, get_or, refl, sym, ap}
+use Rattle.std.proofs.Common.{◌∙◌, subst, arith}
 use Rattle.std.specs.Prelude.{slice_index}
 use Rattle.std.proofs.lemmas.Bool.{cases_lt}
 use Rattle.std.proofs.lemmas.List.{ext_get_or, get_or-map, length-map}
@@ -29,7 +30,8 @@ nobody_there [] j l = refl
 nobody_there (m ∷ ms) zero l = absurd (omega (arith, l))
 nobody_there (m ∷ ms) (suc j) l = nobody_there ms j (omega (arith, l))
 
-module _ (g : GroupKeys) (w : World) (are : AreLogs g (logs w)) (group : IsSoundGroup w) (members : List Alone) (begun : in_groups members ≡ w.members) (truly : AreTrueMembers g (logs w) members) where
+module _ (g : GroupKeys) (w : World) (are : AreLogs g (logs w)) (group : IsSoundGroup w) (members : List Alone)
+    (begun : in_groups members ≡ w.members) (truly : AreTrueMembers g (logs w) members) where
   many : length w.members ≡ length members
   many = sym (ap length begun) ∙ length-map members in_group
 
@@ -43,7 +45,9 @@ module _ (g : GroupKeys) (w : World) (are : AreLogs g (logs w)) (group : IsSound
   pub partly_none : ArePartlySettled w (in_groups members)
   partly_none = record {
     len = ap length begun;
-    each = λ j l. subst (λ (ms : List Member). IsPartlySettled w (member w j) (get_or ms j no_member)) (sym begun) (partly_begun w group j l);
+    each =
+        λ j l. subst (λ (ms : List Member). IsPartlySettled w (member w j) (get_or ms j no_member)) (sym begun)
+        (partly_begun w group j l);
   }
 
   knowns_are : (ms : List Alone) → map (λ (m : Member). m.known) (in_groups ms) ≡ knowns ms
@@ -63,10 +67,13 @@ module _ (g : GroupKeys) (w : World) (are : AreLogs g (logs w)) (group : IsSound
     true_vector : (j : ℕ) → j < length members → IsTrueVector (logs w) all
     true_vector j l = record {
       width = all_width j l ∙ sym long;
-      no_more = λ p. subst (λ (v : List ℕ). slice_index v p ≤ last_of (logs w) p) (sym (all_is ∙ all_is_settled)) (settled_no_more w group j (omega (arith, l, many)) p);
+      no_more =
+          λ p. subst (λ (v : List ℕ). slice_index v p ≤ last_of (logs w) p) (sym (all_is ∙ all_is_settled))
+          (settled_no_more w group j (omega (arith, l, many)) p);
     }
 
-    pub own_known : (j : ℕ) → j < length members → slice_index all (alone_at members j).number ≤ length (alone_at members j).log
+    pub own_known : (j : ℕ) → j < length members
+        → slice_index all (alone_at members j).number ≤ length (alone_at members j).log
     own_known j l =
         let a = (true_vector j l).no_more (alone_at members j).number in
         let b = ap length (truly j l).log in
@@ -76,10 +83,14 @@ module _ (g : GroupKeys) (w : World) (are : AreLogs g (logs w)) (group : IsSound
     covered j l =
         ap (join (alone_at members j).known) all_is
         ∙ join_covered (alone_at members j).known (join_all (knowns members))
-        (covers_each (knowns members) (alone_at members j).known j (omega (arith, l, length-map members (λ (a : Alone). a.known))) (get_or-map (λ (a : Alone). a.known) members j nobody (alone_at members j).known l))
+        (covers_each (knowns members) (alone_at members j).known j
+        (omega (arith, l, length-map members (λ (a : Alone). a.known)))
+        (get_or-map (λ (a : Alone). a.known) members j nobody (alone_at members j).known l))
         ∙ sym all_is
 
-    module _ (new : List Alone) (len : length new ≡ length members) (each : (j : ℕ) → j < length members → alone_at new j ≡ alone_learns all (alone_ends_claims (alone_at members j))) where
+    module _ (new : List Alone) (len : length new ≡ length members)
+        (each : (j : ℕ) → j < length members
+        → alone_at new j ≡ alone_learns all (alone_ends_claims (alone_at members j))) where
       pub learnt_all : in_groups new ≡ map (learnt_member w) w.members
       learnt_all = ext_get_or no_member (in_groups new) (map (learnt_member w) w.members)
           (length-map new in_group ∙ len ∙ sym many ∙ sym (length-map w.members (learnt_member w))) (λ i l.
@@ -87,30 +98,43 @@ module _ (g : GroupKeys) (w : World) (are : AreLogs g (logs w)) (group : IsSound
           let inside : i < length members = omega (arith, inside_new, len) in
           member_of new i inside_new
           ∙ ap in_group (each i inside)
-          ∙ ap (λ (k : List ℕ). let m : Member = record (in_group (alone_ends_claims (alone_at members i))) { known = k } in m) (covered i inside ∙ all_is ∙ all_is_settled)
-          ∙ ap (learnt_member w) (sym (member_of members i inside) ∙ ap (λ (ms : List Member). get_or ms i no_member) begun)
+          ∙ ap (λ (k : List ℕ).
+          let m : Member = record (in_group (alone_ends_claims (alone_at members i))) { known = k } in m)
+          (covered i inside ∙ all_is ∙ all_is_settled)
+          ∙ ap (learnt_member w)
+          (sym (member_of members i inside) ∙ ap (λ (ms : List Member). get_or ms i no_member) begun)
           ∙ sym (get_or-map (learnt_member w) w.members i no_member no_member (omega (arith, inside, many))))
 
       pub learnt_truly : AreTrueMembers g (logs w) new
       learnt_truly j l =
           let inside : j < length members = omega (arith, l, len) in
           subst (IsTrueMember g (logs w)) (sym (each j inside))
-          (learns_true g (logs w) all (alone_ends_claims (alone_at members j)) (true_vector j inside) (ends_claims_true g (logs w) (alone_at members j) (truly j inside)))
+          (learns_true g (logs w) all (alone_ends_claims (alone_at members j)) (true_vector j inside)
+          (ends_claims_true g (logs w) (alone_at members j) (truly j inside)))
 
       pub learnt_numbers : MembersAreNumbered members → MembersAreNumbered new
-      learnt_numbers numbers j l = let inside : j < length members = omega (arith, l, len) in ap (λ (a : Alone). a.number) (each j inside) ∙ numbers j inside
+      learnt_numbers numbers j l =
+          let inside : j < length members = omega (arith, l, len) in
+          ap (λ (a : Alone). a.number) (each j inside) ∙ numbers j inside
 
       pub learnt_tried : AllTriedFew members → AllTriedFew new
-      learnt_tried tried j l = let inside : j < length members = omega (arith, l, len) in subst TriedFew (sym (each j inside)) (tried j inside)
+      learnt_tried tried j l =
+          let inside : j < length members = omega (arith, l, len) in
+          subst TriedFew (sym (each j inside)) (tried j inside)
 
       pub learnt_counts : AllCountsStay members new
       learnt_counts j = elim (cases_lt j (length members)) [
-        | inl inside ↦ record { machine = ap (λ (a : Alone). a.machine) (each j inside); attempts = ap (λ (a : Alone). a.attempts) (each j inside) }
+        | inl inside ↦ record {
+          machine = ap (λ (a : Alone). a.machine) (each j inside);
+          attempts = ap (λ (a : Alone). a.attempts) (each j inside);
+        }
         | inr outside ↦
-            let same : alone_at new j ≡ alone_at members j = nobody_there new j (omega (arith, outside, len)) ∙ sym (nobody_there members j outside) in
+            let same : alone_at new j ≡ alone_at members j =
+            nobody_there new j (omega (arith, outside, len)) ∙ sym (nobody_there members j outside) in
             record { machine = ap (λ (a : Alone). a.machine) same; attempts = ap (λ (a : Alone). a.attempts) same }
       ]
 
 -- What counts stays over two changes.
 pub counts_then : (a b c : List Alone) → AllCountsStay a b → AllCountsStay b c → AllCountsStay a c
-counts_then a b c one two j = record { machine = (two j).machine ∙ (one j).machine; attempts = (two j).attempts ∙ (one j).attempts }
+counts_then a b c one two j =
+    record { machine = (two j).machine ∙ (one j).machine; attempts = (two j).attempts ∙ (one j).attempts }

@@ -20,14 +20,17 @@ use Rattle.group_model.specs.Member.{Member, member_holds}
 use Rattle.group_model.specs.Replies.{CatalogueTotals}
 use Rattle.group_model.specs.Sound.{IsSoundGroup}
 use Rattle.group_model.specs.World.{Outside, World, member, logs, sent_at, catalogue_at}
-use Rattle.group_model.specs.Steps.{catalogue_totals, claim_at, to_claim, timer_at, mode_at, after_deliver, tells_too_much, came_from, passes_checks, next_seq_at, next_sync, block_at}
+use Rattle.group_model.specs.Steps.{catalogue_totals, claim_at, to_claim, timer_at, mode_at, after_deliver}
+use Rattle.group_model.specs.Steps.{tells_too_much, came_from, passes_checks, next_seq_at, next_sync, block_at}
 use Rattle.group_model.proofs.Runs.{length_numbers}
 use Rattle.repo_member.specs.declared.refusals.HearRefusal.TheVariants as hear
 use Rattle.repo_member.specs.Groups.{GroupKeys}
 use Rattle.repo_member.specs.Verdicts.{group_verdict}
 use Rattle.repo_member.specs.InGroup.{true_packet}
 use Rattle.repo_member.specs.TrueMembers.{true_want, true_packets}
-use Rattle.bench_world.specs.EventValues.{EventValue, Told, part_at, telling, all_totals, delivered_told, fired_told, claim_told, lost_told, answer_told, dump_told, mode_told, hear_told, ask_told, fed_told, feed_told, block_told}
+use Rattle.bench_world.specs.EventValues.{EventValue, Told, part_at, telling, all_totals, delivered_told, fired_told}
+use Rattle.bench_world.specs.EventValues.{claim_told, lost_told, answer_told, dump_told, mode_told, hear_told, ask_told}
+use Rattle.bench_world.specs.EventValues.{fed_told, feed_told, block_told}
 use Rattle.bench_world.specs.Steps.{IsReady, NamesAll}
 
 module _ (n : ℕ) where
@@ -69,7 +72,8 @@ module _ (n : ℕ) where
   of_fed m f (Ok d) = tt
   of_fed m f (Err refusal) = tt
 
-  of_feed : (g : GroupKeys) (w : World) (m f : ℕ) (octets : List ℕ) (o : Option Part) → NamesAll n (feed_told g w m f octets o)
+  of_feed : (g : GroupKeys) (w : World) (m f : ℕ) (octets : List ℕ) (o : Option Part)
+      → NamesAll n (feed_told g w m f octets o)
   of_feed g w m f octets None = tt
   of_feed g w m f octets (Some t) = of_fed m f (ring_verdict (true_want g (logs w) t) g.members.ring octets)
 
@@ -82,13 +86,19 @@ module _ (n : ℕ) where
   of_hear : (out : Outside) (w : World) (m : ℕ) (r : Result (ℕ × List ℕ) SyncRefusal) → NamesAll n (hear_told out w m r)
   of_hear out w m (Err refusal) = tt
   of_hear out w m (Ok told) = go (tells_too_much w m (record { sender = told.0; vector = told.1 })) where
-    go : (b : Bool) → NamesAll n (cond b (Told.HearRefused m (hear.OwnNumberAhead (length (member w m).log) (slice_index told.1 m))) (mode_told m (mode_at (after_deliver out w m told.1) m)))
+    go : (b : Bool)
+        → NamesAll n (cond b (Told.HearRefused m (hear.OwnNumberAhead (length (member w m).log) (slice_index told.1 m)))
+        (mode_told m (mode_at (after_deliver out w m told.1) m)))
     go true = tt
     go false = of_mode m (mode_at (after_deliver out w m told.1) m)
 
   module _ (g : GroupKeys) (out : Outside) (w : World) (many : length w.members ≡ n) (sound : IsSoundGroup w) where
     of_sums : (f : CatalogueTotals → ℕ) → length (map f (all_totals w)) ≡ n
-    of_sums f = length-map (all_totals w) f ∙ length-map (numbers_from 0 (length w.members)) (λ j. catalogue_totals (catalogue_at w j)) ∙ length_numbers 0 (length w.members) ∙ many
+    of_sums f =
+        length-map (all_totals w) f
+        ∙ length-map (numbers_from 0 (length w.members)) (λ j. catalogue_totals (catalogue_at w j))
+        ∙ length_numbers 0 (length w.members)
+        ∙ many
 
     pub names_all : (e : EventValue) → IsReady n e → NamesAll n (telling g out w e)
     names_all (EventValue.Publish m name size content) r = tt
@@ -106,14 +116,17 @@ module _ (n : ℕ) where
     names_all (EventValue.Answer m f q) r = of_answer m f (passes_checks (came_from out w q (claim_at w m f)))
     names_all (EventValue.Fetch m workers tries loss) r = tt
     names_all (EventValue.Settle workers) r = tt
-    names_all (EventValue.Dump m p s x) r = of_dump m (cond (member_holds (member w m) (part_at p s x)) (true_packet g (logs w) (part_at p s x)) None)
+    names_all (EventValue.Dump m p s x) r =
+        of_dump m (cond (member_holds (member w m) (part_at p s x)) (true_packet g (logs w) (part_at p s x)) None)
     names_all (EventValue.Hear m octets) r = of_hear out w m (group_verdict g octets)
     names_all (EventValue.Ask m octets) r = of_ask m (served octets (true_packets g (logs w) (member w m).held))
     names_all (EventValue.Feed m f octets) r = of_feed g w m f octets (claim_at w m f)
     names_all (EventValue.Order m octets) r = tt
     names_all (EventValue.Insert m client name first last) r = tt
-    names_all (EventValue.Block m process index content) r = of_block m (next_seq_at w m) (next_sync w) (block_at w m process index content)
+    names_all (EventValue.Block m process index content) r =
+        of_block m (next_seq_at w m) (next_sync w) (block_at w m process index content)
     names_all (EventValue.Status m client process) r = tt
     names_all (EventValue.Delete m client name) r = tt
-    names_all EventValue.Summary r = (ap (numbers_from 0) many, of_sums (λ t. t.entries), of_sums (λ t. t.segments), of_sums (λ t. t.octets))
+    names_all EventValue.Summary r =
+        (ap (numbers_from 0) many, of_sums (λ t. t.entries), of_sums (λ t. t.segments), of_sums (λ t. t.octets))
     names_all EventValue.Traffic r = tt

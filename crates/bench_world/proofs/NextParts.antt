@@ -1,5 +1,6 @@
 -- The parts of a phase, which come in order behind a place.
-use Rattle.std.proofs.Common.{◌≡◌, ◌⊎◌, inl, inr, ℕ, suc, zero, ◌<◌, Bool, true, false, List, [], ◌∷◌, length, get_or, take, Option, Some, None, refl, sym, ap, ◌∙◌, arith}
+use Rattle.std.proofs.Common.{◌≡◌, ◌⊎◌, inl, inr, ℕ, suc, zero, ◌<◌, Bool, true, false, List, [], ◌∷◌, length, get_or}
+use Rattle.std.proofs.Common.{take, Option, Some, None, refl, sym, ap, ◌∙◌, arith}
 use Rattle.std.specs.Prelude.{filter, slice_get}
 use Rattle.std.specs.List.{All}
 use Rattle.std.specs.Ordering.{is_lt}
@@ -35,7 +36,9 @@ take_some (suc n) (y ∷ ys) l e x i = cc
 
 pub none_pass : {A : Type 0} (p : A → Bool) (xs : List A) → length (filter p xs) ≡ 0 → (x : A) → In x xs → p x ≡ false
 none_pass p xs e x i = elim (cases_Bool (p x)) [
-  | inl on ↦ let some : 0 < length (filter p xs) = in_some (filter p xs) x (in_filter p xs x i on) in absurd (omega (arith, some, e))
+  | inl on ↦
+      let some : 0 < length (filter p xs) = in_some (filter p xs) x (in_filter p xs x i on) in
+      absurd (omega (arith, some, e))
   | inr off ↦ off
 ]
 
@@ -48,49 +51,69 @@ from_slice_get (y ∷ ys) (suc k) x e = inr (from_slice_get ys k x e)
 
 module _ (a : Alone) (after : Option Part) where
   behind_rises : Rises part_cmp (filter (is_after after) (unclaimed (alone_plan a)))
-  behind_rises = rises_filter exact_parts.total (is_after after) (unclaimed (alone_plan a)) (unclaimed_rises (alone_plan a))
+  behind_rises =
+      rises_filter exact_parts.total (is_after after) (unclaimed (alone_plan a)) (unclaimed_rises (alone_plan a))
 
-  in_behind : (t : Part) → is_unclaimed (alone_plan a) t ≡ true → is_after after t ≡ true → In t (filter (is_after after) (unclaimed (alone_plan a)))
-  in_behind t u later = in_filter (is_after after) (unclaimed (alone_plan a)) t (in_contains exact_parts (unclaimed (alone_plan a)) t (contains-unclaimed (alone_plan a) t ∙ u)) later
+  in_behind : (t : Part) → is_unclaimed (alone_plan a) t ≡ true → is_after after t ≡ true
+      → In t (filter (is_after after) (unclaimed (alone_plan a)))
+  in_behind t u later =
+      in_filter (is_after after) (unclaimed (alone_plan a)) t
+      (in_contains exact_parts (unclaimed (alone_plan a)) t (contains-unclaimed (alone_plan a) t ∙ u)) later
 
   pub next_rise : Rises part_cmp (next_parts after a)
   next_rise = rises_take 4096 (filter (is_after after) (unclaimed (alone_plan a))) behind_rises
 
   from_next : (t : Part) → In t (next_parts after a) → In t (unclaimed (alone_plan a)) × (is_after after t ≡ true)
-  from_next t i = from_filter (is_after after) (unclaimed (alone_plan a)) t (in_take 4096 (filter (is_after after) (unclaimed (alone_plan a))) t i)
+  from_next t i =
+      from_filter (is_after after) (unclaimed (alone_plan a)) t
+      (in_take 4096 (filter (is_after after) (unclaimed (alone_plan a))) t i)
 
   pub next_unclaimed : (t : Part) → In t (next_parts after a) → is_unclaimed (alone_plan a) t ≡ true
-  next_unclaimed t i = sym (contains-unclaimed (alone_plan a) t) ∙ contains_in exact_parts (unclaimed (alone_plan a)) t (from_next t i).0
+  next_unclaimed t i =
+      sym (contains-unclaimed (alone_plan a) t) ∙ contains_in exact_parts (unclaimed (alone_plan a)) t (from_next t i).0
 
   pub next_after : (t : Part) → In t (next_parts after a) → is_after after t ≡ true
   next_after t i = (from_next t i).1
 
   -- An open part that doesn't come after the last of them is one of them, or was passed before.
-  pub next_covers : (place : Part) → contains part_cmp (next_parts after a) place ≡ true → (t : Part) → is_unclaimed (alone_plan a) t ≡ true → is_after (Some place) t ≡ false
+  pub next_covers : (place : Part) → contains part_cmp (next_parts after a) place ≡ true → (t : Part)
+      → is_unclaimed (alone_plan a) t ≡ true → is_after (Some place) t ≡ false
       → (is_after after t ≡ false) ⊎ In t (next_parts after a)
   next_covers place at t u past = elim (cases_Bool (is_after after t)) [
-    | inl on ↦ elim (take_covers exact_parts 4096 (filter (is_after after) (unclaimed (alone_plan a))) t behind_rises (in_behind t u on)) [
-      | inl i ↦ inr i
-      | inr later ↦ absurd (true≢false (sym (ap is_lt (later place (in_contains exact_parts (next_parts after a) place at))) ∙ past))
-    ]
+    | inl on ↦
+        elim (take_covers exact_parts 4096 (filter (is_after after) (unclaimed (alone_plan a))) t behind_rises
+        (in_behind t u on)) [
+          | inl i ↦ inr i
+          | inr later ↦
+              absurd
+              (true≢false (sym (ap is_lt (later place (in_contains exact_parts (next_parts after a) place at))) ∙ past))
+        ]
     | inr off ↦ inl off
   ]
 
   -- Where there is none, all were passed.
   pub next_none : next_parts after a ≡ [] → (t : Part) → is_unclaimed (alone_plan a) t ≡ true → is_after after t ≡ false
   next_none e t u = elim (cases_Bool (is_after after t)) [
-    | inl on ↦ absurd (take_some 4096 (filter (is_after after) (unclaimed (alone_plan a))) (omega arith) e t (in_behind t u on))
+    | inl on ↦
+        absurd
+        (take_some 4096 (filter (is_after after) (unclaimed (alone_plan a))) (omega arith) e t (in_behind t u on))
     | inr off ↦ off
   ]
 
 -- A later place leaves fewer parts behind it.
-pub place_later : (after : Option Part) (place : Part) (parts : List Part) → In place parts → is_after after place ≡ true → length (filter (is_after (Some place)) parts) < length (filter (is_after after) parts)
-place_later after place parts i later = filter_fewer (is_after after) (is_after (Some place)) (sharper after later) parts place i later (ap is_lt (exact_parts.itself place)) where
-  less : (o : Ordering) → is_lt o ≡ true → o ≡ Less
-  less Less h = refl
-  less Equal h = absurd (true≢false (sym h))
-  less Greater h = absurd (true≢false (sym h))
+pub place_later : (after : Option Part) (place : Part) (parts : List Part) → In place parts
+    → is_after after place ≡ true
+    → length (filter (is_after (Some place)) parts) < length (filter (is_after after) parts)
+place_later after place parts i later =
+    filter_fewer (is_after after) (is_after (Some place)) (sharper after later) parts place i later
+    (ap is_lt (exact_parts.itself place)) where
+      less : (o : Ordering) → is_lt o ≡ true → o ≡ Less
+      less Less h = refl
+      less Equal h = absurd (true≢false (sym h))
+      less Greater h = absurd (true≢false (sym h))
 
-  sharper : (o : Option Part) → is_after o place ≡ true → (y : Part) → is_after (Some place) y ≡ true → is_after o y ≡ true
-  sharper None l y h = refl
-  sharper (Some u) l y h = ap is_lt (exact_parts.total.trans u place y (less (part_cmp u place) l) (less (part_cmp place y) h))
+      sharper : (o : Option Part) → is_after o place ≡ true → (y : Part) → is_after (Some place) y ≡ true
+          → is_after o y ≡ true
+      sharper None l y h = refl
+      sharper (Some u) l y h =
+          ap is_lt (exact_parts.total.trans u place y (less (part_cmp u place) l) (less (part_cmp place y) h))

@@ -1,5 +1,6 @@
 -- What a publication makes of a world.
-use Rattle.std.proofs.Common.{◌≡◌, ◌⊎◌, inl, inr, ℕ, ◌+◌, ◌≤◌, ◌<◌, Bool, false, not, Some, None, Result, Ok, Err, List, [], ◌∷◌, ◌++◌, map, length, get_or, set, refl, sym, ap, ◌∙◌, subst, arith}
+use Rattle.std.proofs.Common.{◌≡◌, ◌⊎◌, inl, inr, ℕ, ◌+◌, ◌≤◌, ◌<◌, Bool, false, not, Some, None, Result, Ok, Err, List}
+use Rattle.std.proofs.Common.{[], ◌∷◌, ◌++◌, map, length, get_or, set, refl, sym, ap, ◌∙◌, subst, arith}
 use Rattle.std.specs.Prelude.{nat_le, ◌↔◌}
 use Rattle.std.specs.List.{All}
 use Rattle.std.proofs.lemmas.Bool.{false_from_ne_true, cases_Bool, cases_eq, leb-true, leb-false, le-leb}
@@ -22,71 +23,117 @@ use Rattle.repo_member.specs.Alone.{Alone, next_seq, alone_publishes}
 use Rattle.repo_member.specs.InGroup.{in_group, AreLogs, GrowInto}
 use Rattle.repo_member.specs.TrueMembers.{IsTrueMember}
 use Rattle.repo_member.specs.Verdicts.{sync_of}
-use Rattle.repo_member.proofs.PublicLaws.{publishes_alike, true_stores, logs_grow, publishes_true, others_publish, logs_have_grown}
-use Rattle.bench_world.specs.Worlds.{GroupState, IsTrueState, IsTrueSync, nobody, alone_at, in_groups, logs_around, sync_in, world_of, drawing}
+use Rattle.repo_member.proofs.PublicLaws.{publishes_alike, true_stores, logs_grow, publishes_true, others_publish}
+use Rattle.repo_member.proofs.PublicLaws.{logs_have_grown}
+use Rattle.bench_world.specs.Worlds.{GroupState, IsTrueState, IsTrueSync, nobody, alone_at, in_groups, logs_around}
+use Rattle.bench_world.specs.Worlds.{sync_in, world_of, drawing}
 use Rattle.bench_world.proofs.States.{truly, number_is, member_is, among, among_logs, set_numbers, within_more}
 use Rattle.bench_world.proofs.Timers.{all_one}
 
-module _ (s : GroupState) (is : IsTrueState s) (m : ℕ) (there : m < length s.members) (old : Alone) (old_is : old ≡ get_or s.members m old) where
+module _ (s : GroupState) (is : IsTrueState s) (m : ℕ) (there : m < length s.members) (old : Alone)
+    (old_is : old ≡ get_or s.members m old) where
   log_at : get_or (logs_around s.members) m [] ≡ old.log
-  log_at = ap (λ (k : ℕ). get_or (logs_around s.members) k []) (sym (number_is s is m there old old_is)) ∙ (truly s is m there old old_is).log
+  log_at =
+      ap (λ (k : ℕ). get_or (logs_around s.members) k []) (sym (number_is s is m there old old_is))
+      ∙ (truly s is m there old old_is).log
 
   pub log_is : length (member (world_of s) m).log ≡ length old.log
   log_is = ap (λ (x : Member). length x.log) (member_is s is m there old old_is)
 
   -- A publication is refused where all numbers are spent.
-  pub refused_so : {A : Type 0} (draw : ℕ → ℕ → ℕ) (object : NamedContents) (r : Result A PublishRefusal) (e : PublishRefusal) → r ≡ Err e
+  pub refused_so : {A : Type 0} (draw : ℕ → ℕ → ℕ) (object : NamedContents) (r : Result A PublishRefusal)
+      (e : PublishRefusal)
+      → r ≡ Err e
       → ((log : ℕ) → (r ≡ Err (NumbersSpent log)) ↔ ((log ≡ length old.log) × (65535 ≤ length old.log)))
       → (e ≡ NoMemory) ⊎ (refusal (drawing draw) (world_of s) (Event.Publish m object) ≡ Some Refusal.NumbersSpent)
   refused_so draw object r NoMemory is_err spent = inl refl
   refused_so draw object r (NumbersSpent log) is_err spent =
       let most : 65535 ≤ length old.log = ((spent log).0 is_err).1 in
       let l = log_is in
-      inr (ap (λ (c : Bool). unless (not c) Refusal.NumbersSpent) (le-leb 65535 (length (member (world_of s) m).log) (omega (arith, most, l))))
+      inr (ap (λ (c : Bool). unless (not c) Refusal.NumbersSpent)
+      (le-leb 65535 (length (member (world_of s) m).log) (omega (arith, most, l))))
 
-  pub has_room : {A : Type 0} (r : Result A PublishRefusal) (x : A) → r ≡ Ok x → ((log : ℕ) → (r ≡ Err (NumbersSpent log)) ↔ ((log ≡ length old.log) × (65535 ≤ length old.log))) → length old.log < 65535
+  pub has_room : {A : Type 0} (r : Result A PublishRefusal) (x : A) → r ≡ Ok x
+      → ((log : ℕ) → (r ≡ Err (NumbersSpent log)) ↔ ((log ≡ length old.log) × (65535 ≤ length old.log)))
+      → length old.log < 65535
   has_room r x is_ok spent = elim (cases_Bool (nat_le 65535 (length old.log))) [
-    | inl most ↦ absurd (let e : r ≡ Err (NumbersSpent (length old.log)) = (spent (length old.log)).1 (refl, leb-true 65535 (length old.log) most) in cc)
+    | inl most ↦
+        absurd (let e : r ≡ Err (NumbersSpent (length old.log)) =
+        (spent (length old.log)).1 (refl, leb-true 65535 (length old.log) most) in
+        cc)
     | inr less ↦ leb-false 65535 (length old.log) less
   ]
 
   pub seq_is : (seq : ℕ) → seq ≡ next_seq old → seq ≡ length (member (world_of s) m).log + 1
   seq_is seq e = let l = log_is in omega (arith, e, l)
 
-  module _ (b : Alone) (draw : ℕ → ℕ → ℕ) (n : ℕ) (n_is : n ≡ draw m old.machine.draws) (object : NamedContents) (b_is : b ≡ alone_publishes s.keys object s.moment n old) where
+  module _ (b : Alone) (draw : ℕ → ℕ → ℕ) (n : ℕ) (n_is : n ≡ draw m old.machine.draws) (object : NamedContents)
+      (b_is : b ≡ alone_publishes s.keys object s.moment n old) where
     -- What was added is the sync Interest of what the member knows now.
-    pub sent_is : (sent reserved : List SentPacket) (vector : List ℕ) (seq : ℕ) (sync : List ℕ) → reserved ≡ s.sent → vector ≡ old.known → seq ≡ next_seq old → sync ≡ sync_of s.keys old.number b.known
-        → sent ≡ reserved ++ sent_packet m (set vector m seq) sync ∷ [] → sent ≡ s.sent ++ sent_packet m b.known (sync_of s.keys m b.known) ∷ []
+    pub sent_is : (sent reserved : List SentPacket) (vector : List ℕ) (seq : ℕ) (sync : List ℕ) → reserved ≡ s.sent
+        → vector ≡ old.known → seq ≡ next_seq old → sync ≡ sync_of s.keys old.number b.known
+        → sent ≡ reserved ++ sent_packet m (set vector m seq) sync ∷ []
+        → sent ≡ s.sent ++ sent_packet m b.known (sync_of s.keys m b.known) ∷ []
     sent_is sent reserved vector seq sync reserved_is vector_is seq_is_ sync_is e =
-        let known : set vector m seq ≡ b.known = (λ i. set (vector_is i) (sym (number_is s is m there old old_is) i) (seq_is_ i)) ∙ sym (ap (λ (a : Alone). a.known) b_is) in
-        let told : sync ≡ sync_of s.keys m b.known = sync_is ∙ ap (λ (k : ℕ). sync_of s.keys k b.known) (number_is s is m there old old_is) in
+        let known : set vector m seq ≡ b.known =
+        (λ i. set (vector_is i) (sym (number_is s is m there old old_is) i) (seq_is_ i))
+        ∙ sym (ap (λ (a : Alone). a.known) b_is) in
+        let told : sync ≡ sync_of s.keys m b.known =
+        sync_is ∙ ap (λ (k : ℕ). sync_of s.keys k b.known) (number_is s is m there old old_is) in
         e ∙ (λ i. reserved_is i ++ sent_packet m (known i) (told i) ∷ [])
 
     -- The member is what the group makes of it.
-    published_member : in_group b ≡ group.publishes (drawn (drawing draw) (world_of s) m) s.moment m object (member (world_of s) m)
+    published_member : in_group b
+        ≡ group.publishes (drawn (drawing draw) (world_of s) m) s.moment m object (member (world_of s) m)
     published_member =
-        ap in_group b_is ∙ publishes_alike s.keys object s.moment n old (true_stores s.keys (logs_around s.members) old (truly s is m there old old_is)).in_order
+        ap in_group b_is
+        ∙ publishes_alike s.keys object s.moment n old
+        (true_stores s.keys (logs_around s.members) old (truly s is m there old old_is)).in_order
         ∙ (λ i. group.publishes (n_is i) s.moment (number_is s is m there old old_is i) object (in_group old))
-        ∙ ap (λ (x : Member). group.publishes (draw m x.machine.draws) s.moment m object x) (sym (member_is s is m there old old_is))
+        ∙ ap (λ (x : Member). group.publishes (draw m x.machine.draws) s.moment m object x)
+        (sym (member_is s is m there old old_is))
 
     abbrev packet : SentPacket
     packet = sent_packet m b.known (sync_of s.keys m b.known)
 
-    published_world : world_of (record s { members = set s.members m b; sent = s.sent ++ sent_packet m b.known (sync_of s.keys m b.known) ∷ []; steps = s.steps + 1 }) ≡ after_publish (drawing draw) (world_of s) m object
+    published_world : world_of (record s {
+      members = set s.members m b;
+      sent = s.sent ++ sent_packet m b.known (sync_of s.keys m b.known) ∷ [];
+      steps = s.steps + 1;
+    })
+        ≡ after_publish (drawing draw) (world_of s) m object
     published_world =
-        let x : Member = group.publishes (drawn (drawing draw) (world_of s) m) s.moment m object (member (world_of s) m) in
-        let changed : in_groups (set s.members m b) ≡ set (in_groups s.members) m x = map-set in_group s.members m b ∙ ap (set (in_groups s.members) m) published_member in
-        let known : b.known ≡ (get_or (set (in_groups s.members) m x) m no_member).known = ap (λ (y : Member). y.known) (published_member ∙ sym (get_or-set_same (in_groups s.members) m x no_member (among s is m there old old_is))) in
-        let syncs : map sync_in (s.sent ++ packet ∷ []) ≡ map sync_in s.sent ++ record { sender = m; vector = (get_or (set (in_groups s.members) m x) m no_member).known } ∷ [] =
-        map-append sync_in s.sent (packet ∷ []) ∙ ap (λ (v : List ℕ). map sync_in s.sent ++ (let p : SyncInterest = record { sender = m; vector = v } in p) ∷ []) known in
+        let x : Member =
+        group.publishes (drawn (drawing draw) (world_of s) m) s.moment m object (member (world_of s) m) in
+        let changed : in_groups (set s.members m b) ≡ set (in_groups s.members) m x =
+        map-set in_group s.members m b ∙ ap (set (in_groups s.members) m) published_member in
+        let known : b.known ≡ (get_or (set (in_groups s.members) m x) m no_member).known =
+        ap (λ (y : Member). y.known)
+        (published_member
+        ∙ sym (get_or-set_same (in_groups s.members) m x no_member (among s is m there old old_is))) in
+        let syncs : map sync_in (s.sent ++ packet ∷ [])
+        ≡ map sync_in s.sent
+        ++ record { sender = m; vector = (get_or (set (in_groups s.members) m x) m no_member).known } ∷ [] =
+        map-append sync_in s.sent (packet ∷ [])
+        ∙ ap
+        (λ (v : List ℕ). map sync_in s.sent ++ (let p : SyncInterest = record { sender = m; vector = v } in p) ∷ [])
+        known in
         λ i. record { members = changed i; sent = syncs i; moment = s.moment; issued = s.issued; tally = s.tally }
 
-    pub world_sent : (sent : List SentPacket) → sent ≡ s.sent ++ sent_packet m b.known (sync_of s.keys m b.known) ∷ [] → world_of (record s { members = set s.members m b; sent = sent; steps = s.steps + 1 }) ≡ after_publish (drawing draw) (world_of s) m object
-    world_sent sent e = ap (λ (ps : List SentPacket). world_of (record s { members = set s.members m b; sent = ps; steps = s.steps + 1 })) e ∙ published_world
+    pub world_sent : (sent : List SentPacket) → sent ≡ s.sent ++ sent_packet m b.known (sync_of s.keys m b.known) ∷ []
+        → world_of (record s { members = set s.members m b; sent = sent; steps = s.steps + 1 })
+        ≡ after_publish (drawing draw) (world_of s) m object
+    world_sent sent e =
+        ap
+        (λ (ps : List SentPacket). world_of (record s { members = set s.members m b; sent = ps; steps = s.steps + 1 }))
+        e
+        ∙ published_world
 
     module _ (few : s.steps < 100000) (is_object : IsObject object) (room : length old.log < 65535) where
       few_logged : length (get_or (logs_around s.members) m []) < 65535
-      few_logged = let e : length (get_or (logs_around s.members) m []) ≡ length old.log = ap length log_at in omega (arith, e, room)
+      few_logged =
+          let e : length (get_or (logs_around s.members) m []) ≡ length old.log = ap length log_at in
+          omega (arith, e, room)
 
       not_spent : nat_le 65535 (length (member (world_of s) m).log) ≡ false
       not_spent = false_from_ne_true (nat_le 65535 (length (member (world_of s) m).log)) (λ h.
@@ -101,34 +148,54 @@ module _ (s : GroupState) (is : IsTrueState s) (m : ℕ) (there : m < length s.m
       later = set (logs_around s.members) m (old.log ++ object ∷ [])
 
       logs_after : logs_around (set s.members m b) ≡ set (logs_around s.members) m (old.log ++ object ∷ [])
-      logs_after = ap logs_of (map-set in_group s.members m b) ∙ map-set (λ (x : Member). x.log) (in_groups s.members) m (in_group b) ∙ ap (set (logs_around s.members) m) (ap (λ (a : Alone). a.log) b_is)
+      logs_after =
+          ap logs_of (map-set in_group s.members m b)
+          ∙ map-set (λ (x : Member). x.log) (in_groups s.members) m (in_group b)
+          ∙ ap (set (logs_around s.members) m) (ap (λ (a : Alone). a.log) b_is)
 
       are_after : AreLogs s.keys later
-      are_after = subst (AreLogs s.keys) (ap (λ (l : List NamedContents). set (logs_around s.members) m (l ++ object ∷ [])) log_at) (logs_grow s.keys (logs_around s.members) m object is.are (among_logs s is m there old old_is) is_object few_logged)
+      are_after =
+          subst (AreLogs s.keys)
+          (ap (λ (l : List NamedContents). set (logs_around s.members) m (l ++ object ∷ [])) log_at)
+          (logs_grow s.keys (logs_around s.members) m object is.are (among_logs s is m there old old_is) is_object
+          few_logged)
 
       as_many : length later ≡ length (logs_around s.members)
       as_many = length-set (logs_around s.members) m (old.log ++ object ∷ [])
 
       grown : GrowInto (logs_around s.members) later
-      grown = subst (GrowInto (logs_around s.members)) (ap (λ (l : List NamedContents). set (logs_around s.members) m (l ++ object ∷ [])) log_at) (logs_have_grown (logs_around s.members) m object (among_logs s is m there old old_is))
+      grown =
+          subst (GrowInto (logs_around s.members))
+          (ap (λ (l : List NamedContents). set (logs_around s.members) m (l ++ object ∷ [])) log_at)
+          (logs_have_grown (logs_around s.members) m object (among_logs s is m there old old_is))
 
       now_true : IsTrueMember s.keys later b
       now_true =
           subst (IsTrueMember s.keys later) (sym b_is)
-          (subst (λ (k : ℕ). IsTrueMember s.keys (set (logs_around s.members) k (old.log ++ object ∷ [])) (alone_publishes s.keys object s.moment n old)) (number_is s is m there old old_is)
+          (subst (λ (k : ℕ). IsTrueMember s.keys (set (logs_around s.members) k (old.log ++ object ∷ []))
+          (alone_publishes s.keys object s.moment n old)) (number_is s is m there old old_is)
           (publishes_true s.keys object s.moment n (logs_around s.members) old (truly s is m there old old_is)))
 
       others_true : (j : ℕ) → j < length s.members → (j ≡ m → ⊥) → IsTrueMember s.keys later (alone_at s.members j)
       others_true j l other =
           let number : (alone_at s.members j).number ≡ j = is.numbers j l in
-          let away : last_of later (alone_at s.members j).number ≡ last_of (logs_around s.members) (alone_at s.members j).number =
-          ap (λ (log : List NamedContents). length log) (get_or-set_other (logs_around s.members) m (alone_at s.members j).number (old.log ++ object ∷ []) [] (λ e. other (sym number ∙ e))) in
+          let away : last_of later (alone_at s.members j).number
+          ≡ last_of (logs_around s.members) (alone_at s.members j).number =
+          ap (λ (log : List NamedContents). length log)
+          (get_or-set_other (logs_around s.members) m (alone_at s.members j).number (old.log ++ object ∷ []) []
+          (λ e. other (sym number ∙ e))) in
           others_publish s.keys (logs_around s.members) later (alone_at s.members j) grown as_many away (is.members j l)
 
       all_true : (j : ℕ) → j < length (set s.members m b) → IsTrueMember s.keys later (alone_at (set s.members m b) j)
       all_true j l = elim (cases_eq j m) [
-        | inl same ↦ subst (IsTrueMember s.keys later) (sym (ap (alone_at (set s.members m b)) same ∙ get_or-set_same s.members m b nobody there)) now_true
-        | inr other ↦ subst (IsTrueMember s.keys later) (sym (get_or-set_other s.members m j b nobody other)) (others_true j (let k : length (set s.members m b) ≡ length s.members = length-set s.members m b in omega (arith, l, k)) other)
+        | inl same ↦
+            subst (IsTrueMember s.keys later)
+            (sym (ap (alone_at (set s.members m b)) same ∙ get_or-set_same s.members m b nobody there)) now_true
+        | inr other ↦
+            subst (IsTrueMember s.keys later) (sym (get_or-set_other s.members m j b nobody other))
+            (others_true j
+            (let k : length (set s.members m b) ≡ length s.members = length-set s.members m b in omega (arith, l, k))
+            other)
       ]
 
       -- A vector that tells of no more than there was tells of no more than there is.
@@ -137,29 +204,53 @@ module _ (s : GroupState) (is : IsTrueState s) (m : ℕ) (there : m < length s.m
         more : (p : ℕ) → get_or v p 0 ≤ last_of (logs_around s.members) p → get_or v p 0 ≤ last_of later p
         more p h = elim (cases_eq p m) [
           | inl same ↦
-              let now : last_of later p ≡ length old.log + 1 = ap (λ (k : ℕ). last_of later k) same ∙ ap (λ (log : List NamedContents). length log) (get_or-set_same (logs_around s.members) m (old.log ++ object ∷ []) [] (among_logs s is m there old old_is)) ∙ length-append old.log (object ∷ []) in
-              let before : last_of (logs_around s.members) p ≡ length old.log = ap (λ (k : ℕ). last_of (logs_around s.members) k) same ∙ ap (λ (log : List NamedContents). length log) log_at in
+              let now : last_of later p ≡ length old.log + 1 =
+              ap (λ (k : ℕ). last_of later k) same
+              ∙ ap (λ (log : List NamedContents). length log)
+              (get_or-set_same (logs_around s.members) m (old.log ++ object ∷ []) []
+              (among_logs s is m there old old_is))
+              ∙ length-append old.log (object ∷ []) in
+              let before : last_of (logs_around s.members) p ≡ length old.log =
+              ap (λ (k : ℕ). last_of (logs_around s.members) k) same
+              ∙ ap (λ (log : List NamedContents). length log) log_at in
               omega (arith, h, now, before)
           | inr other ↦
-              let away : last_of later p ≡ last_of (logs_around s.members) p = ap (λ (log : List NamedContents). length log) (get_or-set_other (logs_around s.members) m p (old.log ++ object ∷ []) [] other) in
+              let away : last_of later p ≡ last_of (logs_around s.members) p =
+              ap (λ (log : List NamedContents). length log)
+              (get_or-set_other (logs_around s.members) m p (old.log ++ object ∷ []) [] other) in
               omega (arith, h, away)
         ]
 
       still_sent : All (IsTrueSync s.keys later) s.sent
-      still_sent k d l = record { sender = (is.sent k d l).sender; vector = still_true (get_or s.sent k d).vector (is.sent k d l).vector; octets = (is.sent k d l).octets }
+      still_sent k d l = record {
+        sender = (is.sent k d l).sender;
+        vector = still_true (get_or s.sent k d).vector (is.sent k d l).vector;
+        octets = (is.sent k d l).octets;
+      }
 
       -- A member's publication leaves the world sound.
-      pub state_sent : (sent : List SentPacket) → sent ≡ s.sent ++ sent_packet m b.known (sync_of s.keys m b.known) ∷ [] → IsTrueState (record s { members = set s.members m b; sent = sent; steps = s.steps + 1 })
+      pub state_sent : (sent : List SentPacket) → sent ≡ s.sent ++ sent_packet m b.known (sync_of s.keys m b.known) ∷ []
+          → IsTrueState (record s { members = set s.members m b; sent = sent; steps = s.steps + 1 })
       state_sent sent e = record {
         are = subst (AreLogs s.keys) (sym logs_after) are_after;
-        numbers = set_numbers s.members m there b (ap (λ (a : Alone). a.number) b_is ∙ number_is s is m there old old_is) is.numbers;
-        members = subst (λ (ls : Logs). (j : ℕ) → j < length (set s.members m b) → IsTrueMember s.keys ls (alone_at (set s.members m b) j)) (sym logs_after) all_true;
-        sent = subst (λ (ls : Logs). All (IsTrueSync s.keys ls) sent) (sym logs_after) (subst (All (IsTrueSync s.keys later)) (sym e)
-            (All-append (IsTrueSync s.keys later) s.sent (packet ∷ []) still_sent (all_one (IsTrueSync s.keys later) packet (record {
+        numbers =
+            set_numbers s.members m there b (ap (λ (a : Alone). a.number) b_is ∙ number_is s is m there old old_is)
+            is.numbers;
+        members =
+            subst (λ (ls : Logs).
+            (j : ℕ) → j < length (set s.members m b) → IsTrueMember s.keys ls (alone_at (set s.members m b) j))
+            (sym logs_after) all_true;
+        sent =
+            subst (λ (ls : Logs). All (IsTrueSync s.keys ls) sent) (sym logs_after)
+            (subst (All (IsTrueSync s.keys later)) (sym e)
+            (All-append (IsTrueSync s.keys later) s.sent (packet ∷ []) still_sent
+            (all_one (IsTrueSync s.keys later) packet (record {
               sender = let w = is.are.width in let l = among_logs s is m there old old_is in omega (arith, w, l);
               vector = record { width = now_true.sound.width; no_more = now_true.sound.known };
               octets = refl;
             }))));
-        within = subst (IsWithinSteps (s.steps + 1)) (sym (world_sent sent e)) (within_more s is few (drawing draw) (λ t. omega arith) (Event.Publish m object) is_object.few);
+        within =
+            subst (IsWithinSteps (s.steps + 1)) (sym (world_sent sent e))
+            (within_more s is few (drawing draw) (λ t. omega arith) (Event.Publish m object) is_object.few);
         steps = omega (arith, few);
       }

@@ -1,5 +1,6 @@
 -- A world in which nothing has happened.
-use Rattle.std.proofs.Common.{◌≡◌, ℕ, suc, zero, ◌+◌, ◌<◌, List, [], ◌∷◌, ◌++◌, map, length, get_or, replicate, None, refl, sym, ap, ◌∙◌, subst, arith}
+use Rattle.std.proofs.Common.{◌≡◌, ℕ, suc, zero, ◌+◌, ◌<◌, List, [], ◌∷◌, ◌++◌, map, length, get_or, replicate, None}
+use Rattle.std.proofs.Common.{refl, sym, ap, ◌∙◌, subst, arith}
 use Rattle.std.proofs.lemmas.List.{length-map, map-append, get_or-map}
 use Rattle.svs_sync.specs.Suppression.{periodic}
 use Rattle.repo_plan.specs.Parts.{numbers_from}
@@ -16,22 +17,29 @@ use Rattle.repo_member.specs.Alone.{Alone}
 use Rattle.repo_member.specs.InGroup.{in_group, AreLogs}
 use Rattle.repo_member.specs.TrueMembers.{IsTrueMember}
 use Rattle.repo_member.proofs.PublicLaws.{logs_begin, begins_true}
-use Rattle.bench_world.specs.Worlds.{IsTrueState, nobody, alone_at, in_groups, logs_around, world_of, sync_in, drawing, begun_one, begun_all}
+use Rattle.bench_world.specs.Worlds.{IsTrueState, nobody, alone_at, in_groups, logs_around, world_of, sync_in, drawing}
+use Rattle.bench_world.specs.Worlds.{begun_one, begun_all}
 
 -- ---- numbers
 
 numbers_push : (s n : ℕ) → numbers_from s (suc n) ≡ numbers_from s n ++ (s + n) ∷ []
 numbers_push s zero = let e : s ≡ s + 0 = omega arith in ap (λ (k : ℕ). k ∷ []) e
-numbers_push s (suc n) = let e : s + 1 + n ≡ s + suc n = omega arith in ap (λ (ks : List ℕ). s ∷ ks) (numbers_push (s + 1) n) ∙ ap (λ (k : ℕ). s ∷ (numbers_from (s + 1) n ++ k ∷ [])) e
+numbers_push s (suc n) =
+    let e : s + 1 + n ≡ s + suc n = omega arith in
+    ap (λ (ks : List ℕ). s ∷ ks) (numbers_push (s + 1) n) ∙ ap (λ (k : ℕ). s ∷ (numbers_from (s + 1) n ++ k ∷ [])) e
 
-pub numbers_more : {A : Type 0} (f : ℕ → A) (n : ℕ) (made more : List A) (a : A) → made ≡ map f (numbers_from 0 n) → a ≡ f n → more ≡ made ++ a ∷ [] → more ≡ map f (numbers_from 0 (n + 1))
+pub numbers_more : {A : Type 0} (f : ℕ → A) (n : ℕ) (made more : List A) (a : A) → made ≡ map f (numbers_from 0 n)
+    → a ≡ f n → more ≡ made ++ a ∷ [] → more ≡ map f (numbers_from 0 (n + 1))
 numbers_more f n made more a is one e =
     let last : 0 + n ≡ n = omega arith in
     let next : suc n ≡ n + 1 = omega arith in
     e ∙ ap (λ xs. xs ++ a ∷ []) is ∙ ap (λ b. map f (numbers_from 0 n) ++ b ∷ []) (one ∙ ap f (sym last))
-    ∙ sym (map-append f (numbers_from 0 n) ((0 + n) ∷ [])) ∙ ap (map f) (sym (numbers_push 0 n)) ∙ ap (λ (k : ℕ). map f (numbers_from 0 k)) next
+    ∙ sym (map-append f (numbers_from 0 n) ((0 + n) ∷ []))
+    ∙ ap (map f) (sym (numbers_push 0 n))
+    ∙ ap (λ (k : ℕ). map f (numbers_from 0 k)) next
 
-pub next_number : (n : ℕ) (made more : List ℕ) → made ≡ numbers_from 0 n → more ≡ made ++ n ∷ [] → more ≡ numbers_from 0 (n + 1)
+pub next_number : (n : ℕ) (made more : List ℕ) → made ≡ numbers_from 0 n → more ≡ made ++ n ∷ []
+    → more ≡ numbers_from 0 (n + 1)
 next_number n made more is e =
     let last : 0 + n ≡ n = omega arith in
     let next : suc n ≡ n + 1 = omega arith in
@@ -40,7 +48,8 @@ next_number n made more is e =
 pub number_at : (s n i : ℕ) → i < n → get_or (numbers_from s n) i 0 ≡ s + i
 number_at s zero i l = absurd (omega (arith, l))
 number_at s (suc n) zero l = omega arith
-number_at s (suc n) (suc i) l = number_at (s + 1) n i (omega (arith, l)) ∙ (let e : s + 1 + i ≡ s + suc i = omega arith in e)
+number_at s (suc n) (suc i) l =
+    number_at (s + 1) n i (omega (arith, l)) ∙ (let e : s + 1 + i ≡ s + suc i = omega arith in e)
 
 -- ---- logs
 
@@ -49,52 +58,116 @@ no_logs f [] h = refl
 no_logs f (x ∷ xs) h = let head = h x in let tail = no_logs f xs h in λ i. head i ∷ tail i
 
 module _ (g : GroupKeys) (is : IsGroup g) (draw : ℕ → ℕ → ℕ) where
-  begun_at : (j : ℕ) → j < length g.members.names → alone_at (begun_all (length g.members.names) draw) j ≡ begun_one (length g.members.names) draw j
+  begun_at : (j : ℕ) → j < length g.members.names
+      → alone_at (begun_all (length g.members.names) draw) j ≡ begun_one (length g.members.names) draw j
   begun_at j l =
-      let long : length (numbers_from 0 (length g.members.names)) ≡ length g.members.names = length_numbers 0 (length g.members.names) in
+      let long : length (numbers_from 0 (length g.members.names)) ≡ length g.members.names =
+      length_numbers 0 (length g.members.names) in
       let z : 0 + j ≡ j = omega arith in
-      get_or-map (begun_one (length g.members.names) draw) (numbers_from 0 (length g.members.names)) j 0 nobody (omega (arith, l, long)) ∙ ap (begun_one (length g.members.names) draw) (number_at 0 (length g.members.names) j l ∙ z)
+      get_or-map (begun_one (length g.members.names) draw) (numbers_from 0 (length g.members.names)) j 0 nobody
+      (omega (arith, l, long))
+      ∙ ap (begun_one (length g.members.names) draw) (number_at 0 (length g.members.names) j l ∙ z)
 
   many : length (begun_all (length g.members.names) draw) ≡ length g.members.names
-  many = length-map (numbers_from 0 (length g.members.names)) (begun_one (length g.members.names) draw) ∙ length_numbers 0 (length g.members.names)
+  many =
+      length-map (numbers_from 0 (length g.members.names)) (begun_one (length g.members.names) draw)
+      ∙ length_numbers 0 (length g.members.names)
 
-  in_groups_begun : (xs : List ℕ) → in_groups (map (begun_one (length g.members.names) draw) xs) ≡ map (λ j. in_group (begun_one (length g.members.names) draw j)) xs
+  in_groups_begun : (xs : List ℕ)
+      → in_groups (map (begun_one (length g.members.names) draw) xs)
+      ≡ map (λ j. in_group (begun_one (length g.members.names) draw j)) xs
   in_groups_begun [] = refl
-  in_groups_begun (x ∷ xs) = ap (λ (ms : List Member). in_group (begun_one (length g.members.names) draw x) ∷ ms) (in_groups_begun xs)
+  in_groups_begun (x ∷ xs) =
+      ap (λ (ms : List Member). in_group (begun_one (length g.members.names) draw x) ∷ ms) (in_groups_begun xs)
 
   logs_begun : logs_around (begun_all (length g.members.names) draw) ≡ replicate (length g.members.names) []
   logs_begun =
       ap logs_of (in_groups_begun (numbers_from 0 (length g.members.names)))
-      ∙ no_logs (λ j. in_group (begun_one (length g.members.names) draw j)) (numbers_from 0 (length g.members.names)) (λ x. refl)
+      ∙ no_logs (λ j. in_group (begun_one (length g.members.names) draw j)) (numbers_from 0 (length g.members.names))
+      (λ x. refl)
       ∙ ap (λ (k : ℕ). replicate k (let l : List NamedContents = [] in l)) (length_numbers 0 (length g.members.names))
 
   pub opening_is : (ms : List Alone) (sent : List SentPacket) → ms ≡ begun_all (length g.members.names) draw → sent ≡ []
-      → world_of (record { keys = g; members = ms; sent = sent; moment = 0; issued = []; tally = record { delivered = 0; attempts = 0; parts = 0; octets = 0 }; steps = 0 }) ≡ opening_world (drawing draw) (length g.members.names)
+      → world_of (record {
+        keys = g;
+        members = ms;
+        sent = sent;
+        moment = 0;
+        issued = [];
+        tally = record { delivered = 0; attempts = 0; parts = 0; octets = 0 };
+        steps = 0;
+      })
+      ≡ opening_world (drawing draw) (length g.members.names)
   opening_is ms sent ms_are sent_is =
       let at : (j : ℕ) → 0 + periodic (draw j 0) ≡ periodic (draw j 0) = λ j. omega arith in
       let members : in_groups ms ≡ (opening_world (drawing draw) (length g.members.names)).members =
       ap in_groups ms_are ∙ in_groups_begun (numbers_from 0 (length g.members.names))
-      ∙ (λ i. map (λ j. record (in_group (begun_one (length g.members.names) draw j)) { machine = record { members = length g.members.names; heard = None; deadline = at j i; draws = 1 } }) (numbers_from 0 (length g.members.names))) in
+      ∙ (λ i. map (λ j. record (in_group (begun_one (length g.members.names) draw j)) {
+        machine = record { members = length g.members.names; heard = None; deadline = at j i; draws = 1 };
+      }) (numbers_from 0 (length g.members.names))) in
       let syncs : map sync_in sent ≡ [] = ap (map sync_in) sent_is in
-      λ i. record { members = members i; sent = syncs i; moment = 0; issued = []; tally = record { delivered = 0; attempts = 0; parts = 0; octets = 0 } }
+      λ i. record {
+        members = members i;
+        sent = syncs i;
+        moment = 0;
+        issued = [];
+        tally = record { delivered = 0; attempts = 0; parts = 0; octets = 0 };
+      }
 
   abbrev no_tally : Tally
   no_tally = record { delivered = 0; attempts = 0; parts = 0; octets = 0 }
 
-  begun_state : IsTrueState (record { keys = g; members = begun_all (length g.members.names) draw; sent = []; moment = 0; issued = []; tally = no_tally; steps = 0 })
+  begun_state : IsTrueState (record {
+    keys = g;
+    members = begun_all (length g.members.names) draw;
+    sent = [];
+    moment = 0;
+    issued = [];
+    tally = no_tally;
+    steps = 0;
+  })
   begun_state = record {
     are = subst (AreLogs g) (sym logs_begun) (logs_begin g is);
-    numbers = λ j l. let m : j < length g.members.names = omega (arith, l, many) in ap (λ (a : Alone). a.number) (begun_at j m);
+    numbers = λ j l.
+        let m : j < length g.members.names = omega (arith, l, many) in ap (λ (a : Alone). a.number) (begun_at j m);
     members = λ j l.
         let m : j < length g.members.names = omega (arith, l, many) in
         subst (λ (ls : Logs). IsTrueMember g ls (alone_at (begun_all (length g.members.names) draw) j)) (sym logs_begun)
-        (subst (IsTrueMember g (replicate (length g.members.names) [])) (sym (begun_at j m)) (begins_true g (length g.members.names) j 0 (draw j 0) m));
+        (subst (IsTrueMember g (replicate (length g.members.names) [])) (sym (begun_at j m))
+        (begins_true g (length g.members.names) j 0 (draw j 0) m));
     sent = λ k d l. absurd (omega (arith, l));
-    within = subst (IsWithinSteps 0) (sym (opening_is (begun_all (length g.members.names) draw) [] refl refl)) (within_opening (drawing draw) (length g.members.names));
+    within =
+        subst (IsWithinSteps 0) (sym (opening_is (begun_all (length g.members.names) draw) [] refl refl))
+        (within_opening (drawing draw) (length g.members.names));
     steps = omega arith;
   }
 
-  pub opening_state : (ms : List Alone) (sent : List SentPacket) → ms ≡ begun_all (length g.members.names) draw → sent ≡ [] → IsTrueState (record { keys = g; members = ms; sent = sent; moment = 0; issued = []; tally = record { delivered = 0; attempts = 0; parts = 0; octets = 0 }; steps = 0 })
+  pub opening_state : (ms : List Alone) (sent : List SentPacket) → ms ≡ begun_all (length g.members.names) draw
+      → sent ≡ [] → IsTrueState (record {
+        keys = g;
+        members = ms;
+        sent = sent;
+        moment = 0;
+        issued = [];
+        tally = record { delivered = 0; attempts = 0; parts = 0; octets = 0 };
+        steps = 0;
+      })
   opening_state ms sent ms_are sent_is =
-      subst (λ (as_ : List Alone). IsTrueState (record { keys = g; members = as_; sent = sent; moment = 0; issued = []; tally = record { delivered = 0; attempts = 0; parts = 0; octets = 0 }; steps = 0 })) (sym ms_are)
-      (subst (λ (ps : List SentPacket). IsTrueState (record { keys = g; members = begun_all (length g.members.names) draw; sent = ps; moment = 0; issued = []; tally = record { delivered = 0; attempts = 0; parts = 0; octets = 0 }; steps = 0 })) (sym sent_is) begun_state)
+      subst (λ (as_ : List Alone). IsTrueState (record {
+        keys = g;
+        members = as_;
+        sent = sent;
+        moment = 0;
+        issued = [];
+        tally = record { delivered = 0; attempts = 0; parts = 0; octets = 0 };
+        steps = 0;
+      })) (sym ms_are)
+      (subst (λ (ps : List SentPacket). IsTrueState (record {
+        keys = g;
+        members = begun_all (length g.members.names) draw;
+        sent = ps;
+        moment = 0;
+        issued = [];
+        tally = record { delivered = 0; attempts = 0; parts = 0; octets = 0 };
+        steps = 0;
+      })) (sym sent_is) begun_state)

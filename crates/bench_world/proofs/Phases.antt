@@ -1,5 +1,6 @@
 -- A phase, from the code's values.
-use Rattle.std.proofs.Common.{◌≡◌, ℕ, ◌≤◌, Bool, true, false, cond, List, [], ◌∷◌, map, length, replicate, Option, Some, None, refl, sym, ap, ◌∙◌, subst, arith}
+use Rattle.std.proofs.Common.{◌≡◌, ℕ, ◌≤◌, Bool, true, false, cond, List, [], ◌∷◌, map, length, replicate, Option, Some}
+use Rattle.std.proofs.Common.{None, refl, sym, ap, ◌∙◌, subst, arith}
 use Rattle.std.specs.Prelude.{is_some, unwrap_or, filter, count_by, sum_by, slice_get, slice_index_or}
 use Rattle.std.specs.List.{All}
 use Rattle.std.proofs.lemmas.List.{length-map, length-replicate}
@@ -33,20 +34,28 @@ use Rattle.bench_world.specs.Lending.{lent, lends, attempt_comes, lent_answer}
 use Rattle.bench_world.specs.Gathering.{next_parts, lent_one, lent_all}
 use Rattle.bench_world.specs.Fetching.{attempt_at, fetched_one, fetched_all}
 use Rattle.bench_world.proofs.NextParts.{next_unclaimed, from_slice_get}
-use Rattle.bench_world.proofs.Brought.{lends_true, were_tried, none_counted, first_lengths, counted, octets_sum, fetched_is, lent_is, came_lent, want_part}
+use Rattle.bench_world.proofs.Brought.{lends_true, were_tried, none_counted, first_lengths, counted, octets_sum}
+use Rattle.bench_world.proofs.Brought.{fetched_is, lent_is, came_lent, want_part}
 
-module _ (passes : ℕ → ℕ → ℕ → ℕ → ℕ → ℕ → Bool) (g : GroupKeys) (logs : Logs) (a : Alone) (others : List Alone) (asker : ℕ) (loss : Option ℕ) (are : AreLogs g logs) (truly : IsTrueMember g logs a) (all : AreTrueMembers g logs others)
-    (tried : TriedFew a) (after : Option Part) (jobs : List Job) (jobs_are : jobs ≡ jobs_behind g a after 4096) (ring : List NamedKey) (ring_is : ring ≡ g.members.ring) where
+module _ (passes : ℕ → ℕ → ℕ → ℕ → ℕ → ℕ → Bool) (g : GroupKeys) (logs : Logs) (a : Alone) (others : List Alone)
+    (asker : ℕ) (loss : Option ℕ) (are : AreLogs g logs) (truly : IsTrueMember g logs a)
+    (all : AreTrueMembers g logs others)
+    (tried : TriedFew a) (after : Option Part) (jobs : List Job) (jobs_are : jobs ≡ jobs_behind g a after 4096)
+    (ring : List NamedKey) (ring_is : ring ≡ g.members.ring) where
   planned : ArePlannedJobs g a jobs
-  planned = subst (ArePlannedJobs g a) (sym jobs_are) (jobs_are_planned g a after 4096 are.group.members (true_is_of g logs a are truly))
+  planned =
+      subst (ArePlannedJobs g a) (sym jobs_are)
+      (jobs_are_planned g a after 4096 are.group.members (true_is_of g logs a are truly))
 
   wanted : (t : Part) → In t (next_parts after a) → is_wanted (alone_plan a) t ≡ true
   wanted t i = (and_parts (is_wanted (alone_plan a) t) _ (next_unclaimed a after t i)).0
 
   pub few_jobs : length jobs ≤ 4096
   few_jobs =
-      let e : length jobs ≡ length (next_parts after a) = ap length jobs_are ∙ length-map (next_parts after a) (job_for g a) in
-      let b : length (next_parts after a) ≤ 4096 = take_short 4096 (filter (is_after after) (unclaimed (alone_plan a))) in
+      let e : length jobs ≡ length (next_parts after a) =
+      ap length jobs_are ∙ length-map (next_parts after a) (job_for g a) in
+      let b : length (next_parts after a) ≤ 4096 =
+      take_short 4096 (filter (is_after after) (unclaimed (alone_plan a))) in
       omega (arith, e, b)
 
   pub count_jobs : length jobs ≡ length (next_parts after a)
@@ -59,31 +68,50 @@ module _ (passes : ℕ → ℕ → ℕ → ℕ → ℕ → ℕ → Bool) (g : Gr
       record { known = job.publisher; few = omega (arith, job.base, few, most) }
 
   pub can_be_tried : (tries : ℕ) → tries ≤ 16 → All (CanBeTried (length ring) tries) jobs
-  can_be_tried tries few = subst (λ (r : List NamedKey). All (CanBeTried (length r) tries) jobs) (sym ring_is) (can_be_tried_here tries few)
+  can_be_tried tries few =
+      subst (λ (r : List NamedKey). All (CanBeTried (length r) tries) jobs) (sym ring_is) (can_be_tried_here tries few)
 
-  pub planned_place : (job : Job) (k : ℕ) → slice_get jobs k ≡ Some job → contains part_cmp (next_parts after a) job.want.part ≡ true
+  pub planned_place : (job : Job) (k : ℕ) → slice_get jobs k ≡ Some job
+      → contains part_cmp (next_parts after a) job.want.part ≡ true
   planned_place job k at =
-      let among : In job (map (job_for g a) (next_parts after a)) = from_slice_get (map (job_for g a) (next_parts after a)) k job (ap (λ (js : List Job). slice_get js k) (sym jobs_are) ∙ at) in
-      let r : (t : Part) × (In t (next_parts after a)) × (job ≡ job_for g a t) = from_map (job_for g a) (next_parts after a) job among in
-      ap (contains part_cmp (next_parts after a)) (ap (λ (j : Job). j.want.part) r.2 ∙ want_part g a r.0) ∙ contains_in exact_parts (next_parts after a) r.0 r.1
+      let among : In job (map (job_for g a) (next_parts after a)) =
+      from_slice_get (map (job_for g a) (next_parts after a)) k job
+      (ap (λ (js : List Job). slice_get js k) (sym jobs_are) ∙ at) in
+      let r : (t : Part) × (In t (next_parts after a)) × (job ≡ job_for g a t) =
+      from_map (job_for g a) (next_parts after a) job among in
+      ap (contains part_cmp (next_parts after a)) (ap (λ (j : Job). j.want.part) r.2 ∙ want_part g a r.0)
+      ∙ contains_in exact_parts (next_parts after a) r.0 r.1
 
   -- A wanted part has the size of what is lent of it.
-  size_lent : (t : Part) (octets : List ℕ) → In t (next_parts after a) → lent others t ≡ Some octets → size_of g logs t ≡ length octets
+  size_lent : (t : Part) (octets : List ℕ) → In t (next_parts after a) → lent others t ≡ Some octets
+      → size_of g logs t ≡ length octets
   size_lent t octets i e =
-      let there : contains part_cmp (all_parts logs) t ≡ true = contains_in exact_parts (all_parts logs) t (in_all_parts logs t (wants_published g logs a t are truly (wanted t i))) in
-      ap (λ (b : Bool). cond b (length (unwrap_or (true_packet g logs t) [])) 0) there ∙ ap (λ (o : Option (List ℕ)). length (unwrap_or o [])) (lends_true g logs others all t octets e)
+      let there : contains part_cmp (all_parts logs) t ≡ true =
+      contains_in exact_parts (all_parts logs) t
+      (in_all_parts logs t (wants_published g logs a t are truly (wanted t i))) in
+      ap (λ (b : Bool). cond b (length (unwrap_or (true_packet g logs t) [])) 0) there
+      ∙ ap (λ (o : Option (List ℕ)). length (unwrap_or o [])) (lends_true g logs others all t octets e)
 
-  module _ (tries : ℕ) (few : tries ≤ 16) (asked : List Job) (asked_are : asked ≡ jobs_behind g a after 4096) (parts values : List (Option CheckedPart)) (values_are : values ≡ parts) (ns counts : List ℕ) (counts_are : counts ≡ ns)
+  module _ (tries : ℕ) (few : tries ≤ 16) (asked : List Job) (asked_are : asked ≡ jobs_behind g a after 4096)
+      (parts values : List (Option CheckedPart)) (values_are : values ≡ parts) (ns counts : List ℕ)
+      (counts_are : counts ≡ ns)
       (first : AreFirst (lent_answer passes others asker loss) ring tries asked parts ns) where
     first_here : AreFirst (lent_answer passes others asker loss) g.members.ring tries jobs values counts
     first_here =
-        subst (λ (cs : List ℕ). AreFirst (lent_answer passes others asker loss) g.members.ring tries jobs values cs) (sym counts_are)
-        (subst (λ (vs : List (Option CheckedPart)). AreFirst (lent_answer passes others asker loss) g.members.ring tries jobs vs ns) (sym values_are)
-        (subst (λ (js : List Job). AreFirst (lent_answer passes others asker loss) g.members.ring tries js parts ns) (asked_are ∙ sym jobs_are)
-        (subst (λ (r : List NamedKey). AreFirst (lent_answer passes others asker loss) r tries asked parts ns) ring_is first)))
+        subst (λ (cs : List ℕ). AreFirst (lent_answer passes others asker loss) g.members.ring tries jobs values cs)
+        (sym counts_are)
+        (subst (λ (vs : List (Option CheckedPart)).
+        AreFirst (lent_answer passes others asker loss) g.members.ring tries jobs vs ns) (sym values_are)
+        (subst (λ (js : List Job). AreFirst (lent_answer passes others asker loss) g.members.ring tries js parts ns)
+        (asked_are ∙ sym jobs_are)
+        (subst (λ (r : List NamedKey). AreFirst (lent_answer passes others asker loss) r tries asked parts ns) ring_is
+        first)))
 
-    first_planned : AreFirst (lent_answer passes others asker loss) g.members.ring tries (map (job_for g a) (next_parts after a)) values counts
-    first_planned = subst (λ (js : List Job). AreFirst (lent_answer passes others asker loss) g.members.ring tries js values counts) jobs_are first_here
+    first_planned : AreFirst (lent_answer passes others asker loss) g.members.ring tries
+        (map (job_for g a) (next_parts after a)) values counts
+    first_planned =
+        subst (λ (js : List Job). AreFirst (lent_answer passes others asker loss) g.members.ring tries js values counts)
+        jobs_are first_here
 
     pub count_attempts : length counts ≡ length jobs
     count_attempts = (first_lengths (lent_answer passes others asker loss) g tries jobs values counts first_here).1
@@ -94,39 +122,65 @@ module _ (passes : ℕ → ℕ → ℕ → ℕ → ℕ → ℕ → Bool) (g : Gr
     -- ---- a fetch
 
     pub fetch_outcome : IsOutcome g a jobs values counts
-    fetch_outcome = planned_jobs_are_outcomes g a jobs values counts planned (were_tried (lent_answer passes others asker loss) g tries jobs values counts (can_be_tried_here tries few) first_here)
+    fetch_outcome =
+        planned_jobs_are_outcomes g a jobs values counts planned
+        (were_tried (lent_answer passes others asker loss) g tries jobs values counts (can_be_tried_here tries few)
+        first_here)
 
-    pub fetch_is : outcome_of jobs values counts ≡ fetched_all (attempt_comes passes asker loss) others tries a (next_parts after a)
-    fetch_is = ap (λ (js : List Job). outcome_of js values counts) jobs_are ∙ fetched_is passes g logs a others asker loss are truly all tries (next_parts after a) wanted values counts first_planned
+    pub fetch_is : outcome_of jobs values counts
+        ≡ fetched_all (attempt_comes passes asker loss) others tries a (next_parts after a)
+    fetch_is =
+        ap (λ (js : List Job). outcome_of js values counts) jobs_are
+        ∙ fetched_is passes g logs a others asker loss are truly all tries (next_parts after a) wanted values counts
+        first_planned
 
-    pub fetch_parts : count_by is_some values ≡ length (that_came (fetched_all (attempt_comes passes asker loss) others tries a (next_parts after a)))
-    fetch_parts = sym (length-filter is_some values) ∙ counted jobs values counts count_parts count_attempts ∙ ap (λ (xs : List Fetched). length (that_came xs)) fetch_is
+    pub fetch_parts : count_by is_some values
+        ≡ length (that_came (fetched_all (attempt_comes passes asker loss) others tries a (next_parts after a)))
+    fetch_parts =
+        sym (length-filter is_some values)
+        ∙ counted jobs values counts count_parts count_attempts
+        ∙ ap (λ (xs : List Fetched). length (that_came xs)) fetch_is
 
-    pub fetch_octets : sum_by octets_in values ≡ sum_by (size_of g logs) (that_came (fetched_all (attempt_comes passes asker loss) others tries a (next_parts after a)))
+    pub fetch_octets : sum_by octets_in values
+        ≡ sum_by (size_of g logs)
+        (that_came (fetched_all (attempt_comes passes asker loss) others tries a (next_parts after a)))
     fetch_octets =
         octets_sum (size_of g logs) jobs values counts count_parts count_attempts (λ x octets i e.
-        let r = from_map (fetched_one (attempt_comes passes asker loss) others tries a) (next_parts after a) x (subst (In x) fetch_is i) in
+        let r =
+        from_map (fetched_one (attempt_comes passes asker loss) others tries a) (next_parts after a) x
+        (subst (In x) fetch_is i) in
         ap (size_of g logs) (ap (λ (y : Fetched). y.part) r.2)
-        ∙ size_lent r.0 octets r.1 (from_packet (is_some (attempt_at (attempt_comes passes asker loss) others tries a r.0)) (lent others r.0) octets (sym (ap (λ (y : Fetched). y.packet) r.2) ∙ e)))
+        ∙ size_lent r.0 octets r.1
+        (from_packet (is_some (attempt_at (attempt_comes passes asker loss) others tries a r.0)) (lent others r.0)
+        octets (sym (ap (λ (y : Fetched). y.packet) r.2) ∙ e)))
         ∙ ap (λ (xs : List Fetched). sum_by (size_of g logs) (that_came xs)) fetch_is where
-          from_packet : (b : Bool) (o : Option (List ℕ)) (octets : List ℕ) → cond b o None ≡ Some octets → o ≡ Some octets
+          from_packet : (b : Bool) (o : Option (List ℕ)) (octets : List ℕ) → cond b o None ≡ Some octets
+              → o ≡ Some octets
           from_packet true o octets e = e
           from_packet false o octets e = absurd (none-some octets e)
 
-    pub fetch_attempts : counts ≡ map (λ (x : Fetched). x.attempts) (fetched_all (attempt_comes passes asker loss) others tries a (next_parts after a))
-    fetch_attempts = attempts_in jobs values counts count_parts count_attempts ∙ ap (map (λ (x : Fetched). x.attempts)) fetch_is where
-      attempts_in : (js : List Job) (ps : List (Option CheckedPart)) (cs : List ℕ) → length ps ≡ length js → length cs ≡ length js → cs ≡ map (λ (x : Fetched). x.attempts) (outcome_of js ps cs)
-      attempts_in [] [] [] e f = refl
-      attempts_in [] [] (c ∷ cs) e f = absurd (omega (arith, f))
-      attempts_in [] (p ∷ ps) cs e f = absurd (omega (arith, e))
-      attempts_in (j ∷ js) [] cs e f = absurd (omega (arith, e))
-      attempts_in (j ∷ js) (p ∷ ps) [] e f = absurd (omega (arith, f))
-      attempts_in (j ∷ js) (p ∷ ps) (c ∷ cs) e f = ap (λ (xs : List ℕ). c ∷ xs) (attempts_in js ps cs (omega (arith, e)) (omega (arith, f)))
+    pub fetch_attempts : counts
+        ≡ map (λ (x : Fetched). x.attempts)
+        (fetched_all (attempt_comes passes asker loss) others tries a (next_parts after a))
+    fetch_attempts =
+        attempts_in jobs values counts count_parts count_attempts
+        ∙ ap (map (λ (x : Fetched). x.attempts)) fetch_is where
+          attempts_in : (js : List Job) (ps : List (Option CheckedPart)) (cs : List ℕ) → length ps ≡ length js
+              → length cs ≡ length js → cs ≡ map (λ (x : Fetched). x.attempts) (outcome_of js ps cs)
+          attempts_in [] [] [] e f = refl
+          attempts_in [] [] (c ∷ cs) e f = absurd (omega (arith, f))
+          attempts_in [] (p ∷ ps) cs e f = absurd (omega (arith, e))
+          attempts_in (j ∷ js) [] cs e f = absurd (omega (arith, e))
+          attempts_in (j ∷ js) (p ∷ ps) [] e f = absurd (omega (arith, f))
+          attempts_in (j ∷ js) (p ∷ ps) (c ∷ cs) e f =
+              ap (λ (xs : List ℕ). c ∷ xs) (attempts_in js ps cs (omega (arith, e)) (omega (arith, f)))
 
   -- ---- a phase of a settle
 
-  module _ (none : loss ≡ None) (asked : List Job) (asked_are : asked ≡ jobs_behind g a after 4096) (parts values : List (Option CheckedPart)) (values_are : values ≡ parts) (ns : List ℕ)
-      (first : AreFirst (lent_answer passes others asker loss) ring 1 asked parts ns) (zeros : List ℕ) (zeros_are : zeros ≡ replicate (length jobs) 0) where
+  module _ (none : loss ≡ None) (asked : List Job) (asked_are : asked ≡ jobs_behind g a after 4096)
+      (parts values : List (Option CheckedPart)) (values_are : values ≡ parts) (ns : List ℕ)
+      (first : AreFirst (lent_answer passes others asker loss) ring 1 asked parts ns) (zeros : List ℕ)
+      (zeros_are : zeros ≡ replicate (length jobs) 0) where
     count_zeros : length zeros ≡ length jobs
     count_zeros = ap length zeros_are ∙ length-replicate (length jobs) 0
 
@@ -134,21 +188,31 @@ module _ (passes : ℕ → ℕ → ℕ → ℕ → ℕ → ℕ → Bool) (g : Gr
     gain_outcome =
         subst (IsOutcome g a jobs values) (sym zeros_are)
         (planned_jobs_are_outcomes g a jobs values (replicate (length jobs) 0) planned
-        (none_counted (lent_answer passes others asker loss) g 1 jobs values ns (can_be_tried_here 1 (omega arith)) (first_here 1 (omega arith) asked asked_are parts values values_are ns ns refl first)))
+        (none_counted (lent_answer passes others asker loss) g 1 jobs values ns (can_be_tried_here 1 (omega arith))
+        (first_here 1 (omega arith) asked asked_are parts values values_are ns ns refl first)))
 
     pub gain_is : outcome_of jobs values zeros ≡ lent_all others (next_parts after a)
     gain_is =
-        ap (outcome_of jobs values) zeros_are ∙ ap (λ (js : List Job). outcome_of js values (replicate (length js) 0)) jobs_are
-        ∙ lent_is passes g logs a others asker loss are truly all none (next_parts after a) wanted values ns (first_planned 1 (omega arith) asked asked_are parts values values_are ns ns refl first)
+        ap (outcome_of jobs values) zeros_are
+        ∙ ap (λ (js : List Job). outcome_of js values (replicate (length js) 0)) jobs_are
+        ∙ lent_is passes g logs a others asker loss are truly all none (next_parts after a) wanted values ns
+        (first_planned 1 (omega arith) asked asked_are parts values values_are ns ns refl first)
 
     pub gain_parts : count_by is_some values ≡ length (filter (lends others) (next_parts after a))
     gain_parts =
-        sym (length-filter is_some values) ∙ counted jobs values zeros (count_parts 1 (omega arith) asked asked_are parts values values_are ns ns refl first) count_zeros ∙ ap (λ (xs : List Fetched). length (that_came xs)) gain_is
+        sym (length-filter is_some values)
+        ∙ counted jobs values zeros
+        (count_parts 1 (omega arith) asked asked_are parts values values_are ns ns refl first) count_zeros
+        ∙ ap (λ (xs : List Fetched). length (that_came xs)) gain_is
         ∙ ap length (came_lent others (next_parts after a))
 
     pub gain_octets : sum_by octets_in values ≡ sum_by (size_of g logs) (filter (lends others) (next_parts after a))
     gain_octets =
-        octets_sum (size_of g logs) jobs values zeros (count_parts 1 (omega arith) asked asked_are parts values values_are ns ns refl first) count_zeros (λ x octets i e.
+        octets_sum (size_of g logs) jobs values zeros
+        (count_parts 1 (omega arith) asked asked_are parts values values_are ns ns refl first) count_zeros
+        (λ x octets i e.
         let r = from_map (lent_one others) (next_parts after a) x (subst (In x) gain_is i) in
-        ap (size_of g logs) (ap (λ (y : Fetched). y.part) r.2) ∙ size_lent r.0 octets r.1 (sym (ap (λ (y : Fetched). y.packet) r.2) ∙ e))
-        ∙ ap (λ (xs : List Fetched). sum_by (size_of g logs) (that_came xs)) gain_is ∙ ap (sum_by (size_of g logs)) (came_lent others (next_parts after a))
+        ap (size_of g logs) (ap (λ (y : Fetched). y.part) r.2)
+        ∙ size_lent r.0 octets r.1 (sym (ap (λ (y : Fetched). y.packet) r.2) ∙ e))
+        ∙ ap (λ (xs : List Fetched). sum_by (size_of g logs) (that_came xs)) gain_is
+        ∙ ap (sum_by (size_of g logs)) (came_lent others (next_parts after a))

@@ -1,5 +1,6 @@
 -- What is read of a world.
-use Rattle.std.proofs.Common.{◌≡◌, ℕ, ◌+◌, ◌<◌, Bool, true, false, ◌||◌, cond, List, [], ◌∷◌, length, get_or, Option, Some, None, refl, sym, ap, ◌∙◌, arith}
+use Rattle.std.proofs.Common.{◌≡◌, ℕ, ◌+◌, ◌<◌, Bool, true, false, ◌||◌, cond, List, [], ◌∷◌, length, get_or, Option}
+use Rattle.std.proofs.Common.{Some, None, refl, sym, ap, ◌∙◌, arith}
 use Rattle.std.specs.Prelude.{is_some}
 use Rattle.std.specs.Ordering.{eq_by_cmp}
 use Rattle.repo_plan.specs.declared.part.Part.{Part}
@@ -17,29 +18,41 @@ use Rattle.bench_world.specs.Worlds.{GroupState, IsTrueState, logs_around, world
 use Rattle.bench_world.proofs.States.{truly, member_is, stepped}
 
 pub counted_state : (s : GroupState) → IsTrueState s → s.steps < 100000 → IsTrueState (record s { steps = s.steps + 1 })
-counted_state s is few = stepped s is few (drawing (λ _ _. 0)) (λ t. omega arith) Event.Traffic tt s.members s.sent s.moment s.tally refl is.numbers is.members is.sent refl
+counted_state s is few =
+    stepped s is few (drawing (λ _ _. 0)) (λ t. omega arith) Event.Traffic tt s.members s.sent s.moment s.tally refl
+    is.numbers is.members is.sent refl
 
-contains-value : (packets : List records.Packet) (t : Part) → contains part_cmp (keys packets) t ≡ is_some (value_of part_cmp packets t)
+contains-value : (packets : List records.Packet) (t : Part)
+    → contains part_cmp (keys packets) t ≡ is_some (value_of part_cmp packets t)
 contains-value [] t = refl
 contains-value (e ∷ es) t = go (eq_by_cmp part_cmp t e.0) (contains-value es t) where
-  go : (b : Bool) → contains part_cmp (keys es) t ≡ is_some (value_of part_cmp es t) → (b || contains part_cmp (keys es) t) ≡ is_some (cond b (Some e.1) (value_of part_cmp es t))
+  go : (b : Bool) → contains part_cmp (keys es) t ≡ is_some (value_of part_cmp es t)
+      → (b || contains part_cmp (keys es) t) ≡ is_some (cond b (Some e.1) (value_of part_cmp es t))
   go true h = refl
   go false h = h
 
-module _ (s : GroupState) (is : IsTrueState s) (m : ℕ) (there : m < length s.members) (old : Alone) (old_is : old ≡ get_or s.members m old) where
+module _ (s : GroupState) (is : IsTrueState s) (m : ℕ) (there : m < length s.members) (old : Alone)
+    (old_is : old ≡ get_or s.members m old) where
   held_is : (member (world_of s) m).held ≡ keys old.store
   held_is = ap (λ (x : Member). x.held) (member_is s is m there old old_is)
 
   -- The packet of a part that the member holds is its publisher's.
-  pub packet_of_held : (t : Part) → value_of part_cmp old.store t ≡ cond (member_holds (member (world_of s) m) t) (true_packet s.keys (logs_around s.members) t) None
-  packet_of_held t = go (value_of part_cmp old.store t) refl ∙ ap (λ (b : Bool). cond b (true_packet s.keys (logs_around s.members) t) None) (sym held) where
-    held : member_holds (member (world_of s) m) t ≡ is_some (value_of part_cmp old.store t)
-    held = ap (λ (ts : List Part). contains part_cmp ts t) held_is ∙ contains-value old.store t
+  pub packet_of_held : (t : Part)
+      → value_of part_cmp old.store t
+      ≡ cond (member_holds (member (world_of s) m) t) (true_packet s.keys (logs_around s.members) t) None
+  packet_of_held t =
+      go (value_of part_cmp old.store t) refl
+      ∙ ap (λ (b : Bool). cond b (true_packet s.keys (logs_around s.members) t) None) (sym held) where
+        held : member_holds (member (world_of s) m) t ≡ is_some (value_of part_cmp old.store t)
+        held = ap (λ (ts : List Part). contains part_cmp ts t) held_is ∙ contains-value old.store t
 
-    go : (x : Option (List ℕ)) → value_of part_cmp old.store t ≡ x → x ≡ cond (is_some x) (true_packet s.keys (logs_around s.members) t) None
-    go None k = refl
-    go (Some octets) k = sym ((truly s is m there old old_is).packets t octets k)
+        go : (x : Option (List ℕ)) → value_of part_cmp old.store t ≡ x
+            → x ≡ cond (is_some x) (true_packet s.keys (logs_around s.members) t) None
+        go None k = refl
+        go (Some octets) k = sym ((truly s is m there old old_is).packets t octets k)
 
   -- It stores the packets of the parts that it holds.
   pub store_at : old.store ≡ true_packets s.keys (logs_around s.members) (member (world_of s) m).held
-  store_at = stores_those s.keys (logs_around s.members) old (truly s is m there old old_is) ∙ ap (true_packets s.keys (logs_around s.members)) (sym held_is)
+  store_at =
+      stores_those s.keys (logs_around s.members) old (truly s is m there old old_is)
+      ∙ ap (true_packets s.keys (logs_around s.members)) (sym held_is)

@@ -1,5 +1,6 @@
 -- A settle that is made again leaves what the one that failed would have left.
-use Rattle.std.proofs.Common.{◌≡◌, ◌⊎◌, inl, inr, ℕ, suc, ◌≤◌, ◌<◌, true, false, List, [], ◌∷◌, map, get_or, length, sym, ap, ◌∙◌, subst, arith}
+use Rattle.std.proofs.Common.{◌≡◌, ◌⊎◌, inl, inr, ℕ, suc, ◌≤◌, ◌<◌, true, false, List, [], ◌∷◌, map, get_or, length}
+use Rattle.std.proofs.Common.{sym, ap, ◌∙◌, subst, arith}
 use Rattle.std.proofs.lemmas.Bool.{true≢false, cases_Bool, or_cases}
 use Rattle.std.proofs.lemmas.List.{ext_get_or, get_or-map, length-map}
 use Rattle.svs_vector.specs.Vectors.{join_all}
@@ -24,7 +25,8 @@ use Rattle.group_model.proofs.Settles.{comes, someone, join_all_each, join_all_m
 use Rattle.bench_world.specs.Settling.{ArePartlySettled, SettlesAgain}
 use Rattle.bench_world.specs.Worlds.{drawing}
 
-someone_is : (ms : List Member) (t : Part) → someone_holds ms t ≡ true → (k : ℕ) × (k < length ms) × (member_holds (get_or ms k no_member) t ≡ true)
+someone_is : (ms : List Member) (t : Part) → someone_holds ms t ≡ true
+    → (k : ℕ) × (k < length ms) × (member_holds (get_or ms k no_member) t ≡ true)
 someone_is [] t h = absurd (true≢false (sym h))
 someone_is (m ∷ ms) t h = elim (or_cases (member_holds m t) (someone_holds ms t) h) [
   | inl here ↦ (0, omega arith, here)
@@ -32,21 +34,28 @@ someone_is (m ∷ ms) t h = elim (or_cases (member_holds m t) (someone_holds ms 
 ]
 
 -- What a member comes to hold in a settle it held, or someone did.
-came_of : (w : World) (m : Member) (t : Part) → member_holds (settled_member w m) t ≡ true → (member_holds m t ≡ true) ⊎ (someone_holds w.members t ≡ true)
+came_of : (w : World) (m : Member) (t : Part) → member_holds (settled_member w m) t ≡ true
+    → (member_holds m t ≡ true) ⊎ (someone_holds w.members t ≡ true)
 came_of w m t h = elim (cases_Bool (member_holds m t)) [
   | inl was ↦ inl was
-  | inr fresh ↦ inr (comes w m t (from_filter (comes_to w m) (all_parts (logs w)) t (held_fresh (new_parts w m) m t h fresh)).1).someones
+  | inr fresh ↦
+      inr (comes w m t
+      (from_filter (comes_to w m) (all_parts (logs w)) t (held_fresh (new_parts w m) m t h fresh)).1).someones
 ]
 
-module _ (w : World) (new : List Member) (group : IsSoundGroup w) (partly : ArePartlySettled w new) (again : IsSoundGroup (record w { members = new })) where
+module _ (w : World) (new : List Member) (group : IsSoundGroup w) (partly : ArePartlySettled w new)
+    (again : IsSoundGroup (record w { members = new })) where
   abbrev stopped : World
   stopped = record w { members = new }
 
   logs_same : logs stopped ≡ logs w
-  logs_same = ext_get_or [] (logs stopped) (logs w) (length-map new (λ (m : Member). m.log) ∙ partly.len ∙ sym (length-map w.members (λ (m : Member). m.log))) (λ i l.
+  logs_same =
+      ext_get_or [] (logs stopped) (logs w)
+      (length-map new (λ (m : Member). m.log) ∙ partly.len ∙ sym (length-map w.members (λ (m : Member). m.log))) (λ i l.
       let inside_new : i < length new = subst (λ (n : ℕ). i < n) (length-map new (λ (m : Member). m.log)) l in
       let inside : i < length w.members = let e = partly.len in omega (arith, inside_new, e) in
-      get_or-map (λ (m : Member). m.log) new i no_member [] inside_new ∙ (partly.each i inside).log ∙ sym (get_or-map (λ (m : Member). m.log) w.members i no_member [] inside))
+      get_or-map (λ (m : Member). m.log) new i no_member [] inside_new ∙ (partly.each i inside).log
+      ∙ sym (get_or-map (λ (m : Member). m.log) w.members i no_member [] inside))
 
   -- Who held a part then holds it now, and who holds it now holds it then or later.
   someone_still : (t : Part) → someone_holds w.members t ≡ true → someone_holds new t ≡ true
@@ -79,19 +88,28 @@ module _ (w : World) (new : List Member) (group : IsSoundGroup w) (partly : AreP
 
     -- All come to know the same.
     vector_same : settled_vector stopped ≡ settled_vector w
-    vector_same = ext_get_or 0 (settled_vector stopped) (settled_vector w) (sound_new.width ∙ ap (λ (ls : Logs). length ls) logs_same ∙ sym (sound_gathered w group j there).width) (λ p l.
-        let no_more : get_or (settled_vector stopped) p 0 ≤ get_or (settled_vector w) p 0 = join_all_most (map (λ (m : Member). m.known) new) p (get_or (settled_vector w) p 0) (λ u i.
+    vector_same =
+        ext_get_or 0 (settled_vector stopped) (settled_vector w)
+        (sound_new.width ∙ ap (λ (ls : Logs). length ls) logs_same ∙ sym (sound_gathered w group j there).width) (λ p l.
+        let no_more : get_or (settled_vector stopped) p 0 ≤ get_or (settled_vector w) p 0 =
+        join_all_most (map (λ (m : Member). m.known) new) p (get_or (settled_vector w) p 0) (λ u i.
         let r = from_map (λ (m : Member). m.known) new u i in
         let k = at_in new r.0 no_member r.1 in
         let inside : k.0 < length w.members = let e = partly.len in let a = k.1 in omega (arith, a, e) in
-        subst (λ (v : List ℕ). get_or v p 0 ≤ get_or (settled_vector w) p 0) (sym (r.2 ∙ ap (λ (m : Member). m.known) k.2)) ((partly.each k.0 inside).known_less p)) in
-        let no_less : get_or (settled_vector w) p 0 ≤ get_or (settled_vector stopped) p 0 = join_all_most (map (λ (m : Member). m.known) w.members) p (get_or (settled_vector stopped) p 0) (λ u i.
+        subst (λ (v : List ℕ). get_or v p 0 ≤ get_or (settled_vector w) p 0)
+        (sym (r.2 ∙ ap (λ (m : Member). m.known) k.2)) ((partly.each k.0 inside).known_less p)) in
+        let no_less : get_or (settled_vector w) p 0 ≤ get_or (settled_vector stopped) p 0 =
+        join_all_most (map (λ (m : Member). m.known) w.members) p (get_or (settled_vector stopped) p 0) (λ u i.
         let r = from_map (λ (m : Member). m.known) w.members u i in
         let k = at_in w.members r.0 no_member r.1 in
         let inside : k.0 < length new = let e = partly.len in let a = k.1 in omega (arith, a, e) in
         let more = (partly.each k.0 k.1).known_more p in
-        let each : get_or (get_or new k.0 no_member).known p 0 ≤ get_or (join_all (map (λ (m : Member). m.known) new)) p 0 = join_all_each (map (λ (m : Member). m.known) new) p (get_or new k.0 no_member).known (in_map (λ (m : Member). m.known) new (get_or new k.0 no_member) (in_at new k.0 no_member inside)) in
-        subst (λ (v : List ℕ). get_or v p 0 ≤ get_or (settled_vector stopped) p 0) (sym (r.2 ∙ ap (λ (m : Member). m.known) k.2)) (omega (arith, more, each))) in
+        let each : get_or (get_or new k.0 no_member).known p 0
+        ≤ get_or (join_all (map (λ (m : Member). m.known) new)) p 0 =
+        join_all_each (map (λ (m : Member). m.known) new) p (get_or new k.0 no_member).known
+        (in_map (λ (m : Member). m.known) new (get_or new k.0 no_member) (in_at new k.0 no_member inside)) in
+        subst (λ (v : List ℕ). get_or v p 0 ≤ get_or (settled_vector stopped) p 0)
+        (sym (r.2 ∙ ap (λ (m : Member). m.known) k.2)) (omega (arith, more, each))) in
         omega (arith, no_more, no_less))
 
     gathering : IsGathering w (member w j) then
@@ -120,7 +138,9 @@ module _ (w : World) (new : List Member) (group : IsSoundGroup w) (partly : AreP
     gets_it : (t : Part) → IsWanted (logs stopped) then t → someone_holds new t ≡ true → ⊥
     gets_it t wanted someone_ =
         let record_too : someone_holds new (record_of t) ≡ true = elim wanted.with_record [
-          | inl zero_ ↦ subst (λ (x : ℕ). someone_holds new (record { publisher = t.publisher; seq = t.seq; part = x }) ≡ true) zero_ someone_
+          | inl zero_ ↦
+              subst (λ (x : ℕ). someone_holds new (record { publisher = t.publisher; seq = t.seq; part = x }) ≡ true)
+              zero_ someone_
           | inr held ↦ elim (came_of stopped (member stopped j) (record_of t) held) [
             | inl was ↦ someone new (member stopped j) (record_of t) (in_at new j no_member there_new) was
             | inr holds ↦ holds
@@ -134,13 +154,22 @@ module _ (w : World) (new : List Member) (group : IsSoundGroup w) (partly : AreP
           there = known_published (logs stopped) (settled_vector stopped) (pair_of t) sound_new.known wanted.known;
           counted = wanted.counted;
         }) in
-        true≢false (sym (gets stopped again j there_new t inside (record { told = wanted.known.to_known; not_hidden = wanted.not_hidden; someones = someone_; record_too = record_too; fresh = fresh })) ∙ wanted.not_held)
+        true≢false
+        (sym (gets stopped again j there_new t inside (record {
+          told = wanted.known.to_known;
+          not_hidden = wanted.not_hidden;
+          someones = someone_;
+          record_too = record_too;
+          fresh = fresh;
+        }))
+        ∙ wanted.not_held)
 
     gathered : HasGathered w then
     gathered t wanted = elim (cases_Bool (someone_holds w.members t)) [
       | inl someone_ ↦
           absurd (gets_it t (wanted_parts (logs stopped) then t
-          (subst (λ (ls : Logs). is_wanted (plan_of ls then) t ≡ true) (sym logs_same) wanted)) (someone_still t someone_))
+          (subst (λ (ls : Logs). is_wanted (plan_of ls then) t ≡ true) (sym logs_same) wanted))
+          (someone_still t someone_))
       | inr off ↦ off
     ]
 
@@ -148,10 +177,13 @@ module _ (w : World) (new : List Member) (group : IsSoundGroup w) (partly : AreP
     settled_same = gathering_settles (drawing (λ _ _. 0)) w group j then there sound gathering gathered
 
   pub members_same : map (settled_member stopped) new ≡ map (settled_member w) w.members
-  members_same = ext_get_or no_member (map (settled_member stopped) new) (map (settled_member w) w.members) (length-map new (settled_member stopped) ∙ partly.len ∙ sym (length-map w.members (settled_member w))) (λ i l.
+  members_same =
+      ext_get_or no_member (map (settled_member stopped) new) (map (settled_member w) w.members)
+      (length-map new (settled_member stopped) ∙ partly.len ∙ sym (length-map w.members (settled_member w))) (λ i l.
       let inside_new : i < length new = subst (λ (n : ℕ). i < n) (length-map new (settled_member stopped)) l in
       let inside : i < length w.members = let e = partly.len in omega (arith, inside_new, e) in
-      get_or-map (settled_member stopped) new i no_member no_member inside_new ∙ settled_same i inside ∙ sym (get_or-map (settled_member w) w.members i no_member no_member inside))
+      get_or-map (settled_member stopped) new i no_member no_member inside_new ∙ settled_same i inside
+      ∙ sym (get_or-map (settled_member w) w.members i no_member no_member inside))
 
 pub settles_again : SettlesAgain
 settles_again out w new group partly again = ap (reset_each out w.moment 0) (members_same w new group partly again)

@@ -1,8 +1,10 @@
 -- A sound world, and others that differ from it in what an event changes.
-use Rattle.std.proofs.Common.{◌≡◌, inl, inr, ℕ, suc, zero, ◌+◌, ◌*◌, ◌≤◌, ◌<◌, ◌^◌, List, [], ◌∷◌, map, length, get_or, set, refl, sym, ap, ◌∙◌, subst, arith}
+use Rattle.std.proofs.Common.{◌≡◌, inl, inr, ℕ, suc, zero, ◌+◌, ◌*◌, ◌≤◌, ◌<◌, ◌^◌, List, [], ◌∷◌, map, length, get_or}
+use Rattle.std.proofs.Common.{set, refl, sym, ap, ◌∙◌, subst, arith}
 use Rattle.std.specs.List.{All}
 use Rattle.std.proofs.lemmas.Bool.{cases_eq}
-use Rattle.std.proofs.lemmas.List.{length-map, length-set, ext_get_or, get_or-map, get_or-set_same, get_or-set_other, get_or_default}
+use Rattle.std.proofs.lemmas.List.{length-map, length-set, ext_get_or, get_or-map, get_or-set_same, get_or-set_other}
+use Rattle.std.proofs.lemmas.List.{get_or_default}
 use Rattle.bench_net.specs.SentList.{SentPacket}
 use Rattle.group_model.specs.Publications.{Logs, all_parts}
 use Rattle.group_model.specs.Member.{Member, tries_of}
@@ -19,7 +21,8 @@ use Rattle.repo_member.specs.InEvents.{IsMemberOf, IsTrueIn}
 use Rattle.repo_member.specs.TrueMembers.{IsTrueMember}
 use Rattle.repo_member.proofs.PublicLaws.{true_stores}
 use Rattle.bench_world.specs.Truth.{AllTriedFew, AreFewLogs}
-use Rattle.bench_world.specs.Worlds.{GroupState, IsTrueState, IsTrueSync, nobody, alone_at, in_groups, logs_around, MembersAreNumbered, AreTrueMembers, sync_in, world_of, no_packet}
+use Rattle.bench_world.specs.Worlds.{GroupState, IsTrueState, IsTrueSync, nobody, alone_at, in_groups, logs_around}
+use Rattle.bench_world.specs.Worlds.{MembersAreNumbered, AreTrueMembers, sync_in, world_of, no_packet}
 
 -- ---- members
 
@@ -30,14 +33,16 @@ member_at (m ∷ ms) zero = refl
 member_at (m ∷ ms) (suc j) = member_at ms j
 
 -- A member that has changed is there.
-pub member_set : (ms : List Alone) (j : ℕ) (b : Alone) → j < length ms → get_or (in_groups (set ms j b)) j no_member ≡ in_group b
+pub member_set : (ms : List Alone) (j : ℕ) (b : Alone) → j < length ms
+    → get_or (in_groups (set ms j b)) j no_member ≡ in_group b
 member_set ms j b there = member_at (set ms j b) j ∙ ap in_group (get_or-set_same ms j b nobody there)
 
 pub many_logs : (ms : List Alone) → length (logs_around ms) ≡ length ms
 many_logs ms = length-map (in_groups ms) (λ (m : Member). m.log) ∙ length-map ms in_group
 
 -- The logs of all are what each has.
-pub logs_are : (g : GroupKeys) (ls : Logs) (members : List Alone) → length members ≡ length ls → MembersAreNumbered members → AreTrueMembers g ls members → logs_around members ≡ ls
+pub logs_are : (g : GroupKeys) (ls : Logs) (members : List Alone) → length members ≡ length ls
+    → MembersAreNumbered members → AreTrueMembers g ls members → logs_around members ≡ ls
 logs_are g ls members long numbers truly =
     let many : length (logs_around members) ≡ length members = many_logs members in
     ext_get_or [] (logs_around members) ls (many ∙ long) (λ i l.
@@ -48,16 +53,26 @@ logs_are g ls members long numbers truly =
     ∙ sym (truly i inside).log ∙ ap (λ (k : ℕ). get_or ls k []) (numbers i inside))
 
 module _ (ms : List Alone) (m : ℕ) (there : m < length ms) (b : Alone) where
-  pub set_truly : (g : GroupKeys) (ls : Logs) → AreTrueMembers g ls ms → IsTrueMember g ls b → AreTrueMembers g ls (set ms m b)
+  pub set_truly : (g : GroupKeys) (ls : Logs) → AreTrueMembers g ls ms → IsTrueMember g ls b
+      → AreTrueMembers g ls (set ms m b)
   set_truly g ls all one i l = elim (cases_eq i m) [
-    | inl same ↦ subst (IsTrueMember g ls) (sym (ap (alone_at (set ms m b)) same ∙ get_or-set_same ms m b nobody there)) one
-    | inr other ↦ subst (IsTrueMember g ls) (sym (get_or-set_other ms m i b nobody other)) (all i (let n : length (set ms m b) ≡ length ms = length-set ms m b in omega (arith, l, n)))
+    | inl same ↦
+        subst (IsTrueMember g ls) (sym (ap (alone_at (set ms m b)) same ∙ get_or-set_same ms m b nobody there)) one
+    | inr other ↦
+        subst (IsTrueMember g ls) (sym (get_or-set_other ms m i b nobody other))
+        (all i (let n : length (set ms m b) ≡ length ms = length-set ms m b in omega (arith, l, n)))
   ]
 
   pub set_numbers : b.number ≡ m → MembersAreNumbered ms → MembersAreNumbered (set ms m b)
   set_numbers e all i l = elim (cases_eq i m) [
-    | inl same ↦ ap (λ (k : ℕ). (alone_at (set ms m b) k).number) same ∙ ap (λ (a : Alone). a.number) (get_or-set_same ms m b nobody there) ∙ e ∙ sym same
-    | inr other ↦ ap (λ (a : Alone). a.number) (get_or-set_other ms m i b nobody other) ∙ all i (let n : length (set ms m b) ≡ length ms = length-set ms m b in omega (arith, l, n))
+    | inl same ↦
+        ap (λ (k : ℕ). (alone_at (set ms m b) k).number) same
+        ∙ ap (λ (a : Alone). a.number) (get_or-set_same ms m b nobody there)
+        ∙ e
+        ∙ sym same
+    | inr other ↦
+        ap (λ (a : Alone). a.number) (get_or-set_other ms m i b nobody other)
+        ∙ all i (let n : length (set ms m b) ≡ length ms = length-set ms m b in omega (arith, l, n))
   ]
 
 -- ---- a sound world
@@ -67,7 +82,8 @@ module _ (s : GroupState) (is : IsTrueState s) where
   many = sym (many_logs s.members)
 
   pub few_members : length s.members ≤ 16
-  few_members = let a = many in let b = is.are.width in let c = is.are.group.members.roster.few in omega (arith, a, b, c)
+  few_members =
+      let a = many in let b = is.are.width in let c = is.are.group.members.roster.few in omega (arith, a, b, c)
 
   pub few_here : length (in_groups s.members) ≤ 16
   few_here = let a = few_members in let d = length-map s.members in_group in omega (arith, a, d)
@@ -77,23 +93,30 @@ module _ (s : GroupState) (is : IsTrueState s) where
     members = λ j l.
         let inside : j < length s.members = subst (λ (n : ℕ). j < n) (length-map s.members in_group) l in
         subst (λ (k : ℕ). IsSoundMember (logs_around s.members) k (member (world_of s) j)) (is.numbers j inside)
-        (subst (IsSoundMember (logs_around s.members) (alone_at s.members j).number) (sym (member_at s.members j)) (is.members j inside).sound);
+        (subst (IsSoundMember (logs_around s.members) (alone_at s.members j).number) (sym (member_at s.members j))
+        (is.members j inside).sound);
     sent = λ k l.
         let inside : k < length s.sent = subst (λ (n : ℕ). k < n) (length-map s.sent sync_in) l in
-        subst (λ (p : SyncInterest). IsTrueVector (logs_around s.members) p.vector) (sym (get_or-map sync_in s.sent k no_packet no_sync inside)) (is.sent k no_packet inside).vector;
+        subst (λ (p : SyncInterest). IsTrueVector (logs_around s.members) p.vector)
+        (sym (get_or-map sync_in s.sent k no_packet no_sync inside)) (is.sent k no_packet inside).vector;
   }
 
   pub few_logs : AreFewLogs s.keys (logs_around s.members)
   few_logs = record {
     are = is.are;
-    few = let x : length (all_parts (logs_around s.members)) ≤ 20100000 = few_parts s.steps (world_of s) is.steps is.within in omega (arith, x);
+    few =
+        let x : length (all_parts (logs_around s.members)) ≤ 20100000 =
+        few_parts s.steps (world_of s) is.steps is.within in
+        omega (arith, x);
   }
 
   pub member_within : (j : ℕ) → IsMemberWithin s.steps (in_group (alone_at s.members j))
   member_within j = subst (IsMemberWithin s.steps) (member_at s.members j) (is.within.members j)
 
   pub tried_few : AllTriedFew s.members
-  tried_few j l t = let x : tries_of (alone_at s.members j).attempts t ≤ s.steps * 16 = (member_within j).tried t in let few = is.steps in omega (arith, x, few)
+  tried_few j l t =
+      let x : tries_of (alone_at s.members j).attempts t ≤ s.steps * 16 = (member_within j).tried t in
+      let few = is.steps in omega (arith, x, few)
 
   -- ---- one member
 
@@ -123,7 +146,10 @@ module _ (s : GroupState) (is : IsTrueState s) where
     true_in = record { published = is.are; stores = true_stores s.keys (logs_around s.members) old truly }
 
     pub few_draws : old.machine.draws < 2 ^ 62
-    few_draws = subst (λ (a : Alone). a.machine.draws < 2 ^ 62) (sym old_at) (let a : (alone_at s.members m).machine.draws ≤ s.steps + 1 = (member_within m).draws in let few = is.steps in omega (arith, a, few))
+    few_draws =
+        subst (λ (a : Alone). a.machine.draws < 2 ^ 62) (sym old_at)
+        (let a : (alone_at s.members m).machine.draws ≤ s.steps + 1 = (member_within m).draws in
+        let few = is.steps in omega (arith, a, few))
 
   -- ---- counts
 
@@ -131,17 +157,23 @@ module _ (s : GroupState) (is : IsTrueState s) where
   early = let a : s.moment ≤ s.steps * 1000000000 = is.within.moment in let few = is.steps in omega (arith, a, few)
 
   pub few_sent : length s.sent + 16 < 4294967295
-  few_sent = let a : length (map sync_in s.sent) ≤ s.steps * 16 = is.within.sent in let b = length-map s.sent sync_in in let few = is.steps in omega (arith, a, b, few)
+  few_sent =
+      let a : length (map sync_in s.sent) ≤ s.steps * 16 = is.within.sent in
+      let b = length-map s.sent sync_in in let few = is.steps in omega (arith, a, b, few)
 
   -- ---- other worlds
 
   -- Other members of the same logs, and other packets that were sent.
-  pub changed_state : (members : List Alone) (sent : List SentPacket) (moment : ℕ) (tally : Tally) (steps : ℕ) → length members ≡ length s.members → MembersAreNumbered members → AreTrueMembers s.keys (logs_around s.members) members
+  pub changed_state : (members : List Alone) (sent : List SentPacket) (moment : ℕ) (tally : Tally) (steps : ℕ)
+      → length members ≡ length s.members → MembersAreNumbered members
+      → AreTrueMembers s.keys (logs_around s.members) members
       → All (IsTrueSync s.keys (logs_around s.members)) sent → steps ≤ 100000
-      → IsWithinSteps steps (world_of (record s { members = members; sent = sent; moment = moment; tally = tally; steps = steps }))
+      → IsWithinSteps steps
+      (world_of (record s { members = members; sent = sent; moment = moment; tally = tally; steps = steps }))
       → IsTrueState (record s { members = members; sent = sent; moment = moment; tally = tally; steps = steps })
   changed_state members sent moment tally steps len numbers all syncs few within =
-      let same : logs_around members ≡ logs_around s.members = logs_are s.keys (logs_around s.members) members (len ∙ many) numbers all in
+      let same : logs_around members ≡ logs_around s.members =
+      logs_are s.keys (logs_around s.members) members (len ∙ many) numbers all in
       record {
         are = subst (AreLogs s.keys) (sym same) is.are;
         numbers = numbers;
@@ -151,21 +183,33 @@ module _ (s : GroupState) (is : IsTrueState s) where
         steps = few;
       }
 
-  module _ (few : s.steps < 100000) (out : Outside) (small : HasSmallPackets out (world_of s)) (e : Event) (range : IsInRange e) where
+  module _ (few : s.steps < 100000) (out : Outside) (small : HasSmallPackets out (world_of s)) (e : Event)
+      (range : IsInRange e) where
     pub within_more : IsWithinSteps (s.steps + 1) (after_event out (world_of s) e)
     within_more = within_after out s.steps (world_of s) e is.steps few_here small range is.within
 
     -- After an event that publishes nothing.
-    pub stepped : (members : List Alone) (sent : List SentPacket) (moment : ℕ) (tally : Tally) → length members ≡ length s.members → MembersAreNumbered members → AreTrueMembers s.keys (logs_around s.members) members
+    pub stepped : (members : List Alone) (sent : List SentPacket) (moment : ℕ) (tally : Tally)
+        → length members ≡ length s.members → MembersAreNumbered members
+        → AreTrueMembers s.keys (logs_around s.members) members
         → All (IsTrueSync s.keys (logs_around s.members)) sent
-        → world_of (record s { members = members; sent = sent; moment = moment; tally = tally; steps = s.steps + 1 }) ≡ after_event out (world_of s) e
+        → world_of (record s { members = members; sent = sent; moment = moment; tally = tally; steps = s.steps + 1 })
+        ≡ after_event out (world_of s) e
         → IsTrueState (record s { members = members; sent = sent; moment = moment; tally = tally; steps = s.steps + 1 })
     stepped members sent moment tally len numbers all syncs world_is =
-        changed_state members sent moment tally (s.steps + 1) len numbers all syncs (omega (arith, few)) (subst (IsWithinSteps (s.steps + 1)) (sym world_is) within_more)
+        changed_state members sent moment tally (s.steps + 1) len numbers all syncs (omega (arith, few))
+        (subst (IsWithinSteps (s.steps + 1)) (sym world_is) within_more)
 
     -- The same where one member has changed.
-    pub stepped_at : (m : ℕ) → m < length s.members → (b : Alone) → b.number ≡ m → IsTrueMember s.keys (logs_around s.members) b → (sent : List SentPacket) (moment : ℕ) (tally : Tally) → All (IsTrueSync s.keys (logs_around s.members)) sent
-        → world_of (record s { members = set s.members m b; sent = sent; moment = moment; tally = tally; steps = s.steps + 1 }) ≡ after_event out (world_of s) e
-        → IsTrueState (record s { members = set s.members m b; sent = sent; moment = moment; tally = tally; steps = s.steps + 1 })
+    pub stepped_at : (m : ℕ) → m < length s.members → (b : Alone) → b.number ≡ m
+        → IsTrueMember s.keys (logs_around s.members) b → (sent : List SentPacket) (moment : ℕ) (tally : Tally)
+        → All (IsTrueSync s.keys (logs_around s.members)) sent
+        → world_of
+        (record s { members = set s.members m b; sent = sent; moment = moment; tally = tally; steps = s.steps + 1 })
+        ≡ after_event out (world_of s) e
+        → IsTrueState
+        (record s { members = set s.members m b; sent = sent; moment = moment; tally = tally; steps = s.steps + 1 })
     stepped_at m there b number one sent moment tally syncs world_is =
-        stepped (set s.members m b) sent moment tally (length-set s.members m b) (set_numbers s.members m there b number is.numbers) (set_truly s.members m there b s.keys (logs_around s.members) is.members one) syncs world_is
+        stepped (set s.members m b) sent moment tally (length-set s.members m b)
+        (set_numbers s.members m there b number is.numbers)
+        (set_truly s.members m there b s.keys (logs_around s.members) is.members one) syncs world_is

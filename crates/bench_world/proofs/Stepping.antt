@@ -12,7 +12,9 @@ use Rattle.bench_world.specs.Steps.{IsFaultOf, NamesAll}
 use Rattle.bench_world.specs.Worlds.{GroupState, world_of}
 
 -- An event that is this one comes to what this one does.
-pub stepped : (out : Outside) (event e : EventValue) (old : GroupState) (r : Result Happened StepFault) (new : GroupState) → event ≡ e
+pub stepped : (out : Outside) (event e : EventValue) (old : GroupState) (r : Result Happened StepFault)
+    (new : GroupState)
+    → event ≡ e
     → OnOk r (refusal out (world_of old) (group_event old.keys e) ≡ None)
     → OnOk r (world_of new ≡ after_event out (world_of old) (group_event old.keys e))
     → IfOk r (λ happened. told_value happened ≡ telling old.keys out (world_of old) e)
@@ -25,7 +27,16 @@ pub stepped : (out : Outside) (event e : EventValue) (old : GroupState) (r : Res
 stepped out event e old r new is taken world told joined steps keys refused err =
     subst (λ (x : EventValue). IsStep out x old r new) (sym is) this where
       this : IsStep out e old r new
-      this = record { taken = taken; world = world; told = told; joined = joined; steps = steps; keys = keys; refused = refused; err = err }
+      this = record {
+        taken = taken;
+        world = world;
+        told = told;
+        joined = joined;
+        steps = steps;
+        keys = keys;
+        refused = refused;
+        err = err;
+      }
 
 -- What holds anyway.
 pub anyway : (r : Result Happened StepFault) (P : Type 0) → P → OnOk r P
@@ -33,6 +44,7 @@ anyway (Ok happened) P p = p
 anyway (Err fault) P p = tt
 
 -- What is told names all members.
-pub all_named : (n : ℕ) (t : Told) (r : Result Happened StepFault) → IfOk r (λ happened. told_value happened ≡ t) → NamesAll n t → IfOk r (λ happened. NamesAll n (told_value happened))
+pub all_named : (n : ℕ) (t : Told) (r : Result Happened StepFault) → IfOk r (λ happened. told_value happened ≡ t)
+    → NamesAll n t → IfOk r (λ happened. NamesAll n (told_value happened))
 all_named n t (Ok happened) is all = subst (NamesAll n) (sym is) all
 all_named n t (Err fault) is all = tt

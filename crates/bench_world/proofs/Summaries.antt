@@ -1,5 +1,6 @@
 -- What all catalogues of a world come to.
-use Rattle.std.proofs.Common.{◌≡◌, inl, inr, ℕ, suc, ◌+◌, ◌-◌, ◌*◌, ◌≤◌, ◌<◌, Bool, true, false, cond, List, [], ◌∷◌, ◌++◌, map, length, get_or, refl, sym, ap, ◌∙◌, subst, arith}
+use Rattle.std.proofs.Common.{◌≡◌, inl, inr, ℕ, suc, ◌+◌, ◌-◌, ◌*◌, ◌≤◌, ◌<◌, Bool, true, false, cond, List, [], ◌∷◌}
+use Rattle.std.proofs.Common.{◌++◌, map, length, get_or, refl, sym, ap, ◌∙◌, subst, arith}
 use Rattle.std.specs.Prelude.{sum_by, filter}
 use Rattle.std.specs.List.{All, concat}
 use Rattle.std.proofs.lemmas.List.{ext_get_or, length-append, length-map, get_or-map, get_or_default, get_or_past}
@@ -30,16 +31,19 @@ use Rattle.bench_world.proofs.Openings.{number_at}
 
 -- ---- how much entries come to
 
-sum_few : (g : Entry → ℕ) (b : ℕ) (xs : List Publication) → ((x : Publication) → In x xs → g (published_entry x) ≤ b) → sum_by g (map published_entry xs) ≤ length (map published_entry xs) * b
+sum_few : (g : Entry → ℕ) (b : ℕ) (xs : List Publication) → ((x : Publication) → In x xs → g (published_entry x) ≤ b)
+    → sum_by g (map published_entry xs) ≤ length (map published_entry xs) * b
 sum_few g b xs h = sum_by-le g b (map published_entry xs) (λ k d l.
-    let r : (x : Publication) × (In x xs) × (get_or (map published_entry xs) k d ≡ published_entry x) = from_map published_entry xs (get_or (map published_entry xs) k d) (in_at (map published_entry xs) k d l) in
+    let r : (x : Publication) × (In x xs) × (get_or (map published_entry xs) k d ≡ published_entry x) =
+    from_map published_entry xs (get_or (map published_entry xs) k d) (in_at (map published_entry xs) k d l) in
     subst (λ (e : Entry). g e ≤ b) (sym r.2) (h r.0 r.1))
 
 concat_few : (cs : List (List ℕ)) → All IsContent cs → length (concat cs) ≤ length cs * 8000
 concat_few [] h = omega arith
 concat_few (c ∷ cs) h =
     let joined : concat (c ∷ cs) ≡ c ++ concat cs = refl in
-    let long : length (concat (c ∷ cs)) ≡ length c + length (concat cs) = ap length joined ∙ length-append c (concat cs) in
+    let long : length (concat (c ∷ cs)) ≡ length c + length (concat cs) =
+    ap length joined ∙ length-append c (concat cs) in
     let first : length c ≤ 8000 = (All-head IsContent c cs h).1 in
     let rest : length (concat cs) ≤ length cs * 8000 = concat_few cs (All-tail IsContent c cs h) in
     omega (arith, long, first, rest)
@@ -57,7 +61,8 @@ module _ (s : GroupState) (is : IsTrueState s) where
       let at : IsIn (logs_around s.members) q = in_published (logs_around s.members) q i in
       let low : 1 ≤ q.seq = at.there.from_one in
       let high : q.seq ≤ length (get_or (logs_around s.members) q.publisher []) = at.there.to_last in
-      let log : All IsObject (get_or (logs_around s.members) q.publisher []) = log_of (logs_around s.members) is.are.objects q.publisher in
+      let log : All IsObject (get_or (logs_around s.members) q.publisher []) =
+      log_of (logs_around s.members) is.are.objects q.publisher in
       subst IsObject (sym at.object) (log (q.seq - 1) no_object (omega (arith, low, high))) where
         log_of : (ls : Logs) → All (All IsObject) ls → (p : ℕ) → All IsObject (get_or ls p [])
         log_of ls all p = elim (cases_lt p (length ls)) [
@@ -70,15 +75,21 @@ module _ (s : GroupState) (is : IsTrueState s) where
       let all : List Publication = published (logs_around s.members) in
       let steps : length (published (logs_around s.members)) ≤ s.steps = is.within.published in
       let most : s.steps ≤ 100000 = is.steps in
-      let kept : length (catalogued (logs_around s.members) m) ≤ length (published (logs_around s.members)) = few_filter (holds_all m) (published (logs_around s.members)) in
-      let same : length (catalogue (logs_around s.members) m) ≡ length (catalogued (logs_around s.members) m) = length-map (catalogued (logs_around s.members) m) published_entry in
-      let segments : sum_by (λ e. e.segments) (catalogue (logs_around s.members) m) ≤ length (catalogue (logs_around s.members) m) * 200 =
-      sum_few (λ e. e.segments) 200 (catalogued (logs_around s.members) m) (λ q i. (object_of q (from_filter (holds_all m) (published (logs_around s.members)) q i).0).few) in
-      let octets : sum_by (λ e. e.octets) (catalogue (logs_around s.members) m) ≤ length (catalogue (logs_around s.members) m) * 1600000 =
+      let kept : length (catalogued (logs_around s.members) m) ≤ length (published (logs_around s.members)) =
+      few_filter (holds_all m) (published (logs_around s.members)) in
+      let same : length (catalogue (logs_around s.members) m) ≡ length (catalogued (logs_around s.members) m) =
+      length-map (catalogued (logs_around s.members) m) published_entry in
+      let segments : sum_by (λ e. e.segments) (catalogue (logs_around s.members) m)
+      ≤ length (catalogue (logs_around s.members) m) * 200 =
+      sum_few (λ e. e.segments) 200 (catalogued (logs_around s.members) m)
+      (λ q i. (object_of q (from_filter (holds_all m) (published (logs_around s.members)) q i).0).few) in
+      let octets : sum_by (λ e. e.octets) (catalogue (logs_around s.members) m)
+      ≤ length (catalogue (logs_around s.members) m) * 1600000 =
       sum_few (λ e. e.octets) 1600000 (catalogued (logs_around s.members) m) (λ q i.
       let o : IsObject q.object = object_of q (from_filter (holds_all m) (published (logs_around s.members)) q i).0 in
       let few : length q.object.contents ≤ 200 = o.few in
-      let sum : length (concat q.object.contents) ≤ length q.object.contents * 8000 = concat_few q.object.contents o.contents in
+      let sum : length (concat q.object.contents) ≤ length q.object.contents * 8000 =
+      concat_few q.object.contents o.contents in
       omega (arith, few, sum)) in
       record {
         entries = omega (arith, steps, most, kept, same);
@@ -88,27 +99,34 @@ module _ (s : GroupState) (is : IsTrueState s) where
 
   listed : (j : ℕ) → j < length s.members → catalogue_at (world_of s) j ≡ alone_catalogue (alone_at s.members j).store
   listed j l =
-      let same : alone_at s.members j ≡ get_or s.members j (alone_at s.members j) = get_or_default s.members j nobody (alone_at s.members j) l in
-      catalogues_alike (world_of s) j s.keys (alone_at s.members j) (in_world s is j l (alone_at s.members j) same) (true_in s is j l (alone_at s.members j) same)
+      let same : alone_at s.members j ≡ get_or s.members j (alone_at s.members j) =
+      get_or_default s.members j nobody (alone_at s.members j) l in
+      catalogues_alike (world_of s) j s.keys (alone_at s.members j) (in_world s is j l (alone_at s.members j) same)
+      (true_in s is j l (alone_at s.members j) same)
 
   pub few_totals_at : (j : ℕ) → j < length s.members → HasFewTotals (totals_in (alone_at s.members j))
-  few_totals_at j l = subst (λ (es : List Entry). HasFewTotals (catalogue_totals es)) (listed j l) (few_totals (member (world_of s) j))
+  few_totals_at j l =
+      subst (λ (es : List Entry). HasFewTotals (catalogue_totals es)) (listed j l) (few_totals (member (world_of s) j))
 
   -- Member by member they are those of the members by themselves.
   pub totals_are : map totals_in s.members ≡ all_totals (world_of s)
   totals_are =
       let many : length (in_groups s.members) ≡ length s.members = length-map s.members in_group in
-      let long : length (numbers_from 0 (length (in_groups s.members))) ≡ length (in_groups s.members) = length_numbers 0 (length (in_groups s.members)) in
+      let long : length (numbers_from 0 (length (in_groups s.members))) ≡ length (in_groups s.members) =
+      length_numbers 0 (length (in_groups s.members)) in
       let f : ℕ → CatalogueTotals = λ j. catalogue_totals (catalogue_at (world_of s) j) in
       let left : length (map totals_in s.members) ≡ length s.members = length-map s.members totals_in in
-      let right : length (all_totals (world_of s)) ≡ length (numbers_from 0 (length (in_groups s.members))) = length-map (numbers_from 0 (length (in_groups s.members))) f in
-      ext_get_or none (map totals_in s.members) (all_totals (world_of s)) (omega (arith, left, right, long, many)) (λ i l.
+      let right : length (all_totals (world_of s)) ≡ length (numbers_from 0 (length (in_groups s.members))) =
+      length-map (numbers_from 0 (length (in_groups s.members))) f in
+      ext_get_or none (map totals_in s.members) (all_totals (world_of s)) (omega (arith, left, right, long, many))
+      (λ i l.
       let inside : i < length s.members = omega (arith, l, left) in
       let z : 0 + i ≡ i = omega arith in
       get_or-map totals_in s.members i nobody none inside
       ∙ ap catalogue_totals (sym (listed i inside))
       ∙ ap f (sym (number_at 0 (length (in_groups s.members)) i (omega (arith, inside, many)) ∙ z))
-      ∙ sym (get_or-map f (numbers_from 0 (length (in_groups s.members))) i 0 none (omega (arith, inside, many, long)))) where
+      ∙ sym
+      (get_or-map f (numbers_from 0 (length (in_groups s.members))) i 0 none (omega (arith, inside, many, long)))) where
         none : CatalogueTotals
         none = record { entries = 0; segments = 0; octets = 0 }
 

@@ -1,5 +1,6 @@
 -- A member that is taken out of a group, and the others.
-use Rattle.std.proofs.Common.{◌≡◌, ◌≢◌, inl, inr, ℕ, suc, zero, ◌+◌, ◌-◌, ◌<◌, ◌==◌, Bool, false, cond, List, [], ◌∷◌, length, set, Some, None, refl, sym, ap, ◌∙◌, arith}
+use Rattle.std.proofs.Common.{◌≡◌, ◌≢◌, inl, inr, ℕ, suc, zero, ◌+◌, ◌-◌, ◌<◌, ◌==◌, Bool, false, cond, List, [], ◌∷◌}
+use Rattle.std.proofs.Common.{length, set, Some, None, refl, sym, ap, ◌∙◌, arith}
 use Rattle.std.specs.Prelude.{nat_lt}
 use Rattle.std.specs.List.{remove, insert}
 use Rattle.std.proofs.lemmas.Bool.{cases_eq, cases_lt, eq-eqb, lt-ltb, eqb-true, false_from_ne_true, ltb-true}
@@ -16,11 +17,13 @@ same_place (m ∷ ms) zero x l = refl
 same_place (m ∷ ms) (suc j) x l = ap (λ (xs : List Alone). m ∷ xs) (same_place ms j x (omega (arith, l)))
 
 -- It is put back.
-pub put_in : (ms mid new : List Alone) (j : ℕ) (x : Alone) → j < length ms → mid ≡ remove ms j → new ≡ insert mid j x → new ≡ set ms j x
+pub put_in : (ms mid new : List Alone) (j : ℕ) (x : Alone) → j < length ms → mid ≡ remove ms j → new ≡ insert mid j x
+    → new ≡ set ms j x
 put_in ms mid new j x l a b = b ∙ ap (λ (xs : List Alone). insert xs j x) a ∙ same_place ms j x l
 
 -- As it was.
-pub put_back : (ms mid new : List Alone) (j : ℕ) (x : Alone) → j < length ms → mid ≡ remove ms j → new ≡ insert mid j x → x ≡ alone_at ms j → new ≡ ms
+pub put_back : (ms mid new : List Alone) (j : ℕ) (x : Alone) → j < length ms → mid ≡ remove ms j → new ≡ insert mid j x
+    → x ≡ alone_at ms j → new ≡ ms
 put_back ms mid new j x l a b same = put_in ms mid new j x l a b ∙ ap (set ms j) same ∙ set-get_or ms j nobody
 
 module _ (ms others : List Alone) (j : ℕ) (there : j < length ms) (are : others ≡ remove ms j) where
@@ -28,9 +31,11 @@ module _ (ms others : List Alone) (j : ℕ) (there : j < length ms) (are : other
   pub others_at : (i : ℕ) → i ≢ j → alone_at others (place_among_others j i) ≡ alone_at ms i
   others_at i apart = ap (λ (xs : List Alone). alone_at xs (place_among_others j i)) are ∙ elim (cases_lt i j) [
     | inl below ↦
-        ap (λ (b : Bool). alone_at (remove ms j) (cond b i (i - 1))) (lt-ltb i j below) ∙ get_or-remove_below ms j nobody i below there
+        ap (λ (b : Bool). alone_at (remove ms j) (cond b i (i - 1))) (lt-ltb i j below)
+        ∙ get_or-remove_below ms j nobody i below there
     | inr above ↦
-        let not_below : nat_lt i j ≡ false = false_from_ne_true (nat_lt i j) (λ h. let l : i < j = ltb-true i j h in omega (arith, l, above)) in
+        let not_below : nat_lt i j ≡ false =
+        false_from_ne_true (nat_lt i j) (λ h. let l : i < j = ltb-true i j h in omega (arith, l, above)) in
         let next : (i - 1) + 1 ≡ i = omega (arith, above, apart) in
         ap (λ (b : Bool). alone_at (remove ms j) (cond b i (i - 1))) not_below
         ∙ get_or-remove_above ms j nobody (i - 1) (omega (arith, above, apart)) there ∙ ap (alone_at ms) next
@@ -39,6 +44,12 @@ module _ (ms others : List Alone) (j : ℕ) (there : j < length ms) (are : other
   -- Who is asked is the member of the number, the one that was taken out too.
   pub lender_is : (i : ℕ) (x : Alone) → x ≡ alone_at ms j → lender_of x (other_at j others i) ≡ alone_at ms i
   lender_is i x x_is = elim (cases_eq i j) [
-    | inl same ↦ ap (λ (b : Bool). lender_of x (cond b None (Some (alone_at others (place_among_others j i))))) (eq-eqb i j same) ∙ x_is ∙ ap (alone_at ms) (sym same)
-    | inr apart ↦ ap (λ (b : Bool). lender_of x (cond b None (Some (alone_at others (place_among_others j i))))) (false_from_ne_true (i == j) (λ h. apart (eqb-true i j h))) ∙ others_at i apart
+    | inl same ↦
+        ap (λ (b : Bool). lender_of x (cond b None (Some (alone_at others (place_among_others j i))))) (eq-eqb i j same)
+        ∙ x_is
+        ∙ ap (alone_at ms) (sym same)
+    | inr apart ↦
+        ap (λ (b : Bool). lender_of x (cond b None (Some (alone_at others (place_among_others j i)))))
+        (false_from_ne_true (i == j) (λ h. apart (eqb-true i j h)))
+        ∙ others_at i apart
   ]

@@ -1,5 +1,6 @@
 -- What a member's timer, a restart and time make of a world.
-use Rattle.std.proofs.Common.{◌≡◌, ℕ, zero, suc, ◌+◌, ◌≤◌, ◌<◌, List, [], ◌∷◌, ◌++◌, map, length, get_or, set, refl, sym, ap, ◌∙◌, subst, arith}
+use Rattle.std.proofs.Common.{◌≡◌, ℕ, zero, suc, ◌+◌, ◌≤◌, ◌<◌, List, [], ◌∷◌, ◌++◌, map, length, get_or, set, refl}
+use Rattle.std.proofs.Common.{sym, ap, ◌∙◌, subst, arith}
 use Rattle.std.specs.List.{All}
 use Rattle.std.proofs.lemmas.List.{length-map, map-set, map-append, get_or-set_same, set-get_or}
 use Rattle.std.proofs.lemmas.List.Elements.{All-append}
@@ -22,7 +23,8 @@ use Rattle.repo_member.specs.TrueMembers.{IsTrueMember}
 use Rattle.repo_member.proofs.PublicLaws.{fire_is_event, fires_true, restarts_true}
 use Rattle.bench_world.specs.EventValues.{Told, fired_told}
 use Rattle.bench_world.specs.Timers.{after_firing, fire_told}
-use Rattle.bench_world.specs.Worlds.{GroupState, IsTrueState, IsTrueSync, in_groups, logs_around, sync_in, world_of, drawing}
+use Rattle.bench_world.specs.Worlds.{GroupState, IsTrueState, IsTrueSync, in_groups, logs_around, sync_in, world_of}
+use Rattle.bench_world.specs.Worlds.{drawing}
 use Rattle.bench_world.proofs.States.{truly, number_is, member_is, among, in_world, stepped, stepped_at}
 
 pub all_one : {A : Type 0} (P : A → Type 0) (x : A) → P x → All P (x ∷ [])
@@ -31,28 +33,39 @@ all_one P x h (suc k) d l = absurd (omega (arith, l))
 
 -- ---- time
 
-pub later_state : (s : GroupState) → IsTrueState s → s.steps < 100000 → (ms : ℕ) → ms ≤ 1000000000 → IsTrueState (record s { moment = s.moment + ms; steps = s.steps + 1 })
-later_state s is few ms short = stepped s is few (drawing (λ _ _. 0)) (λ t. omega arith) (Event.Advance ms) short s.members s.sent (s.moment + ms) s.tally refl is.numbers is.members is.sent refl
+pub later_state : (s : GroupState) → IsTrueState s → s.steps < 100000 → (ms : ℕ) → ms ≤ 1000000000
+    → IsTrueState (record s { moment = s.moment + ms; steps = s.steps + 1 })
+later_state s is few ms short =
+    stepped s is few (drawing (λ _ _. 0)) (λ t. omega arith) (Event.Advance ms) short s.members s.sent (s.moment + ms)
+    s.tally refl is.numbers is.members is.sent refl
 
-module _ (s : GroupState) (is : IsTrueState s) (m : ℕ) (there : m < length s.members) (old : Alone) (old_is : old ≡ get_or s.members m old) where
+module _ (s : GroupState) (is : IsTrueState s) (m : ℕ) (there : m < length s.members) (old : Alone)
+    (old_is : old ≡ get_or s.members m old) where
   timer_is : timer_at (world_of s) m ≡ fires_kept s.moment old.known old.machine
   timer_is = ap (λ (x : Member). fires_kept s.moment x.known x.machine) (member_is s is m there old old_is)
 
-  pub fires_so : (n : ℕ) (fire : Fire) (told : Told) → TellsFire (fires_kept s.moment old.known old.machine) (sync_of s.keys old.number old.known) fire → told ≡ fire_told m n fire → n ≡ length s.sent + 1 → told ≡ fired_told m (length (map sync_in s.sent) + 1) (timer_at (world_of s) m)
-  fires_so n fire told tells e n_is = e ∙ go (fires_kept s.moment old.known old.machine) fire tells ∙ (λ i. fired_told m (count i) (sym timer_is i)) where
-    count : n ≡ length (map sync_in s.sent) + 1
-    count = let k = length-map s.sent sync_in in omega (arith, n_is, k)
+  pub fires_so : (n : ℕ) (fire : Fire) (told : Told)
+      → TellsFire (fires_kept s.moment old.known old.machine) (sync_of s.keys old.number old.known) fire
+      → told ≡ fire_told m n fire → n ≡ length s.sent + 1
+      → told ≡ fired_told m (length (map sync_in s.sent) + 1) (timer_at (world_of s) m)
+  fires_so n fire told tells e n_is =
+      e
+      ∙ go (fires_kept s.moment old.known old.machine) fire tells
+      ∙ (λ i. fired_told m (count i) (sym timer_is i)) where
+        count : n ≡ length (map sync_in s.sent) + 1
+        count = let k = length-map s.sent sync_in in omega (arith, n_is, k)
 
-    go : (x : Fired) (f : Fire) → TellsFire x (sync_of s.keys old.number old.known) f → fire_told m n f ≡ fired_told m n x
-    go fired.Early does.Early t = refl
-    go fired.Quiet does.Quiet t = refl
-    go fired.Send (does.Sent sync) t = refl
-    go fired.Early does.Quiet t = absurd t
-    go fired.Early (does.Sent sync) t = absurd t
-    go fired.Quiet does.Early t = absurd t
-    go fired.Quiet (does.Sent sync) t = absurd t
-    go fired.Send does.Early t = absurd t
-    go fired.Send does.Quiet t = absurd t
+        go : (x : Fired) (f : Fire) → TellsFire x (sync_of s.keys old.number old.known) f
+            → fire_told m n f ≡ fired_told m n x
+        go fired.Early does.Early t = refl
+        go fired.Quiet does.Quiet t = refl
+        go fired.Send (does.Sent sync) t = refl
+        go fired.Early does.Quiet t = absurd t
+        go fired.Early (does.Sent sync) t = absurd t
+        go fired.Quiet does.Early t = absurd t
+        go fired.Quiet (does.Sent sync) t = absurd t
+        go fired.Send does.Early t = absurd t
+        go fired.Send does.Quiet t = absurd t
 
   module _ (b : Alone) (draw : ℕ → ℕ → ℕ) (n : ℕ) (n_is : n ≡ draw m old.machine.draws) where
     drawn_is : n ≡ drawn (drawing draw) (world_of s) m
@@ -61,42 +74,65 @@ module _ (s : GroupState) (is : IsTrueState s) (m : ℕ) (there : m < length s.m
     -- ---- a restart
 
     module _ (b_is : b ≡ alone_restarts s.moment n old) where
-      pub restarted_world : world_of (record s { members = set s.members m b; steps = s.steps + 1 }) ≡ after_restart (drawing draw) (world_of s) m
+      pub restarted_world : world_of (record s { members = set s.members m b; steps = s.steps + 1 })
+          ≡ after_restart (drawing draw) (world_of s) m
       restarted_world =
           ap (λ (ms : List Member). let w : World = record (world_of s) { members = ms } in w)
-          (map-set in_group s.members m b ∙ ap (set (in_groups s.members) m) (ap in_group b_is ∙ (λ i. group.restarts (drawn_is i) s.moment (sym (member_is s is m there old old_is) i))))
+          (map-set in_group s.members m b
+          ∙ ap (set (in_groups s.members) m)
+          (ap in_group b_is ∙ (λ i. group.restarts (drawn_is i) s.moment (sym (member_is s is m there old old_is) i))))
 
-      pub restarted_state : s.steps < 100000 → IsTrueState (record s { members = set s.members m b; steps = s.steps + 1 })
+      pub restarted_state : s.steps < 100000
+          → IsTrueState (record s { members = set s.members m b; steps = s.steps + 1 })
       restarted_state few =
           stepped_at s is few (drawing draw) (λ t. omega arith) (Event.Restart m) tt m there b
           (ap (λ (a : Alone). a.number) b_is ∙ number_is s is m there old old_is)
-          (subst (IsTrueMember s.keys (logs_around s.members)) (sym b_is) (restarts_true s.keys (logs_around s.members) s.moment n old (truly s is m there old old_is)))
+          (subst (IsTrueMember s.keys (logs_around s.members)) (sym b_is)
+          (restarts_true s.keys (logs_around s.members) s.moment n old (truly s is m there old old_is)))
           s.sent s.moment s.tally is.sent restarted_world
 
     -- ---- a timer
 
-    module _ (b_is : b ≡ alone_fires s.moment n old) (fire : Fire) (tells : TellsFire (fires_kept s.moment old.known old.machine) (sync_of s.keys old.number old.known) fire) (sent reserved : List SentPacket) (vector : List ℕ)
-        (reserved_is : reserved ≡ s.sent) (vector_is : vector ≡ old.known) (sent_is : sent ≡ after_firing m vector fire reserved) where
+    module _ (b_is : b ≡ alone_fires s.moment n old) (fire : Fire)
+        (tells : TellsFire (fires_kept s.moment old.known old.machine) (sync_of s.keys old.number old.known) fire)
+        (sent reserved : List SentPacket) (vector : List ℕ)
+        (reserved_is : reserved ≡ s.sent) (vector_is : vector ≡ old.known)
+        (sent_is : sent ≡ after_firing m vector fire reserved) where
       sent_so : sent ≡ after_firing m old.known fire s.sent
       sent_so = sent_is ∙ (λ i. after_firing m (vector_is i) fire (reserved_is i))
 
       now_member : in_group b ≡ member (after_fire (drawing draw) (world_of s) m (timer_at (world_of s) m)) m
-      now_member = ap in_group b_is ∙ ap (λ (k : ℕ). in_group (alone_fires s.moment k old)) drawn_is ∙ sym (fire_is_event (drawing draw) (world_of s) m old (in_world s is m there old old_is))
+      now_member =
+          ap in_group b_is
+          ∙ ap (λ (k : ℕ). in_group (alone_fires s.moment k old)) drawn_is
+          ∙ sym (fire_is_event (drawing draw) (world_of s) m old (in_world s is m there old old_is))
 
       -- one member changes, if any does
-      members_so : (x : Fired) → set (in_groups s.members) m (member (after_fire (drawing draw) (world_of s) m x) m) ≡ (after_fire (drawing draw) (world_of s) m x).members
+      members_so : (x : Fired)
+          → set (in_groups s.members) m (member (after_fire (drawing draw) (world_of s) m x) m)
+          ≡ (after_fire (drawing draw) (world_of s) m x).members
       members_so fired.Early = set-get_or (in_groups s.members) m no_member
-      members_so fired.Quiet = ap (set (in_groups s.members) m) (get_or-set_same (in_groups s.members) m _ no_member (among s is m there old old_is))
-      members_so fired.Send = ap (set (in_groups s.members) m) (get_or-set_same (in_groups s.members) m _ no_member (among s is m there old old_is))
+      members_so fired.Quiet =
+          ap (set (in_groups s.members) m)
+          (get_or-set_same (in_groups s.members) m _ no_member (among s is m there old old_is))
+      members_so fired.Send =
+          ap (set (in_groups s.members) m)
+          (get_or-set_same (in_groups s.members) m _ no_member (among s is m there old old_is))
 
-      syncs_so : (x : Fired) (f : Fire) → TellsFire x (sync_of s.keys old.number old.known) f → map sync_in (after_firing m old.known f s.sent) ≡ (after_fire (drawing draw) (world_of s) m x).sent
+      syncs_so : (x : Fired) (f : Fire) → TellsFire x (sync_of s.keys old.number old.known) f
+          → map sync_in (after_firing m old.known f s.sent) ≡ (after_fire (drawing draw) (world_of s) m x).sent
       syncs_so fired.Early does.Early t = refl
       syncs_so fired.Quiet does.Quiet t = refl
       syncs_so fired.Send (does.Sent sync) t =
           let x : Member = group.resets (drawn (drawing draw) (world_of s) m) s.moment (member (world_of s) m) in
           let known : old.known ≡ (get_or (set (in_groups s.members) m x) m no_member).known =
-          ap (λ (y : Member). y.known) (sym (member_is s is m there old old_is)) ∙ sym (ap (λ (y : Member). y.known) (get_or-set_same (in_groups s.members) m x no_member (among s is m there old old_is))) in
-          map-append sync_in s.sent (sent_packet m old.known sync.items ∷ []) ∙ ap (λ (v : List ℕ). map sync_in s.sent ++ (let p : SyncInterest = record { sender = m; vector = v } in p) ∷ []) known
+          ap (λ (y : Member). y.known) (sym (member_is s is m there old old_is))
+          ∙ sym (ap (λ (y : Member). y.known)
+          (get_or-set_same (in_groups s.members) m x no_member (among s is m there old old_is))) in
+          map-append sync_in s.sent (sent_packet m old.known sync.items ∷ [])
+          ∙ ap
+          (λ (v : List ℕ). map sync_in s.sent ++ (let p : SyncInterest = record { sender = m; vector = v } in p) ∷ [])
+          known
       syncs_so fired.Early does.Quiet t = absurd t
       syncs_so fired.Early (does.Sent sync) t = absurd t
       syncs_so fired.Quiet does.Early t = absurd t
@@ -104,34 +140,49 @@ module _ (s : GroupState) (is : IsTrueState s) (m : ℕ) (there : m < length s.m
       syncs_so fired.Send does.Early t = absurd t
       syncs_so fired.Send does.Quiet t = absurd t
 
-      rest_so : (ms : List Member) (ss : List SyncInterest) (x : Fired) → ms ≡ (after_fire (drawing draw) (world_of s) m x).members → ss ≡ (after_fire (drawing draw) (world_of s) m x).sent
-          → (let w : World = record (world_of s) { members = ms; sent = ss } in w) ≡ after_fire (drawing draw) (world_of s) m x
+      rest_so : (ms : List Member) (ss : List SyncInterest) (x : Fired)
+          → ms ≡ (after_fire (drawing draw) (world_of s) m x).members
+          → ss ≡ (after_fire (drawing draw) (world_of s) m x).sent
+          → (let w : World = record (world_of s) { members = ms; sent = ss } in w)
+          ≡ after_fire (drawing draw) (world_of s) m x
       rest_so ms ss fired.Early a e = λ i. record (world_of s) { members = a i; sent = e i }
       rest_so ms ss fired.Quiet a e = λ i. record (world_of s) { members = a i; sent = e i }
       rest_so ms ss fired.Send a e = λ i. record (world_of s) { members = a i; sent = e i }
 
-      pub fired_world : world_of (record s { members = set s.members m b; sent = sent; steps = s.steps + 1 }) ≡ after_fire (drawing draw) (world_of s) m (timer_at (world_of s) m)
+      pub fired_world : world_of (record s { members = set s.members m b; sent = sent; steps = s.steps + 1 })
+          ≡ after_fire (drawing draw) (world_of s) m (timer_at (world_of s) m)
       fired_world = rest_so (in_groups (set s.members m b)) (map sync_in sent) (timer_at (world_of s) m)
-          (map-set in_group s.members m b ∙ ap (set (in_groups s.members) m) now_member ∙ members_so (timer_at (world_of s) m))
-          (ap (map sync_in) sent_so ∙ syncs_so (timer_at (world_of s) m) fire (subst (λ (x : Fired). TellsFire x (sync_of s.keys old.number old.known) fire) (sym timer_is) tells))
+          (map-set in_group s.members m b ∙ ap (set (in_groups s.members) m) now_member
+          ∙ members_so (timer_at (world_of s) m))
+          (ap (map sync_in) sent_so
+          ∙ syncs_so (timer_at (world_of s) m) fire
+          (subst (λ (x : Fired). TellsFire x (sync_of s.keys old.number old.known) fire) (sym timer_is) tells))
 
-      all_sent : (x : Fired) (f : Fire) → TellsFire x (sync_of s.keys old.number old.known) f → All (IsTrueSync s.keys (logs_around s.members)) (after_firing m old.known f s.sent)
+      all_sent : (x : Fired) (f : Fire) → TellsFire x (sync_of s.keys old.number old.known) f
+          → All (IsTrueSync s.keys (logs_around s.members)) (after_firing m old.known f s.sent)
       all_sent x does.Early t = is.sent
       all_sent x does.Quiet t = is.sent
       all_sent fired.Send (does.Sent sync) t =
           let at : IsTrueMember s.keys (logs_around s.members) old = truly s is m there old old_is in
-          All-append (IsTrueSync s.keys (logs_around s.members)) s.sent (sent_packet m old.known sync.items ∷ []) is.sent (all_one (IsTrueSync s.keys (logs_around s.members)) (sent_packet m old.known sync.items) (record {
-            sender = let w = is.are.width in let l = length-map (in_groups s.members) (λ (x : Member). x.log) in let a = among s is m there old old_is in omega (arith, w, l, a);
+          All-append (IsTrueSync s.keys (logs_around s.members)) s.sent (sent_packet m old.known sync.items ∷ [])
+          is.sent (all_one (IsTrueSync s.keys (logs_around s.members)) (sent_packet m old.known sync.items) (record {
+            sender =
+                let w = is.are.width in
+                let l = length-map (in_groups s.members) (λ (x : Member). x.log) in
+                let a = among s is m there old old_is in omega (arith, w, l, a);
             vector = record { width = at.sound.width; no_more = at.sound.known };
             octets = t ∙ ap (λ (k : ℕ). sync_of s.keys k old.known) (number_is s is m there old old_is);
           }))
       all_sent fired.Early (does.Sent sync) t = absurd t
       all_sent fired.Quiet (does.Sent sync) t = absurd t
 
-      pub fired_state : s.steps < 100000 → IsTrueState (record s { members = set s.members m b; sent = sent; steps = s.steps + 1 })
+      pub fired_state : s.steps < 100000
+          → IsTrueState (record s { members = set s.members m b; sent = sent; steps = s.steps + 1 })
       fired_state few =
           stepped_at s is few (drawing draw) (λ t. omega arith) (Event.Fire m) tt m there b
           (ap (λ (a : Alone). a.number) b_is ∙ number_is s is m there old old_is)
-          (subst (IsTrueMember s.keys (logs_around s.members)) (sym b_is) (fires_true s.keys (logs_around s.members) s.moment n old (truly s is m there old old_is)))
+          (subst (IsTrueMember s.keys (logs_around s.members)) (sym b_is)
+          (fires_true s.keys (logs_around s.members) s.moment n old (truly s is m there old old_is)))
           sent s.moment s.tally
-          (subst (All (IsTrueSync s.keys (logs_around s.members))) (sym sent_so) (all_sent (fires_kept s.moment old.known old.machine) fire tells)) fired_world
+          (subst (All (IsTrueSync s.keys (logs_around s.members))) (sym sent_so)
+          (all_sent (fires_kept s.moment old.known old.machine) fire tells)) fired_world

@@ -29,7 +29,8 @@ pub record IsKept (s : GroupState) (j f q : ℕ) : Type 0 where
 
 -- So is one from a member that holds the claimed part.
 abbrev pub HoldersCanAnswer : GroupState → Type 0
-HoldersCanAnswer s = AreAllClear s.keys (logs (world_of s)) → (j f q : ℕ) (t : Part) → j < length s.members → q < length s.members
+HoldersCanAnswer s =
+    AreAllClear s.keys (logs (world_of s)) → (j f q : ℕ) (t : Part) → j < length s.members → q < length s.members
     → claim_at (world_of s) j f ≡ Some t → member_holds (member (world_of s) q) t ≡ true → IsKept s j f q
 
 -- So a claimed part can be had from its publisher, unless that has hidden its publication.

@@ -1,5 +1,6 @@
 -- The events of a step, and what is told of them, as values: names as lists of components, octets as lists of numbers.
-use Rattle.std.specs.Prelude.{ℕ, ◌+◌, Bool, List, map, length, Option, Some, None, Result, Ok, Err, slice_index, if◌then◌else◌}
+use Rattle.std.specs.Prelude.{ℕ, ◌+◌, Bool, List, map, length, Option, Some, None, Result, Ok, Err, slice_index}
+use Rattle.std.specs.Prelude.{if◌then◌else◌}
 use Rattle.ndn_name.specs.Names.{Component}
 use Rattle.ndn_name.specs.declared.fault.PacketFault.{PacketFault}
 use Rattle.ndn_data.specs.Data.{Data}
@@ -24,7 +25,9 @@ use Rattle.repo_process.specs.Processes.{BlockState}
 use Rattle.repo_process.specs.Processes.BlockState.{Unknown, Already, Waiting, Whole}
 use Rattle.group_model.specs.Replies.{CatalogueTotals}
 use Rattle.group_model.specs.World.{Outside, World, member, logs, sent_at, catalogue_at}
-use Rattle.group_model.specs.Steps.{claim_at, to_claim, timer_at, mode_at, after_deliver, tells_too_much, came_from, passes_checks, planned_parts, fetched_parts, attempts_made, settle_gains, next_seq_at, next_sync, catalogue_totals, order_answer, command_answer, block_at}
+use Rattle.group_model.specs.Steps.{claim_at, to_claim, timer_at, mode_at, after_deliver, tells_too_much, came_from}
+use Rattle.group_model.specs.Steps.{passes_checks, planned_parts, fetched_parts, attempts_made, settle_gains}
+use Rattle.group_model.specs.Steps.{next_seq_at, next_sync, catalogue_totals, order_answer, command_answer, block_at}
 use Rattle.repo_member.specs.declared.refusals.HearRefusal.{HearRefusal}
 use Rattle.repo_member.specs.declared.refusals.HearRefusal.TheVariants as hear
 use Rattle.repo_member.specs.Groups.{GroupKeys}
@@ -300,7 +303,8 @@ telling g out w (EventValue.Claim m f) = claim_told m f (to_claim w m)
 telling g out w (EventValue.Lose m f) = lost_told m f (claim_at w m f)
 telling g out w (EventValue.Answer m f q) = answer_told m f (passes_checks (came_from out w q (claim_at w m f)))
 telling g out w (EventValue.Fetch m workers tries loss) =
-    Told.Fetch m (length (planned_parts w m)) (length (fetched_parts out w m tries loss)) (attempts_made out w m tries loss)
+    Told.Fetch m (length (planned_parts w m)) (length (fetched_parts out w m tries loss))
+    (attempts_made out w m tries loss)
 telling g out w (EventValue.Settle workers) = Told.Settle (length w.members) (settle_gains w)
 telling g out w (EventValue.Dump m p s x) =
     dump_told m (if member_holds (member w m) (part_at p s x) then true_packet g (logs w) (part_at p s x) else None)

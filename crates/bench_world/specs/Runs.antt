@@ -1,5 +1,6 @@
 -- What a step leaves that wanted memory, and lists of events.
-use Rattle.std.specs.Prelude.{ℕ, ◌≡◌, ◌+◌, ◌<◌, List, ◌++◌, map, take, length, slice_index_or, None, Result, OnOk, IfOk, OnErr, IfErr}
+use Rattle.std.specs.Prelude.{ℕ, ◌≡◌, ◌+◌, ◌<◌, List, ◌++◌, map, take, length, slice_index_or, None, Result, OnOk, IfOk}
+use Rattle.std.specs.Prelude.{OnErr, IfErr}
 use Rattle.group_model.specs.Events as group
 use Rattle.group_model.specs.Refusals.{refusal, EventsAreTaken}
 use Rattle.group_model.specs.World.{Outside, World}
@@ -14,8 +15,8 @@ use Rattle.bench_world.specs.Settling.{ArePartlySettled}
 use Rattle.bench_world.specs.Steps.{IsFaultOf}
 use Rattle.bench_world.specs.Worlds.{GroupState, in_groups, world_of}
 
--- What a settle leaves that wanted memory: it counts as a step, each member has come a part of the way, and nothing else
--- has changed.
+-- What a settle leaves that wanted memory: it counts as a step, each member has come a part of the way, and nothing
+-- else has changed.
 pub record HaveSettledPart (old new : GroupState) : Type 0 where
   pub same : new ≡ record old { members = new.members; steps = old.steps + 1 }
   pub members : ArePartlySettled (world_of old) (in_groups new.members)
@@ -31,7 +32,8 @@ JoinsAfter (EventValue.Settle workers) w = NothingHidden w → AllJoined w
 JoinsAfter _ w = Unit {0}
 
 -- What an event comes to: where it is taken, what the model makes of the world and tells of it; else why it isn't.
-pub record IsStep (out : Outside) (e : EventValue) (old : GroupState) (result : Result Happened StepFault) (new : GroupState) : Type 0 where
+pub record IsStep (out : Outside) (e : EventValue) (old : GroupState) (result : Result Happened StepFault)
+    (new : GroupState) : Type 0 where
   pub taken : OnOk result (refusal out (world_of old) (group_event old.keys e) ≡ None)
   pub world : OnOk result (world_of new ≡ after_event out (world_of old) (group_event old.keys e))
   pub told : IfOk result (λ happened. told_value happened ≡ telling old.keys out (world_of old) e)
@@ -50,7 +52,8 @@ abbrev pub group_events : GroupKeys → List EventValue → List group.Event
 group_events g events = map (group_event g) events
 
 -- The events before that of this number were carried out, and left this group; then came the fault.
-pub record IsStopped (out : Outside) (begun : GroupState) (events : List EventValue) (k : ℕ) (told : StepFault) (new : GroupState) : Type 0 where
+pub record IsStopped (out : Outside) (begun : GroupState) (events : List EventValue) (k : ℕ) (told : StepFault)
+    (new : GroupState) : Type 0 where
   pub inside : k < length events
   pub taken : EventsAreTaken out (world_of begun) (group_events begun.keys (take k events))
   pub before : GroupState
@@ -59,8 +62,8 @@ pub record IsStopped (out : Outside) (begun : GroupState) (events : List EventVa
   pub because : IsFaultOf
       (refusal out (world_of before) (group_event begun.keys (slice_index_or events k EventValue.Traffic))) told
 
--- Where the later events publish nothing and tell each member of all that each other has published, and nothing is wanted
--- or hidden in the end, each catalogue is the join of all publications.
+-- Where the later events publish nothing and tell each member of all that each other has published, and nothing is
+-- wanted or hidden in the end, each catalogue is the join of all publications.
 abbrev pub ListLawFrom : Outside → World → List group.Event → World → Type 0
 ListLawFrom out w events last = (first later : List group.Event) → events ≡ first ++ later
     → TellsAll out (after_events out w first) later → NothingHidden last → NothingWanted last → AllJoined last

@@ -1,6 +1,7 @@
--- What a member gives to one that asks for a part, by what was published and what it holds; and so what isn't the group's
--- to say.
-use Rattle.std.specs.Prelude.{ℕ, Bool, true, List, [], Option, Some, None, unwrap_or, is_ok, Result, Ok, Err, if◌then◌else◌}
+-- What a member gives to one that asks for a part, by what was published and what it holds; and so what isn't the
+-- group's to say.
+use Rattle.std.specs.Prelude.{ℕ, Bool, true, List, [], Option, Some, None, unwrap_or, is_ok, Result, Ok, Err}
+use Rattle.std.specs.Prelude.{if◌then◌else◌}
 use Rattle.std.specs.Str.{bytes_eq}
 use Rattle.ndn_name.specs.declared.fault.PacketFault.{PacketFault}
 use Rattle.repo_plan.specs.declared.part.Part.{Part}

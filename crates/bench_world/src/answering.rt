@@ -1,5 +1,6 @@
 // Packets that come for what fetchers claim.
-ghost use Rattle.std.specs.Prelude.{◌≡◌, ◌⊎◌, ◌↔◌, ◌<◌, ◌^◌, Ok, Err, Some, None, IfSome, IfOk, IfErr, OnOk, OnErr, List, length, unwrap_or, option_map, slice_set, []};
+ghost use Rattle.std.specs.Prelude.{◌≡◌, ◌⊎◌, ◌↔◌, ◌<◌, ◌^◌, Ok, Err, Some, None, IfSome, IfOk, IfErr, OnOk, OnErr};
+ghost use Rattle.std.specs.Prelude.{List, length, unwrap_or, option_map, slice_set, []};
 ghost use Rattle.std.specs.Str.{bytes_eq};
 ghost use Rattle.repo_plan.specs.Calls.{IsFetcher};
 ghost use Rattle.repo_plan.specs.Plan.{claim_of};
@@ -12,7 +13,8 @@ ghost use Rattle.repo_member.specs.InGroup.{AreLogs, true_packet};
 ghost use Rattle.repo_member.specs.TrueMembers.{IsTrueMember, true_want};
 ghost use Rattle.bench_world.specs.Worlds.{alone_at, others_than, AreTrueMembers, MembersAreNumbered};
 ghost use Rattle.bench_world.specs.Serving.{octets_as, judged_packet, found};
-ghost use Rattle.bench_world.specs.Answering.{answered, claim_in, came_in, came_for, lender_of, fed_as, kept_of, accepts_claimed, after_claimed};
+ghost use Rattle.bench_world.specs.Answering.{answered, claim_in, came_in, came_for, lender_of, fed_as, kept_of};
+ghost use Rattle.bench_world.specs.Answering.{accepts_claimed, after_claimed};
 
 use crate::event::StepFault;
 use crate::others::Others;
@@ -176,14 +178,17 @@ fn ask_one(
     requires claim { claim_of (alone_plan asker.old) f ≡ Some want.now.part }
     requires want { want.now ≡ true_want g.now logs want.now.part }
     ensures kept { IfOk result (λ kept. answered g.now logs (Some want.now.part) (judged_packet g.now logs want.now.part
-        (found (served want.now.interest (lender_of asker.old (option_map (λ a. a.now) lender.entry)).store))) ≡ Ok kept) }
+        (found (served want.now.interest (lender_of asker.old (option_map (λ a. a.now) lender.entry)).store)))
+        ≡ Ok kept) }
     ensures small { IfOk result (λ kept. IfSome kept (λ n. n < 2 ^ 63)) }
     ensures asker { OnOk result
         (asker.new ≡ accepts_claimed g.now logs f want.now.part (judged_packet g.now logs want.now.part
-        (found (served want.now.interest (lender_of asker.old (option_map (λ a. a.now) lender.entry)).store))) asker.old) }
+        (found (served want.now.interest (lender_of asker.old (option_map (λ a. a.now) lender.entry)).store)))
+        asker.old) }
     ensures refused { IfErr result (λ fault. (fault ≡ StepFault.NoMemory)
         ⊎ (answered g.now logs (Some want.now.part) (judged_packet g.now logs want.now.part
-        (found (served want.now.interest (lender_of asker.old (option_map (λ a. a.now) lender.entry)).store))) ≡ Err fault)) }
+        (found (served want.now.interest (lender_of asker.old (option_map (λ a. a.now) lender.entry)).store)))
+        ≡ Err fault)) }
     ensures err { OnErr result (asker.new ≡ asker.old) }
 {
     if let Some(lender) = lender {
@@ -257,7 +262,8 @@ pub(crate) fn feed(
     requires width { length members.old.items ≡ length logs }
     requires there { m < length members.old.items }
     requires fetcher { IsFetcher f }
-    ensures fed { IfOk result (λ fed. option_map (fed_as g.now logs octets.now) (claim_in members.old.items m f) ≡ Some fed) }
+    ensures fed { IfOk result
+        (λ fed. option_map (fed_as g.now logs octets.now) (claim_in members.old.items m f) ≡ Some fed) }
     ensures kept { IfOk result (λ fed. answered g.now logs (claim_in members.old.items m f)
         (came_for g.now logs octets.now (claim_in members.old.items m f)) ≡ Ok (kept_of octets.now fed)) }
     ensures members { OnOk result (members.new.items ≡ slice_set members.old.items m

@@ -6,7 +6,8 @@ use std::alloc::AllocError;
 
 /// What may happen to a group.
 ///
-/// `m` and `q` are numbers of members, `f` is a fetcher's, from 1 to 16, and `k` that of a packet that was sent, from 1.
+/// `m` and `q` are numbers of members, `f` is a fetcher's, from 1 to 16, and `k` that of a packet that was sent, from
+/// 1.
 #[derive(Debug, Drop)]
 pub enum Event {
     /// A member publishes the content in segments of `size` octets.
@@ -61,8 +62,8 @@ pub enum Event {
         f: u32,
         q: u32,
     },
-    /// A member asks the others for the parts that it wants, by so many workers, so often at most, over a network with that
-    /// loss.
+    /// A member asks the others for the parts that it wants, by so many workers, so often at most, over a network with
+    /// that loss.
     Fetch {
         m: u32,
         workers: u32,

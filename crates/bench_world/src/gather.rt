@@ -8,7 +8,8 @@ ghost use Rattle.bench_world.specs.Lending.{lends};
 ghost use Rattle.bench_world.specs.Sizes.{size_of};
 ghost use Rattle.bench_world.specs.Truth.{AreFewLogs, TriedFew};
 ghost use Rattle.bench_world.specs.Worlds.{AreTrueMembers};
-ghost use Rattle.bench_world.specs.Gathering.{next_parts, lent_all, one_each, Counts, IsPlaceIn, GainsParts, NothingLeft};
+ghost use Rattle.bench_world.specs.Gathering.{next_parts, lent_all, one_each, Counts, IsPlaceIn, GainsParts};
+ghost use Rattle.bench_world.specs.Gathering.{NothingLeft};
 
 use crate::lending::MemberLink;
 use bench_net::Net;

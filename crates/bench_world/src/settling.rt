@@ -6,7 +6,8 @@ ghost use Rattle.group_model.specs.Steps.{settled_member, settle_gains};
 ghost use Rattle.repo_member.specs.Alone.{alone_resets};
 ghost use Rattle.bench_world.specs.Sizes.{size_of};
 ghost use Rattle.bench_world.specs.Truth.{AreFewLogs, AllTriedFew};
-ghost use Rattle.bench_world.specs.Worlds.{alone_at, in_groups, tells, AllCountsStay, AreTrueMembers, MembersAreNumbered};
+ghost use Rattle.bench_world.specs.Worlds.{alone_at, in_groups, tells, AllCountsStay, AreTrueMembers};
+ghost use Rattle.bench_world.specs.Worlds.{MembersAreNumbered};
 ghost use Rattle.bench_world.specs.Settling.{told_of, gain_sum, ArePartlySettled, SettlesAgain};
 
 use crate::exchange::gather_all;

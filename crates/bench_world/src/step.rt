@@ -7,7 +7,8 @@ ghost use Rattle.bench_world.specs.Serving.{outside};
 ghost use Rattle.bench_world.specs.Worlds.{world_of};
 ghost use Rattle.bench_world.specs.EventValues.{event_value, group_event, told_value, telling};
 ghost use Rattle.bench_world.specs.Steps.{IsReady, NamesClient, IsFaultOf, NamesAll};
-ghost use Rattle.bench_world.specs.Runs.{StandsAsBefore, JoinsAfter, IsStep, event_values, group_events, IsStopped, ListLawFrom};
+ghost use Rattle.bench_world.specs.Runs.{StandsAsBefore, JoinsAfter, IsStep, event_values, group_events, IsStopped};
+ghost use Rattle.bench_world.specs.Runs.{ListLawFrom};
 
 use crate::event::{Event, Happened, StepFault};
 use crate::world::World;
@@ -28,7 +29,8 @@ impl World {
         requires few { self.old.steps < 100000 }
         ensures taken { OnOk result (refusal (outside self.old.keys (D.draw draws.now) (N.passes net.now))
             (world_of self.old) (group_event self.old.keys (event_value event.now)) ≡ None) }
-        ensures world { OnOk result (world_of self.new ≡ after_event (outside self.old.keys (D.draw draws.now) (N.passes net.now))
+        ensures world { OnOk result
+            (world_of self.new ≡ after_event (outside self.old.keys (D.draw draws.now) (N.passes net.now))
             (world_of self.old) (group_event self.old.keys (event_value event.now))) }
         ensures told { IfOk result (λ happened. told_value happened ≡ telling self.old.keys
             (outside self.old.keys (D.draw draws.now) (N.passes net.now)) (world_of self.old) (event_value event.now)) }
@@ -109,7 +111,8 @@ impl World {
         }
     }
 
-    /// Carries out events, one after another, up to the first fault: how many were carried out, and the fault, if there was one.
+    /// Carries out events, one after another, up to the first fault: how many were carried out, and the fault, if there
+    /// was one.
     pub fn run_events<N: Net + Sync, D: Draws, R: Threads + Sync>(
         &mut self,
         rt: &R,
@@ -118,7 +121,8 @@ impl World {
         draws: &D,
     ) -> Result<usize, (usize, StepFault)>
         requires ready { All (λ event. IsReady (length self.old.keys.members.names) (event_value event)) events.now }
-        requires clients { All (λ event. NamesClient (length self.old.keys.clients.names) (event_value event)) events.now }
+        requires clients { All (λ event. NamesClient (length self.old.keys.clients.names) (event_value event))
+            events.now }
         requires few { self.old.steps + length events.now ≤ 100000 }
         ensures count { IfOk result (λ n. n ≡ length events.now) }
         ensures taken { OnOk result (EventsAreTaken (outside self.old.keys (D.draw draws.now) (N.passes net.now))
@@ -128,8 +132,8 @@ impl World {
             (world_of self.old) (group_events self.old.keys (event_values events.now))) }
         ensures stopped { IfErr result (λ fault. IsStopped (outside self.old.keys (D.draw draws.now) (N.passes net.now))
             self.old (event_values events.now) fault.0 fault.1 self.new) }
-        // Where the later events publish nothing and tell all members of all, and nothing is wanted or hidden in the end,
-        // each catalogue is the join of all publications.
+        // Where the later events publish nothing and tell all members of all, and nothing is wanted or hidden in the
+        // end, each catalogue is the join of all publications.
         ensures joined { OnOk result (ListLawFrom (outside self.old.keys (D.draw draws.now) (N.passes net.now))
             (world_of self.old) (group_events self.old.keys (event_values events.now)) (world_of self.new)) }
         ensures steps { OnOk result (self.new.steps ≡ self.old.steps + length events.now) }

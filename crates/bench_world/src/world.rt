@@ -37,7 +37,8 @@ pub struct World {
     steps: u32,
 }
 
-// A world is seen as what its members are by themselves, and what was sent. What the group makes of that is `world_of` it.
+// A world is seen as what its members are by themselves, and what was sent. What the group makes of that is `world_of`
+// it.
 impl Model for World {
     ghost use Rattle.bench_world.specs.Worlds.{GroupState};
 

@@ -1,12 +1,14 @@
 -- What the one seat with every share knows at the end.
-use Rattle.std.proofs.Common.{◌≡◌, ◌≢◌, ◌⊎◌, inl, inr, ⊎_elim, ℕ, zero, suc, ◌+◌, ◌*◌, ◌/◌, ◌<◌, eqb, List, [], ◌∷◌, length, get_or, set, refl, sym, ap, subst, ◌∙◌, arith}
+use Rattle.std.proofs.Common.{◌≡◌, ◌≢◌, ◌⊎◌, inl, inr, ⊎_elim, ℕ, zero, suc, ◌+◌, ◌*◌, ◌/◌, ◌<◌, eqb, List, [], ◌∷◌}
+use Rattle.std.proofs.Common.{length, get_or, set, refl, sym, ap, subst, ◌∙◌, arith}
 use Rattle.std.specs.Prelude.{Option, Some, None}
 use mathlib.Core.Option.{some, some-injective, some-ne-none}
 use lib.ListN.{get_elem?}
 use Rattle.atomic_table.specs.Table.{Seen, Final}
 use Rattle.fetch_board.specs.declared.hand.Hand.{Hand}
 use Rattle.fetch_board.specs.Counts.{one, items, pairs, triples, total}
-use Rattle.fetch_board.specs.Rule.{Phase, wanted, held, placing, done, spent, code, Within, Mark, holds, places, finished, spends, tried, entries_due, IsWanted, phase, marks, Lies, founder, Kept}
+use Rattle.fetch_board.specs.Rule.{Phase, wanted, held, placing, done, spent, code, Within, Mark, holds, places}
+use Rattle.fetch_board.specs.Rule.{finished, spends, tried, entries_due, IsWanted, phase, marks, Lies, founder, Kept}
 use Rattle.fetch_board.specs.Seats.{BoardId, SeatData}
 use Rattle.fetch_board.specs.Answers.{Settled}
 use Rattle.fetch_board.specs.Steps.{data_of}
@@ -62,7 +64,8 @@ module _ {T : Type 0} (tries seats : ℕ) (s : St T) (r : Kept tries seats s) (i
     ended (held a) is = let c : pairs i a v.held ≡ entries_due tries (held a) (holds a) = all_mine i (holds a)
         ∙ ap (λ p. entries_due tries p (holds a)) is in let z : pairs i a v.held ≡ 0 = ap (pairs i a) holds_none in
         let o : one (eqb a a) ≡ 1 = ap one (own a) in absurd (omega arith)
-    ended (placing a) is = let c : pairs i a v.placing ≡ entries_due tries (placing a) (places a) = all_mine i (places a)
+    ended (placing a) is =
+        let c : pairs i a v.placing ≡ entries_due tries (placing a) (places a) = all_mine i (places a)
         ∙ ap (λ p. entries_due tries p (places a)) is in let z : pairs i a v.placing ≡ 0 = ap (pairs i a) places_none in
         let o : one (eqb a a) ≡ 1 = ap one (own a) in absurd (omega arith)
     ended (done a) is = inl (a, refl)
@@ -71,7 +74,8 @@ module _ {T : Type 0} (tries seats : ℕ) (s : St T) (r : Kept tries seats s) (i
     at_done : (a : ℕ) → phase r.phases i ≡ done a
         → (x : T) × Settled (data_of b v) i (Some x) (a + 1) × (get_elem? s.homes i ≡ some (some (Some x)))
     at_done a is =
-        let mine : (m : Mark) → marks v i m ≡ entries_due tries (done a) m = λ m. all_mine i m ∙ ap (λ p. entries_due tries p m) is in
+        let mine : (m : Mark) → marks v i m ≡ entries_due tries (done a) m =
+        λ m. all_mine i m ∙ ap (λ p. entries_due tries p m) is in
         let o : one (eqb a a) ≡ 1 = ap one (own a) in
         let c : triples i a v.done ≡ one (eqb a a) = mine (finished a) in
         let f = found_triple i a v.done (omega arith) in
@@ -91,7 +95,8 @@ module _ {T : Type 0} (tries seats : ℕ) (s : St T) (r : Kept tries seats s) (i
 
     at_spent : phase r.phases i ≡ spent → Settled (data_of b v) i None tries
     at_spent is =
-        let mine : (m : Mark) → marks v i m ≡ entries_due tries spent m = λ m. all_mine i m ∙ ap (λ p. entries_due tries p m) is in
+        let mine : (m : Mark) → marks v i m ≡ entries_due tries spent m =
+        λ m. all_mine i m ∙ ap (λ p. entries_due tries p m) is in
         (mine spends, (λ k. mine (finished k)), sym told, λ k. mine (tried k))
 
 module _ {T : Type 0} (tries seats id : ℕ) (v : Hand T) (ws : List ℕ) (xs : List (Option T)) (b : BoardId) where

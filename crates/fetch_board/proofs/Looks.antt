@@ -1,5 +1,6 @@
 -- A step that only looks keeps the rule.
-use Rattle.std.proofs.Common.{◌≡◌, ◌≢◌, ◌⊎◌, inl, inr, ⊎_elim, ℕ, ◌+◌, ◌<◌, ◌≤◌, List, length, get_or, set, refl, sym, ap, subst, ◌∙◌, arith}
+use Rattle.std.proofs.Common.{◌≡◌, ◌≢◌, ◌⊎◌, inl, inr, ⊎_elim, ℕ, ◌+◌, ◌<◌, ◌≤◌, List, length, get_or, set, refl, sym}
+use Rattle.std.proofs.Common.{ap, subst, ◌∙◌, arith}
 use mathlib.Core.Option.{some, none}
 use lib.ListN.{get_elem?}
 use Rattle.atomic_table.specs.Table.{step, keeps, Allows}
@@ -7,7 +8,8 @@ use Rattle.fetch_board.specs.declared.hand.Hand.{Hand}
 use Rattle.fetch_board.specs.declared.word.Word.{Word}
 use Rattle.fetch_board.specs.declared.word.Word.TheVariants.{Wanted, Held, Done, Spent}
 use Rattle.fetch_board.specs.Counts.{items, pairs}
-use Rattle.fetch_board.specs.Rule.{Phase, wanted, held, placing, done, spent, code, Mark, holds, places, finished, spends, tried, entries_due, IsWanted, AtMost, phase, marks, Kept}
+use Rattle.fetch_board.specs.Rule.{Phase, wanted, held, placing, done, spent, code, Mark, holds, places, finished}
+use Rattle.fetch_board.specs.Rule.{spends, tried, entries_due, IsWanted, AtMost, phase, marks, Kept}
 use Rattle.fetch_board.specs.Words.{IsWithinTries}
 use Rattle.fetch_board.specs.Seats.{seen_after, passed_after, owed_after}
 use Rattle.fetch_board.specs.Steps.{looked, Knows, Finds, looks}

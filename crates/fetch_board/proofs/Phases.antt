@@ -1,5 +1,6 @@
 -- What a word and a seat's lists tell of an item's phase.
-use Rattle.std.proofs.Common.{◌≡◌, ◌⊎◌, inl, inr, ⊎_elim, ℕ, ◌*◌, ◌<◌, ◌≤◌, eqb, ◌&&◌, List, [], ◌∷◌, map, get_or, refl, sym, ap, subst, ◌∙◌, arith, eq-eqb, ne_eqb, ltb, Bool, true, false, ◌+◌}
+use Rattle.std.proofs.Common.{◌≡◌, ◌⊎◌, inl, inr, ⊎_elim, ℕ, ◌*◌, ◌<◌, ◌≤◌, eqb, ◌&&◌, List, [], ◌∷◌, map, get_or, refl}
+use Rattle.std.proofs.Common.{sym, ap, subst, ◌∙◌, arith, eq-eqb, ne_eqb, ltb, Bool, true, false, ◌+◌}
 use Rattle.std.proofs.Math.ListN.{get_or-map}
 use Rattle.std.proofs.lemmas.Bool.{cases_eq, cases_order, le-ltb}
 use mathlib.Core.Option.{some}
@@ -8,7 +9,8 @@ use Rattle.fetch_board.specs.declared.hand.Hand.{Hand}
 use Rattle.fetch_board.specs.declared.word.Word.{Word}
 use Rattle.fetch_board.specs.declared.word.Word.TheVariants.{Wanted, Held, Done, Spent}
 use Rattle.fetch_board.specs.Counts.{one, items, pairs, triples}
-use Rattle.fetch_board.specs.Rule.{Phase, wanted, held, placing, done, spent, code, Within, Mark, holds, places, entries_due, AtMost, phase, marks, Kept, tried, finished, spends}
+use Rattle.fetch_board.specs.Rule.{Phase, wanted, held, placing, done, spent, code, Within, Mark, holds, places}
+use Rattle.fetch_board.specs.Rule.{entries_due, AtMost, phase, marks, Kept, tried, finished, spends}
 use Rattle.fetch_board.specs.Seats.{BoardId, items_of, items_of_done}
 use Rattle.fetch_board.specs.Answers.{Once}
 use Rattle.fetch_board.specs.Steps.{data_of}
@@ -93,7 +95,8 @@ below : (a b : ℕ) → 0 < one (ltb a b) → a < b
 below a b h = ⊎_elim (λ l. l) (λ ge. let z : one (ltb a b) ≡ 0 = ap one (le-ltb a b ge) in absurd (omega arith))
     (less_or a b) where
       less_or : (a b : ℕ) → (a < b) ⊎ (b ≤ a)
-      less_or a b = ⊎_elim (λ e. inr (omega arith)) (λ o. ⊎_elim (λ l. inl l) (λ g. inr (omega arith)) o) (cases_order a b)
+      less_or a b =
+          ⊎_elim (λ e. inr (omega arith)) (λ o. ⊎_elim (λ l. inl l) (λ g. inr (omega arith)) o) (cases_order a b)
 
 -- an item that stands with no attempt in a list doesn't stand there, and one that stands with one attempt, once,
 -- stands there once
@@ -164,11 +167,13 @@ module _ {T : Type 0} (tries seats : ℕ) (s : St T) (r : Kept tries seats s) wh
 
     ended_at : (i : ℕ) (p : Phase) → phase r.phases i ≡ p
         → items i (items_of v.held) + items i (items_of_done v.done) + items i v.spent ≤ 1
-    ended_at i p is = ends p (λ a. subst (λ q. pairs i a v.held ≤ entries_due tries q (holds a)) is (count_at i (holds a)))
+    ended_at i p is =
+        ends p (λ a. subst (λ q. pairs i a v.held ≤ entries_due tries q (holds a)) is (count_at i (holds a)))
         (λ a. subst (λ q. triples i a v.done ≤ entries_due tries q (finished a)) is (count_at i (finished a)))
         (subst (λ q. items i v.spent ≤ entries_due tries q spends) is (count_at i spends)) where
           ends : (p : Phase) → ((a : ℕ) → pairs i a v.held ≤ entries_due tries p (holds a))
-              → ((a : ℕ) → triples i a v.done ≤ entries_due tries p (finished a)) → items i v.spent ≤ entries_due tries p spends
+              → ((a : ℕ) → triples i a v.done ≤ entries_due tries p (finished a))
+              → items i v.spent ≤ entries_due tries p spends
               → items i (items_of v.held) + items i (items_of_done v.done) + items i v.spent ≤ 1
           ends (wanted b) h d s = let x = none_paired i v.held (λ a. zero_of (h a)) in
               let y = none_tripled i v.done (λ a. zero_of (d a)) in omega arith
@@ -217,7 +222,8 @@ module _ {T : Type 0} (tries seats : ℕ) (s : St T) (r : Kept tries seats s) wh
 
     pub placed_once : (i a : ℕ) → 0 < pairs i a v.placing → (b : ℕ) → pairs i b v.placing ≡ one (eqb a b)
     placed_once i a h b = let p = placer i a h in
-        let c : pairs i b v.placing ≤ one (eqb a b) = subst (λ q. pairs i b v.placing ≤ entries_due tries q (places b)) p
+        let c : pairs i b v.placing ≤ one (eqb a b) =
+        subst (λ q. pairs i b v.placing ≤ entries_due tries q (places b)) p
         (count_at i (places b)) in
         only (pairs i b v.placing) a b c (λ e. subst (λ k. 0 < pairs i k v.placing) (sym e) h)
 

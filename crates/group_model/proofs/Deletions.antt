@@ -1,16 +1,20 @@
 -- What a member keeps as it hides publications.
-use Rattle.std.proofs.Common.{◌≡◌, inl, inr, ℕ, ◌≤◌, true, false, not, List, [], ◌∷◌, length, get_or, refl, sym, ap, ◌∙◌, subst, arith, Some, None}
-use Rattle.std.proofs.lemmas.Bool.{true≢false, and_parts, and_from, or_cases, or_right, or_left, or_from, cases_Bool, false_from_ne_true, not-true, not_from_false}
+use Rattle.std.proofs.Common.{◌≡◌, inl, inr, ℕ, ◌≤◌, true, false, not, List, [], ◌∷◌, length, get_or, refl, sym, ap}
+use Rattle.std.proofs.Common.{◌∙◌, subst, arith, Some, None}
+use Rattle.std.proofs.lemmas.Bool.{true≢false, and_parts, and_from, or_cases, or_right, or_left, or_from, cases_Bool}
+use Rattle.std.proofs.lemmas.Bool.{false_from_ne_true, not-true, not_from_false}
 use Rattle.std.specs.Ordering.{eq_by_cmp}
 use Rattle.repo_plan.specs.declared.part.Part.{Part}
 use Rattle.repo_plan.specs.Parts.{Pair, pair_cmp, pair_of, part_of, record_of}
 use Rattle.repo_plan.specs.Plan.{is_in}
 use Rattle.repo_plan.proofs.Orders.{exact_parts, exact_pairs}
-use Rattle.repo_plan.proofs.Sets.{In, eq_same, eq_itself, contains-insert_key, contains-filter, rises_insert, rises_filter}
+use Rattle.repo_plan.proofs.Sets.{In, eq_same, eq_itself, contains-insert_key, contains-filter, rises_insert}
+use Rattle.repo_plan.proofs.Sets.{rises_filter}
 use Rattle.repo_object.specs.Objects.{NamedContents}
 use Rattle.group_model.specs.Publications.{Logs, Publication, pair_in, parts_in, published, count}
 use Rattle.group_model.specs.Commands.{is_equal_name}
-use Rattle.group_model.specs.Member.{Member, member_holds, member_hides, holds_all, catalogued, catalogued_under, member_hides_too, member_hides_all}
+use Rattle.group_model.specs.Member.{Member, member_holds, member_hides, holds_all, catalogued, catalogued_under}
+use Rattle.group_model.specs.Member.{member_hides_too, member_hides_all}
 use Rattle.group_model.specs.Sound.{IsSoundMember, IsKnown, IsHeldSoundly, IsHiddenSoundly}
 use Rattle.group_model.proofs.Lists.{from_filter, each_all}
 use Rattle.group_model.proofs.Parts.{IsIn, in_published, IsPartOf, in_parts_in}
@@ -23,17 +27,25 @@ itself_in : (pair : Pair) (t : Part) → pair_of t ≡ pair → is_in pair t ≡
 itself_in pair t e = ap (eq_by_cmp pair_cmp pair) e ∙ eq_itself exact_pairs pair
 
 -- a known publication that no fetcher claims a part of is hidden
-module _ (ls : Logs) (j : ℕ) (pair : Pair) (m : Member) (known : IsKnown m.known pair) (free : (f : ℕ) (t : Part) → get_or m.claims f None ≡ Some t → pair_of t ≡ pair → ⊥) (s : IsSoundMember ls j m) where
-  still : (t : Part) → member_holds (member_hides_too pair m) t ≡ true → (member_holds m t ≡ true) × (is_in pair t ≡ false)
+module _ (ls : Logs) (j : ℕ) (pair : Pair) (m : Member) (known : IsKnown m.known pair)
+    (free : (f : ℕ) (t : Part) → get_or m.claims f None ≡ Some t → pair_of t ≡ pair → ⊥)
+    (s : IsSoundMember ls j m) where
+  still : (t : Part) → member_holds (member_hides_too pair m) t ≡ true
+      → (member_holds m t ≡ true) × (is_in pair t ≡ false)
   still t h =
-      let r : (not (is_in pair t) ≡ true) × (member_holds m t ≡ true) = and_parts (not (is_in pair t)) (member_holds m t) (sym (contains-filter exact_parts (λ u. not (is_in pair u)) m.held t) ∙ h) in
+      let r : (not (is_in pair t) ≡ true) × (member_holds m t ≡ true) =
+      and_parts (not (is_in pair t)) (member_holds m t)
+      (sym (contains-filter exact_parts (λ u. not (is_in pair u)) m.held t) ∙ h) in
       (r.1, not-true (is_in pair t) r.0)
 
   stays : (t : Part) → member_holds m t ≡ true → is_in pair t ≡ false → member_holds (member_hides_too pair m) t ≡ true
-  stays t h o = contains-filter exact_parts (λ u. not (is_in pair u)) m.held t ∙ and_from (not (is_in pair t)) (member_holds m t) (not_from_false (is_in pair t) o) h
+  stays t h o =
+      contains-filter exact_parts (λ u. not (is_in pair u)) m.held t
+      ∙ and_from (not (is_in pair t)) (member_holds m t) (not_from_false (is_in pair t) o) h
 
   hidden_too : (q : Pair) → member_hides m q ≡ true → member_hides (member_hides_too pair m) q ≡ true
-  hidden_too q h = contains-insert_key exact_pairs pair m.hidden q ∙ or_right (eq_by_cmp pair_cmp q pair) (member_hides m q) h
+  hidden_too q h =
+      contains-insert_key exact_pairs pair m.hidden q ∙ or_right (eq_by_cmp pair_cmp q pair) (member_hides m q) h
 
   pub sound_hides : IsSoundMember ls j (member_hides_too pair m)
   sound_hides = record {
@@ -49,22 +61,40 @@ module _ (ls : Logs) (j : ℕ) (pair : Pair) (m : Member) (known : IsKnown m.kno
     own = s.own;
     heard = s.heard;
     apart = s.apart;
-    held = λ t h. let o : (member_holds m t ≡ true) × (is_in pair t ≡ false) = still t h in let r : IsHeldSoundly ls m.known m.held t = s.held t o.0 in record { known = r.known; counted = r.counted; with_record = stays (record_of t) r.with_record o.1 };
-    hidden = λ q h. elim (or_cases (eq_by_cmp pair_cmp q pair) (member_hides m q) (sym (contains-insert_key exact_pairs pair m.hidden q) ∙ h)) [
-      | inl e ↦
-          let same : q ≡ pair = eq_same exact_pairs q pair e in
-          record {
-            known = subst (IsKnown m.known) (sym same) known;
-            none_held = λ x. false_from_ne_true (member_holds (member_hides_too pair m) (part_of q x)) (λ yes. true≢false (sym (itself_in pair (part_of q x) same) ∙ (still (part_of q x) yes).1));
-          }
-      | inr b ↦ let r : IsHiddenSoundly m q = s.hidden q b in
-          record { known = r.known; none_held = λ x. false_from_ne_true (member_holds (member_hides_too pair m) (part_of q x)) (λ yes. true≢false (sym (still (part_of q x) yes).0 ∙ r.none_held x)) }
-    ];
+    held = λ t h.
+        let o : (member_holds m t ≡ true) × (is_in pair t ≡ false) = still t h in
+        let r : IsHeldSoundly ls m.known m.held t = s.held t o.0 in
+        record { known = r.known; counted = r.counted; with_record = stays (record_of t) r.with_record o.1 };
+    hidden = λ q h. elim
+        (or_cases (eq_by_cmp pair_cmp q pair) (member_hides m q)
+        (sym (contains-insert_key exact_pairs pair m.hidden q) ∙ h)) [
+          | inl e ↦
+              let same : q ≡ pair = eq_same exact_pairs q pair e in
+              record {
+                known = subst (IsKnown m.known) (sym same) known;
+                none_held =
+                    λ x. false_from_ne_true (member_holds (member_hides_too pair m) (part_of q x))
+                    (λ yes. true≢false (sym (itself_in pair (part_of q x) same) ∙ (still (part_of q x) yes).1));
+              }
+          | inr b ↦ let r : IsHiddenSoundly m q = s.hidden q b in
+              record {
+                known = r.known;
+                none_held =
+                    λ x. false_from_ne_true (member_holds (member_hides_too pair m) (part_of q x))
+                    (λ yes. true≢false (sym (still (part_of q x) yes).0 ∙ r.none_held x));
+              }
+        ];
     own_held = λ n p. elim (cases_Bool (eq_by_cmp pair_cmp (j, n) pair)) [
-      | inl e ↦ inl (contains-insert_key exact_pairs pair m.hidden (j, n) ∙ or_left (eq_by_cmp pair_cmp (j, n) pair) (member_hides m (j, n)) e)
+      | inl e ↦
+          inl (contains-insert_key exact_pairs pair m.hidden (j, n)
+          ∙ or_left (eq_by_cmp pair_cmp (j, n) pair) (member_hides m (j, n)) e)
       | inr d ↦ elim (s.own_held n p) [
         | inl h ↦ inl (hidden_too (j, n) h)
-        | inr f ↦ inr (λ x le. stays (part_of (j, n) x) (f x le) (not_in pair (part_of (j, n) x) (λ e. true≢false (sym (eq_itself exact_pairs (j, n)) ∙ ap (λ (q : Pair). eq_by_cmp pair_cmp (j, n) q) e ∙ d))))
+        | inr f ↦
+            inr (λ x le. stays (part_of (j, n) x) (f x le)
+            (not_in pair (part_of (j, n) x)
+            (λ e.
+            true≢false (sym (eq_itself exact_pairs (j, n)) ∙ ap (λ (q : Pair). eq_by_cmp pair_cmp (j, n) q) e ∙ d))))
       ]
     ];
     claimed = λ f t e.
@@ -74,9 +104,13 @@ module _ (ls : Logs) (j : ℕ) (pair : Pair) (m : Member) (known : IsKnown m.kno
           known = w.known;
           counted = w.counted;
           with_record = elim w.with_record [ inl z ↦ inl z | inr r ↦ inr (stays (record_of t) r other) ];
-          not_held = false_from_ne_true (member_holds (member_hides_too pair m) t) (λ yes. true≢false (sym (still t yes).0 ∙ w.not_held));
+          not_held =
+              false_from_ne_true (member_holds (member_hides_too pair m) t)
+              (λ yes. true≢false (sym (still t yes).0 ∙ w.not_held));
           not_hidden = contains-insert_key exact_pairs pair m.hidden (pair_of t)
-              ∙ or_from (eq_by_cmp pair_cmp (pair_of t) pair) (member_hides m (pair_of t)) (false_from_ne_true (eq_by_cmp pair_cmp (pair_of t) pair) (λ e2. free f t e (eq_same exact_pairs (pair_of t) pair e2))) w.not_hidden;
+              ∙ or_from (eq_by_cmp pair_cmp (pair_of t) pair) (member_hides m (pair_of t))
+              (false_from_ne_true (eq_by_cmp pair_cmp (pair_of t) pair)
+              (λ e2. free f t e (eq_same exact_pairs (pair_of t) pair e2))) w.not_hidden;
         });
   }
 
@@ -84,11 +118,14 @@ module _ (ls : Logs) (j : ℕ) (pair : Pair) (m : Member) (known : IsKnown m.kno
 abbrev CanHide : Member → Pair → Type 0
 CanHide m pair = IsKnown m.known pair × ((f : ℕ) (t : Part) → get_or m.claims f None ≡ Some t → pair_of t ≡ pair → ⊥)
 
-sound_hides_all : (ls : Logs) (j : ℕ) (ps : List Publication) (m : Member) → ((p : Publication) → In p ps → CanHide m (pair_in p)) → IsSoundMember ls j m → IsSoundMember ls j (member_hides_all ps m)
+sound_hides_all : (ls : Logs) (j : ℕ) (ps : List Publication) (m : Member)
+    → ((p : Publication) → In p ps → CanHide m (pair_in p)) → IsSoundMember ls j m
+    → IsSoundMember ls j (member_hides_all ps m)
 sound_hides_all ls j [] m each s = s
 sound_hides_all ls j (p ∷ ps) m each s =
     let h : CanHide m (pair_in p) = each p (inl refl) in
-    sound_hides_all ls j ps (member_hides_too (pair_in p) m) (λ q i. each q (inr i)) (sound_hides ls j (pair_in p) m h.0 h.1 s)
+    sound_hides_all ls j ps (member_hides_too (pair_in p) m) (λ q i. each q (inr i))
+    (sound_hides ls j (pair_in p) m h.0 h.1 s)
 
 pub same_log_hides : (ps : List Publication) (m : Member) → (member_hides_all ps m).log ≡ m.log
 same_log_hides [] m = refl
@@ -99,16 +136,27 @@ known_hides [] m = refl
 known_hides (p ∷ ps) m = known_hides ps (member_hides_too (pair_in p) m)
 
 -- the catalogued publications of a name are hidden
-pub sound_deletes : (ls : Logs) (j : ℕ) (name : List (ℕ × List ℕ)) (m : Member) → IsSoundMember ls j m → IsSoundMember ls j (member_hides_all (catalogued_under ls m name) m)
+pub sound_deletes : (ls : Logs) (j : ℕ) (name : List (ℕ × List ℕ)) (m : Member) → IsSoundMember ls j m
+    → IsSoundMember ls j (member_hides_all (catalogued_under ls m name) m)
 sound_deletes ls j name m s = sound_hides_all ls j (catalogued_under ls m name) m (λ p i.
-    let f : In p (catalogued ls m) × (is_equal_name p.object.name name ≡ true) = from_filter (λ q. is_equal_name q.object.name name) (catalogued ls m) p i in
+    let f : In p (catalogued ls m) × (is_equal_name p.object.name name ≡ true) =
+    from_filter (λ q. is_equal_name q.object.name name) (catalogued ls m) p i in
     let g : In p (published ls) × (holds_all m p ≡ true) = from_filter (holds_all m) (published ls) p f.0 in
     let there : IsIn ls p = in_published ls p g.0 in
-    let held : (t : Part) → IsPartOf t p → member_holds m t ≡ true = λ t h. each_all (member_holds m) (parts_in p) g.1 t (in_parts_in p t h) in
-    let first : IsHeldSoundly ls m.known m.held (part_of (pair_in p) 0) = s.held (part_of (pair_in p) 0) (held (part_of (pair_in p) 0) (record { pair = refl; counted = omega arith })) in (
+    let held : (t : Part) → IsPartOf t p → member_holds m t ≡ true =
+    λ t h. each_all (member_holds m) (parts_in p) g.1 t (in_parts_in p t h) in
+    let first : IsHeldSoundly ls m.known m.held (part_of (pair_in p) 0) =
+    s.held (part_of (pair_in p) 0) (held (part_of (pair_in p) 0) (record { pair = refl; counted = omega arith })) in (
       first.known,
       λ f t e same.
           let w : IsWanted ls m t = wanted_parts ls m t (s.claimed f t e) in
-          true≢false (sym (held t (record { pair = same; counted = subst (λ (o : NamedContents). t.part ≤ length o.contents) (sym there.object) (subst (λ (q : Pair). t.part ≤ count ls q) same w.counted) })) ∙ w.not_held),
+          true≢false
+          (sym (held t (record {
+            pair = same;
+            counted =
+                subst (λ (o : NamedContents). t.part ≤ length o.contents) (sym there.object)
+                (subst (λ (q : Pair). t.part ≤ count ls q) same w.counted);
+          }))
+          ∙ w.not_held),
     )
     ) s

@@ -1,6 +1,8 @@
 -- What a member keeps as it gains parts: by an answer, a publication, a fetch or a settle.
-use Rattle.std.proofs.Common.{◌≡◌, ◌⊎◌, inl, inr, ℕ, suc, zero, ◌+◌, ◌-◌, ◌≤◌, ◌<◌, Bool, true, false, cond, List, [], ◌∷◌, length, get_or, set, refl, sym, ap, ◌∙◌, subst, arith, Option, Some, None}
-use Rattle.std.proofs.lemmas.Bool.{true≢false, or_cases, or_right, or_left, cases_Bool, cases_eq, false_from_ne_true, eqb-false}
+use Rattle.std.proofs.Common.{◌≡◌, ◌⊎◌, inl, inr, ℕ, suc, zero, ◌+◌, ◌-◌, ◌≤◌, ◌<◌, Bool, true, false, cond, List, []}
+use Rattle.std.proofs.Common.{◌∷◌, length, get_or, set, refl, sym, ap, ◌∙◌, subst, arith, Option, Some, None}
+use Rattle.std.proofs.lemmas.Bool.{true≢false, or_cases, or_right, or_left, cases_Bool, cases_eq, false_from_ne_true}
+use Rattle.std.proofs.lemmas.Bool.{eqb-false}
 use Rattle.std.proofs.lemmas.List.{length-set, get_or-set_same}
 use Rattle.std.specs.Prelude.{◌==◌}
 use Rattle.std.specs.Ordering.{eq_by_cmp}
@@ -14,7 +16,8 @@ use Rattle.repo_plan.proofs.Known.{from_parts_of, in_parts_of}
 use Rattle.repo_plan.proofs.Changes.{unclaimed_at}
 use Rattle.repo_object.specs.Objects.{NamedContents}
 use Rattle.group_model.specs.Publications.{Logs, last_of, count}
-use Rattle.group_model.specs.Member.{Member, member_holds, member_hides, plan_of, gains, tries_of, with_tries, with_each_tried}
+use Rattle.group_model.specs.Member.{Member, member_holds, member_hides, plan_of, gains, tries_of, with_tries}
+use Rattle.group_model.specs.Member.{with_each_tried}
 use Rattle.group_model.specs.Changes.{publishes, takes}
 use Rattle.group_model.specs.Sound.{IsSoundMember, IsPublished, IsKnown, IsHeldSoundly, IsHiddenSoundly}
 use Rattle.group_model.proofs.Lists.{contains-insert_keys, rises_insert_keys}
@@ -23,15 +26,18 @@ use Rattle.group_model.proofs.Members.{known_published, known_more, Keeps, wante
 
 -- ---- any gain
 
--- parts come to a member: its vector may grow, and each new part is one of a known publication that isn't hidden, with its record
+-- parts come to a member: its vector may grow, and each new part is one of a known publication that isn't hidden, with
+-- its record
 pub record Gain (ls : Logs) (old new : Member) : Type 0 where
   pub knows : (p : ℕ) → get_or old.known p 0 ≤ get_or new.known p 0
   pub hidden : new.hidden ≡ old.hidden
   pub held : (t : Part) → member_holds old t ≡ true → member_holds new t ≡ true
   pub known : (t : Part) → member_holds new t ≡ true → member_holds old t ≡ false → IsKnown new.known (pair_of t)
   pub counted : (t : Part) → member_holds new t ≡ true → member_holds old t ≡ false → t.part ≤ count ls (pair_of t)
-  pub with_record : (t : Part) → member_holds new t ≡ true → member_holds old t ≡ false → member_holds new (record_of t) ≡ true
-  pub not_hidden : (t : Part) → member_holds new t ≡ true → member_holds old t ≡ false → member_hides old (pair_of t) ≡ false
+  pub with_record : (t : Part) → member_holds new t ≡ true → member_holds old t ≡ false
+      → member_holds new (record_of t) ≡ true
+  pub not_hidden : (t : Part) → member_holds new t ≡ true → member_holds old t ≡ false
+      → member_hides old (pair_of t) ≡ false
 
 pub keeps : (ls : Logs) (old new : Member) → Gain ls old new → Keeps old new
 keeps ls old new g = record { knows = g.knows; held = g.held; hidden = g.hidden }
@@ -39,30 +45,43 @@ keeps ls old new g = record { knows = g.knows; held = g.held; hidden = g.hidden 
 module _ (ls : Logs) (j : ℕ) (old new : Member) (g : Gain ls old new) (s : IsSoundMember ls j old) where
   pub held_after : (t : Part) → member_holds new t ≡ true → IsHeldSoundly ls new.known new.held t
   held_after t h = elim (cases_Bool (member_holds old t)) [
-    | inl was ↦ let r : IsHeldSoundly ls old.known old.held t = s.held t was in record { known = known_more old.known new.known (pair_of t) g.knows r.known; counted = r.counted; with_record = g.held (record_of t) r.with_record }
-    | inr fresh ↦ record { known = g.known t h fresh; counted = g.counted t h fresh; with_record = g.with_record t h fresh }
+    | inl was ↦
+        let r : IsHeldSoundly ls old.known old.held t = s.held t was in
+        record {
+          known = known_more old.known new.known (pair_of t) g.knows r.known;
+          counted = r.counted;
+          with_record = g.held (record_of t) r.with_record;
+        }
+    | inr fresh ↦
+        record { known = g.known t h fresh; counted = g.counted t h fresh; with_record = g.with_record t h fresh }
   ]
 
   pub hidden_after : (pair : Pair) → member_hides new pair ≡ true → IsHiddenSoundly new pair
   hidden_after pair h =
-      let was : member_hides old pair ≡ true = subst (λ (xs : List Pair). contains pair_cmp xs pair ≡ true) g.hidden h in
+      let was : member_hides old pair ≡ true =
+      subst (λ (xs : List Pair). contains pair_cmp xs pair ≡ true) g.hidden h in
       let r : IsHiddenSoundly old pair = s.hidden pair was in
       record {
         known = known_more old.known new.known pair g.knows r.known;
-        none_held = λ x. false_from_ne_true (member_holds new (part_of pair x)) (λ held. true≢false (sym was ∙ g.not_hidden (part_of pair x) held (r.none_held x)));
+        none_held =
+            λ x. false_from_ne_true (member_holds new (part_of pair x))
+            (λ held. true≢false (sym was ∙ g.not_hidden (part_of pair x) held (r.none_held x)));
       }
 
-  pub own_held_after : (n : ℕ) → IsPublished ls (j, n) → (member_hides new (j, n) ≡ true) ⊎ ((x : ℕ) → x ≤ count ls (j, n) → member_holds new (part_of (j, n) x) ≡ true)
+  pub own_held_after : (n : ℕ) → IsPublished ls (j, n)
+      → (member_hides new (j, n) ≡ true) ⊎ ((x : ℕ) → x ≤ count ls (j, n) → member_holds new (part_of (j, n) x) ≡ true)
   own_held_after n p = elim (s.own_held n p) [
     | inl h ↦ inl (subst (λ (xs : List Pair). contains pair_cmp xs (j, n) ≡ true) (sym g.hidden) h)
     | inr f ↦ inr (λ x le. g.held (part_of (j, n) x) (f x le))
   ]
 
-  pub wanted_after : (t : Part) → is_wanted (plan_of ls old) t ≡ true → member_holds new t ≡ false → is_wanted (plan_of ls new) t ≡ true
+  pub wanted_after : (t : Part) → is_wanted (plan_of ls old) t ≡ true → member_holds new t ≡ false
+      → is_wanted (plan_of ls new) t ≡ true
   wanted_after t h out = wanted_kept ls ls old new t (keeps ls old new g) refl h out
 
 -- the same gain with other claims, machine or attempts
-pub same_gain : (ls : Logs) (old new other : Member) → other.known ≡ new.known → other.held ≡ new.held → other.hidden ≡ new.hidden → Gain ls old new → Gain ls old other
+pub same_gain : (ls : Logs) (old new other : Member) → other.known ≡ new.known → other.held ≡ new.held
+    → other.hidden ≡ new.hidden → Gain ls old new → Gain ls old other
 same_gain ls old new other k h x g = record {
   knows = λ p. subst (λ (v : List ℕ). get_or old.known p 0 ≤ get_or v p 0) (sym k) (g.knows p);
   hidden = x ∙ g.hidden;
@@ -83,16 +102,25 @@ pub held_too : (ts : List Part) (m : Member) (t : Part) → member_holds m t ≡
 held_too ts m t h = contains-insert_keys ts m.held t ∙ or_right (contains part_cmp ts t) (member_holds m t) h
 
 pub held_new : (ts : List Part) (m : Member) (t : Part) → In t ts → member_holds (gains ts m) t ≡ true
-held_new ts m t i = contains-insert_keys ts m.held t ∙ or_left (contains part_cmp ts t) (member_holds m t) (contains_in exact_parts ts t i)
+held_new ts m t i =
+    contains-insert_keys ts m.held t
+    ∙ or_left (contains part_cmp ts t) (member_holds m t) (contains_in exact_parts ts t i)
 
-pub held_either : (ts : List Part) (m : Member) (t : Part) → member_holds (gains ts m) t ≡ true → In t ts ⊎ (member_holds m t ≡ true)
-held_either ts m t h = elim (or_cases (contains part_cmp ts t) (member_holds m t) (sym (contains-insert_keys ts m.held t) ∙ h)) [ inl c ↦ inl (in_contains exact_parts ts t c) | inr b ↦ inr b ]
+pub held_either : (ts : List Part) (m : Member) (t : Part) → member_holds (gains ts m) t ≡ true
+    → In t ts ⊎ (member_holds m t ≡ true)
+held_either ts m t h =
+    elim (or_cases (contains part_cmp ts t) (member_holds m t) (sym (contains-insert_keys ts m.held t) ∙ h)) [
+      | inl c ↦ inl (in_contains exact_parts ts t c)
+      | inr b ↦ inr b
+    ]
 
-pub held_fresh : (ts : List Part) (m : Member) (t : Part) → member_holds (gains ts m) t ≡ true → member_holds m t ≡ false → In t ts
+pub held_fresh : (ts : List Part) (m : Member) (t : Part) → member_holds (gains ts m) t ≡ true
+    → member_holds m t ≡ false → In t ts
 held_fresh ts m t h o = elim (held_either ts m t h) [ inl i ↦ i | inr b ↦ absurd (true≢false (sym b ∙ o)) ]
 
 -- wanted parts come
-pub wanted_gain : (ls : Logs) (ts : List Part) (m : Member) → ((t : Part) → In t ts → is_wanted (plan_of ls m) t ≡ true) → Gain ls m (gains ts m)
+pub wanted_gain : (ls : Logs) (ts : List Part) (m : Member) → ((t : Part) → In t ts → is_wanted (plan_of ls m) t ≡ true)
+    → Gain ls m (gains ts m)
 wanted_gain ls ts m wanted = record {
   knows = λ p. omega arith;
   hidden = refl;
@@ -110,16 +138,26 @@ wanted_gain ls ts m wanted = record {
 
 -- ---- a part that is claimed comes
 
-pub sound_takes : (ls : Logs) (j f : ℕ) (t : Part) (m : Member) → get_or m.claims (f - 1) None ≡ Some t → IsSoundMember ls j m → IsSoundMember ls j (takes f t m)
+pub sound_takes : (ls : Logs) (j f : ℕ) (t : Part) (m : Member) → get_or m.claims (f - 1) None ≡ Some t
+    → IsSoundMember ls j m → IsSoundMember ls j (takes f t m)
 sound_takes ls j f t m claim s =
     let wanted : is_wanted (plan_of ls m) t ≡ true = s.claimed (f - 1) t claim in
-    let g : Gain ls m (gains (t ∷ []) m) = wanted_gain ls (t ∷ []) m (λ u i. elim i [ inl e ↦ subst (λ (v : Part). is_wanted (plan_of ls m) v ≡ true) (sym e) wanted | inr i ↦ absurd i ]) in
+    let g : Gain ls m (gains (t ∷ []) m) =
+    wanted_gain ls (t ∷ []) m (λ u i. elim i [
+      | inl e ↦ subst (λ (v : Part). is_wanted (plan_of ls m) v ≡ true) (sym e) wanted
+      | inr i ↦ absurd i
+    ]) in
     let new : Member = takes f t m in
     let h : Gain ls m new = same_gain ls m (gains (t ∷ []) m) new refl refl refl g in
     record {
       width = s.width;
       fetchers = length-set m.claims (f - 1) None ∙ s.fetchers;
-      in_order = record { held = rises_insert_keys (t ∷ []) m.held s.in_order.held; hidden = s.in_order.hidden; attempts = s.in_order.attempts; tried = s.in_order.tried };
+      in_order = record {
+        held = rises_insert_keys (t ∷ []) m.held s.in_order.held;
+        hidden = s.in_order.hidden;
+        attempts = s.in_order.attempts;
+        tried = s.in_order.tried;
+      };
       known = s.known;
       own = s.own;
       heard = s.heard;
@@ -130,8 +168,12 @@ sound_takes ls j f t m claim s =
         | inl r ↦ absurd cc
         | inr r ↦
             let w : is_wanted (plan_of ls m) u ≡ true = s.claimed k u r.1 in
-            wanted_after ls j m new h s u w (false_from_ne_true (member_holds new u) (λ yes. elim (held_either (t ∷ []) m u yes) [
-              | inl i ↦ elim i [ inl e ↦ r.0 (s.apart k (f - 1) t (r.1 ∙ ap (λ (v : Part). Some v) e) claim) | inr i ↦ absurd i ]
+            wanted_after ls j m new h s u w
+            (false_from_ne_true (member_holds new u) (λ yes. elim (held_either (t ∷ []) m u yes) [
+              | inl i ↦ elim i [
+                | inl e ↦ r.0 (s.apart k (f - 1) t (r.1 ∙ ap (λ (v : Part). Some v) e) claim)
+                | inr i ↦ absurd i
+              ]
               | inr b ↦ true≢false (sym b ∙ (wanted_parts ls m u w).not_held)
             ]))
       ];
@@ -143,13 +185,15 @@ sound_takes ls j f t m claim s =
 
 -- ---- attempts
 
-pub rises_tried : (t : Part) (n : ℕ) (es : List (Part × ℕ)) → Rises part_cmp (keys es) → Rises part_cmp (keys (with_tries t n es))
+pub rises_tried : (t : Part) (n : ℕ) (es : List (Part × ℕ)) → Rises part_cmp (keys es)
+    → Rises part_cmp (keys (with_tries t n es))
 rises_tried t n es r = go (n == 0) where
   go : (b : Bool) → Rises part_cmp (keys (cond b es (with_value part_cmp t (tries_of es t + n) es)))
   go true = r
   go false = rises_with_value exact_parts t (tries_of es t + n) es r
 
-pub rises_each_tried : (more : Part → ℕ) (ts : List Part) (es : List (Part × ℕ)) → Rises part_cmp (keys es) → Rises part_cmp (keys (with_each_tried more ts es))
+pub rises_each_tried : (more : Part → ℕ) (ts : List Part) (es : List (Part × ℕ)) → Rises part_cmp (keys es)
+    → Rises part_cmp (keys (with_each_tried more ts es))
 rises_each_tried more [] es r = r
 rises_each_tried more (t ∷ ts) es r = rises_each_tried more ts (with_tries t (more t) es) (rises_tried t (more t) es r)
 
@@ -161,26 +205,39 @@ some_same a b e = cc
 
 pub tried_once_more : (t : Part) (n : ℕ) (es : List (Part × ℕ)) → AreTried es → AreTried (with_tries t n es)
 tried_once_more t n es h u k = go (n == 0) refl where
-  go : (b : Bool) → (n == 0) ≡ b → value_of part_cmp (cond b es (with_value part_cmp t (tries_of es t + n) es)) u ≡ Some k → 0 < k
+  go : (b : Bool) → (n == 0) ≡ b
+      → value_of part_cmp (cond b es (with_value part_cmp t (tries_of es t + n) es)) u ≡ Some k → 0 < k
   go true z e = h u k e
-  go false z e = at (eq_by_cmp part_cmp u t) (sym (value_of-with_value exact_parts t (tries_of es t + n) es u) ∙ e) where
-    at : (c : Bool) → cond c (Some (tries_of es t + n)) (value_of part_cmp es u) ≡ Some k → 0 < k
-    at true e = let same : tries_of es t + n ≡ k = some_same (tries_of es t + n) k e in let nz = eqb-false n 0 z in omega (arith, same, nz)
-    at false e = h u k e
+  go false z e =
+      at (eq_by_cmp part_cmp u t) (sym (value_of-with_value exact_parts t (tries_of es t + n) es u) ∙ e) where
+        at : (c : Bool) → cond c (Some (tries_of es t + n)) (value_of part_cmp es u) ≡ Some k → 0 < k
+        at true e =
+            let same : tries_of es t + n ≡ k = some_same (tries_of es t + n) k e in
+            let nz = eqb-false n 0 z in omega (arith, same, nz)
+        at false e = h u k e
 
-pub each_tried : (more : Part → ℕ) (ts : List Part) (es : List (Part × ℕ)) → AreTried es → AreTried (with_each_tried more ts es)
+pub each_tried : (more : Part → ℕ) (ts : List Part) (es : List (Part × ℕ)) → AreTried es
+    → AreTried (with_each_tried more ts es)
 each_tried more [] es h = h
 each_tried more (t ∷ ts) es h = each_tried more ts (with_tries t (more t) es) (tried_once_more t (more t) es h)
 
 -- wanted parts come that nobody claims, and attempts are counted
-pub sound_gains : (ls : Logs) (j : ℕ) (ts : List Part) (tried : List (Part × ℕ)) (m : Member) → ((t : Part) → In t ts → is_wanted (plan_of ls m) t ≡ true) → ((t : Part) → In t ts → is_claimed (plan_of ls m) t ≡ false) → Rises part_cmp (keys tried) → AreTried tried → IsSoundMember ls j m → IsSoundMember ls j (record (gains ts m) { attempts = tried })
+pub sound_gains : (ls : Logs) (j : ℕ) (ts : List Part) (tried : List (Part × ℕ)) (m : Member)
+    → ((t : Part) → In t ts → is_wanted (plan_of ls m) t ≡ true)
+    → ((t : Part) → In t ts → is_claimed (plan_of ls m) t ≡ false) → Rises part_cmp (keys tried) → AreTried tried
+    → IsSoundMember ls j m → IsSoundMember ls j (record (gains ts m) { attempts = tried })
 sound_gains ls j ts tried m wanted free rises above s =
     let new : Member = record (gains ts m) { attempts = tried } in
     let g : Gain ls m new = same_gain ls m (gains ts m) new refl refl refl (wanted_gain ls ts m wanted) in
     record {
       width = s.width;
       fetchers = s.fetchers;
-      in_order = record { held = rises_insert_keys ts m.held s.in_order.held; hidden = s.in_order.hidden; attempts = rises; tried = above };
+      in_order = record {
+        held = rises_insert_keys ts m.held s.in_order.held;
+        hidden = s.in_order.hidden;
+        attempts = rises;
+        tried = above;
+      };
       known = s.known;
       own = s.own;
       heard = s.heard;
@@ -189,7 +246,9 @@ sound_gains ls j ts tried m wanted free rises above s =
       own_held = own_held_after ls j m new g s;
       claimed = λ f u e.
           let w : is_wanted (plan_of ls m) u ≡ true = s.claimed f u e in
-          wanted_after ls j m new g s u w (false_from_ne_true (member_holds new u) (λ yes. unclaimed_at u m.claims f (free u (held_fresh ts m u yes (wanted_parts ls m u w).not_held)) e));
+          wanted_after ls j m new g s u w
+          (false_from_ne_true (member_holds new u)
+          (λ yes. unclaimed_at u m.claims f (free u (held_fresh ts m u yes (wanted_parts ls m u w).not_held)) e));
       apart = s.apart;
     }
 
@@ -215,7 +274,9 @@ at_set_bound (x ∷ xs) zero n (suc p) b h k = h
 at_set_bound (x ∷ xs) (suc j) n zero b h k = h
 at_set_bound (x ∷ xs) (suc j) n (suc p) b h k = at_set_bound xs j n p b h (λ e. k (ap suc e))
 
-pub sound_publishes : (draw moment : ℕ) (ls more : Logs) (j : ℕ) (o : NamedContents) (m : Member) → j < length ls → length m.log ≡ last_of ls j → Publishes ls more j o → IsSoundMember ls j m → IsSoundMember more j (publishes draw moment j o m)
+pub sound_publishes : (draw moment : ℕ) (ls more : Logs) (j : ℕ) (o : NamedContents) (m : Member) → j < length ls
+    → length m.log ≡ last_of ls j → Publishes ls more j o → IsSoundMember ls j m
+    → IsSoundMember more j (publishes draw moment j o m)
 sound_publishes draw moment ls more j o m within log g s =
     let seq : ℕ = length m.log + 1 in
     let n : Member = publishes draw moment j o m in
@@ -224,49 +285,83 @@ sound_publishes draw moment ls more j o m within log g s =
     let is_seq : seq ≡ last_of ls j + 1 = omega (arith, log) in
     let own : get_or m.known j 0 ≡ last_of ls j = s.own in
     let at : get_or n.known j 0 ≡ seq = get_or-set_same m.known j seq 0 (omega (arith, s.width)) in
-    let knows_more : (p : ℕ) → get_or m.known p 0 ≤ get_or n.known p 0 = λ p. at_set_number m.known j seq p (omega (arith, own, log)) in
+    let knows_more : (p : ℕ) → get_or m.known p 0 ≤ get_or n.known p 0 =
+    λ p. at_set_number m.known j seq p (omega (arith, own, log)) in
     let counts : count more (j, seq) ≡ size = ap (λ (k : ℕ). count more (j, k)) is_seq ∙ g.counts in
-    let new_held : (u : Part) → pair_of u ≡ (j, seq) → u.part ≤ size → member_holds n u ≡ true = λ u p l. held_new ts m u (subst (λ (q : Pair). In u (parts_of q size)) p (in_parts_of size u l)) in
-    let either : (u : Part) → member_holds n u ≡ true → ((pair_of u ≡ (j, seq)) × (u.part ≤ size)) ⊎ (member_holds m u ≡ true) = λ u h.
+    let new_held : (u : Part) → pair_of u ≡ (j, seq) → u.part ≤ size → member_holds n u ≡ true =
+    λ u p l. held_new ts m u (subst (λ (q : Pair). In u (parts_of q size)) p (in_parts_of size u l)) in
+    let either : (u : Part) → member_holds n u ≡ true
+    → ((pair_of u ≡ (j, seq)) × (u.part ≤ size)) ⊎ (member_holds m u ≡ true) =
+    λ u h.
     elim (held_either ts m u h) [ inl i ↦ inl (from_parts_of (j, seq) size u i) | inr b ↦ inr b ] in
     -- what is known before isn't the new publication
     let apart : (u : Part) → pair_of u ≡ (j, seq) → IsKnown m.known (pair_of u) → ⊥ = λ u p k.
-    let k2 : IsKnown m.known (j, seq) = subst (IsKnown m.known) p k in absurd (omega (arith, k2.to_known, own, is_seq)) in
+    let k2 : IsKnown m.known (j, seq) = subst (IsKnown m.known) p k in
+    absurd (omega (arith, k2.to_known, own, is_seq)) in
     let ks : Keeps m n = record { knows = knows_more; held = held_too ts m; hidden = refl } in
     record {
       width = length-set m.known j seq ∙ s.width ∙ sym g.grows.width;
       fetchers = s.fetchers;
-      in_order = record { held = rises_insert_keys ts m.held s.in_order.held; hidden = s.in_order.hidden; attempts = s.in_order.attempts; tried = s.in_order.tried };
-      known = λ p. at_set_bound m.known j seq p (last_of more p) (let a : get_or m.known p 0 ≤ last_of ls p = s.known p in let b : last_of ls p ≤ last_of more p = g.grows.last p in omega (arith, a, b)) (λ e. subst (λ (q : ℕ). seq ≤ last_of more q) (sym e) (omega (arith, g.one_more, is_seq)));
+      in_order = record {
+        held = rises_insert_keys ts m.held s.in_order.held;
+        hidden = s.in_order.hidden;
+        attempts = s.in_order.attempts;
+        tried = s.in_order.tried;
+      };
+      known =
+          λ p. at_set_bound m.known j seq p (last_of more p)
+          (let a : get_or m.known p 0 ≤ last_of ls p = s.known p in
+          let b : last_of ls p ≤ last_of more p = g.grows.last p in omega (arith, a, b))
+          (λ e. subst (λ (q : ℕ). seq ≤ last_of more q) (sym e) (omega (arith, g.one_more, is_seq)));
       own = at ∙ is_seq ∙ sym g.one_more;
       heard = tt;
       held = λ u h. elim (either u h) [
         | inl p ↦ record {
-          known = subst (IsKnown n.known) (sym p.0) (record { from_one = omega arith; to_known = subst (λ (k : ℕ). seq ≤ k) (sym at) (omega arith) });
-          counted = subst (λ (q : Pair). u.part ≤ count more q) (sym p.0) (subst (λ (k : ℕ). u.part ≤ k) (sym counts) p.1);
+          known =
+              subst (IsKnown n.known) (sym p.0)
+              (record { from_one = omega arith; to_known = subst (λ (k : ℕ). seq ≤ k) (sym at) (omega arith) });
+          counted =
+              subst (λ (q : Pair). u.part ≤ count more q) (sym p.0) (subst (λ (k : ℕ). u.part ≤ k) (sym counts) p.1);
           with_record = new_held (record_of u) p.0 (omega arith);
         }
         | inr b ↦ let r : IsHeldSoundly ls m.known m.held u = s.held u b in record {
           known = known_more m.known n.known (pair_of u) knows_more r.known;
-          counted = subst (λ (k : ℕ). u.part ≤ k) (sym (g.grows.counts (pair_of u) (known_published ls m.known (pair_of u) s.known r.known))) r.counted;
+          counted =
+              subst (λ (k : ℕ). u.part ≤ k)
+              (sym (g.grows.counts (pair_of u) (known_published ls m.known (pair_of u) s.known r.known))) r.counted;
           with_record = held_too ts m (record_of u) r.with_record;
         }
       ];
       hidden = λ pair h. let r : IsHiddenSoundly m pair = s.hidden pair h in record {
         known = known_more m.known n.known pair knows_more r.known;
-        none_held = λ x. false_from_ne_true (member_holds n (part_of pair x)) (λ yes. elim (either (part_of pair x) yes) [ inl p ↦ apart (part_of pair x) p.0 r.known | inr b ↦ true≢false (sym b ∙ r.none_held x) ]);
+        none_held =
+            λ x. false_from_ne_true (member_holds n (part_of pair x)) (λ yes. elim (either (part_of pair x) yes) [
+              | inl p ↦ apart (part_of pair x) p.0 r.known
+              | inr b ↦ true≢false (sym b ∙ r.none_held x)
+            ]);
       };
       own_held = λ k p. elim (cases_eq k seq) [
-        | inl e ↦ inr (λ x le. new_held (part_of (j, k) x) (ap (λ (q : ℕ). let r : Pair = (j, q) in r) e) (subst (λ (c : ℕ). x ≤ c) (ap (λ (q : ℕ). count more (j, q)) e ∙ counts) le))
+        | inl e ↦
+            inr (λ x le. new_held (part_of (j, k) x) (ap (λ (q : ℕ). let r : Pair = (j, q) in r) e)
+            (subst (λ (c : ℕ). x ≤ c) (ap (λ (q : ℕ). count more (j, q)) e ∙ counts) le))
         | inr d ↦
             let top : k ≤ last_of more j = p.to_last in
-            let there : IsPublished ls (j, k) = record { from_one = p.from_one; to_last = omega (arith, top, d, is_seq, g.one_more) } in
-            elim (s.own_held k there) [ inl h ↦ inl h | inr f ↦ inr (λ x le. held_too ts m (part_of (j, k) x) (f x (subst (λ (c : ℕ). x ≤ c) (g.grows.counts (j, k) there) le))) ]
+            let there : IsPublished ls (j, k) =
+            record { from_one = p.from_one; to_last = omega (arith, top, d, is_seq, g.one_more) } in
+            elim (s.own_held k there) [
+              | inl h ↦ inl h
+              | inr f ↦
+                  inr (λ x le.
+                  held_too ts m (part_of (j, k) x) (f x (subst (λ (c : ℕ). x ≤ c) (g.grows.counts (j, k) there) le)))
+            ]
       ];
       claimed = λ f u e.
           let c : is_wanted (plan_of ls m) u ≡ true = s.claimed f u e in
           let w : IsWanted ls m u = wanted_parts ls m u c in
-          let free : member_holds n u ≡ false = false_from_ne_true (member_holds n u) (λ yes. elim (either u yes) [ inl p ↦ apart u p.0 w.known | inr b ↦ true≢false (sym b ∙ w.not_held) ]) in
-          wanted_kept ls more m n u ks (g.grows.counts (pair_of u) (known_published ls m.known (pair_of u) s.known w.known)) c free;
+          let free : member_holds n u ≡ false =
+          false_from_ne_true (member_holds n u)
+          (λ yes. elim (either u yes) [ inl p ↦ apart u p.0 w.known | inr b ↦ true≢false (sym b ∙ w.not_held) ]) in
+          wanted_kept ls more m n u ks
+          (g.grows.counts (pair_of u) (known_published ls m.known (pair_of u) s.known w.known)) c free;
       apart = s.apart;
     }

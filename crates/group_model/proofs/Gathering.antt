@@ -1,5 +1,6 @@
 -- A member that gathers as long as someone holds what it wants has what a settle makes of it.
-use Rattle.std.proofs.Common.{◌≡◌, inl, inr, ℕ, ◌≤◌, ◌<◌, true, false, ◌||◌, List, length, get_or, refl, sym, ap, ◌∙◌, subst, arith}
+use Rattle.std.proofs.Common.{◌≡◌, inl, inr, ℕ, ◌≤◌, ◌<◌, true, false, ◌||◌, List, length, get_or, refl, sym, ap, ◌∙◌}
+use Rattle.std.proofs.Common.{subst, arith}
 use Rattle.std.proofs.lemmas.Bool.{true≢false, or_cases, or_left, or_right, cases_Bool}
 use Rattle.repo_plan.specs.declared.part.Part.{Part}
 use Rattle.repo_plan.specs.SortedList.{contains}
@@ -21,7 +22,9 @@ use Rattle.group_model.proofs.Settles.{ComesTo, comes, comes_from, someone}
 use Rattle.group_model.proofs.Catalogues.{in_all_parts}
 use Rattle.group_model.proofs.SortedSets.{same_members}
 
-module _ (w : World) (j : ℕ) (new : Member) (within : j < length w.members) (group : IsSoundGroup w) (sound : IsSoundMember (logs w) j new) (gathering : IsGathering w (member w j) new) (gathered : HasGathered w new) where
+module _ (w : World) (j : ℕ) (new : Member) (within : j < length w.members) (group : IsSoundGroup w)
+    (sound : IsSoundMember (logs w) j new) (gathering : IsGathering w (member w j) new)
+    (gathered : HasGathered w new) where
   abbrev m : Member
   m = member w j
 
@@ -36,7 +39,10 @@ module _ (w : World) (j : ℕ) (new : Member) (within : j < length w.members) (g
   nobody_holds t wanted holds = true≢false (sym holds ∙ gathered t (wanted_from (logs w) new t wanted))
 
   knows_it : (t : Part) → In t (all_parts (logs w)) → ComesTo w m t → IsKnown new.known (pair_of t)
-  knows_it t i c = record { from_one = (from_all_parts (logs w) t i).there.from_one; to_known = subst (λ (v : List ℕ). t.seq ≤ get_or v t.publisher 0) (sym known_is) c.told }
+  knows_it t i c = record {
+    from_one = (from_all_parts (logs w) t i).there.from_one;
+    to_known = subst (λ (v : List ℕ). t.seq ≤ get_or v t.publisher 0) (sym known_is) c.told;
+  }
 
   not_hidden : (t : Part) → ComesTo w m t → member_hides new (pair_of t) ≡ false
   not_hidden t c = hides_same (pair_of t) ∙ c.not_hidden
@@ -45,20 +51,37 @@ module _ (w : World) (j : ℕ) (new : Member) (within : j < length w.members) (g
   has_record : (t : Part) → In t (all_parts (logs w)) → ComesTo w m t → member_holds new (record_of t) ≡ true
   has_record t i c = elim (cases_Bool (member_holds new (record_of t))) [
     | inl on ↦ on
-    | inr off ↦ absurd (nobody_holds (record_of t) (record { known = knows_it t i c; counted = omega arith; with_record = inl refl; not_held = off; not_hidden = not_hidden t c }) c.record_too)
+    | inr off ↦
+        absurd (nobody_holds (record_of t) (record {
+          known = knows_it t i c;
+          counted = omega arith;
+          with_record = inl refl;
+          not_held = off;
+          not_hidden = not_hidden t c;
+        }) c.record_too)
   ]
 
   has_it : (t : Part) → In t (all_parts (logs w)) → ComesTo w m t → member_holds new t ≡ true
   has_it t i c = elim (cases_Bool (member_holds new t)) [
     | inl on ↦ on
-    | inr off ↦ absurd (nobody_holds t (record { known = knows_it t i c; counted = (from_all_parts (logs w) t i).counted; with_record = inr (has_record t i c); not_held = off; not_hidden = not_hidden t c }) c.someones)
+    | inr off ↦
+        absurd (nobody_holds t (record {
+          known = knows_it t i c;
+          counted = (from_all_parts (logs w) t i).counted;
+          with_record = inr (has_record t i c);
+          not_held = off;
+          not_hidden = not_hidden t c;
+        }) c.someones)
   ]
 
   someone_has : (t : Part) → member_holds new t ≡ true → someone_holds w.members t ≡ true
-  someone_has t h = elim (gathering.came t h) [ inl was ↦ someone w.members m t (in_at w.members j _ within) was | inr holds ↦ holds ]
+  someone_has t h =
+      elim (gathering.came t h) [ inl was ↦ someone w.members m t (in_at w.members j _ within) was | inr holds ↦ holds ]
 
   there_is : (t : Part) → member_holds new t ≡ true → IsPublishedPart (logs w) t
-  there_is t h = let held = sound.held t h in record { there = known_published (logs w) new.known (pair_of t) sound.known held.known; counted = held.counted }
+  there_is t h =
+      let held = sound.held t h in
+      record { there = known_published (logs w) new.known (pair_of t) sound.known held.known; counted = held.counted }
 
   -- and what is held newly comes in a settle
   comes_new : (t : Part) → member_holds new t ≡ true → member_holds m t ≡ false → comes_to w m t ≡ true
@@ -67,7 +90,8 @@ module _ (w : World) (j : ℕ) (new : Member) (within : j < length w.members) (g
       comes_from w m t (record {
         told = subst (λ (v : List ℕ). t.seq ≤ get_or v t.publisher 0) known_is held.known.to_known;
         not_hidden = elim (cases_Bool (member_hides m (pair_of t))) [
-          | inl on ↦ absurd (true≢false (sym h ∙ (sound.hidden (pair_of t) (hides_same (pair_of t) ∙ on)).none_held t.part))
+          | inl on ↦
+              absurd (true≢false (sym h ∙ (sound.hidden (pair_of t) (hides_same (pair_of t) ∙ on)).none_held t.part))
           | inr off ↦ off
         ];
         someones = someone_has t h;
@@ -79,31 +103,39 @@ module _ (w : World) (j : ℕ) (new : Member) (within : j < length w.members) (g
   there t h = elim (cases_Bool (member_holds m t)) [
     | inl was ↦ or_right (contains part_cmp (new_parts w m) t) (member_holds m t) was
     | inr free ↦ or_left (contains part_cmp (new_parts w m) t) (member_holds m t)
-        (contains_in exact_parts (new_parts w m) t (in_filter (comes_to w m) (all_parts (logs w)) t (in_all_parts (logs w) t (there_is t h)) (comes_new t h free)))
+        (contains_in exact_parts (new_parts w m) t
+        (in_filter (comes_to w m) (all_parts (logs w)) t (in_all_parts (logs w) t (there_is t h)) (comes_new t h free)))
   ]
 
   back : (t : Part) → (contains part_cmp (new_parts w m) t || member_holds m t) ≡ true → member_holds new t ≡ true
   back t h = elim (or_cases (contains part_cmp (new_parts w m) t) (member_holds m t) h) [
     | inl fresh ↦
-        let r : In t (all_parts (logs w)) × (comes_to w m t ≡ true) = from_filter (comes_to w m) (all_parts (logs w)) t (in_contains exact_parts (new_parts w m) t fresh) in
+        let r : In t (all_parts (logs w)) × (comes_to w m t ≡ true) =
+        from_filter (comes_to w m) (all_parts (logs w)) t (in_contains exact_parts (new_parts w m) t fresh) in
         has_it t r.0 (comes w m t r.1)
     | inr was ↦ gathering.kept t was
   ]
 
   held_is : new.held ≡ insert_keys (new_parts w m) m.held
-  held_is = same_members exact_parts new.held (insert_keys (new_parts w m) m.held) sound.in_order.held (rises_insert_keys (new_parts w m) m.held (group.members j within).in_order.held)
+  held_is =
+      same_members exact_parts new.held (insert_keys (new_parts w m) m.held) sound.in_order.held
+      (rises_insert_keys (new_parts w m) m.held (group.members j within).in_order.held)
       (λ t. elim (cases_Bool (member_holds new t)) [
         | inl on ↦ on ∙ sym (contains-insert_keys (new_parts w m) m.held t ∙ there t on)
         | inr off ↦ off ∙ sym (contains-insert_keys (new_parts w m) m.held t ∙ none t off)
       ]) where
-        none : (t : Part) → member_holds new t ≡ false → (contains part_cmp (new_parts w m) t || member_holds m t) ≡ false
+        none : (t : Part) → member_holds new t ≡ false
+            → (contains part_cmp (new_parts w m) t || member_holds m t) ≡ false
         none t off = elim (cases_Bool (contains part_cmp (new_parts w m) t || member_holds m t)) [
           | inl on ↦ absurd (true≢false (sym (back t on) ∙ off))
           | inr free ↦ free
         ]
 
   pub gathered_member : new ≡ settled_member w m
-  gathered_member = gathering.same ∙ ap (λ (held : List Part). let x : Member = record (learnt_member w m) { held = held } in x) held_is
+  gathered_member =
+      gathering.same
+      ∙ ap (λ (held : List Part). let x : Member = record (learnt_member w m) { held = held } in x) held_is
 
 pub gathering_settles : InSoundGroups GatheringSettles
-gathering_settles out w group j new within sound gathering gathered = gathered_member w j new within group sound gathering gathered
+gathering_settles out w group j new within sound gathering gathered =
+    gathered_member w j new within group sound gathering gathered

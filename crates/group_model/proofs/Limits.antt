@@ -1,5 +1,7 @@
 -- How far a group's counts can go.
-use Rattle.std.proofs.Common.{◌≡◌, ℕ, suc, zero, ◌+◌, ◌-◌, ◌*◌, ◌≤◌, Bool, true, false, cond, not, List, [], ◌∷◌, ◌++◌, map, length, get_or, set, replicate, refl, sym, ap, ◌∙◌, subst, arith, Option, Some, None, Result, Ok, Err}
+use Rattle.std.proofs.Common.{◌≡◌, ℕ, suc, zero, ◌+◌, ◌-◌, ◌*◌, ◌≤◌, Bool, true, false, cond, not, List, [], ◌∷◌, ◌++◌}
+use Rattle.std.proofs.Common.{map, length, get_or, set, replicate, refl, sym, ap, ◌∙◌, subst, arith, Option, Some, None}
+use Rattle.std.proofs.Common.{Result, Ok, Err}
 use Rattle.std.proofs.lemmas.Nat.{mul-le}
 use Rattle.std.proofs.lemmas.List.{length-map, length-append, length_push}
 use Rattle.std.proofs.lemmas.List.Sums.{sum_by-le}
@@ -19,18 +21,29 @@ use Rattle.svs_sync.specs.KeptVector.{Keeper, steady_kept, hears_kept}
 use Rattle.svs_sync.specs.Suppression.{periodic}
 use Rattle.svs_vector.specs.Vectors.{covers}
 use Rattle.repo_object.specs.Objects.{NamedContents}
-use Rattle.group_model.specs.Publications.{Logs, Publication, no_object, numbered_publications, published_from, published, pair_in, parts_in, all_parts}
-use Rattle.repo_process.specs.Processes.{Process, BlockState, indexes, has_index, has_block, with_block, with_it, is_whole, block_in, starting, closed, object_of}
+use Rattle.group_model.specs.Publications.{Logs, Publication, no_object, numbered_publications, published_from}
+use Rattle.group_model.specs.Publications.{published, pair_in, parts_in, all_parts}
+use Rattle.repo_process.specs.Processes.{Process, BlockState, indexes, has_index, has_block, with_block, with_it}
+use Rattle.repo_process.specs.Processes.{is_whole, block_in, starting, closed, object_of}
 use Rattle.repo_process.specs.Processes.BlockState.{Unknown, Already, Waiting, Whole}
 use Rattle.repo_command.specs.declared.command.Command.{Command}
 use Rattle.repo_command.specs.declared.command.Command.TheVariants.{Insert, Check, Delete}
 use Rattle.group_model.specs.Member.{Member, plan_of, tries_of, catalogued_under, member_hides_too, member_hides_all}
-use Rattle.group_model.specs.Changes.{publishes, learns, resets, restarts, takes, member_with_claim, member_with_process, member_starts}
+use Rattle.group_model.specs.Changes.{publishes, learns, resets, restarts, takes, member_with_claim}
+use Rattle.group_model.specs.Changes.{member_with_process, member_starts}
 use Rattle.group_model.specs.Events.{SyncInterest, Came, Event}
 use Rattle.group_model.specs.Events.Came.{Nothing, Its, Another}
-use Rattle.group_model.specs.World.{Tally, Issued, World, Outside, no_member, member, with_member, logs, logs_of, sent_at, opening_world}
-use Rattle.group_model.specs.Steps.{drawn, claim_at, to_claim, open_at, timer_at, tells_too_much, came_from, came_as, comes_to, new_parts, settled_member, after_gathering, syncs_of, planned_parts, fetched_parts, attempts_for, attempts_made, fetches, can_start, block_at, with_process_at, after_event, after_events, after_publish, after_deliver, after_hear, after_fire, after_reset, after_claiming, after_part, after_came, after_settle, after_fetch, after_command, after_order, after_block}
-use Rattle.group_model.specs.Limits.{IsShortInsertion, IsInRange, IsMemberWithin, IsTallyWithin, IsWithinSteps, HasSmallPackets, BeginsWithin, StaysWithin, GatheringStaysWithin, MoreIsWithin, RunsStayWithin, ReachedRunsStayWithin, PartsStayFew}
+use Rattle.group_model.specs.World.{Tally, Issued, World, Outside, no_member, member, with_member, logs, logs_of}
+use Rattle.group_model.specs.World.{sent_at, opening_world}
+use Rattle.group_model.specs.Steps.{drawn, claim_at, to_claim, open_at, timer_at, tells_too_much, came_from, came_as}
+use Rattle.group_model.specs.Steps.{comes_to, new_parts, settled_member, after_gathering, syncs_of, planned_parts}
+use Rattle.group_model.specs.Steps.{fetched_parts, attempts_for, attempts_made, fetches, can_start, block_at}
+use Rattle.group_model.specs.Steps.{with_process_at, after_event, after_events, after_publish, after_deliver}
+use Rattle.group_model.specs.Steps.{after_hear, after_fire, after_reset, after_claiming, after_part, after_came}
+use Rattle.group_model.specs.Steps.{after_settle, after_fetch, after_command, after_order, after_block}
+use Rattle.group_model.specs.Limits.{IsShortInsertion, IsInRange, IsMemberWithin, IsTallyWithin, IsWithinSteps}
+use Rattle.group_model.specs.Limits.{HasSmallPackets, BeginsWithin, StaysWithin, GatheringStaysWithin, MoreIsWithin}
+use Rattle.group_model.specs.Limits.{RunsStayWithin, ReachedRunsStayWithin, PartsStayFew}
 use Rattle.group_model.proofs.Lists.{in_at}
 use Rattle.group_model.proofs.Parts.{in_published}
 use Rattle.group_model.proofs.Settles.{settles, settle_each, logs_settled, logs_gathered}
@@ -48,35 +61,54 @@ length_numbered : (p s : ℕ) (os : List NamedContents) → length (numbered_pub
 length_numbered p s [] = refl
 length_numbered p s (o ∷ os) = ap suc (length_numbered p (s + 1) os)
 
-length_published : (p : ℕ) (l : List NamedContents) (ls : Logs) → length (published_from p (l ∷ ls)) ≡ length l + length (published_from (p + 1) ls)
-length_published p l ls = length-append (numbered_publications p 1 l) (published_from (p + 1) ls) ∙ ap (λ (n : ℕ). n + length (published_from (p + 1) ls)) (length_numbered p 1 l)
+length_published : (p : ℕ) (l : List NamedContents) (ls : Logs)
+    → length (published_from p (l ∷ ls)) ≡ length l + length (published_from (p + 1) ls)
+length_published p l ls =
+    length-append (numbered_publications p 1 l) (published_from (p + 1) ls)
+    ∙ ap (λ (n : ℕ). n + length (published_from (p + 1) ls)) (length_numbered p 1 l)
 
 -- a member has one object more
-one_published : (p : ℕ) (ms : List Member) (j : ℕ) (m : Member) (o : NamedContents) → m.log ≡ (get_or ms j no_member).log ++ o ∷ [] → length (published_from p (logs_of (set ms j m))) ≤ length (published_from p (logs_of ms)) + 1
+one_published : (p : ℕ) (ms : List Member) (j : ℕ) (m : Member) (o : NamedContents)
+    → m.log ≡ (get_or ms j no_member).log ++ o ∷ []
+    → length (published_from p (logs_of (set ms j m))) ≤ length (published_from p (logs_of ms)) + 1
 one_published p [] j m o e = omega arith
 one_published p (x ∷ xs) zero m o e =
-    let a : length (published_from p (m.log ∷ logs_of xs)) ≡ length m.log + length (published_from (p + 1) (logs_of xs)) = length_published p m.log (logs_of xs) in
-    let b : length (published_from p (x.log ∷ logs_of xs)) ≡ length x.log + length (published_from (p + 1) (logs_of xs)) = length_published p x.log (logs_of xs) in
+    let a : length (published_from p (m.log ∷ logs_of xs))
+    ≡ length m.log + length (published_from (p + 1) (logs_of xs)) =
+    length_published p m.log (logs_of xs) in
+    let b : length (published_from p (x.log ∷ logs_of xs))
+    ≡ length x.log + length (published_from (p + 1) (logs_of xs)) =
+    length_published p x.log (logs_of xs) in
     let c : length m.log ≡ length x.log + 1 = ap length e ∙ length_push x.log o in
     omega (arith, a, b, c)
 one_published p (x ∷ xs) (suc j) m o e =
-    let a : length (published_from p (x.log ∷ logs_of (set xs j m))) ≡ length x.log + length (published_from (p + 1) (logs_of (set xs j m))) = length_published p x.log (logs_of (set xs j m)) in
-    let b : length (published_from p (x.log ∷ logs_of xs)) ≡ length x.log + length (published_from (p + 1) (logs_of xs)) = length_published p x.log (logs_of xs) in
-    let h : length (published_from (p + 1) (logs_of (set xs j m))) ≤ length (published_from (p + 1) (logs_of xs)) + 1 = one_published (p + 1) xs j m o e in
+    let a : length (published_from p (x.log ∷ logs_of (set xs j m)))
+    ≡ length x.log + length (published_from (p + 1) (logs_of (set xs j m))) =
+    length_published p x.log (logs_of (set xs j m)) in
+    let b : length (published_from p (x.log ∷ logs_of xs))
+    ≡ length x.log + length (published_from (p + 1) (logs_of xs)) =
+    length_published p x.log (logs_of xs) in
+    let h : length (published_from (p + 1) (logs_of (set xs j m))) ≤ length (published_from (p + 1) (logs_of xs)) + 1 =
+    one_published (p + 1) xs j m o e in
     omega (arith, a, b, h)
 
 abbrev HasFew : NamedContents → Type 0
 HasFew o = length o.contents ≤ 200
 
-few_pushed : (os : List NamedContents) (o : NamedContents) → HasFew o → ((k : ℕ) → HasFew (get_or os k no_object)) → (k : ℕ) → HasFew (get_or (os ++ o ∷ []) k no_object)
+few_pushed : (os : List NamedContents) (o : NamedContents) → HasFew o → ((k : ℕ) → HasFew (get_or os k no_object))
+    → (k : ℕ) → HasFew (get_or (os ++ o ∷ []) k no_object)
 few_pushed [] o h each zero = h
 few_pushed [] o h each (suc k) = omega arith
 few_pushed (x ∷ xs) o h each zero = each zero
 few_pushed (x ∷ xs) o h each (suc k) = few_pushed xs o h (λ i. each (suc i)) k
 
-few_published : (ms : List Member) (j : ℕ) (m : Member) (o : NamedContents) → m.log ≡ (get_or ms j no_member).log ++ o ∷ [] → HasFew o → ((p k : ℕ) → HasFew (get_or (get_or (logs_of ms) p []) k no_object)) → (p k : ℕ) → HasFew (get_or (get_or (logs_of (set ms j m)) p []) k no_object)
+few_published : (ms : List Member) (j : ℕ) (m : Member) (o : NamedContents)
+    → m.log ≡ (get_or ms j no_member).log ++ o ∷ [] → HasFew o
+    → ((p k : ℕ) → HasFew (get_or (get_or (logs_of ms) p []) k no_object)) → (p k : ℕ)
+    → HasFew (get_or (get_or (logs_of (set ms j m)) p []) k no_object)
 few_published [] j m o e h each p k = each p k
-few_published (x ∷ xs) zero m o e h each zero k = subst (λ (l : List NamedContents). HasFew (get_or l k no_object)) (sym e) (few_pushed x.log o h (each zero) k)
+few_published (x ∷ xs) zero m o e h each zero k =
+    subst (λ (l : List NamedContents). HasFew (get_or l k no_object)) (sym e) (few_pushed x.log o h (each zero) k)
 few_published (x ∷ xs) zero m o e h each (suc p) k = each (suc p) k
 few_published (x ∷ xs) (suc j) m o e h each zero k = each zero k
 few_published (x ∷ xs) (suc j) m o e h each (suc p) k = few_published xs j m o e h (λ q. each (suc q)) p k
@@ -84,41 +116,58 @@ few_published (x ∷ xs) (suc j) m o e h each (suc p) k = few_published xs j m o
 -- ---- a member
 
 -- a change that uses at most one draw, tries no part more than 16 times, and keeps insertions short
-mem_change : (old new : ℕ) (m n : Member) → n.machine.draws ≤ m.machine.draws + (new - old) → ((t : Part) → tries_of n.attempts t ≤ tries_of m.attempts t + (new - old) * 16) → ((i : ℕ) (p : Process) → value_of nat_cmp n.processes i ≡ Some p → length (indexes p) ≤ 200) → old ≤ new → IsMemberWithin old m → IsMemberWithin new n
+mem_change : (old new : ℕ) (m n : Member) → n.machine.draws ≤ m.machine.draws + (new - old)
+    → ((t : Part) → tries_of n.attempts t ≤ tries_of m.attempts t + (new - old) * 16)
+    → ((i : ℕ) (p : Process) → value_of nat_cmp n.processes i ≡ Some p → length (indexes p) ≤ 200) → old ≤ new
+    → IsMemberWithin old m → IsMemberWithin new n
 mem_change old new m n d a b l h = record {
   draws = let x : m.machine.draws ≤ old + 1 = h.draws in omega (arith, d, x, l);
-  tried = λ t. let x : tries_of m.attempts t ≤ old * 16 = h.tried t in let y : tries_of n.attempts t ≤ tries_of m.attempts t + (new - old) * 16 = a t in omega (arith, x, y, l);
+  tried = λ t.
+      let x : tries_of m.attempts t ≤ old * 16 = h.tried t in
+      let y : tries_of n.attempts t ≤ tries_of m.attempts t + (new - old) * 16 = a t in omega (arith, x, y, l);
   blocks = b;
 }
 
 -- a change of neither machine, attempts nor processes
-mem_beside : (old new : ℕ) (m n : Member) → n.machine ≡ m.machine → n.attempts ≡ m.attempts → n.processes ≡ m.processes → old ≤ new → IsMemberWithin old m → IsMemberWithin new n
+mem_beside : (old new : ℕ) (m n : Member) → n.machine ≡ m.machine → n.attempts ≡ m.attempts → n.processes ≡ m.processes
+    → old ≤ new → IsMemberWithin old m → IsMemberWithin new n
 mem_beside old new m n k a p l h = mem_change old new m n
     (let e : n.machine.draws ≡ m.machine.draws = ap (λ (x : Keeper). x.draws) k in omega (arith, e))
-    (λ t. let e : tries_of n.attempts t ≡ tries_of m.attempts t = ap (λ (x : List (Part × ℕ)). tries_of x t) a in omega (arith, e))
+    (λ t.
+    let e : tries_of n.attempts t ≡ tries_of m.attempts t = ap (λ (x : List (Part × ℕ)). tries_of x t) a in
+    omega (arith, e))
     (λ i q e. h.blocks i q (sym (ap (λ (x : List (ℕ × Process)). value_of nat_cmp x i) p) ∙ e)) l h
 
 -- a change of the machine, by at most one draw
-mem_machine : (s : ℕ) (m n : Member) → n.machine.draws ≤ m.machine.draws + 1 → n.attempts ≡ m.attempts → ((i : ℕ) (q : Process) → value_of nat_cmp n.processes i ≡ Some q → length (indexes q) ≤ 200) → IsMemberWithin s m → IsMemberWithin (s + 1) n
+mem_machine : (s : ℕ) (m n : Member) → n.machine.draws ≤ m.machine.draws + 1 → n.attempts ≡ m.attempts
+    → ((i : ℕ) (q : Process) → value_of nat_cmp n.processes i ≡ Some q → length (indexes q) ≤ 200) → IsMemberWithin s m
+    → IsMemberWithin (s + 1) n
 mem_machine s m n d a b h = mem_change s (s + 1) m n
     (omega (arith, d))
-    (λ t. let e : tries_of n.attempts t ≡ tries_of m.attempts t = ap (λ (x : List (Part × ℕ)). tries_of x t) a in omega (arith, e))
+    (λ t.
+    let e : tries_of n.attempts t ≡ tries_of m.attempts t = ap (λ (x : List (Part × ℕ)). tries_of x t) a in
+    omega (arith, e))
     b (omega arith) h
 
 abbrev AreShort : List (ℕ × Process) → Type 0
 AreShort ps = (i : ℕ) (q : Process) → value_of nat_cmp ps i ≡ Some q → length (indexes q) ≤ 200
 
-short_process : (ps : List (ℕ × Process)) (number : ℕ) (p : Process) → length (indexes p) ≤ 200 → AreShort ps → AreShort (with_value nat_cmp number p ps)
-short_process ps number p short each i q e = go (eq_by_cmp nat_cmp i number) (sym (value_of-with_value exact_numbers number p ps i) ∙ e) where
-  go : (b : Bool) → cond b (Some p) (value_of nat_cmp ps i) ≡ Some q → length (indexes q) ≤ 200
-  go true e = let same : p ≡ q = cc in subst (λ (x : Process). length (indexes x) ≤ 200) same short
-  go false e = each i q e
+short_process : (ps : List (ℕ × Process)) (number : ℕ) (p : Process) → length (indexes p) ≤ 200 → AreShort ps
+    → AreShort (with_value nat_cmp number p ps)
+short_process ps number p short each i q e =
+    go (eq_by_cmp nat_cmp i number) (sym (value_of-with_value exact_numbers number p ps i) ∙ e) where
+      go : (b : Bool) → cond b (Some p) (value_of nat_cmp ps i) ≡ Some q → length (indexes q) ≤ 200
+      go true e = let same : p ≡ q = cc in subst (λ (x : Process). length (indexes x) ≤ 200) same short
+      go false e = each i q e
 
 -- a change of insertions alone
-mem_process : (old new : ℕ) (m n : Member) → n.machine ≡ m.machine → n.attempts ≡ m.attempts → AreShort n.processes → old ≤ new → IsMemberWithin old m → IsMemberWithin new n
+mem_process : (old new : ℕ) (m n : Member) → n.machine ≡ m.machine → n.attempts ≡ m.attempts → AreShort n.processes
+    → old ≤ new → IsMemberWithin old m → IsMemberWithin new n
 mem_process old new m n k a short l h = mem_change old new m n
     (let e : n.machine.draws ≡ m.machine.draws = ap (λ (x : Keeper). x.draws) k in omega (arith, e))
-    (λ t. let e : tries_of n.attempts t ≡ tries_of m.attempts t = ap (λ (x : List (Part × ℕ)). tries_of x t) a in omega (arith, e))
+    (λ t.
+    let e : tries_of n.attempts t ≡ tries_of m.attempts t = ap (λ (x : List (Part × ℕ)). tries_of x t) a in
+    omega (arith, e))
     short l h
 
 -- ---- a world
@@ -131,7 +180,8 @@ tally_more old new t l h = record {
   octets = let x : t.octets ≤ old * 2830080000000 = h.octets in omega (arith, x, l);
 }
 
-each_set : (s : ℕ) (ms : List Member) (i : ℕ) (m : Member) → ((j : ℕ) → IsMemberWithin s (get_or ms j no_member)) → IsMemberWithin s m → (j : ℕ) → IsMemberWithin s (get_or (set ms i m) j no_member)
+each_set : (s : ℕ) (ms : List Member) (i : ℕ) (m : Member) → ((j : ℕ) → IsMemberWithin s (get_or ms j no_member))
+    → IsMemberWithin s m → (j : ℕ) → IsMemberWithin s (get_or (set ms i m) j no_member)
 each_set s [] i m each h j = each j
 each_set s (x ∷ xs) zero m each h zero = h
 each_set s (x ∷ xs) zero m each h (suc j) = each (suc j)
@@ -142,20 +192,29 @@ mem_more : (old new : ℕ) (m : Member) → old ≤ new → IsMemberWithin old m
 mem_more old new m l h = mem_beside old new m m refl refl refl l h
 
 -- a member changes, and its objects stay
-within_set : (old new : ℕ) (w : World) (j : ℕ) (m : Member) (sent : List SyncInterest) (issued : List Issued) (tally : Tally) → old ≤ new → m.log ≡ (member w j).log → IsMemberWithin new m → length sent ≤ new * 16 → IsTallyWithin new tally → IsWithinSteps old w → IsWithinSteps new (record { members = set w.members j m; sent = sent; moment = w.moment; issued = issued; tally = tally })
+within_set : (old new : ℕ) (w : World) (j : ℕ) (m : Member) (sent : List SyncInterest) (issued : List Issued)
+    (tally : Tally)
+    → old ≤ new → m.log ≡ (member w j).log → IsMemberWithin new m → length sent ≤ new * 16 → IsTallyWithin new tally
+    → IsWithinSteps old w
+    → IsWithinSteps new
+    (record { members = set w.members j m; sent = sent; moment = w.moment; issued = issued; tally = tally })
 within_set old new w j m sent issued tally l e h few t s =
     let same : logs_of (set w.members j m) ≡ logs w = same_logs w.members j m e in
     record {
       moment = let x : w.moment ≤ old * 1000000000 = s.moment in omega (arith, x, l);
       sent = few;
-      published = let x : length (published (logs w)) ≤ old = s.published in subst (λ (ls : Logs). length (published ls) ≤ new) (sym same) (omega (arith, x, l));
+      published =
+          let x : length (published (logs w)) ≤ old = s.published in
+          subst (λ (ls : Logs). length (published ls) ≤ new) (sym same) (omega (arith, x, l));
       segments = subst (λ (ls : Logs). (p k : ℕ) → HasFew (get_or (get_or ls p []) k no_object)) (sym same) s.segments;
       members = each_set new w.members j m (λ i. mem_more old new (member w i) l (s.members i)) h;
       tally = t;
     }
 
 -- the members stay as they are
-within_same : (old new : ℕ) (w : World) (moment : ℕ) (issued : List Issued) (tally : Tally) → old ≤ new → moment ≤ new * 1000000000 → IsTallyWithin new tally → IsWithinSteps old w → IsWithinSteps new (record { members = w.members; sent = w.sent; moment = moment; issued = issued; tally = tally })
+within_same : (old new : ℕ) (w : World) (moment : ℕ) (issued : List Issued) (tally : Tally) → old ≤ new
+    → moment ≤ new * 1000000000 → IsTallyWithin new tally → IsWithinSteps old w
+    → IsWithinSteps new (record { members = w.members; sent = w.sent; moment = moment; issued = issued; tally = tally })
 within_same old new w moment issued tally l m t s = record {
   moment = m;
   sent = let x : length w.sent ≤ old * 16 = s.sent in omega (arith, x, l);
@@ -166,10 +225,15 @@ within_same old new w moment issued tally l m t s = record {
 }
 
 within_stays : (s : ℕ) (w : World) → IsWithinSteps s w → IsWithinSteps (s + 1) w
-within_stays s w h = within_same s (s + 1) w w.moment w.issued w.tally (omega arith) (let x : w.moment ≤ s * 1000000000 = h.moment in omega (arith, x)) (tally_more s (s + 1) w.tally (omega arith) h.tally) h
+within_stays s w h =
+    within_same s (s + 1) w w.moment w.issued w.tally (omega arith)
+    (let x : w.moment ≤ s * 1000000000 = h.moment in omega (arith, x))
+    (tally_more s (s + 1) w.tally (omega arith) h.tally) h
 
 more_sent : (s : ℕ) (w : World) (x : SyncInterest) → IsWithinSteps s w → length (w.sent ++ x ∷ []) ≤ (s + 1) * 16
-more_sent s w x h = let a : length w.sent ≤ s * 16 = h.sent in let b : length (w.sent ++ x ∷ []) ≡ length w.sent + 1 = length_push w.sent x in omega (arith, a, b)
+more_sent s w x h =
+    let a : length w.sent ≤ s * 16 = h.sent in
+    let b : length (w.sent ++ x ∷ []) ≡ length w.sent + 1 = length_push w.sent x in omega (arith, a, b)
 
 same_sent : (s : ℕ) (w : World) → IsWithinSteps s w → length w.sent ≤ (s + 1) * 16
 same_sent s w h = let a : length w.sent ≤ s * 16 = h.sent in omega (arith, a)
@@ -179,71 +243,107 @@ more_tally s w h = tally_more s (s + 1) w.tally (omega arith) h.tally
 
 -- ---- each event
 
-within_publish : (out : Outside) (s : ℕ) (w : World) (j : ℕ) (o : NamedContents) → HasFew o → IsWithinSteps s w → IsWithinSteps (s + 1) (after_publish out w j o)
+within_publish : (out : Outside) (s : ℕ) (w : World) (j : ℕ) (o : NamedContents) → HasFew o → IsWithinSteps s w
+    → IsWithinSteps (s + 1) (after_publish out w j o)
 within_publish out s w j o few h =
     let m : Member = publishes (drawn out w j) w.moment j o (member w j) in
     record {
       moment = let x : w.moment ≤ s * 1000000000 = h.moment in omega (arith, x);
       sent = more_sent s w _ h;
-      published = let x : length (published (logs w)) ≤ s = h.published in let y : length (published (logs_of (set w.members j m))) ≤ length (published (logs w)) + 1 = one_published 0 w.members j m o refl in omega (arith, x, y);
+      published =
+          let x : length (published (logs w)) ≤ s = h.published in
+          let y : length (published (logs_of (set w.members j m))) ≤ length (published (logs w)) + 1 =
+          one_published 0 w.members j m o refl in
+          omega (arith, x, y);
       segments = few_published w.members j m o refl few h.segments;
-      members = each_set (s + 1) w.members j m (λ i. mem_more s (s + 1) (member w i) (omega arith) (h.members i)) (mem_machine s (member w j) m (omega arith) refl (h.members j).blocks (h.members j));
+      members =
+          each_set (s + 1) w.members j m (λ i. mem_more s (s + 1) (member w i) (omega arith) (h.members i))
+          (mem_machine s (member w j) m (omega arith) refl (h.members j).blocks (h.members j));
       tally = more_tally s w h;
     }
 
-within_claim : (s : ℕ) (w : World) (j f : ℕ) (c : Option Part) → IsWithinSteps s w → IsWithinSteps (s + 1) (after_claiming w j f c)
+within_claim : (s : ℕ) (w : World) (j f : ℕ) (c : Option Part) → IsWithinSteps s w
+    → IsWithinSteps (s + 1) (after_claiming w j f c)
 within_claim s w j f None h = within_stays s w h
-within_claim s w j f (Some t) h = within_set s (s + 1) w j (member_with_claim f (Some t) (member w j)) w.sent w.issued w.tally (omega arith) refl (mem_beside s (s + 1) (member w j) _ refl refl refl (omega arith) (h.members j)) (same_sent s w h) (more_tally s w h) h
+within_claim s w j f (Some t) h =
+    within_set s (s + 1) w j (member_with_claim f (Some t) (member w j)) w.sent w.issued w.tally (omega arith) refl
+    (mem_beside s (s + 1) (member w j) _ refl refl refl (omega arith) (h.members j)) (same_sent s w h)
+    (more_tally s w h) h
 
 -- one part came, and perhaps one attempt was made
-within_part : (out : Outside) (s : ℕ) (w : World) (j f : ℕ) (t : Part) (made : ℕ) → made ≤ 1 → HasSmallPackets out w → IsWithinSteps s w → IsWithinSteps (s + 1) (after_part out (record w { tally = record w.tally { attempts = w.tally.attempts + made } }) j f t)
-within_part out s w j f t made one size h = within_set s (s + 1) w j (takes f t (member w j)) w.sent w.issued _ (omega arith) refl (mem_beside s (s + 1) (member w j) _ refl refl refl (omega arith) (h.members j)) (same_sent s w h) (record {
-  delivered = let x : w.tally.delivered ≤ s * 240 = h.tally.delivered in omega (arith, x);
-  attempts = let x : w.tally.attempts ≤ s * 65536 = h.tally.attempts in omega (arith, x, one);
-  parts = let x : w.tally.parts ≤ s * 321600000 = h.tally.parts in omega (arith, x);
-  octets = let x : w.tally.octets ≤ s * 2830080000000 = h.tally.octets in let y : out.size (logs w) t ≤ 8800 = size t in omega (arith, x, y);
-}) h
+within_part : (out : Outside) (s : ℕ) (w : World) (j f : ℕ) (t : Part) (made : ℕ) → made ≤ 1 → HasSmallPackets out w
+    → IsWithinSteps s w
+    → IsWithinSteps (s + 1)
+    (after_part out (record w { tally = record w.tally { attempts = w.tally.attempts + made } }) j f t)
+within_part out s w j f t made one size h =
+    within_set s (s + 1) w j (takes f t (member w j)) w.sent w.issued _ (omega arith) refl
+    (mem_beside s (s + 1) (member w j) _ refl refl refl (omega arith) (h.members j)) (same_sent s w h) (record {
+      delivered = let x : w.tally.delivered ≤ s * 240 = h.tally.delivered in omega (arith, x);
+      attempts = let x : w.tally.attempts ≤ s * 65536 = h.tally.attempts in omega (arith, x, one);
+      parts = let x : w.tally.parts ≤ s * 321600000 = h.tally.parts in omega (arith, x);
+      octets =
+          let x : w.tally.octets ≤ s * 2830080000000 = h.tally.octets in
+          let y : out.size (logs w) t ≤ 8800 = size t in omega (arith, x, y);
+    }) h
 
-within_tried : (s : ℕ) (w : World) (made : ℕ) → made ≤ 1 → IsWithinSteps s w → IsWithinSteps (s + 1) (record w { tally = record w.tally { attempts = w.tally.attempts + made } })
-within_tried s w made one h = within_same s (s + 1) w w.moment w.issued _ (omega arith) (let x : w.moment ≤ s * 1000000000 = h.moment in omega (arith, x)) (record {
-  delivered = let x : w.tally.delivered ≤ s * 240 = h.tally.delivered in omega (arith, x);
-  attempts = let x : w.tally.attempts ≤ s * 65536 = h.tally.attempts in omega (arith, x, one);
-  parts = let x : w.tally.parts ≤ s * 321600000 = h.tally.parts in omega (arith, x);
-  octets = let x : w.tally.octets ≤ s * 2830080000000 = h.tally.octets in omega (arith, x);
-}) h
+within_tried : (s : ℕ) (w : World) (made : ℕ) → made ≤ 1 → IsWithinSteps s w
+    → IsWithinSteps (s + 1) (record w { tally = record w.tally { attempts = w.tally.attempts + made } })
+within_tried s w made one h =
+    within_same s (s + 1) w w.moment w.issued _ (omega arith)
+    (let x : w.moment ≤ s * 1000000000 = h.moment in omega (arith, x)) (record {
+      delivered = let x : w.tally.delivered ≤ s * 240 = h.tally.delivered in omega (arith, x);
+      attempts = let x : w.tally.attempts ≤ s * 65536 = h.tally.attempts in omega (arith, x, one);
+      parts = let x : w.tally.parts ≤ s * 321600000 = h.tally.parts in omega (arith, x);
+      octets = let x : w.tally.octets ≤ s * 2830080000000 = h.tally.octets in omega (arith, x);
+    }) h
 
-within_came : (out : Outside) (s : ℕ) (w : World) (j f : ℕ) (c : Option Part) (came : Came) (made : ℕ) → made ≤ 1 → HasSmallPackets out w → IsWithinSteps s w → IsWithinSteps (s + 1) (after_came out (record w { tally = record w.tally { attempts = w.tally.attempts + made } }) j f c came)
+within_came : (out : Outside) (s : ℕ) (w : World) (j f : ℕ) (c : Option Part) (came : Came) (made : ℕ) → made ≤ 1
+    → HasSmallPackets out w → IsWithinSteps s w
+    → IsWithinSteps (s + 1)
+    (after_came out (record w { tally = record w.tally { attempts = w.tally.attempts + made } }) j f c came)
 within_came out s w j f None came made one size h = within_tried s w made one h
 within_came out s w j f (Some t) Nothing made one size h = within_tried s w made one h
 within_came out s w j f (Some t) Its made one size h = within_part out s w j f t made one size h
 within_came out s w j f (Some t) Another made one size h = within_part out s w j f t made one size h
 
-within_reset : (out : Outside) (s : ℕ) (w : World) (j : ℕ) (sent : List SyncInterest) → length sent ≤ (s + 1) * 16 → IsWithinSteps s w → IsWithinSteps (s + 1) (record (after_reset out w j) { sent = sent })
-within_reset out s w j sent few h = within_set s (s + 1) w j (resets (drawn out w j) w.moment (member w j)) sent w.issued w.tally (omega arith) refl (mem_machine s (member w j) _ (omega arith) refl (h.members j).blocks (h.members j)) few (more_tally s w h) h
+within_reset : (out : Outside) (s : ℕ) (w : World) (j : ℕ) (sent : List SyncInterest) → length sent ≤ (s + 1) * 16
+    → IsWithinSteps s w → IsWithinSteps (s + 1) (record (after_reset out w j) { sent = sent })
+within_reset out s w j sent few h =
+    within_set s (s + 1) w j (resets (drawn out w j) w.moment (member w j)) sent w.issued w.tally (omega arith) refl
+    (mem_machine s (member w j) _ (omega arith) refl (h.members j).blocks (h.members j)) few (more_tally s w h) h
 
-within_fire : (out : Outside) (s : ℕ) (w : World) (j : ℕ) (f : Fired) → IsWithinSteps s w → IsWithinSteps (s + 1) (after_fire out w j f)
+within_fire : (out : Outside) (s : ℕ) (w : World) (j : ℕ) (f : Fired) → IsWithinSteps s w
+    → IsWithinSteps (s + 1) (after_fire out w j f)
 within_fire out s w j Early h = within_stays s w h
 within_fire out s w j Quiet h = within_reset out s w j w.sent (same_sent s w h) h
 within_fire out s w j Send h = within_reset out s w j _ (more_sent s w _ h) h
 
-one_draw : (moment : ℕ) (told known : List ℕ) (draw : ℕ) (k : Keeper) (heard : Option (List ℕ)) → (hears_kept moment told known draw k heard).draws ≤ k.draws + 1
+one_draw : (moment : ℕ) (told known : List ℕ) (draw : ℕ) (k : Keeper) (heard : Option (List ℕ))
+    → (hears_kept moment told known draw k heard).draws ≤ k.draws + 1
 one_draw moment told known draw k None = go (covers told known) _ where
-  go : (b : Bool) (deadline : ℕ) → (cond b (steady_kept moment draw k) (record k { heard = Some told; deadline = deadline; draws = k.draws + 1 })).draws ≤ k.draws + 1
+  go : (b : Bool) (deadline : ℕ)
+      → (cond b (steady_kept moment draw k)
+      (record k { heard = Some told; deadline = deadline; draws = k.draws + 1 })).draws
+      ≤ k.draws + 1
   go true deadline = omega arith
   go false deadline = omega arith
 one_draw moment told known draw k (Some v) = omega arith
 
-within_deliver : (out : Outside) (s : ℕ) (w : World) (j : ℕ) (told : List ℕ) → IsWithinSteps s w → IsWithinSteps (s + 1) (after_deliver out w j told)
+within_deliver : (out : Outside) (s : ℕ) (w : World) (j : ℕ) (told : List ℕ) → IsWithinSteps s w
+    → IsWithinSteps (s + 1) (after_deliver out w j told)
 within_deliver out s w j told h =
     let m : Member = member w j in
-    within_set s (s + 1) w j (learns (drawn out w j) w.moment told m) w.sent w.issued _ (omega arith) refl (mem_machine s m _ (one_draw w.moment told m.known (drawn out w j) m.machine m.machine.heard) refl (h.members j).blocks (h.members j)) (same_sent s w h) (record {
+    within_set s (s + 1) w j (learns (drawn out w j) w.moment told m) w.sent w.issued _ (omega arith) refl
+    (mem_machine s m _ (one_draw w.moment told m.known (drawn out w j) m.machine m.machine.heard) refl
+    (h.members j).blocks (h.members j)) (same_sent s w h) (record {
       delivered = let x : w.tally.delivered ≤ s * 240 = h.tally.delivered in omega (arith, x);
       attempts = let x : w.tally.attempts ≤ s * 65536 = h.tally.attempts in omega (arith, x);
       parts = let x : w.tally.parts ≤ s * 321600000 = h.tally.parts in omega (arith, x);
       octets = let x : w.tally.octets ≤ s * 2830080000000 = h.tally.octets in omega (arith, x);
     }) h
 
-within_hear : (out : Outside) (s : ℕ) (w : World) (j : ℕ) (read : Option SyncInterest) → IsWithinSteps s w → IsWithinSteps (s + 1) (after_hear out w j read)
+within_hear : (out : Outside) (s : ℕ) (w : World) (j : ℕ) (read : Option SyncInterest) → IsWithinSteps s w
+    → IsWithinSteps (s + 1) (after_hear out w j read)
 within_hear out s w j None h = within_stays s w h
 within_hear out s w j (Some sync) h = go (tells_too_much w j sync) where
   go : (b : Bool) → IsWithinSteps (s + 1) (cond b w (after_deliver out w j sync.vector))
@@ -252,29 +352,47 @@ within_hear out s w j (Some sync) h = go (tells_too_much w j sync) where
 
 -- ---- insertions
 
-hides_beside : (ps : List Publication) (m : Member) → ((member_hides_all ps m).machine ≡ m.machine) × ((member_hides_all ps m).attempts ≡ m.attempts) × ((member_hides_all ps m).processes ≡ m.processes) × ((member_hides_all ps m).log ≡ m.log)
+hides_beside : (ps : List Publication) (m : Member)
+    → ((member_hides_all ps m).machine ≡ m.machine) × ((member_hides_all ps m).attempts ≡ m.attempts)
+    × ((member_hides_all ps m).processes ≡ m.processes) × ((member_hides_all ps m).log ≡ m.log)
 hides_beside [] m = (refl, refl, refl, refl)
 hides_beside (p ∷ ps) m = hides_beside ps (member_hides_too (pair_in p) m)
 
-within_command : (s : ℕ) (w : World) (issued : List Issued) (j : ℕ) (command : Command) → IsShortInsertion command → IsWithinSteps s w → IsWithinSteps (s + 1) (after_command (record w { issued = issued }) j command)
+within_command : (s : ℕ) (w : World) (issued : List Issued) (j : ℕ) (command : Command) → IsShortInsertion command
+    → IsWithinSteps s w → IsWithinSteps (s + 1) (after_command (record w { issued = issued }) j command)
 within_command s w issued j (Insert name first last) short h = go (can_start (member w j)) where
   stays : IsWithinSteps (s + 1) (record w { issued = issued })
-  stays = within_same s (s + 1) w w.moment issued w.tally (omega arith) (let x : w.moment ≤ s * 1000000000 = h.moment in omega (arith, x)) (more_tally s w h) h
+  stays =
+      within_same s (s + 1) w w.moment issued w.tally (omega arith)
+      (let x : w.moment ≤ s * 1000000000 = h.moment in omega (arith, x)) (more_tally s w h) h
 
   few : length (indexes (starting name first last)) ≤ 200
-  few = let e : length (numbers_from first (last + 1 - first)) ≡ last + 1 - first = length_numbers first (last + 1 - first) in omega (arith, e, short)
+  few =
+      let e : length (numbers_from first (last + 1 - first)) ≡ last + 1 - first =
+      length_numbers first (last + 1 - first) in
+      omega (arith, e, short)
 
-  go : (b : Bool) → IsWithinSteps (s + 1) (cond b (with_member (record w { issued = issued }) j (member_starts name first last (member w j))) (record w { issued = issued }))
-  go true = within_set s (s + 1) w j (member_starts name first last (member w j)) w.sent issued w.tally (omega arith) refl
-      (mem_process s (s + 1) (member w j) _ refl refl (short_process (member w j).processes (member w j).next_process (starting name first last) few (h.members j).blocks) (omega arith) (h.members j)) (same_sent s w h) (more_tally s w h) h
+  go : (b : Bool)
+      → IsWithinSteps (s + 1)
+      (cond b (with_member (record w { issued = issued }) j (member_starts name first last (member w j)))
+      (record w { issued = issued }))
+  go true =
+      within_set s (s + 1) w j (member_starts name first last (member w j)) w.sent issued w.tally (omega arith) refl
+      (mem_process s (s + 1) (member w j) _ refl refl
+      (short_process (member w j).processes (member w j).next_process (starting name first last) few
+      (h.members j).blocks) (omega arith) (h.members j)) (same_sent s w h) (more_tally s w h) h
   go false = stays
-within_command s w issued j (Check process) short h = within_same s (s + 1) w w.moment issued w.tally (omega arith) (let x : w.moment ≤ s * 1000000000 = h.moment in omega (arith, x)) (more_tally s w h) h
+within_command s w issued j (Check process) short h =
+    within_same s (s + 1) w w.moment issued w.tally (omega arith)
+    (let x : w.moment ≤ s * 1000000000 = h.moment in omega (arith, x)) (more_tally s w h) h
 within_command s w issued j (Delete name) short h =
     let m : Member = member w j in
     let b = hides_beside (catalogued_under (logs w) m name) m in
-    within_set s (s + 1) w j (member_hides_all (catalogued_under (logs w) m name) m) w.sent issued w.tally (omega arith) b.3 (mem_beside s (s + 1) m _ b.0 b.1 b.2 (omega arith) (h.members j)) (same_sent s w h) (more_tally s w h) h
+    within_set s (s + 1) w j (member_hides_all (catalogued_under (logs w) m name) m) w.sent issued w.tally (omega arith)
+    b.3 (mem_beside s (s + 1) m _ b.0 b.1 b.2 (omega arith) (h.members j)) (same_sent s w h) (more_tally s w h) h
 
-within_order : (s : ℕ) (w : World) (j : ℕ) (read : Result (ℕ × Command) ℕ) → IsInRange (Event.Order j read) → IsWithinSteps s w → IsWithinSteps (s + 1) (after_order w j read)
+within_order : (s : ℕ) (w : World) (j : ℕ) (read : Result (ℕ × Command) ℕ) → IsInRange (Event.Order j read)
+    → IsWithinSteps s w → IsWithinSteps (s + 1) (after_order w j read)
 within_order s w j (Ok order) r h = within_command s w w.issued j order.1 r h
 within_order s w j (Err code) r h = within_stays s w h
 
@@ -291,13 +409,15 @@ few_with_it p h = go (is_whole p) where
   go true = h
   go false = h
 
-few_with_block : (index : ℕ) (content : List ℕ) (p : Process) → length (indexes p) ≤ 200 → length (indexes (with_block index content p)) ≤ 200
+few_with_block : (index : ℕ) (content : List ℕ) (p : Process) → length (indexes p) ≤ 200
+    → length (indexes (with_block index content p)) ≤ 200
 few_with_block index content p h = go (has_block p index) where
   go : (b : Bool) → length (indexes (cond b p (record p { blocks = with_value nat_cmp index content p.blocks }))) ≤ 200
   go true = h
   go false = h
 
-few_in : (index : ℕ) (content : List ℕ) (p : Option Process) → ((q : Process) → p ≡ Some q → length (indexes q) ≤ 200) → HasFewBlocks (block_in index content p)
+few_in : (index : ℕ) (content : List ℕ) (p : Option Process) → ((q : Process) → p ≡ Some q → length (indexes q) ≤ 200)
+    → HasFewBlocks (block_in index content p)
 few_in index content None each = tt
 few_in index content (Some p) each = go (not (has_index p index)) p.published where
   go : (a b : Bool) → HasFewBlocks (cond a Unknown (cond b Already (with_it (with_block index content p))))
@@ -305,86 +425,125 @@ few_in index content (Some p) each = go (not (has_index p index)) p.published wh
   go false true = tt
   go false false = few_with_it (with_block index content p) (few_with_block index content p (each p refl))
 
-within_process : (old new : ℕ) (w : World) (j number : ℕ) (p : Process) → old ≤ new → length (indexes p) ≤ 200 → IsWithinSteps old w → IsWithinSteps new (with_process_at w j number p)
-within_process old new w j number p l few h = within_set old new w j (member_with_process number p (member w j)) w.sent w.issued w.tally l refl
-    (mem_process old new (member w j) _ refl refl (short_process (member w j).processes number p few (h.members j).blocks) l (h.members j))
+within_process : (old new : ℕ) (w : World) (j number : ℕ) (p : Process) → old ≤ new → length (indexes p) ≤ 200
+    → IsWithinSteps old w → IsWithinSteps new (with_process_at w j number p)
+within_process old new w j number p l few h =
+    within_set old new w j (member_with_process number p (member w j)) w.sent w.issued w.tally l refl
+    (mem_process old new (member w j) _ refl refl
+    (short_process (member w j).processes number p few (h.members j).blocks) l (h.members j))
     (let a : length w.sent ≤ old * 16 = h.sent in omega (arith, a, l)) (tally_more old new w.tally l h.tally) h
 
-within_block : (out : Outside) (s : ℕ) (w : World) (j process : ℕ) (state : BlockState) → HasFewBlocks state → IsWithinSteps s w → IsWithinSteps (s + 1) (after_block out w j process state)
+within_block : (out : Outside) (s : ℕ) (w : World) (j process : ℕ) (state : BlockState) → HasFewBlocks state
+    → IsWithinSteps s w → IsWithinSteps (s + 1) (after_block out w j process state)
 within_block out s w j process Unknown few h = within_stays s w h
 within_block out s w j process Already few h = within_stays s w h
 within_block out s w j process (Waiting p) few h = within_process s (s + 1) w j process p (omega arith) few h
 within_block out s w j process (Whole p) few h =
     let size : length (object_of p).contents ≡ length (indexes p) = length-map (indexes p) _ in
-    within_publish out s (with_process_at w j process (closed p)) j (object_of p) (omega (arith, size, few)) (within_process s s w j process (closed p) (omega arith) few h)
+    within_publish out s (with_process_at w j process (closed p)) j (object_of p) (omega (arith, size, few))
+    (within_process s s w j process (closed p) (omega arith) few h)
 
 -- ---- a settle and a fetch
 
 sized : {A : Type 0} (f : A → ℕ) (b : ℕ) (xs : List A) → ((x : A) → f x ≤ b) → sum_by f xs ≤ length xs * b
 sized f b xs h = sum_by-le f b xs (λ k d l. h (get_or xs k d))
 
-few_parts_in : (w : World) (s : ℕ) → IsWithinSteps s w → (q : Publication) → In q (published (logs w)) → length (parts_in q) ≤ 201
+few_parts_in : (w : World) (s : ℕ) → IsWithinSteps s w → (q : Publication) → In q (published (logs w))
+    → length (parts_in q) ≤ 201
 few_parts_in w s h q i =
     let there = in_published (logs w) q i in
     let few : length q.object.contents ≤ 200 = subst HasFew (sym there.object) (h.segments q.publisher (q.seq - 1)) in
-    let size : length (parts_in q) ≡ length q.object.contents + 1 = length-map (numbers_from 0 (length q.object.contents + 1)) _ ∙ length_numbers 0 (length q.object.contents + 1) in
+    let size : length (parts_in q) ≡ length q.object.contents + 1 =
+    length-map (numbers_from 0 (length q.object.contents + 1)) _ ∙ length_numbers 0 (length q.object.contents + 1) in
     omega (arith, few, size)
 
 pub few_parts : PartsStayFew
 few_parts s w l h =
-    let sum : length (all_parts (logs w)) ≤ length (published (logs w)) * 201 = subst (λ (n : ℕ). n ≤ length (published (logs w)) * 201) (sym (length-flat_map parts_in (published (logs w)))) (sum_by-le (λ q. length (parts_in q)) 201 (published (logs w)) (λ k d i. few_parts_in w s h (get_or (published (logs w)) k d) (in_at (published (logs w)) k d i))) in
+    let sum : length (all_parts (logs w)) ≤ length (published (logs w)) * 201 =
+    subst (λ (n : ℕ). n ≤ length (published (logs w)) * 201) (sym (length-flat_map parts_in (published (logs w))))
+    (sum_by-le (λ q. length (parts_in q)) 201 (published (logs w))
+    (λ k d i. few_parts_in w s h (get_or (published (logs w)) k d) (in_at (published (logs w)) k d i))) in
     let few : length (published (logs w)) ≤ s = h.published in
     omega (arith, sum, few, l)
 
 few_new : (w : World) (s : ℕ) → s ≤ 100000 → IsWithinSteps s w → (m : Member) → length (new_parts w m) ≤ 20100000
-few_new w s l h m = let a : length (new_parts w m) ≤ length (all_parts (logs w)) = filter_short (comes_to w m) (all_parts (logs w)) in let b : length (all_parts (logs w)) ≤ 20100000 = few_parts s w l h in omega (arith, a, b)
+few_new w s l h m =
+    let a : length (new_parts w m) ≤ length (all_parts (logs w)) = filter_short (comes_to w m) (all_parts (logs w)) in
+    let b : length (all_parts (logs w)) ≤ 20100000 = few_parts s w l h in omega (arith, a, b)
 
 length_syncs : (k : ℕ) (ms : List Member) → length (syncs_of k ms) ≡ length ms
 length_syncs k [] = refl
 length_syncs k (m ∷ ms) = ap suc (length_syncs (k + 1) ms)
 
-each_settled : (out : Outside) (w : World) (s k : ℕ) (ms : List Member) → ((j : ℕ) → IsMemberWithin s (get_or ms j no_member)) → (j : ℕ) → IsMemberWithin (s + 1) (get_or (settle_each out w k ms) j no_member)
+each_settled : (out : Outside) (w : World) (s k : ℕ) (ms : List Member)
+    → ((j : ℕ) → IsMemberWithin s (get_or ms j no_member)) → (j : ℕ)
+    → IsMemberWithin (s + 1) (get_or (settle_each out w k ms) j no_member)
 each_settled out w s k [] each j = mem_more s (s + 1) no_member (omega arith) (each j)
-each_settled out w s k (m ∷ ms) each zero = mem_machine s m (settles out w k m) (omega arith) refl (each zero).blocks (each zero)
+each_settled out w s k (m ∷ ms) each zero =
+    mem_machine s m (settles out w k m) (omega arith) refl (each zero).blocks (each zero)
 each_settled out w s k (m ∷ ms) each (suc j) = each_settled out w s (k + 1) ms (λ i. each (suc i)) j
 
 pairs_of : (n : ℕ) → n ≤ 16 → n * (n - 1) ≤ 240
 pairs_of n l = let a : n * (n - 1) ≤ 16 * 15 = mul-le n (n - 1) 16 15 l (omega (arith, l)) in omega (arith, a)
 
 -- after a settle, with machines that were reset or not
-within_settled : (out : Outside) (s : ℕ) (w : World) (ms : List Member) → s ≤ 100000 → length w.members ≤ 16 → HasSmallPackets out w → IsWithinSteps s w → logs_of ms ≡ logs w → ((j : ℕ) → IsMemberWithin (s + 1) (get_or ms j no_member))
+within_settled : (out : Outside) (s : ℕ) (w : World) (ms : List Member) → s ≤ 100000 → length w.members ≤ 16
+    → HasSmallPackets out w → IsWithinSteps s w → logs_of ms ≡ logs w
+    → ((j : ℕ) → IsMemberWithin (s + 1) (get_or ms j no_member))
     → IsWithinSteps (s + 1) (record (after_gathering out w) { members = ms })
 within_settled out s w ms l few size h same each =
-    let gained : sum_by (λ m. length (new_parts w m)) w.members ≤ length w.members * 20100000 = sized (λ (m : Member). length (new_parts w m)) 20100000 w.members (few_new w s l h) in
+    let gained : sum_by (λ m. length (new_parts w m)) w.members ≤ length w.members * 20100000 =
+    sized (λ (m : Member). length (new_parts w m)) 20100000 w.members (few_new w s l h) in
     let octets_of : (m : Member) → sum_by (out.size (logs w)) (new_parts w m) ≤ 176880000000 = λ m.
-    (let a : sum_by (out.size (logs w)) (new_parts w m) ≤ length (new_parts w m) * 8800 = sized (out.size (logs w)) 8800 (new_parts w m) size in let b : length (new_parts w m) ≤ 20100000 = few_new w s l h m in omega (arith, a, b)) in
-    let octets : sum_by (λ m. sum_by (out.size (logs w)) (new_parts w m)) w.members ≤ length w.members * 176880000000 = sized (λ (m : Member). sum_by (out.size (logs w)) (new_parts w m)) 176880000000 w.members octets_of in
+    (let a : sum_by (out.size (logs w)) (new_parts w m) ≤ length (new_parts w m) * 8800 =
+    sized (out.size (logs w)) 8800 (new_parts w m) size in
+    let b : length (new_parts w m) ≤ 20100000 = few_new w s l h m in omega (arith, a, b)) in
+    let octets : sum_by (λ m. sum_by (out.size (logs w)) (new_parts w m)) w.members ≤ length w.members * 176880000000 =
+    sized (λ (m : Member). sum_by (out.size (logs w)) (new_parts w m)) 176880000000 w.members octets_of in
     record {
       moment = let x : w.moment ≤ s * 1000000000 = h.moment in omega (arith, x);
-      sent = let a : length w.sent ≤ s * 16 = h.sent in let b : length (w.sent ++ syncs_of 0 w.members) ≡ length w.sent + length (syncs_of 0 w.members) = length-append w.sent (syncs_of 0 w.members) in let c : length (syncs_of 0 w.members) ≡ length w.members = length_syncs 0 w.members in omega (arith, a, b, c, few);
-      published = let x : length (published (logs w)) ≤ s = h.published in subst (λ (ls : Logs). length (published ls) ≤ s + 1) (sym same) (omega (arith, x));
+      sent =
+          let a : length w.sent ≤ s * 16 = h.sent in
+          let b : length (w.sent ++ syncs_of 0 w.members) ≡ length w.sent + length (syncs_of 0 w.members) =
+          length-append w.sent (syncs_of 0 w.members) in
+          let c : length (syncs_of 0 w.members) ≡ length w.members = length_syncs 0 w.members in
+          omega (arith, a, b, c, few);
+      published =
+          let x : length (published (logs w)) ≤ s = h.published in
+          subst (λ (ls : Logs). length (published ls) ≤ s + 1) (sym same) (omega (arith, x));
       segments = subst (λ (ls : Logs). (p k : ℕ) → HasFew (get_or (get_or ls p []) k no_object)) (sym same) h.segments;
       members = each;
       tally = record {
-        delivered = let x : w.tally.delivered ≤ s * 240 = h.tally.delivered in let y : length w.members * (length w.members - 1) ≤ 240 = pairs_of (length w.members) few in omega (arith, x, y);
+        delivered =
+            let x : w.tally.delivered ≤ s * 240 = h.tally.delivered in
+            let y : length w.members * (length w.members - 1) ≤ 240 = pairs_of (length w.members) few in
+            omega (arith, x, y);
         attempts = let x : w.tally.attempts ≤ s * 65536 = h.tally.attempts in omega (arith, x);
         parts = let x : w.tally.parts ≤ s * 321600000 = h.tally.parts in omega (arith, x, gained, few);
         octets = let x : w.tally.octets ≤ s * 2830080000000 = h.tally.octets in omega (arith, x, octets, few);
       };
     }
 
-within_settle : (out : Outside) (s : ℕ) (w : World) → s ≤ 100000 → length w.members ≤ 16 → HasSmallPackets out w → IsWithinSteps s w → IsWithinSteps (s + 1) (after_settle out w)
-within_settle out s w l few size h = within_settled out s w (settle_each out w 0 w.members) l few size h (logs_settled out w 0 w.members) (each_settled out w s 0 w.members h.members)
+within_settle : (out : Outside) (s : ℕ) (w : World) → s ≤ 100000 → length w.members ≤ 16 → HasSmallPackets out w
+    → IsWithinSteps s w → IsWithinSteps (s + 1) (after_settle out w)
+within_settle out s w l few size h =
+    within_settled out s w (settle_each out w 0 w.members) l few size h (logs_settled out w 0 w.members)
+    (each_settled out w s 0 w.members h.members)
 
-each_gathered : (w : World) (s : ℕ) (ms : List Member) → ((j : ℕ) → IsMemberWithin s (get_or ms j no_member)) → (j : ℕ) → IsMemberWithin (s + 1) (get_or (map (settled_member w) ms) j no_member)
+each_gathered : (w : World) (s : ℕ) (ms : List Member) → ((j : ℕ) → IsMemberWithin s (get_or ms j no_member)) → (j : ℕ)
+    → IsMemberWithin (s + 1) (get_or (map (settled_member w) ms) j no_member)
 each_gathered w s [] each j = mem_more s (s + 1) no_member (omega arith) (each j)
-each_gathered w s (m ∷ ms) each zero = mem_beside s (s + 1) m (settled_member w m) refl refl refl (omega arith) (each zero)
+each_gathered w s (m ∷ ms) each zero =
+    mem_beside s (s + 1) m (settled_member w m) refl refl refl (omega arith) (each zero)
 each_gathered w s (m ∷ ms) each (suc j) = each_gathered w s ms (λ i. each (suc i)) j
 
 pub gathering_within : GatheringStaysWithin
-gathering_within out s w l few size h = within_settled out s w (map (settled_member w) w.members) l few size h (logs_gathered w w.members) (each_gathered w s w.members h.members)
+gathering_within out s w l few size h =
+    within_settled out s w (map (settled_member w) w.members) l few size h (logs_gathered w w.members)
+    (each_gathered w s w.members h.members)
 
-within_fetch : (out : Outside) (s : ℕ) (w : World) (j tries loss : ℕ) → tries ≤ 16 → HasSmallPackets out w → IsWithinSteps s w → IsWithinSteps (s + 1) (after_fetch out w j tries loss)
+within_fetch : (out : Outside) (s : ℕ) (w : World) (j tries loss : ℕ) → tries ≤ 16 → HasSmallPackets out w
+    → IsWithinSteps s w → IsWithinSteps (s + 1) (after_fetch out w j tries loss)
 within_fetch out s w j tries loss l size h =
     let m : Member = member w j in
     let ts : List Part = planned_parts w j in
@@ -393,10 +552,15 @@ within_fetch out s w j tries loss l size h =
     let came : length (fetched_parts out w j tries loss) ≤ length ts = filter_short _ ts in
     let each : (t : Part) → attempts_for out w j tries loss t ≤ 16 = λ t. few_attempts out w j tries loss t l in
     let made : attempts_made out w j tries loss ≤ length ts * 16 = sized (attempts_for out w j tries loss) 16 ts each in
-    let octets : sum_by (out.size (logs w)) (fetched_parts out w j tries loss) ≤ length (fetched_parts out w j tries loss) * 8800 = sized (out.size (logs w)) 8800 (fetched_parts out w j tries loss) size in
+    let octets : sum_by (out.size (logs w)) (fetched_parts out w j tries loss)
+    ≤ length (fetched_parts out w j tries loss) * 8800 =
+    sized (out.size (logs w)) 8800 (fetched_parts out w j tries loss) size in
     let rises : Rises part_cmp ts = rises_take 4096 (open_at w j) (unclaimed_rises (plan_of (logs w) m)) in
     within_set s (s + 1) w j n w.sent w.issued _ (omega arith) refl
-    (mem_change s (s + 1) m n (omega arith) (λ t. let a : tries_of n.attempts t ≤ tries_of m.attempts t + 16 = each_tried_at (attempts_for out w j tries loss) ts m.attempts t rises each in omega (arith, a)) (h.members j).blocks (omega arith) (h.members j))
+    (mem_change s (s + 1) m n (omega arith) (λ t.
+    let a : tries_of n.attempts t ≤ tries_of m.attempts t + 16 =
+    each_tried_at (attempts_for out w j tries loss) ts m.attempts t rises each in
+    omega (arith, a)) (h.members j).blocks (omega arith) (h.members j))
     (same_sent s w h) (record {
       delivered = let x : w.tally.delivered ≤ s * 240 = h.tally.delivered in omega (arith, x);
       attempts = let x : w.tally.attempts ≤ s * 65536 = h.tally.attempts in omega (arith, x, made, some);
@@ -410,14 +574,23 @@ pub within_after : StaysWithin
 within_after out s w (Event.Publish j o) l few size r h = within_publish out s w j o r h
 within_after out s w (Event.Deliver k j) l few size r h = within_deliver out s w j (sent_at w k).vector h
 within_after out s w (Event.Sync k) l few size r h = within_stays s w h
-within_after out s w (Event.Advance ms) l few size r h = within_same s (s + 1) w (w.moment + ms) w.issued w.tally (omega arith) (let x : w.moment ≤ s * 1000000000 = h.moment in omega (arith, x, r)) (more_tally s w h) h
+within_after out s w (Event.Advance ms) l few size r h =
+    within_same s (s + 1) w (w.moment + ms) w.issued w.tally (omega arith)
+    (let x : w.moment ≤ s * 1000000000 = h.moment in omega (arith, x, r)) (more_tally s w h) h
 within_after out s w (Event.Fire j) l few size r h = within_fire out s w j (timer_at w j) h
-within_after out s w (Event.Restart j) l few size r h = within_set s (s + 1) w j (restarts (drawn out w j) w.moment (member w j)) w.sent w.issued w.tally (omega arith) refl (mem_machine s (member w j) _ (omega arith) refl (λ i p e. absurd cc) (h.members j)) (same_sent s w h) (more_tally s w h) h
+within_after out s w (Event.Restart j) l few size r h =
+    within_set s (s + 1) w j (restarts (drawn out w j) w.moment (member w j)) w.sent w.issued w.tally (omega arith) refl
+    (mem_machine s (member w j) _ (omega arith) refl (λ i p e. absurd cc) (h.members j)) (same_sent s w h)
+    (more_tally s w h) h
 within_after out s w (Event.Vector j) l few size r h = within_stays s w h
 within_after out s w (Event.Catalogue j) l few size r h = within_stays s w h
 within_after out s w (Event.Claim j f) l few size r h = within_claim s w j f (to_claim w j) h
-within_after out s w (Event.Lose j f) l few size r h = within_set s (s + 1) w j (member_with_claim f None (member w j)) w.sent w.issued w.tally (omega arith) refl (mem_beside s (s + 1) (member w j) _ refl refl refl (omega arith) (h.members j)) (same_sent s w h) (more_tally s w h) h
-within_after out s w (Event.Answer j f q) l few size r h = within_came out s w j f (claim_at w j f) (came_from out w q (claim_at w j f)) 1 (omega arith) size h
+within_after out s w (Event.Lose j f) l few size r h =
+    within_set s (s + 1) w j (member_with_claim f None (member w j)) w.sent w.issued w.tally (omega arith) refl
+    (mem_beside s (s + 1) (member w j) _ refl refl refl (omega arith) (h.members j)) (same_sent s w h)
+    (more_tally s w h) h
+within_after out s w (Event.Answer j f q) l few size r h =
+    within_came out s w j f (claim_at w j f) (came_from out w q (claim_at w j f)) 1 (omega arith) size h
 within_after out s w (Event.Fetch j tries loss) l few size r h = within_fetch out s w j tries loss r size h
 within_after out s w Event.Settle l few size r h = within_settle out s w l few size h
 within_after out s w (Event.Dump j t) l few size r h = within_stays s w h
@@ -425,10 +598,15 @@ within_after out s w (Event.Hear j read) l few size r h = within_hear out s w j 
 within_after out s w (Event.Ask j find) l few size r h = within_stays s w h
 within_after out s w (Event.Feed j f read) l few size r h =
     let none : w.tally.attempts + 0 ≡ w.tally.attempts = omega arith in
-    subst (λ (n : ℕ). IsWithinSteps (s + 1) (after_came out (record w { tally = record w.tally { attempts = n } }) j f (claim_at w j f) (came_as w read (claim_at w j f)))) none (within_came out s w j f (claim_at w j f) (came_as w read (claim_at w j f)) 0 (omega arith) size h)
+    subst (λ (n : ℕ). IsWithinSteps (s + 1)
+    (after_came out (record w { tally = record w.tally { attempts = n } }) j f (claim_at w j f)
+    (came_as w read (claim_at w j f)))) none
+    (within_came out s w j f (claim_at w j f) (came_as w read (claim_at w j f)) 0 (omega arith) size h)
 within_after out s w (Event.Order j read) l few size r h = within_order s w j read r h
 within_after out s w (Event.Issue j client command) l few size r h = within_command s w _ j command r h
-within_after out s w (Event.Block j process index content) l few size r h = within_block out s w j process (block_at w j process index content) (few_in index content (value_of nat_cmp (member w j).processes process) (λ q e. (h.members j).blocks process q e)) h
+within_after out s w (Event.Block j process index content) l few size r h =
+    within_block out s w j process (block_at w j process index content)
+    (few_in index content (value_of nat_cmp (member w j).processes process) (λ q e. (h.members j).blocks process q e)) h
 within_after out s w Event.Summary l few size r h = within_stays s w h
 within_after out s w Event.Traffic l few size r h = within_stays s w h
 
@@ -443,46 +621,66 @@ more_within s more w l h = record {
 }
 
 pub within_all : RunsStayWithin
-within_all out s w [] sound l few taken r size h = let e : s ≡ s + 0 = omega arith in subst (λ (n : ℕ). IsWithinSteps n w) e h
+within_all out s w [] sound l few taken r size h =
+    let e : s ≡ s + 0 = omega arith in subst (λ (n : ℕ). IsWithinSteps n w) e h
 within_all out s w (e ∷ es) sound l few taken r size h =
     let width : length (after_event out w e).members ≡ length w.members = (lasts out w e taken.0 sound).width in
     let later : s + 1 + length es ≡ s + suc (length es) = omega arith in
     subst (λ (n : ℕ). IsWithinSteps n (after_events out (after_event out w e) es)) later
-    (within_all out (s + 1) (after_event out w e) es (sound_after out w e taken.0 sound) (omega (arith, l)) (subst (λ (n : ℕ). n ≤ 16) (sym width) few) taken.1 r.1 size.1
+    (within_all out (s + 1) (after_event out w e) es (sound_after out w e taken.0 sound) (omega (arith, l))
+    (subst (λ (n : ℕ). n ≤ 16) (sym width) few) taken.1 r.1 size.1
     (within_after out s w e (omega (arith, l)) few size.0 r.0 h))
 
 -- ---- the opening
 
-nothing_published : (p : ℕ) (f : ℕ → Member) (xs : List ℕ) → ((x : ℕ) → (f x).log ≡ []) → published_from p (logs_of (map f xs)) ≡ []
+nothing_published : (p : ℕ) (f : ℕ → Member) (xs : List ℕ) → ((x : ℕ) → (f x).log ≡ [])
+    → published_from p (logs_of (map f xs)) ≡ []
 nothing_published p f [] e = refl
-nothing_published p f (x ∷ xs) e = subst (λ (l : List NamedContents). numbered_publications p 1 l ++ published_from (p + 1) (logs_of (map f xs)) ≡ []) (sym (e x)) (nothing_published (p + 1) f xs e)
+nothing_published p f (x ∷ xs) e =
+    subst (λ (l : List NamedContents). numbered_publications p 1 l ++ published_from (p + 1) (logs_of (map f xs)) ≡ [])
+    (sym (e x)) (nothing_published (p + 1) f xs e)
 
-no_objects : (f : ℕ → Member) (xs : List ℕ) (p k : ℕ) → ((x : ℕ) → (f x).log ≡ []) → HasFew (get_or (get_or (logs_of (map f xs)) p []) k no_object)
+no_objects : (f : ℕ → Member) (xs : List ℕ) (p k : ℕ) → ((x : ℕ) → (f x).log ≡ [])
+    → HasFew (get_or (get_or (logs_of (map f xs)) p []) k no_object)
 no_objects f [] p k e = omega arith
-no_objects f (x ∷ xs) zero k e = subst (λ (l : List NamedContents). HasFew (get_or l k no_object)) (sym (e x)) (omega arith)
+no_objects f (x ∷ xs) zero k e =
+    subst (λ (l : List NamedContents). HasFew (get_or l k no_object)) (sym (e x)) (omega arith)
 no_objects f (x ∷ xs) (suc p) k e = no_objects f xs p k e
 
-each_opening : (f : ℕ → Member) (xs : List ℕ) (j : ℕ) → ((x : ℕ) → IsMemberWithin 0 (f x)) → IsMemberWithin 0 no_member → IsMemberWithin 0 (get_or (map f xs) j no_member)
+each_opening : (f : ℕ → Member) (xs : List ℕ) (j : ℕ) → ((x : ℕ) → IsMemberWithin 0 (f x)) → IsMemberWithin 0 no_member
+    → IsMemberWithin 0 (get_or (map f xs) j no_member)
 each_opening f [] j e n = n
 each_opening f (x ∷ xs) zero e n = e x
 each_opening f (x ∷ xs) (suc j) e n = each_opening f xs j e n
 
 pub within_opening : BeginsWithin
 within_opening out n =
-    let f : ℕ → Member = λ j. record no_member { known = replicate n 0; machine = record { members = n; heard = None; deadline = periodic (out.draw j 0); draws = 1 } } in
+    let f : ℕ → Member = λ j. record no_member {
+      known = replicate n 0;
+      machine = record { members = n; heard = None; deadline = periodic (out.draw j 0); draws = 1 };
+    } in
     record {
       moment = omega arith;
       sent = omega arith;
-      published = let e : published (logs (opening_world out n)) ≡ [] = nothing_published 0 f (numbers_from 0 n) (λ x. refl) in let z : length (published (logs (opening_world out n))) ≡ 0 = ap length e in omega (arith, z);
+      published =
+          let e : published (logs (opening_world out n)) ≡ [] = nothing_published 0 f (numbers_from 0 n) (λ x. refl) in
+          let z : length (published (logs (opening_world out n))) ≡ 0 = ap length e in omega (arith, z);
       segments = λ p k. no_objects f (numbers_from 0 n) p k (λ x. refl);
-      members = λ j. each_opening f (numbers_from 0 n) j (λ x. record { draws = omega arith; tried = λ t. omega arith; blocks = λ i q e. absurd cc }) (record { draws = omega arith; tried = λ t. omega arith; blocks = λ i q e. absurd cc });
+      members =
+          λ j. each_opening f (numbers_from 0 n) j
+          (λ x. record { draws = omega arith; tried = λ t. omega arith; blocks = λ i q e. absurd cc })
+          (record { draws = omega arith; tried = λ t. omega arith; blocks = λ i q e. absurd cc });
       tally = record { delivered = omega arith; attempts = omega arith; parts = omega arith; octets = omega arith };
     }
 
 pub reached_within : ReachedRunsStayWithin
 reached_within out n es few l taken r size =
-    let f : ℕ → Member = λ j. record no_member { known = replicate n 0; machine = record { members = n; heard = None; deadline = periodic (out.draw j 0); draws = 1 } } in
+    let f : ℕ → Member = λ j. record no_member {
+      known = replicate n 0;
+      machine = record { members = n; heard = None; deadline = periodic (out.draw j 0); draws = 1 };
+    } in
     let wide : length (opening_world out n).members ≡ n = length-map (numbers_from 0 n) f ∙ length_numbers 0 n in
     let none : 0 + length es ≡ length es = omega arith in
     subst (λ (k : ℕ). IsWithinSteps k (after_events out (opening_world out n) es)) none
-    (within_all out 0 (opening_world out n) es (sound_opening out n) (omega (arith, l)) (omega (arith, wide, few)) taken r size (within_opening out n))
+    (within_all out 0 (opening_world out n) es (sound_opening out n) (omega (arith, l)) (omega (arith, wide, few)) taken
+    r size (within_opening out n))

@@ -1,5 +1,7 @@
 -- The machine of each member follows the table of suppression.
-use Rattle.std.proofs.Common.{◌≡◌, inl, inr, ℕ, suc, zero, ◌+◌, ◌<◌, Bool, true, false, cond, List, [], ◌∷◌, ◌++◌, length, get_or, set, ltb, refl, sym, ap, ◌∙◌, subst, arith, Option, Some, None, Result, Ok, Err}
+use Rattle.std.proofs.Common.{◌≡◌, inl, inr, ℕ, suc, zero, ◌+◌, ◌<◌, Bool, true, false, cond, List, [], ◌∷◌, ◌++◌}
+use Rattle.std.proofs.Common.{length, get_or, set, ltb, refl, sym, ap, ◌∙◌, subst, arith, Option, Some, None, Result}
+use Rattle.std.proofs.Common.{Ok, Err}
 use Rattle.std.proofs.lemmas.Bool.{cases_Bool, eqb-true, eqb-false}
 use Rattle.std.proofs.lemmas.List.{length-set, get_or-set_same, get_or-set_other, get_or-map, length-map}
 use Rattle.std.specs.Prelude.{◌==◌, replicate}
@@ -25,11 +27,15 @@ use Rattle.group_model.specs.Publications.{pair_in}
 use Rattle.group_model.specs.Events.{SyncInterest, Came, Event}
 use Rattle.group_model.specs.Events.Came.{Nothing, Its, Another}
 use Rattle.group_model.specs.World.{Outside, World, no_member, member, with_member, logs, sent_at, opening_world}
-use Rattle.group_model.specs.Steps.{drawn, claim_at, to_claim, timer_at, tells_too_much, came_from, came_as, can_start, block_at, with_process_at, after_event, after_events, after_hear, after_fire, after_claiming, after_came, after_settle, after_command, after_order, after_block, after_deliver, after_publish}
+use Rattle.group_model.specs.Steps.{drawn, claim_at, to_claim, timer_at, tells_too_much, came_from, came_as, can_start}
+use Rattle.group_model.specs.Steps.{block_at, with_process_at, after_event, after_events, after_hear, after_fire}
+use Rattle.group_model.specs.Steps.{after_claiming, after_came, after_settle, after_command, after_order, after_block}
+use Rattle.group_model.specs.Steps.{after_deliver, after_publish}
 use Rattle.group_model.specs.Refusals.{EventIsTaken, EventsAreTaken}
 use Rattle.group_model.specs.Sound.{IsSoundGroup}
 use Rattle.group_model.specs.Reached.{InSoundGroups}
-use Rattle.group_model.specs.Machines.{only_at, hears_of, befalls_read, befalls_block, befalls, befall, first_machine, MachinesFollowTable, MachinesBegin, ReachedMachinesFollowTable}
+use Rattle.group_model.specs.Machines.{only_at, hears_of, befalls_read, befalls_block, befalls, befall, first_machine}
+use Rattle.group_model.specs.Machines.{MachinesFollowTable, MachinesBegin, ReachedMachinesFollowTable}
 use Rattle.group_model.proofs.Settles.{member_settled}
 use Rattle.group_model.proofs.Worlds.{sound_after}
 use Rattle.group_model.proofs.Lasting.{lasts}
@@ -47,25 +53,36 @@ none : (k : Keeper) → after_all_kept [] k ≡ k
 unfolding after_all_kept
 none k = refl
 
-in_turn : (xs ys : List Suppression.SyncEvent) (k : Keeper) → after_all_kept (xs ++ ys) k ≡ after_all_kept ys (after_all_kept xs k)
+in_turn : (xs ys : List Suppression.SyncEvent) (k : Keeper)
+    → after_all_kept (xs ++ ys) k ≡ after_all_kept ys (after_all_kept xs k)
 unfolding after_all_kept
 in_turn [] ys k = refl
 in_turn (x ∷ xs) ys k = in_turn xs ys (after_kept x k)
 
 -- one member changes, by what befell its machine
-makes_set : (w : World) (i : ℕ) (m : Member) (e : Suppression.SyncEvent) (j : ℕ) → j < length w.members → m.machine ≡ after_kept e (member w i).machine → Makes (only_at i j e) (member w j) (get_or (set w.members i m) j no_member)
+makes_set : (w : World) (i : ℕ) (m : Member) (e : Suppression.SyncEvent) (j : ℕ) → j < length w.members
+    → m.machine ≡ after_kept e (member w i).machine
+    → Makes (only_at i j e) (member w j) (get_or (set w.members i m) j no_member)
 makes_set w i m e j l h = elim (cases_Bool (i == j)) [
   | inl y ↦
       let same : i ≡ j = eqb-true i j y in
-      let there : get_or (set w.members i m) j no_member ≡ m = ap (λ (k : ℕ). get_or (set w.members i m) k no_member) (sym same) ∙ get_or-set_same w.members i m no_member (subst (λ (k : ℕ). k < length w.members) (sym same) l) in
-      ap (λ (x : Member). x.machine) there ∙ h ∙ ap (λ (k : ℕ). after_kept e (member w k).machine) same ∙ sym (ap (λ (b : Bool). after_all_kept (cond b (e ∷ []) []) (member w j).machine) y ∙ one e (member w j).machine)
+      let there : get_or (set w.members i m) j no_member ≡ m =
+      ap (λ (k : ℕ). get_or (set w.members i m) k no_member) (sym same)
+      ∙ get_or-set_same w.members i m no_member (subst (λ (k : ℕ). k < length w.members) (sym same) l) in
+      ap (λ (x : Member). x.machine) there
+      ∙ h
+      ∙ ap (λ (k : ℕ). after_kept e (member w k).machine) same
+      ∙ sym (ap (λ (b : Bool). after_all_kept (cond b (e ∷ []) []) (member w j).machine) y ∙ one e (member w j).machine)
   | inr n ↦
-      let other : get_or (set w.members i m) j no_member ≡ member w j = get_or-set_other w.members i j m no_member (λ same. eqb-false i j n (sym same)) in
-      ap (λ (x : Member). x.machine) other ∙ sym (ap (λ (b : Bool). after_all_kept (cond b (e ∷ []) []) (member w j).machine) n ∙ none (member w j).machine)
+      let other : get_or (set w.members i m) j no_member ≡ member w j =
+      get_or-set_other w.members i j m no_member (λ same. eqb-false i j n (sym same)) in
+      ap (λ (x : Member). x.machine) other
+      ∙ sym (ap (λ (b : Bool). after_all_kept (cond b (e ∷ []) []) (member w j).machine) n ∙ none (member w j).machine)
 ]
 
 -- one member changes, and its machine doesn't
-makes_beside : (ms : List Member) (i : ℕ) (m : Member) (j : ℕ) → m.machine ≡ (get_or ms i no_member).machine → Makes [] (get_or ms j no_member) (get_or (set ms i m) j no_member)
+makes_beside : (ms : List Member) (i : ℕ) (m : Member) (j : ℕ) → m.machine ≡ (get_or ms i no_member).machine
+    → Makes [] (get_or ms j no_member) (get_or (set ms i m) j no_member)
 makes_beside [] i m j h = sym (none no_member.machine)
 makes_beside (x ∷ xs) zero m zero h = h ∙ sym (none x.machine)
 makes_beside (x ∷ xs) zero m (suc j) h = sym (none (get_or xs j no_member).machine)
@@ -81,54 +98,80 @@ machine_hides (p ∷ ps) m = machine_hides ps (member_hides_too (pair_in p) m)
 
 -- ---- each event
 
-makes_claim : (w : World) (i f : ℕ) (c : Option Part) (j : ℕ) → Makes [] (member w j) (member (after_claiming w i f c) j)
+makes_claim : (w : World) (i f : ℕ) (c : Option Part) (j : ℕ)
+    → Makes [] (member w j) (member (after_claiming w i f c) j)
 makes_claim w i f None j = makes_none (member w j)
 makes_claim w i f (Some t) j = makes_beside w.members i _ j refl
 
-makes_came : (out : Outside) (w v : World) (i f : ℕ) (c : Option Part) (came : Came) (j : ℕ) → v.members ≡ w.members → Makes [] (member w j) (member (after_came out v i f c came) j)
-makes_came out w v i f None came j e = ap (λ (ms : List Member). (get_or ms j no_member).machine) e ∙ makes_none (member w j)
-makes_came out w v i f (Some t) Nothing j e = ap (λ (ms : List Member). (get_or ms j no_member).machine) e ∙ makes_none (member w j)
-makes_came out w v i f (Some t) Its j e = makes_beside v.members i _ j refl ∙ ap (λ (ms : List Member). after_all_kept [] (get_or ms j no_member).machine) e
-makes_came out w v i f (Some t) Another j e = makes_beside v.members i _ j refl ∙ ap (λ (ms : List Member). after_all_kept [] (get_or ms j no_member).machine) e
+makes_came : (out : Outside) (w v : World) (i f : ℕ) (c : Option Part) (came : Came) (j : ℕ) → v.members ≡ w.members
+    → Makes [] (member w j) (member (after_came out v i f c came) j)
+makes_came out w v i f None came j e =
+    ap (λ (ms : List Member). (get_or ms j no_member).machine) e ∙ makes_none (member w j)
+makes_came out w v i f (Some t) Nothing j e =
+    ap (λ (ms : List Member). (get_or ms j no_member).machine) e ∙ makes_none (member w j)
+makes_came out w v i f (Some t) Its j e =
+    makes_beside v.members i _ j refl ∙ ap (λ (ms : List Member). after_all_kept [] (get_or ms j no_member).machine) e
+makes_came out w v i f (Some t) Another j e =
+    makes_beside v.members i _ j refl ∙ ap (λ (ms : List Member). after_all_kept [] (get_or ms j no_member).machine) e
 
-makes_command : (w v : World) (i : ℕ) (command : Command) (j : ℕ) → v.members ≡ w.members → Makes [] (member w j) (member (after_command v i command) j)
-makes_command w v i (Insert name first last) j e = go (can_start (member v i)) ∙ ap (λ (ms : List Member). after_all_kept [] (get_or ms j no_member).machine) e where
-  go : (b : Bool) → Makes [] (member v j) (member (cond b (with_member v i (member_starts name first last (member v i))) v) j)
-  go true = makes_beside v.members i _ j refl
-  go false = makes_none (member v j)
-makes_command w v i (Check process) j e = ap (λ (ms : List Member). (get_or ms j no_member).machine) e ∙ makes_none (member w j)
-makes_command w v i (Delete name) j e = makes_beside v.members i _ j (machine_hides (catalogued_under (logs v) (member v i) name) (member v i)) ∙ ap (λ (ms : List Member). after_all_kept [] (get_or ms j no_member).machine) e
+makes_command : (w v : World) (i : ℕ) (command : Command) (j : ℕ) → v.members ≡ w.members
+    → Makes [] (member w j) (member (after_command v i command) j)
+makes_command w v i (Insert name first last) j e =
+    go (can_start (member v i)) ∙ ap (λ (ms : List Member). after_all_kept [] (get_or ms j no_member).machine) e where
+      go : (b : Bool)
+          → Makes [] (member v j) (member (cond b (with_member v i (member_starts name first last (member v i))) v) j)
+      go true = makes_beside v.members i _ j refl
+      go false = makes_none (member v j)
+makes_command w v i (Check process) j e =
+    ap (λ (ms : List Member). (get_or ms j no_member).machine) e ∙ makes_none (member w j)
+makes_command w v i (Delete name) j e =
+    makes_beside v.members i _ j (machine_hides (catalogued_under (logs v) (member v i) name) (member v i))
+    ∙ ap (λ (ms : List Member). after_all_kept [] (get_or ms j no_member).machine) e
 
-makes_order : (w : World) (i : ℕ) (read : Result (ℕ × Command) ℕ) (j : ℕ) → Makes [] (member w j) (member (after_order w i read) j)
+makes_order : (w : World) (i : ℕ) (read : Result (ℕ × Command) ℕ) (j : ℕ)
+    → Makes [] (member w j) (member (after_order w i read) j)
 makes_order w i (Ok order) j = makes_command w w i order.1 j refl
 makes_order w i (Err code) j = makes_none (member w j)
 
-makes_publish : (out : Outside) (w : World) (i : ℕ) (o : NamedContents) (j : ℕ) → j < length w.members → Makes (only_at i j (published w.moment (drawn out w i))) (member w j) (member (after_publish out w i o) j)
+makes_publish : (out : Outside) (w : World) (i : ℕ) (o : NamedContents) (j : ℕ) → j < length w.members
+    → Makes (only_at i j (published w.moment (drawn out w i))) (member w j) (member (after_publish out w i o) j)
 unfolding after_kept
-makes_publish out w i o j l = makes_set w i (publishes (drawn out w i) w.moment i o (member w i)) (published w.moment (drawn out w i)) j l refl
+makes_publish out w i o j l =
+    makes_set w i (publishes (drawn out w i) w.moment i o (member w i)) (published w.moment (drawn out w i)) j l refl
 
-makes_deliver : (out : Outside) (w : World) (i : ℕ) (told : List ℕ) (j : ℕ) → j < length w.members → Makes (hears_of out w i j told) (member w j) (member (after_deliver out w i told) j)
+makes_deliver : (out : Outside) (w : World) (i : ℕ) (told : List ℕ) (j : ℕ) → j < length w.members
+    → Makes (hears_of out w i j told) (member w j) (member (after_deliver out w i told) j)
 unfolding after_kept
-makes_deliver out w i told j l = makes_set w i (learns (drawn out w i) w.moment told (member w i)) (heard w.moment told (member w i).known (drawn out w i)) j l refl
+makes_deliver out w i told j l =
+    makes_set w i (learns (drawn out w i) w.moment told (member w i))
+    (heard w.moment told (member w i).known (drawn out w i)) j l refl
 
-makes_hear : (out : Outside) (w : World) (i : ℕ) (read : Option SyncInterest) (j : ℕ) → j < length w.members → Makes (befalls_read out w i j read) (member w j) (member (after_hear out w i read) j)
+makes_hear : (out : Outside) (w : World) (i : ℕ) (read : Option SyncInterest) (j : ℕ) → j < length w.members
+    → Makes (befalls_read out w i j read) (member w j) (member (after_hear out w i read) j)
 makes_hear out w i None j l = makes_none (member w j)
 makes_hear out w i (Some sync) j l = go (tells_too_much w i sync) where
-  go : (b : Bool) → Makes (cond b [] (hears_of out w i j sync.vector)) (member w j) (member (cond b w (after_deliver out w i sync.vector)) j)
+  go : (b : Bool)
+      → Makes (cond b [] (hears_of out w i j sync.vector)) (member w j)
+      (member (cond b w (after_deliver out w i sync.vector)) j)
   go true = makes_none (member w j)
   go false = makes_deliver out w i sync.vector j l
 
-makes_reset : (out : Outside) (w : World) (i : ℕ) (j : ℕ) (m : Member) → j < length w.members → m.machine ≡ steady_kept w.moment (drawn out w i) (member w i).machine → Makes (only_at i j (reset w.moment (drawn out w i))) (member w j) (get_or (set w.members i m) j no_member)
+makes_reset : (out : Outside) (w : World) (i : ℕ) (j : ℕ) (m : Member) → j < length w.members
+    → m.machine ≡ steady_kept w.moment (drawn out w i) (member w i).machine
+    → Makes (only_at i j (reset w.moment (drawn out w i))) (member w j) (get_or (set w.members i m) j no_member)
 unfolding after_kept
 makes_reset out w i j m l e = makes_set w i m (reset w.moment (drawn out w i)) j l e
 
 -- a member stays as it is, which is what befell its machine makes of it
-makes_same : (w : World) (i : ℕ) (e : Suppression.SyncEvent) (j : ℕ) → (member w i).machine ≡ after_kept e (member w i).machine → Makes (only_at i j e) (member w j) (member w j)
+makes_same : (w : World) (i : ℕ) (e : Suppression.SyncEvent) (j : ℕ)
+    → (member w i).machine ≡ after_kept e (member w i).machine → Makes (only_at i j e) (member w j) (member w j)
 makes_same w i e j h = elim (cases_Bool (i == j)) [
   | inl y ↦
       let same : i ≡ j = eqb-true i j y in
-      subst (λ (k : ℕ). (member w k).machine ≡ after_kept e (member w k).machine) same h ∙ sym (ap (λ (b : Bool). after_all_kept (cond b (e ∷ []) []) (member w j).machine) y ∙ one e (member w j).machine)
-  | inr n ↦ sym (ap (λ (b : Bool). after_all_kept (cond b (e ∷ []) []) (member w j).machine) n ∙ none (member w j).machine)
+      subst (λ (k : ℕ). (member w k).machine ≡ after_kept e (member w k).machine) same h
+      ∙ sym (ap (λ (b : Bool). after_all_kept (cond b (e ∷ []) []) (member w j).machine) y ∙ one e (member w j).machine)
+  | inr n ↦
+      sym (ap (λ (b : Bool). after_all_kept (cond b (e ∷ []) []) (member w j).machine) n ∙ none (member w j).machine)
 ]
 
 -- ---- what a timer says is what its machine makes of it
@@ -145,41 +188,57 @@ due known (Some v) = either (covers v known) where
   either true = tt
   either false = tt
 
-fired_then : (now : ℕ) (known : List ℕ) (draw : ℕ) (k : Keeper) → ltb now k.deadline ≡ false → after_kept (fired now known draw) k ≡ steady_kept now draw k
+fired_then : (now : ℕ) (known : List ℕ) (draw : ℕ) (k : Keeper) → ltb now k.deadline ≡ false
+    → after_kept (fired now known draw) k ≡ steady_kept now draw k
 unfolding after_kept
 fired_then now known draw k e = ap (λ (b : Bool). cond b k (steady_kept now draw k)) e
 
-fired_early : (now : ℕ) (known : List ℕ) (draw : ℕ) (k : Keeper) → ltb now k.deadline ≡ true → after_kept (fired now known draw) k ≡ k
+fired_early : (now : ℕ) (known : List ℕ) (draw : ℕ) (k : Keeper) → ltb now k.deadline ≡ true
+    → after_kept (fired now known draw) k ≡ k
 unfolding after_kept
 fired_early now known draw k e = ap (λ (b : Bool). cond b k (steady_kept now draw k)) e
 
-makes_fire : (out : Outside) (w : World) (i j : ℕ) → j < length w.members → Makes (only_at i j (fired w.moment (member w i).known (drawn out w i))) (member w j) (member (after_fire out w i (timer_at w i)) j)
-makes_fire out w i j l = go (ltb w.moment (member w i).machine.deadline) refl (due_kept (member w i).known (member w i).machine.heard) (due (member w i).known (member w i).machine.heard) where
-  go : (b : Bool) → ltb w.moment (member w i).machine.deadline ≡ b → (f : Fired) → IsDue f
-      → Makes (only_at i j (fired w.moment (member w i).known (drawn out w i))) (member w j) (member (after_fire out w i (cond b Early f)) j)
-  go true e f d = makes_same w i _ j (sym (fired_early w.moment (member w i).known (drawn out w i) (member w i).machine e))
-  go false e Early d = absurd d
-  go false e Quiet d = makes_set w i _ _ j l (sym (fired_then w.moment (member w i).known (drawn out w i) (member w i).machine e))
-  go false e Send d = makes_set w i _ _ j l (sym (fired_then w.moment (member w i).known (drawn out w i) (member w i).machine e))
+makes_fire : (out : Outside) (w : World) (i j : ℕ) → j < length w.members
+    → Makes (only_at i j (fired w.moment (member w i).known (drawn out w i))) (member w j)
+    (member (after_fire out w i (timer_at w i)) j)
+makes_fire out w i j l =
+    go (ltb w.moment (member w i).machine.deadline) refl (due_kept (member w i).known (member w i).machine.heard)
+    (due (member w i).known (member w i).machine.heard) where
+      go : (b : Bool) → ltb w.moment (member w i).machine.deadline ≡ b → (f : Fired) → IsDue f
+          → Makes (only_at i j (fired w.moment (member w i).known (drawn out w i))) (member w j)
+          (member (after_fire out w i (cond b Early f)) j)
+      go true e f d =
+          makes_same w i _ j (sym (fired_early w.moment (member w i).known (drawn out w i) (member w i).machine e))
+      go false e Early d = absurd d
+      go false e Quiet d =
+          makes_set w i _ _ j l (sym (fired_then w.moment (member w i).known (drawn out w i) (member w i).machine e))
+      go false e Send d =
+          makes_set w i _ _ j l (sym (fired_then w.moment (member w i).known (drawn out w i) (member w i).machine e))
 
-makes_block : (out : Outside) (w : World) (i process : ℕ) (state : BlockState) (j : ℕ) → i < length w.members → j < length w.members → Makes (befalls_block out w i j state) (member w j) (member (after_block out w i process state) j)
+makes_block : (out : Outside) (w : World) (i process : ℕ) (state : BlockState) (j : ℕ) → i < length w.members
+    → j < length w.members
+    → Makes (befalls_block out w i j state) (member w j) (member (after_block out w i process state) j)
 makes_block out w i process Unknown j li l = makes_none (member w j)
 makes_block out w i process Already j li l = makes_none (member w j)
 makes_block out w i process (Waiting p) j li l = makes_beside w.members i _ j refl
 makes_block out w i process (Whole p) j li l =
     let v : World = with_process_at w i process (closed p) in
-    let here : (member v i).machine ≡ (member w i).machine = ap (λ (m : Member). m.machine) (get_or-set_same w.members i _ no_member li) in
-    let there : (member v j).machine ≡ (member w j).machine = makes_beside w.members i _ j refl ∙ none (member w j).machine in
+    let here : (member v i).machine ≡ (member w i).machine =
+    ap (λ (m : Member). m.machine) (get_or-set_same w.members i _ no_member li) in
+    let there : (member v j).machine ≡ (member w j).machine =
+    makes_beside w.members i _ j refl ∙ none (member w j).machine in
     let same : drawn out v i ≡ drawn out w i = ap (λ (k : Keeper). out.draw i k.draws) here in
     makes_publish out v i (object_of p) j (subst (λ (n : ℕ). j < n) (sym (length-set w.members i _)) l)
     ∙ ap (λ (d : ℕ). after_all_kept (only_at i j (published w.moment d)) (member v j).machine) same
     ∙ ap (λ (k : Keeper). after_all_kept (only_at i j (published w.moment (drawn out w i))) k) there
 
-makes_settle : (out : Outside) (w : World) (j : ℕ) → j < length w.members → Makes (reset w.moment (drawn out w j) ∷ []) (member w j) (member (after_settle out w) j)
+makes_settle : (out : Outside) (w : World) (j : ℕ) → j < length w.members
+    → Makes (reset w.moment (drawn out w j) ∷ []) (member w j) (member (after_settle out w) j)
 unfolding after_all_kept after_kept
 makes_settle out w j l = ap (λ (m : Member). m.machine) (member_settled out w j l)
 
-makes : (out : Outside) (w : World) (e : Event) (j : ℕ) → EventIsTaken out w e → j < length w.members → Makes (befalls out w j e) (member w j) (member (after_event out w e) j)
+makes : (out : Outside) (w : World) (e : Event) (j : ℕ) → EventIsTaken out w e → j < length w.members
+    → Makes (befalls out w j e) (member w j) (member (after_event out w e) j)
 makes out w (Event.Publish i o) j h l = makes_publish out w i o j l
 makes out w (Event.Deliver k i) j h l = makes_deliver out w i (sent_at w k).vector j l
 makes out w (Event.Sync k) j h l = makes_none (member w j)
@@ -190,16 +249,19 @@ makes out w (Event.Vector i) j h l = makes_none (member w j)
 makes out w (Event.Catalogue i) j h l = makes_none (member w j)
 makes out w (Event.Claim i f) j h l = makes_claim w i f (to_claim w i) j
 makes out w (Event.Lose i f) j h l = makes_beside w.members i _ j refl
-makes out w (Event.Answer i f q) j h l = makes_came out w _ i f (claim_at w i f) (came_from out w q (claim_at w i f)) j refl
+makes out w (Event.Answer i f q) j h l =
+    makes_came out w _ i f (claim_at w i f) (came_from out w q (claim_at w i f)) j refl
 makes out w (Event.Fetch i tries loss) j h l = makes_beside w.members i _ j refl
 makes out w Event.Settle j h l = makes_settle out w j l
 makes out w (Event.Dump i t) j h l = makes_none (member w j)
 makes out w (Event.Hear i read) j h l = makes_hear out w i read j l
 makes out w (Event.Ask i find) j h l = makes_none (member w j)
-makes out w (Event.Feed i f read) j h l = makes_came out w w i f (claim_at w i f) (came_as w read (claim_at w i f)) j refl
+makes out w (Event.Feed i f read) j h l =
+    makes_came out w w i f (claim_at w i f) (came_as w read (claim_at w i f)) j refl
 makes out w (Event.Order i read) j h l = makes_order w i read j
 makes out w (Event.Issue i client command) j h l = makes_command w _ i command j refl
-makes out w (Event.Block i process index content) j h l = makes_block out w i process (block_at w i process index content) j h.named l
+makes out w (Event.Block i process index content) j h l =
+    makes_block out w i process (block_at w i process index content) j h.named l
 makes out w Event.Summary j h l = makes_none (member w j)
 makes out w Event.Traffic j h l = makes_none (member w j)
 
@@ -210,7 +272,8 @@ number_at a zero j l = absurd (omega arith)
 number_at a (suc n) zero l = omega arith
 number_at a (suc n) (suc j) l = number_at (a + 1) n j (omega arith) ∙ omega arith
 
-makes_all : (out : Outside) (es : List Event) (w : World) (j : ℕ) → EventsAreTaken out w es → IsSoundGroup w → j < length w.members → Makes (befall out w j es) (member w j) (member (after_events out w es) j)
+makes_all : (out : Outside) (es : List Event) (w : World) (j : ℕ) → EventsAreTaken out w es → IsSoundGroup w
+    → j < length w.members → Makes (befall out w j es) (member w j) (member (after_events out w es) j)
 makes_all out [] w j h s l = makes_none (member w j)
 makes_all out (e ∷ es) w j h s l =
     let width : length (after_event out w e).members ≡ length w.members = (lasts out w e h.0 s).width in
@@ -220,23 +283,36 @@ makes_all out (e ∷ es) w j h s l =
 
 pub machines_follow_table : InSoundGroups MachinesFollowTable
 machines_follow_table out w s es n j first h l e =
-    let same : (member (after_events out w es) j).machine ≡ kept n (Suppression.after_sync_events (befall out w j es) first) =
-    makes_all out es w j h s l ∙ ap (after_all_kept (befall out w j es)) e ∙ after_all_same n (befall out w j es) first in
+    let same : (member (after_events out w es) j).machine
+    ≡ kept n (Suppression.after_sync_events (befall out w j es) first) =
+    makes_all out es w j h s l
+    ∙ ap (after_all_kept (befall out w j es)) e
+    ∙ after_all_same n (befall out w j es) first in
     record {
       machine = same;
       timer =
           let last : World = after_events out w es in
-          ap (fires_kept last.moment (member last j).known) same ∙ fires_same n last.moment (member last j).known (Suppression.after_sync_events (befall out w j es) first);
+          ap (fires_kept last.moment (member last j).known) same
+          ∙ fires_same n last.moment (member last j).known (Suppression.after_sync_events (befall out w j es) first);
     }
 
 pub machines_begin : MachinesBegin
 machines_begin out n j l =
-    let f : ℕ → Member = λ i. record no_member { known = replicate n 0; machine = record { members = n; heard = None; deadline = periodic (out.draw i 0); draws = 1 } } in
+    let f : ℕ → Member = λ i. record no_member {
+      known = replicate n 0;
+      machine = record { members = n; heard = None; deadline = periodic (out.draw i 0); draws = 1 };
+    } in
     let from_zero : 0 + j ≡ j = omega arith in
-    ap (λ (m : Member). m.machine) (get_or-map f (numbers_from 0 n) j 0 no_member (subst (λ (k : ℕ). j < k) (sym (length_numbers 0 n)) l)) ∙ ap (λ (i : ℕ). (f i).machine) (number_at 0 n j l ∙ from_zero)
+    ap (λ (m : Member). m.machine)
+    (get_or-map f (numbers_from 0 n) j 0 no_member (subst (λ (k : ℕ). j < k) (sym (length_numbers 0 n)) l))
+    ∙ ap (λ (i : ℕ). (f i).machine) (number_at 0 n j l ∙ from_zero)
 
 pub reached_machines : ReachedMachinesFollowTable
 reached_machines out n es j h l =
-    let f : ℕ → Member = λ i. record no_member { known = replicate n 0; machine = record { members = n; heard = None; deadline = periodic (out.draw i 0); draws = 1 } } in
+    let f : ℕ → Member = λ i. record no_member {
+      known = replicate n 0;
+      machine = record { members = n; heard = None; deadline = periodic (out.draw i 0); draws = 1 };
+    } in
     let wide : length (opening_world out n).members ≡ n = length-map (numbers_from 0 n) f ∙ length_numbers 0 n in
-    machines_follow_table out (opening_world out n) (sound_opening out n) es n j (first_machine out j) h (subst (λ (k : ℕ). j < k) (sym wide) l) (machines_begin out n j l)
+    machines_follow_table out (opening_world out n) (sound_opening out n) es n j (first_machine out j) h
+    (subst (λ (k : ℕ). j < k) (sym wide) l) (machines_begin out n j l)

@@ -1,5 +1,6 @@
 -- What each change of a member keeps.
-use Rattle.std.proofs.Common.{◌≡◌, ◌≢◌, ◌⊎◌, inl, inr, ℕ, suc, zero, ◌-◌, ◌≤◌, max, Bool, true, false, cond, List, [], ◌∷◌, length, get_or, set, refl, sym, ap, ◌∙◌, subst, arith, Option, Some, None}
+use Rattle.std.proofs.Common.{◌≡◌, ◌≢◌, ◌⊎◌, inl, inr, ℕ, suc, zero, ◌-◌, ◌≤◌, max, Bool, true, false, cond, List, []}
+use Rattle.std.proofs.Common.{◌∷◌, length, get_or, set, refl, sym, ap, ◌∙◌, subst, arith, Option, Some, None}
 use Rattle.std.proofs.lemmas.List.{length-set}
 use Rattle.repo_plan.specs.declared.part.Part.{Part}
 use Rattle.repo_plan.specs.SortedList.{contains}
@@ -13,14 +14,21 @@ use Rattle.group_model.specs.Publications.{Logs, last_of, count}
 use Rattle.repo_process.specs.Processes.{Process}
 use Rattle.group_model.specs.Member.{Member, member_holds, plan_of}
 use Rattle.group_model.specs.Changes.{learns, member_with_claim}
-use Rattle.group_model.specs.Sound.{IsSoundMember, IsPublished, IsKnown, TellsNoMore, IsTrueVector, HeardTruly, IsHeldSoundly, IsHiddenSoundly}
+use Rattle.group_model.specs.Sound.{IsSoundMember, IsPublished, IsKnown, TellsNoMore, IsTrueVector, HeardTruly}
+use Rattle.group_model.specs.Sound.{IsHeldSoundly, IsHiddenSoundly}
 use Rattle.group_model.proofs.Plans.{IsWanted, wanted_parts, wanted_from}
 
 pub known_published : (ls : Logs) (v : List ℕ) (pair : Pair) → TellsNoMore ls v → IsKnown v pair → IsPublished ls pair
-known_published ls v pair t k = record { from_one = k.from_one; to_last = let h : get_or v pair.0 0 ≤ last_of ls pair.0 = t pair.0 in omega (arith, h, k.to_known) }
+known_published ls v pair t k = record {
+  from_one = k.from_one;
+  to_last = let h : get_or v pair.0 0 ≤ last_of ls pair.0 = t pair.0 in omega (arith, h, k.to_known);
+}
 
-pub known_more : (old new : List ℕ) (pair : Pair) → ((p : ℕ) → get_or old p 0 ≤ get_or new p 0) → IsKnown old pair → IsKnown new pair
-known_more old new pair more k = let h : get_or old pair.0 0 ≤ get_or new pair.0 0 = more pair.0 in record { from_one = k.from_one; to_known = omega (arith, h, k.to_known) }
+pub known_more : (old new : List ℕ) (pair : Pair) → ((p : ℕ) → get_or old p 0 ≤ get_or new p 0) → IsKnown old pair
+    → IsKnown new pair
+known_more old new pair more k =
+    let h : get_or old pair.0 0 ≤ get_or new pair.0 0 = more pair.0 in
+    record { from_one = k.from_one; to_known = omega (arith, h, k.to_known) }
 
 -- ---- more is published
 
@@ -30,7 +38,9 @@ pub record Grows (old new : Logs) : Type 0 where
   pub counts : (pair : Pair) → IsPublished old pair → count new pair ≡ count old pair
 
 pub no_more_grown : (old new : Logs) (v : List ℕ) → Grows old new → TellsNoMore old v → TellsNoMore new v
-no_more_grown old new v g t p = let a : get_or v p 0 ≤ last_of old p = t p in let b : last_of old p ≤ last_of new p = g.last p in omega (arith, a, b)
+no_more_grown old new v g t p =
+    let a : get_or v p 0 ≤ last_of old p = t p in
+    let b : last_of old p ≤ last_of new p = g.last p in omega (arith, a, b)
 
 pub true_grown : (old new : Logs) (v : List ℕ) → Grows old new → IsTrueVector old v → IsTrueVector new v
 true_grown old new v g t = record { width = t.width ∙ sym g.width; no_more = no_more_grown old new v g t.no_more }
@@ -47,7 +57,9 @@ pub record Keeps (old new : Member) : Type 0 where
   pub held : (t : Part) → member_holds old t ≡ true → member_holds new t ≡ true
   pub hidden : new.hidden ≡ old.hidden
 
-pub wanted_kept : (ls more : Logs) (old new : Member) (t : Part) → Keeps old new → count more (pair_of t) ≡ count ls (pair_of t) → is_wanted (plan_of ls old) t ≡ true → member_holds new t ≡ false → is_wanted (plan_of more new) t ≡ true
+pub wanted_kept : (ls more : Logs) (old new : Member) (t : Part) → Keeps old new
+    → count more (pair_of t) ≡ count ls (pair_of t) → is_wanted (plan_of ls old) t ≡ true → member_holds new t ≡ false
+    → is_wanted (plan_of more new) t ≡ true
 wanted_kept ls more old new t k same h out =
     let w : IsWanted ls old t = wanted_parts ls old t h in
     wanted_from more new t (record {
@@ -60,7 +72,8 @@ wanted_kept ls more old new t k same h out =
 
 -- ---- a change of other members
 
-pub grown : (old new : Logs) (j : ℕ) (m : Member) → Grows old new → last_of new j ≡ last_of old j → IsSoundMember old j m → IsSoundMember new j m
+pub grown : (old new : Logs) (j : ℕ) (m : Member) → Grows old new → last_of new j ≡ last_of old j
+    → IsSoundMember old j m → IsSoundMember new j m
 grown old new j m g own s = record {
   width = s.width ∙ sym g.width;
   fetchers = s.fetchers;
@@ -70,32 +83,47 @@ grown old new j m g own s = record {
   heard = heard_grown old new m.machine.heard g s.heard;
   held = λ t h. let r : IsHeldSoundly old m.known m.held t = s.held t h in record {
     known = r.known;
-    counted = subst (λ (n : ℕ). t.part ≤ n) (sym (g.counts (pair_of t) (known_published old m.known (pair_of t) s.known r.known))) r.counted;
+    counted =
+        subst (λ (n : ℕ). t.part ≤ n)
+        (sym (g.counts (pair_of t) (known_published old m.known (pair_of t) s.known r.known))) r.counted;
     with_record = r.with_record;
   };
   hidden = s.hidden;
   own_held = λ n p.
-      let there : IsPublished old (j, n) = record { from_one = p.from_one; to_last = subst (λ (k : ℕ). n ≤ k) own p.to_last } in
-      elim (s.own_held n there) [ inl h ↦ inl h | inr f ↦ inr (λ x le. f x (subst (λ (k : ℕ). x ≤ k) (g.counts (j, n) there) le)) ];
+      let there : IsPublished old (j, n) =
+      record { from_one = p.from_one; to_last = subst (λ (k : ℕ). n ≤ k) own p.to_last } in
+      elim (s.own_held n there) [
+        | inl h ↦ inl h
+        | inr f ↦ inr (λ x le. f x (subst (λ (k : ℕ). x ≤ k) (g.counts (j, n) there) le))
+      ];
   claimed = λ f t e.
       let w : IsWanted old m t = wanted_parts old m t (s.claimed f t e) in
-      wanted_kept old new m m t (record { knows = λ p. omega arith; held = λ u h. h; hidden = refl }) (g.counts (pair_of t) (known_published old m.known (pair_of t) s.known w.known)) (s.claimed f t e) w.not_held;
+      wanted_kept old new m m t (record { knows = λ p. omega arith; held = λ u h. h; hidden = refl })
+      (g.counts (pair_of t) (known_published old m.known (pair_of t) s.known w.known)) (s.claimed f t e) w.not_held;
   apart = s.apart;
 }
 
 -- ---- what soundness doesn't speak of
 
 -- a change of the machine and of insertion processes alone
-pub with_machine : (ls : Logs) (j : ℕ) (m : Member) (machine : Keeper) (processes : List (ℕ × Process)) (next : ℕ) → IsSoundMember ls j m → HeardTruly ls machine.heard → IsSoundMember ls j (record m { machine = machine; processes = processes; next_process = next })
+pub with_machine : (ls : Logs) (j : ℕ) (m : Member) (machine : Keeper) (processes : List (ℕ × Process)) (next : ℕ)
+    → IsSoundMember ls j m → HeardTruly ls machine.heard
+    → IsSoundMember ls j (record m { machine = machine; processes = processes; next_process = next })
 with_machine ls j m machine processes next s h = record {
   width = s.width;
   fetchers = s.fetchers;
-  in_order = record { held = s.in_order.held; hidden = s.in_order.hidden; attempts = s.in_order.attempts; tried = s.in_order.tried };
+  in_order = record {
+    held = s.in_order.held;
+    hidden = s.in_order.hidden;
+    attempts = s.in_order.attempts;
+    tried = s.in_order.tried;
+  };
   known = s.known;
   own = s.own;
   heard = h;
   held = s.held;
-  hidden = λ pair h. let r : IsHiddenSoundly m pair = s.hidden pair h in record { known = r.known; none_held = r.none_held };
+  hidden =
+      λ pair h. let r : IsHiddenSoundly m pair = s.hidden pair h in record { known = r.known; none_held = r.none_held };
   own_held = s.own_held;
   claimed = s.claimed;
   apart = s.apart;
@@ -104,22 +132,32 @@ with_machine ls j m machine processes next s h = record {
 -- ---- a member is told of a vector
 
 pub no_more_join : (ls : Logs) (v w : List ℕ) → TellsNoMore ls v → TellsNoMore ls w → TellsNoMore ls (join v w)
-no_more_join ls v w a b p = let x : get_or v p 0 ≤ last_of ls p = a p in let y : get_or w p 0 ≤ last_of ls p = b p in let e : get_or (join v w) p 0 ≡ max (get_or v p 0) (get_or w p 0) = join-at v w p in omega (arith, x, y, e)
+no_more_join ls v w a b p =
+    let x : get_or v p 0 ≤ last_of ls p = a p in
+    let y : get_or w p 0 ≤ last_of ls p = b p in
+    let e : get_or (join v w) p 0 ≡ max (get_or v p 0) (get_or w p 0) = join-at v w p in omega (arith, x, y, e)
 
 pub join_more : (v w : List ℕ) (p : ℕ) → get_or v p 0 ≤ get_or (join v w) p 0
 join_more v w p = let e : get_or (join v w) p 0 ≡ max (get_or v p 0) (get_or w p 0) = join-at v w p in omega (arith, e)
 
 pub true_join : (ls : Logs) (v w : List ℕ) → IsTrueVector ls v → IsTrueVector ls w → IsTrueVector ls (join v w)
-true_join ls v w a b = record { width = length-join v w (a.width ∙ sym b.width) ∙ a.width; no_more = no_more_join ls v w a.no_more b.no_more }
+true_join ls v w a b = record {
+  width = length-join v w (a.width ∙ sym b.width) ∙ a.width;
+  no_more = no_more_join ls v w a.no_more b.no_more;
+}
 
-heard_hears : (ls : Logs) (moment draw : ℕ) (told known : List ℕ) (k : Keeper) (heard : Option (List ℕ)) → IsTrueVector ls told → HeardTruly ls heard → HeardTruly ls (hears_kept moment told known draw k heard).heard
+heard_hears : (ls : Logs) (moment draw : ℕ) (told known : List ℕ) (k : Keeper) (heard : Option (List ℕ))
+    → IsTrueVector ls told → HeardTruly ls heard → HeardTruly ls (hears_kept moment told known draw k heard).heard
 heard_hears ls moment draw told known k None t h = go (covers told known) _ _ where
-  go : (b : Bool) (deadline draws : ℕ) → HeardTruly ls (cond b (steady_kept moment draw k) (record k { heard = Some told; deadline = deadline; draws = draws })).heard
+  go : (b : Bool) (deadline draws : ℕ)
+      → HeardTruly ls
+      (cond b (steady_kept moment draw k) (record k { heard = Some told; deadline = deadline; draws = draws })).heard
   go true deadline draws = tt
   go false deadline draws = t
 heard_hears ls moment draw told known k (Some v) t h = true_join ls v told h t
 
-pub sound_learns : (draw moment : ℕ) (ls : Logs) (j : ℕ) (told : List ℕ) (m : Member) → IsTrueVector ls told → IsSoundMember ls j m → IsSoundMember ls j (learns draw moment told m)
+pub sound_learns : (draw moment : ℕ) (ls : Logs) (j : ℕ) (told : List ℕ) (m : Member) → IsTrueVector ls told
+    → IsSoundMember ls j m → IsSoundMember ls j (learns draw moment told m)
 sound_learns draw moment ls j told m t s =
     let new : Member = learns draw moment told m in
     let more : (p : ℕ) → get_or m.known p 0 ≤ get_or (join m.known told) p 0 = join_more m.known told in
@@ -127,40 +165,65 @@ sound_learns draw moment ls j told m t s =
     record {
       width = length-join m.known told (s.width ∙ sym t.width) ∙ s.width;
       fetchers = s.fetchers;
-      in_order = record { held = s.in_order.held; hidden = s.in_order.hidden; attempts = s.in_order.attempts; tried = s.in_order.tried };
+      in_order = record {
+        held = s.in_order.held;
+        hidden = s.in_order.hidden;
+        attempts = s.in_order.attempts;
+        tried = s.in_order.tried;
+      };
       known = no_more_join ls m.known told s.known t.no_more;
       own =
           let a : get_or m.known j 0 ≡ last_of ls j = s.own in
           let b : get_or told j 0 ≤ last_of ls j = t.no_more j in
-          let c : get_or (join m.known told) j 0 ≡ max (get_or m.known j 0) (get_or told j 0) = join-at m.known told j in
+          let c : get_or (join m.known told) j 0 ≡ max (get_or m.known j 0) (get_or told j 0) =
+          join-at m.known told j in
           omega (arith, a, b, c);
       heard = heard_hears ls moment draw told m.known m.machine m.machine.heard t s.heard;
-      held = λ u h. let r : IsHeldSoundly ls m.known m.held u = s.held u h in record { known = known_more m.known _ (pair_of u) more r.known; counted = r.counted; with_record = r.with_record };
-      hidden = λ pair h. let r : IsHiddenSoundly m pair = s.hidden pair h in record { known = known_more m.known _ pair more r.known; none_held = r.none_held };
+      held = λ u h.
+          let r : IsHeldSoundly ls m.known m.held u = s.held u h in
+          record {
+            known = known_more m.known _ (pair_of u) more r.known;
+            counted = r.counted;
+            with_record = r.with_record;
+          };
+      hidden = λ pair h.
+          let r : IsHiddenSoundly m pair = s.hidden pair h in
+          record { known = known_more m.known _ pair more r.known; none_held = r.none_held };
       own_held = s.own_held;
-      claimed = λ f u e. wanted_kept ls ls m new u keeps refl (s.claimed f u e) (wanted_parts ls m u (s.claimed f u e)).not_held;
+      claimed =
+          λ f u e.
+          wanted_kept ls ls m new u keeps refl (s.claimed f u e) (wanted_parts ls m u (s.claimed f u e)).not_held;
       apart = s.apart;
     }
 
 -- ---- claims
 
-pub at_set : (xs : List (Option Part)) (f g : ℕ) (x : Option Part) (t : Part) → get_or (set xs f x) g None ≡ Some t → ((g ≡ f) × (x ≡ Some t)) ⊎ ((g ≢ f) × (get_or xs g None ≡ Some t))
+pub at_set : (xs : List (Option Part)) (f g : ℕ) (x : Option Part) (t : Part) → get_or (set xs f x) g None ≡ Some t
+    → ((g ≡ f) × (x ≡ Some t)) ⊎ ((g ≢ f) × (get_or xs g None ≡ Some t))
 at_set [] f g x t e = absurd cc
 at_set (y ∷ ys) zero zero x t e = inl (refl, e)
 at_set (y ∷ ys) zero (suc g) x t e = inr (λ p. cc, e)
 at_set (y ∷ ys) (suc f) zero x t e = inr (λ p. cc, e)
-at_set (y ∷ ys) (suc f) (suc g) x t e = elim (at_set ys f g x t e) [ inl r ↦ inl (ap suc r.0, r.1) | inr r ↦ inr (λ p. r.0 (omega (arith, p)), r.1) ]
+at_set (y ∷ ys) (suc f) (suc g) x t e =
+    elim (at_set ys f g x t e) [ inl r ↦ inl (ap suc r.0, r.1) | inr r ↦ inr (λ p. r.0 (omega (arith, p)), r.1) ]
 
-pub sound_claims : (ls : Logs) (j f : ℕ) (t : Part) (m : Member) → is_wanted (plan_of ls m) t ≡ true → is_claimed (plan_of ls m) t ≡ false → IsSoundMember ls j m → IsSoundMember ls j (member_with_claim f (Some t) m)
+pub sound_claims : (ls : Logs) (j f : ℕ) (t : Part) (m : Member) → is_wanted (plan_of ls m) t ≡ true
+    → is_claimed (plan_of ls m) t ≡ false → IsSoundMember ls j m → IsSoundMember ls j (member_with_claim f (Some t) m)
 sound_claims ls j f t m wanted free s = record {
   width = s.width;
   fetchers = length-set m.claims (f - 1) (Some t) ∙ s.fetchers;
-  in_order = record { held = s.in_order.held; hidden = s.in_order.hidden; attempts = s.in_order.attempts; tried = s.in_order.tried };
+  in_order = record {
+    held = s.in_order.held;
+    hidden = s.in_order.hidden;
+    attempts = s.in_order.attempts;
+    tried = s.in_order.tried;
+  };
   known = s.known;
   own = s.own;
   heard = s.heard;
   held = s.held;
-  hidden = λ pair h. let r : IsHiddenSoundly m pair = s.hidden pair h in record { known = r.known; none_held = r.none_held };
+  hidden =
+      λ pair h. let r : IsHiddenSoundly m pair = s.hidden pair h in record { known = r.known; none_held = r.none_held };
   own_held = s.own_held;
   claimed = λ g u e. elim (at_set m.claims (f - 1) g (Some t) u e) [
     | inl r ↦ let same : t ≡ u = cc in subst (λ (v : Part). is_wanted (plan_of ls m) v ≡ true) same wanted
@@ -178,16 +241,23 @@ sound_claims ls j f t m wanted free s = record {
   ];
 }
 
-pub sound_loses : (ls : Logs) (j f : ℕ) (m : Member) → IsSoundMember ls j m → IsSoundMember ls j (member_with_claim f None m)
+pub sound_loses : (ls : Logs) (j f : ℕ) (m : Member) → IsSoundMember ls j m
+    → IsSoundMember ls j (member_with_claim f None m)
 sound_loses ls j f m s = record {
   width = s.width;
   fetchers = length-set m.claims (f - 1) None ∙ s.fetchers;
-  in_order = record { held = s.in_order.held; hidden = s.in_order.hidden; attempts = s.in_order.attempts; tried = s.in_order.tried };
+  in_order = record {
+    held = s.in_order.held;
+    hidden = s.in_order.hidden;
+    attempts = s.in_order.attempts;
+    tried = s.in_order.tried;
+  };
   known = s.known;
   own = s.own;
   heard = s.heard;
   held = s.held;
-  hidden = λ pair h. let r : IsHiddenSoundly m pair = s.hidden pair h in record { known = r.known; none_held = r.none_held };
+  hidden =
+      λ pair h. let r : IsHiddenSoundly m pair = s.hidden pair h in record { known = r.known; none_held = r.none_held };
   own_held = s.own_held;
   claimed = λ g u e. elim (at_set m.claims (f - 1) g None u e) [ inl r ↦ absurd cc | inr r ↦ s.claimed g u r.1 ];
   apart = λ g h u a b. elim (at_set m.claims (f - 1) g None u a) [

@@ -1,6 +1,8 @@
 -- What the plan of a member wants, in the group's words.
-use Rattle.std.proofs.Common.{◌≡◌, ◌⊎◌, inl, inr, ℕ, ◌≤◌, Bool, true, false, cond, ◌&&◌, ◌||◌, List, [], ◌∷◌, map, get_or, refl, sym, ap, ◌∙◌, subst, arith, Option, Some, None}
-use Rattle.std.proofs.lemmas.Bool.{true≢false, and_parts, and_from, or_cases, or_right, or_left, false_from_ne_true, leb-true, le-leb, eqb-true, eq-eqb}
+use Rattle.std.proofs.Common.{◌≡◌, ◌⊎◌, inl, inr, ℕ, ◌≤◌, Bool, true, false, cond, ◌&&◌, ◌||◌, List, [], ◌∷◌, map}
+use Rattle.std.proofs.Common.{get_or, refl, sym, ap, ◌∙◌, subst, arith, Option, Some, None}
+use Rattle.std.proofs.lemmas.Bool.{true≢false, and_parts, and_from, or_cases, or_right, or_left, false_from_ne_true}
+use Rattle.std.proofs.lemmas.Bool.{leb-true, le-leb, eqb-true, eq-eqb}
 use Rattle.std.specs.Prelude.{nat_le, ◌==◌, filter}
 use Rattle.std.specs.Ordering.{eq_by_cmp}
 use Rattle.repo_plan.specs.declared.part.Part.{Part}
@@ -17,26 +19,35 @@ use Rattle.group_model.specs.Sound.{IsKnown}
 
 -- ---- what held records tell
 
-same_pair : (pair : Pair) (t : Part) → t.part ≡ 0 → eq_by_cmp part_cmp (part_of pair 0) t ≡ eq_by_cmp pair_cmp pair (pair_of t)
+same_pair : (pair : Pair) (t : Part) → t.part ≡ 0
+    → eq_by_cmp part_cmp (part_of pair 0) t ≡ eq_by_cmp pair_cmp pair (pair_of t)
 same_pair pair t z = go (eq_by_cmp part_cmp (part_of pair 0) t) (eq_by_cmp pair_cmp pair (pair_of t)) refl refl where
   go : (a b : Bool) → eq_by_cmp part_cmp (part_of pair 0) t ≡ a → eq_by_cmp pair_cmp pair (pair_of t) ≡ b → a ≡ b
   go true true p q = refl
   go false false p q = refl
   go true false p q =
       let same : part_of pair 0 ≡ t = eq_same exact_parts (part_of pair 0) t p in
-      absurd (true≢false (sym (eq_itself exact_pairs pair) ∙ ap (λ (u : Part). eq_by_cmp pair_cmp pair (pair_of u)) same ∙ q))
+      absurd
+      (true≢false (sym (eq_itself exact_pairs pair) ∙ ap (λ (u : Part). eq_by_cmp pair_cmp pair (pair_of u)) same ∙ q))
   go false true p q =
       let same : pair ≡ pair_of t = eq_same exact_pairs pair (pair_of t) q in
       let whole : part_of pair 0 ≡ t = λ i. record { publisher = (same i).0; seq = (same i).1; part = sym z i } in
-      absurd (true≢false (sym (eq_itself exact_parts (part_of pair 0)) ∙ ap (eq_by_cmp part_cmp (part_of pair 0)) whole ∙ p))
+      absurd
+      (true≢false (sym (eq_itself exact_parts (part_of pair 0)) ∙ ap (eq_by_cmp part_cmp (part_of pair 0)) whole ∙ p))
 
 other_part : (pair : Pair) (t : Part) → (t.part == 0) ≡ false → eq_by_cmp part_cmp (part_of pair 0) t ≡ false
-other_part pair t z = false_from_ne_true (eq_by_cmp part_cmp (part_of pair 0) t) (λ e. true≢false (ap (λ (u : Part). u.part == 0) (eq_same exact_parts (part_of pair 0) t e) ∙ z))
+other_part pair t z =
+    false_from_ne_true (eq_by_cmp part_cmp (part_of pair 0) t)
+    (λ e. true≢false (ap (λ (u : Part). u.part == 0) (eq_same exact_parts (part_of pair 0) t e) ∙ z))
 
-pub told-at : (ls : Logs) (held : List Part) (pair : Pair) → value_of pair_cmp (told_by ls held) pair ≡ cond (contains part_cmp held (part_of pair 0)) (Some (count ls pair)) None
+pub told-at : (ls : Logs) (held : List Part) (pair : Pair)
+    → value_of pair_cmp (told_by ls held) pair
+    ≡ cond (contains part_cmp held (part_of pair 0)) (Some (count ls pair)) None
 told-at ls [] pair = refl
 told-at ls (t ∷ ts) pair = go (told-at ls ts pair) (t.part == 0) refl where
-  here : (b : Bool) → eq_by_cmp pair_cmp pair (pair_of t) ≡ b → cond b (Some (count ls (pair_of t))) (value_of pair_cmp (told_by ls ts) pair) ≡ cond b (Some (count ls pair)) (value_of pair_cmp (told_by ls ts) pair)
+  here : (b : Bool) → eq_by_cmp pair_cmp pair (pair_of t) ≡ b
+      → cond b (Some (count ls (pair_of t))) (value_of pair_cmp (told_by ls ts) pair)
+      ≡ cond b (Some (count ls pair)) (value_of pair_cmp (told_by ls ts) pair)
   here true e = ap (λ (q : Pair). Some (count ls q)) (sym (eq_same exact_pairs pair (pair_of t) e))
   here false e = refl
 
@@ -44,14 +55,23 @@ told-at ls (t ∷ ts) pair = go (told-at ls ts pair) (t.part == 0) refl where
   either true b x = refl
   either false b x = refl
 
-  go : value_of pair_cmp (told_by ls ts) pair ≡ cond (contains part_cmp ts (part_of pair 0)) (Some (count ls pair)) None → (z : Bool) → (t.part == 0) ≡ z
-      → value_of pair_cmp (map (λ (u : Part). (pair_of u, count ls (pair_of u))) (cond z (t ∷ filter (λ u. u.part == 0) ts) (filter (λ u. u.part == 0) ts))) pair
-      ≡ cond (eq_by_cmp part_cmp (part_of pair 0) t || contains part_cmp ts (part_of pair 0)) (Some (count ls pair)) None
+  go : value_of pair_cmp (told_by ls ts) pair ≡ cond (contains part_cmp ts (part_of pair 0)) (Some (count ls pair)) None
+      → (z : Bool) → (t.part == 0) ≡ z
+      → value_of pair_cmp
+      (map (λ (u : Part). (pair_of u, count ls (pair_of u)))
+      (cond z (t ∷ filter (λ u. u.part == 0) ts) (filter (λ u. u.part == 0) ts))) pair
+      ≡ cond (eq_by_cmp part_cmp (part_of pair 0) t || contains part_cmp ts (part_of pair 0)) (Some (count ls pair))
+      None
   go h true z =
-      here (eq_by_cmp pair_cmp pair (pair_of t)) refl ∙ ap (λ (x : Option Shape). cond (eq_by_cmp pair_cmp pair (pair_of t)) (Some (count ls pair)) x) h
+      here (eq_by_cmp pair_cmp pair (pair_of t)) refl
+      ∙ ap (λ (x : Option Shape). cond (eq_by_cmp pair_cmp pair (pair_of t)) (Some (count ls pair)) x) h
       ∙ either (eq_by_cmp pair_cmp pair (pair_of t)) (contains part_cmp ts (part_of pair 0)) (Some (count ls pair))
-      ∙ ap (λ (b : Bool). cond (b || contains part_cmp ts (part_of pair 0)) (Some (count ls pair)) None) (sym (same_pair pair t (eqb-true t.part 0 z)))
-  go h false z = h ∙ ap (λ (b : Bool). cond (b || contains part_cmp ts (part_of pair 0)) (Some (count ls pair)) None) (sym (other_part pair t z))
+      ∙ ap (λ (b : Bool). cond (b || contains part_cmp ts (part_of pair 0)) (Some (count ls pair)) None)
+      (sym (same_pair pair t (eqb-true t.part 0 z)))
+  go h false z =
+      h
+      ∙ ap (λ (b : Bool). cond (b || contains part_cmp ts (part_of pair 0)) (Some (count ls pair)) None)
+      (sym (other_part pair t z))
 
 -- ---- wanted parts
 
@@ -63,20 +83,28 @@ pub record IsWanted (ls : Logs) (m : Member) (t : Part) : Type 0 where
   pub not_held : member_holds m t ≡ false
   pub not_hidden : member_hides m (pair_of t) ≡ false
 
-known_from : (known : List ℕ) (pair : Pair) → (nat_le 1 pair.1 && nat_le pair.1 (get_or known pair.0 0)) ≡ true → IsKnown known pair
+known_from : (known : List ℕ) (pair : Pair) → (nat_le 1 pair.1 && nat_le pair.1 (get_or known pair.0 0)) ≡ true
+    → IsKnown known pair
 known_from known pair h =
-    let both : (nat_le 1 pair.1 ≡ true) × (nat_le pair.1 (get_or known pair.0 0) ≡ true) = and_parts (nat_le 1 pair.1) _ h in
+    let both : (nat_le 1 pair.1 ≡ true) × (nat_le pair.1 (get_or known pair.0 0) ≡ true) =
+    and_parts (nat_le 1 pair.1) _ h in
     record { from_one = leb-true 1 pair.1 both.0; to_known = leb-true pair.1 (get_or known pair.0 0) both.1 }
 
-knows_from : (known : List ℕ) (pair : Pair) → IsKnown known pair → (nat_le 1 pair.1 && nat_le pair.1 (get_or known pair.0 0)) ≡ true
-knows_from known pair h = and_from (nat_le 1 pair.1) _ (le-leb 1 pair.1 h.from_one) (le-leb pair.1 (get_or known pair.0 0) h.to_known)
+knows_from : (known : List ℕ) (pair : Pair) → IsKnown known pair
+    → (nat_le 1 pair.1 && nat_le pair.1 (get_or known pair.0 0)) ≡ true
+knows_from known pair h =
+    and_from (nat_le 1 pair.1) _ (le-leb 1 pair.1 h.from_one) (le-leb pair.1 (get_or known pair.0 0) h.to_known)
 
 pub wanted_parts : (ls : Logs) (m : Member) (t : Part) → is_wanted (plan_of ls m) t ≡ true → IsWanted ls m t
 wanted_parts ls m t h =
     let w : Changes.IsWanted (plan_of ls m) t = Changes.wanted_parts (plan_of ls m) t h in
-    let asked : (Plan.knows (plan_of ls m) (pair_of t) ≡ true) × (can_be_asked m.held (shape_of (plan_of ls m) (pair_of t)) t ≡ true) = and_parts (Plan.knows (plan_of ls m) (pair_of t)) _ w.asked in
-    let can : can_be_asked m.held (cond (member_holds m (record_of t)) (Some (count ls (pair_of t))) None) t ≡ true = subst (λ (s : Option Shape). can_be_asked m.held s t ≡ true) (told-at ls m.held (pair_of t)) asked.1 in
-    let both : (t.part ≤ count ls (pair_of t)) × ((t.part ≡ 0) ⊎ (member_holds m (record_of t) ≡ true)) = told (member_holds m (record_of t)) refl can in
+    let asked : (Plan.knows (plan_of ls m) (pair_of t) ≡ true)
+    × (can_be_asked m.held (shape_of (plan_of ls m) (pair_of t)) t ≡ true) =
+    and_parts (Plan.knows (plan_of ls m) (pair_of t)) _ w.asked in
+    let can : can_be_asked m.held (cond (member_holds m (record_of t)) (Some (count ls (pair_of t))) None) t ≡ true =
+    subst (λ (s : Option Shape). can_be_asked m.held s t ≡ true) (told-at ls m.held (pair_of t)) asked.1 in
+    let both : (t.part ≤ count ls (pair_of t)) × ((t.part ≡ 0) ⊎ (member_holds m (record_of t) ≡ true)) =
+    told (member_holds m (record_of t)) refl can in
     record {
       known = known_from m.known (pair_of t) asked.0;
       counted = both.0;
@@ -84,25 +112,34 @@ wanted_parts ls m t h =
       not_held = w.not_held;
       not_hidden = w.not_hidden;
     } where
-      told : (b : Bool) → member_holds m (record_of t) ≡ b → can_be_asked m.held (cond b (Some (count ls (pair_of t))) None) t ≡ true → (t.part ≤ count ls (pair_of t)) × ((t.part ≡ 0) ⊎ (member_holds m (record_of t) ≡ true))
+      told : (b : Bool) → member_holds m (record_of t) ≡ b
+          → can_be_asked m.held (cond b (Some (count ls (pair_of t))) None) t ≡ true
+          → (t.part ≤ count ls (pair_of t)) × ((t.part ≡ 0) ⊎ (member_holds m (record_of t) ≡ true))
       told true e c = elim (or_cases (t.part == 0) _ c) [
         | inl z ↦ let n : t.part ≡ 0 = eqb-true t.part 0 z in (omega (arith, n), inl n)
-        | inr r ↦ (leb-true t.part (count ls (pair_of t)) (and_parts (nat_le t.part (count ls (pair_of t))) _ r).0, inr e)
+        | inr r ↦
+            (leb-true t.part (count ls (pair_of t)) (and_parts (nat_le t.part (count ls (pair_of t))) _ r).0, inr e)
       ]
       told false e c = let n : t.part ≡ 0 = eqb-true t.part 0 c in (omega (arith, n), inl n)
 
 pub wanted_from : (ls : Logs) (m : Member) (t : Part) → IsWanted ls m t → is_wanted (plan_of ls m) t ≡ true
 wanted_from ls m t w =
-    let can : can_be_asked m.held (cond (member_holds m (record_of t)) (Some (count ls (pair_of t))) None) t ≡ true = asks (member_holds m (record_of t)) refl w.with_record in
+    let can : can_be_asked m.held (cond (member_holds m (record_of t)) (Some (count ls (pair_of t))) None) t ≡ true =
+    asks (member_holds m (record_of t)) refl w.with_record in
     Changes.wanted_from (plan_of ls m) t (record {
-      asked = and_from (Plan.knows (plan_of ls m) (pair_of t)) _ (knows_from m.known (pair_of t) w.known) (subst (λ (s : Option Shape). can_be_asked m.held s t ≡ true) (sym (told-at ls m.held (pair_of t))) can);
+      asked =
+          and_from (Plan.knows (plan_of ls m) (pair_of t)) _ (knows_from m.known (pair_of t) w.known)
+          (subst (λ (s : Option Shape). can_be_asked m.held s t ≡ true) (sym (told-at ls m.held (pair_of t))) can);
       not_held = w.not_held;
       not_hidden = w.not_hidden;
     }) where
-      asks : (b : Bool) → member_holds m (record_of t) ≡ b → (t.part ≡ 0) ⊎ (member_holds m (record_of t) ≡ true) → can_be_asked m.held (cond b (Some (count ls (pair_of t))) None) t ≡ true
+      asks : (b : Bool) → member_holds m (record_of t) ≡ b → (t.part ≡ 0) ⊎ (member_holds m (record_of t) ≡ true)
+          → can_be_asked m.held (cond b (Some (count ls (pair_of t))) None) t ≡ true
       asks true e h = elim h [
         | inl z ↦ or_left (t.part == 0) _ (eq-eqb t.part 0 z)
-        | inr r ↦ or_right (t.part == 0) _ (and_from (nat_le t.part (count ls (pair_of t))) _ (le-leb t.part (count ls (pair_of t)) w.counted) r)
+        | inr r ↦
+            or_right (t.part == 0) _
+            (and_from (nat_le t.part (count ls (pair_of t))) _ (le-leb t.part (count ls (pair_of t)) w.counted) r)
       ]
       asks false e (inl z) = eq-eqb t.part 0 z
       asks false e (inr r) = absurd (true≢false (sym r ∙ e))

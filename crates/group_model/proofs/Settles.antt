@@ -1,6 +1,8 @@
 -- What a settle keeps and gives.
-use Rattle.std.proofs.Common.{◌≡◌, inl, inr, ℕ, suc, zero, ◌+◌, ◌≤◌, ◌<◌, max, true, false, not, ◌&&◌, List, [], ◌∷◌, map, length, get_or, replicate, refl, sym, ap, ◌∙◌, subst, arith, Option, None}
-use Rattle.std.proofs.lemmas.Bool.{true≢false, and_parts, and_from, or_right, or_left, cases_Bool, not-true, not_from_false, leb-true, le-leb}
+use Rattle.std.proofs.Common.{◌≡◌, inl, inr, ℕ, suc, zero, ◌+◌, ◌≤◌, ◌<◌, max, true, false, not, ◌&&◌, List, [], ◌∷◌}
+use Rattle.std.proofs.Common.{map, length, get_or, replicate, refl, sym, ap, ◌∙◌, subst, arith, Option, None}
+use Rattle.std.proofs.lemmas.Bool.{true≢false, and_parts, and_from, or_right, or_left, cases_Bool, not-true}
+use Rattle.std.proofs.lemmas.Bool.{not_from_false, leb-true, le-leb}
 use Rattle.std.proofs.lemmas.List.{length-map, get_or-map}
 use Rattle.std.specs.Prelude.{nat_le}
 use Rattle.repo_plan.specs.declared.part.Part.{Part}
@@ -11,13 +13,16 @@ use Rattle.repo_plan.proofs.Sets.{In, in_filter, in_flat_map, in_map, from_map}
 use Rattle.svs_vector.specs.Vectors.{join, join_all}
 use Rattle.svs_vector.proofs.JoinLemmas.{join-at, length-join, join-[]}
 use Rattle.repo_object.specs.Objects.{NamedContents}
-use Rattle.group_model.specs.Publications.{Logs, Publication, pair_in, parts_in, published, all_parts, published_entry, join_of, last_of, count}
+use Rattle.group_model.specs.Publications.{Logs, Publication, pair_in, parts_in, published, all_parts, published_entry}
+use Rattle.group_model.specs.Publications.{join_of, last_of, count}
 use Rattle.group_model.specs.Member.{Member, member_holds, member_hides, holds_all, catalogue}
 use Rattle.group_model.specs.World.{Outside, World, no_member, member, logs, logs_of, someone_holds}
-use Rattle.group_model.specs.Steps.{settled_vector, settled_member, comes_to, new_parts, after_gathering, reset_each, after_settle}
+use Rattle.group_model.specs.Steps.{settled_vector, settled_member, comes_to, new_parts, after_gathering, reset_each}
+use Rattle.group_model.specs.Steps.{after_settle}
 use Rattle.group_model.specs.Sound.{IsSoundGroup, IsSoundMember, TellsNoMore}
 use Rattle.group_model.proofs.Lists.{from_filter, filter_whole, all_in, in_at, at_in, rises_insert_keys}
-use Rattle.group_model.proofs.Parts.{IsIn, in_published, publisher_within, IsPartOf, from_parts_in, from_all_parts, record_among}
+use Rattle.group_model.proofs.Parts.{IsIn, in_published, publisher_within, IsPartOf, from_parts_in, from_all_parts}
+use Rattle.group_model.proofs.Parts.{record_among}
 use Rattle.group_model.specs.Changes.{resets}
 use Rattle.group_model.specs.Reached.{InSoundGroups}
 use Rattle.group_model.specs.Settles.{JoinsInSettle, JoinsInGathering}
@@ -26,7 +31,8 @@ use Rattle.group_model.proofs.Gains.{Gain, held_after, hidden_after, own_held_af
 
 pub someone : (ms : List Member) (m : Member) (t : Part) → In m ms → member_holds m t ≡ true → someone_holds ms t ≡ true
 someone [] m t i h = absurd i
-someone (x ∷ xs) m t (inl e) h = or_left (member_holds x t) (someone_holds xs t) (subst (λ (y : Member). member_holds y t ≡ true) e h)
+someone (x ∷ xs) m t (inl e) h =
+    or_left (member_holds x t) (someone_holds xs t) (subst (λ (y : Member). member_holds y t ≡ true) e h)
 someone (x ∷ xs) m t (inr i) h = or_right (member_holds x t) (someone_holds xs t) (someone xs m t i h)
 
 pub no_claim : (n f : ℕ) → get_or (replicate n (let o : Option Part = None in o)) f None ≡ None
@@ -48,23 +54,28 @@ pub join_all_each : (ws : List (List ℕ)) (p : ℕ) (u : List ℕ) → In u ws 
 unfolding join_all
 join_all_each [] p u i = absurd i
 join_all_each (w ∷ ws) p u (inl same) =
-    let e : get_or (join w (join_all ws)) p 0 ≡ max (get_or w p 0) (get_or (join_all ws) p 0) = join-at w (join_all ws) p in
+    let e : get_or (join w (join_all ws)) p 0 ≡ max (get_or w p 0) (get_or (join_all ws) p 0) =
+    join-at w (join_all ws) p in
     subst (λ (x : List ℕ). get_or x p 0 ≤ get_or (join w (join_all ws)) p 0) (sym same) (omega (arith, e))
 join_all_each (w ∷ ws) p u (inr i) =
     let h : get_or u p 0 ≤ get_or (join_all ws) p 0 = join_all_each ws p u i in
-    let e : get_or (join w (join_all ws)) p 0 ≡ max (get_or w p 0) (get_or (join_all ws) p 0) = join-at w (join_all ws) p in
+    let e : get_or (join w (join_all ws)) p 0 ≡ max (get_or w p 0) (get_or (join_all ws) p 0) =
+    join-at w (join_all ws) p in
     omega (arith, h, e)
 
-pub join_all_most : (ws : List (List ℕ)) (p b : ℕ) → ((u : List ℕ) → In u ws → get_or u p 0 ≤ b) → get_or (join_all ws) p 0 ≤ b
+pub join_all_most : (ws : List (List ℕ)) (p b : ℕ) → ((u : List ℕ) → In u ws → get_or u p 0 ≤ b)
+    → get_or (join_all ws) p 0 ≤ b
 unfolding join_all
 join_all_most [] p b each = omega arith
 join_all_most (w ∷ ws) p b each =
     let k : get_or w p 0 ≤ b = each w (inl refl) in
     let h : get_or (join_all ws) p 0 ≤ b = join_all_most ws p b (λ u i. each u (inr i)) in
-    let e : get_or (join w (join_all ws)) p 0 ≡ max (get_or w p 0) (get_or (join_all ws) p 0) = join-at w (join_all ws) p in
+    let e : get_or (join w (join_all ws)) p 0 ≡ max (get_or w p 0) (get_or (join_all ws) p 0) =
+    join-at w (join_all ws) p in
     omega (arith, h, k, e)
 
-pub length_join_all : (ws : List (List ℕ)) (n : ℕ) (u : List ℕ) → In u ws → ((u : List ℕ) → In u ws → length u ≡ n) → length (join_all ws) ≡ n
+pub length_join_all : (ws : List (List ℕ)) (n : ℕ) (u : List ℕ) → In u ws → ((u : List ℕ) → In u ws → length u ≡ n)
+    → length (join_all ws) ≡ n
 unfolding join_all
 length_join_all [] n u i each = absurd i
 length_join_all (w ∷ []) n u i each = ap length (join-[] w) ∙ each w (inl refl)
@@ -84,17 +95,34 @@ pub record ComesTo (w : World) (m : Member) (t : Part) : Type 0 where
 
 pub comes : (w : World) (m : Member) (t : Part) → comes_to w m t ≡ true → ComesTo w m t
 comes w m t h =
-    let a : (nat_le t.seq (get_or (settled_vector w) t.publisher 0) ≡ true) × ((not (member_hides m (pair_of t)) && (someone_holds w.members t && (someone_holds w.members (record_of t) && not (member_holds m t)))) ≡ true) = and_parts (nat_le t.seq (get_or (settled_vector w) t.publisher 0)) _ h in
-    let b : (not (member_hides m (pair_of t)) ≡ true) × ((someone_holds w.members t && (someone_holds w.members (record_of t) && not (member_holds m t))) ≡ true) = and_parts (not (member_hides m (pair_of t))) _ a.1 in
-    let c : (someone_holds w.members t ≡ true) × ((someone_holds w.members (record_of t) && not (member_holds m t)) ≡ true) = and_parts (someone_holds w.members t) _ b.1 in
-    let d : (someone_holds w.members (record_of t) ≡ true) × (not (member_holds m t) ≡ true) = and_parts (someone_holds w.members (record_of t)) _ c.1 in
-    record { told = leb-true t.seq _ a.0; not_hidden = not-true (member_hides m (pair_of t)) b.0; someones = c.0; record_too = d.0; fresh = not-true (member_holds m t) d.1 }
+    let a : (nat_le t.seq (get_or (settled_vector w) t.publisher 0) ≡ true)
+    × ((not (member_hides m (pair_of t))
+    && (someone_holds w.members t && (someone_holds w.members (record_of t) && not (member_holds m t))))
+    ≡ true) =
+    and_parts (nat_le t.seq (get_or (settled_vector w) t.publisher 0)) _ h in
+    let b : (not (member_hides m (pair_of t)) ≡ true)
+    × ((someone_holds w.members t && (someone_holds w.members (record_of t) && not (member_holds m t))) ≡ true) =
+    and_parts (not (member_hides m (pair_of t))) _ a.1 in
+    let c : (someone_holds w.members t ≡ true)
+    × ((someone_holds w.members (record_of t) && not (member_holds m t)) ≡ true) =
+    and_parts (someone_holds w.members t) _ b.1 in
+    let d : (someone_holds w.members (record_of t) ≡ true) × (not (member_holds m t) ≡ true) =
+    and_parts (someone_holds w.members (record_of t)) _ c.1 in
+    record {
+      told = leb-true t.seq _ a.0;
+      not_hidden = not-true (member_hides m (pair_of t)) b.0;
+      someones = c.0;
+      record_too = d.0;
+      fresh = not-true (member_holds m t) d.1;
+    }
 
 pub comes_from : (w : World) (m : Member) (t : Part) → ComesTo w m t → comes_to w m t ≡ true
 comes_from w m t h =
     and_from (nat_le t.seq (get_or (settled_vector w) t.publisher 0)) _ (le-leb t.seq _ h.told)
     (and_from (not (member_hides m (pair_of t))) _ (not_from_false (member_hides m (pair_of t)) h.not_hidden)
-    (and_from (someone_holds w.members t) _ h.someones (and_from (someone_holds w.members (record_of t)) (not (member_holds m t)) h.record_too (not_from_false (member_holds m t) h.fresh))))
+    (and_from (someone_holds w.members t) _ h.someones
+    (and_from (someone_holds w.members (record_of t)) (not (member_holds m t)) h.record_too
+    (not_from_false (member_holds m t) h.fresh))))
 
 module _ (w : World) (s : IsSoundGroup w) (j : ℕ) (within : j < length w.members) where
   abbrev old : Member
@@ -104,30 +132,39 @@ module _ (w : World) (s : IsSoundGroup w) (j : ℕ) (within : j < length w.membe
   new = settled_member w old
 
   pub told_by : (i : ℕ) (p : ℕ) → i < length w.members → get_or (member w i).known p 0 ≤ get_or (settled_vector w) p 0
-  told_by i p l = join_all_each (map (λ m. m.known) w.members) p (member w i).known (in_map (λ (m : Member). m.known) w.members (member w i) (in_at w.members i no_member l))
+  told_by i p l =
+      join_all_each (map (λ m. m.known) w.members) p (member w i).known
+      (in_map (λ (m : Member). m.known) w.members (member w i) (in_at w.members i no_member l))
 
   pub settled_no_more : TellsNoMore (logs w) (settled_vector w)
   settled_no_more p = join_all_most (map (λ m. m.known) w.members) p (last_of (logs w) p) (λ u i.
       let r : (m : Member) × (In m w.members) × (u ≡ m.known) = from_map (λ (m : Member). m.known) w.members u i in
-      let k : (k : ℕ) × (k < length w.members) × (r.0 ≡ get_or w.members k no_member) = at_in w.members r.0 no_member r.1 in
+      let k : (k : ℕ) × (k < length w.members) × (r.0 ≡ get_or w.members k no_member) =
+      at_in w.members r.0 no_member r.1 in
       let b : get_or (member w k.0).known p 0 ≤ last_of (logs w) p = (s.members k.0 k.1).known p in
       subst (λ (v : List ℕ). get_or v p 0 ≤ last_of (logs w) p) (sym (r.2 ∙ ap (λ (m : Member). m.known) k.2)) b)
 
   settled_width : length (settled_vector w) ≡ length (logs w)
-  settled_width = length_join_all (map (λ m. m.known) w.members) (length (logs w)) old.known (in_map (λ (m : Member). m.known) w.members old (in_at w.members j no_member within)) (λ u i.
+  settled_width =
+      length_join_all (map (λ m. m.known) w.members) (length (logs w)) old.known
+      (in_map (λ (m : Member). m.known) w.members old (in_at w.members j no_member within)) (λ u i.
       let r : (m : Member) × (In m w.members) × (u ≡ m.known) = from_map (λ (m : Member). m.known) w.members u i in
-      let k : (k : ℕ) × (k < length w.members) × (r.0 ≡ get_or w.members k no_member) = at_in w.members r.0 no_member r.1 in
+      let k : (k : ℕ) × (k < length w.members) × (r.0 ≡ get_or w.members k no_member) =
+      at_in w.members r.0 no_member r.1 in
       ap length (r.2 ∙ ap (λ (m : Member). m.known) k.2) ∙ (s.members k.0 k.1).width)
 
   pub keeps_held : (t : Part) → member_holds old t ≡ true → member_holds new t ≡ true
   keeps_held t h = held_too (new_parts w old) old t h
 
   pub gets : (t : Part) → In t (all_parts (logs w)) → ComesTo w old t → member_holds new t ≡ true
-  gets t i c = held_new (new_parts w old) old t (in_filter (comes_to w old) (all_parts (logs w)) t i (comes_from w old t c))
+  gets t i c =
+      held_new (new_parts w old) old t (in_filter (comes_to w old) (all_parts (logs w)) t i (comes_from w old t c))
 
-  came : (t : Part) → member_holds new t ≡ true → member_holds old t ≡ false → In t (all_parts (logs w)) × ComesTo w old t
+  came : (t : Part) → member_holds new t ≡ true → member_holds old t ≡ false
+      → In t (all_parts (logs w)) × ComesTo w old t
   came t h o =
-      let r : In t (all_parts (logs w)) × (comes_to w old t ≡ true) = from_filter (comes_to w old) (all_parts (logs w)) t (held_fresh (new_parts w old) old t h o) in
+      let r : In t (all_parts (logs w)) × (comes_to w old t ≡ true) =
+      from_filter (comes_to w old) (all_parts (logs w)) t (held_fresh (new_parts w old) old t h o) in
       (r.0, comes w old t r.1)
 
   gain : Gain (logs w) old new
@@ -135,13 +172,22 @@ module _ (w : World) (s : IsSoundGroup w) (j : ℕ) (within : j < length w.membe
     knows = λ p. told_by j p within;
     hidden = refl;
     held = keeps_held;
-    known = λ t h o. let r : In t (all_parts (logs w)) × ComesTo w old t = came t h o in record { from_one = (from_all_parts (logs w) t r.0).there.from_one; to_known = r.1.told };
+    known = λ t h o.
+        let r : In t (all_parts (logs w)) × ComesTo w old t = came t h o in
+        record { from_one = (from_all_parts (logs w) t r.0).there.from_one; to_known = r.1.told };
     counted = λ t h o. (from_all_parts (logs w) t (came t h o).0).counted;
     with_record = λ t h o.
         let r : In t (all_parts (logs w)) × ComesTo w old t = came t h o in
         elim (cases_Bool (member_holds old (record_of t))) [
           | inl was ↦ keeps_held (record_of t) was
-          | inr free ↦ gets (record_of t) (record_among (logs w) t r.0) (record { told = r.1.told; not_hidden = r.1.not_hidden; someones = r.1.record_too; record_too = r.1.record_too; fresh = free })
+          | inr free ↦
+              gets (record_of t) (record_among (logs w) t r.0) (record {
+                told = r.1.told;
+                not_hidden = r.1.not_hidden;
+                someones = r.1.record_too;
+                record_too = r.1.record_too;
+                fresh = free;
+              })
         ];
     not_hidden = λ t h o. (came t h o).1.not_hidden;
   }
@@ -152,9 +198,17 @@ module _ (w : World) (s : IsSoundGroup w) (j : ℕ) (within : j < length w.membe
       record {
         width = settled_width;
         fetchers = refl;
-        in_order = record { held = rises_insert_keys (new_parts w old) old.held m.in_order.held; hidden = m.in_order.hidden; attempts = m.in_order.attempts; tried = m.in_order.tried };
+        in_order = record {
+          held = rises_insert_keys (new_parts w old) old.held m.in_order.held;
+          hidden = m.in_order.hidden;
+          attempts = m.in_order.attempts;
+          tried = m.in_order.tried;
+        };
         known = settled_no_more;
-        own = let a : get_or old.known j 0 ≡ last_of (logs w) j = m.own in let b : get_or old.known j 0 ≤ get_or (settled_vector w) j 0 = told_by j j within in let c : get_or (settled_vector w) j 0 ≤ last_of (logs w) j = settled_no_more j in omega (arith, a, b, c);
+        own =
+            let a : get_or old.known j 0 ≡ last_of (logs w) j = m.own in
+            let b : get_or old.known j 0 ≤ get_or (settled_vector w) j 0 = told_by j j within in
+            let c : get_or (settled_vector w) j 0 ≤ last_of (logs w) j = settled_no_more j in omega (arith, a, b, c);
         heard = m.heard;
         held = held_after (logs w) j old new gain m;
         hidden = hidden_after (logs w) j old new gain m;
@@ -164,31 +218,40 @@ module _ (w : World) (s : IsSoundGroup w) (j : ℕ) (within : j < length w.membe
       }
 
   pub sound_settles : (out : Outside) → IsSoundMember (logs w) j (settles out w j old)
-  sound_settles out = with_machine (logs w) j new (settles out w j old).machine old.processes old.next_process sound_gathered tt
+  sound_settles out =
+      with_machine (logs w) j new (settles out w j old).machine old.processes old.next_process sound_gathered tt
 
   -- where nothing is hidden, every part of every publication is held
-  pub complete : ((i : ℕ) → i < length w.members → (member w i).hidden ≡ []) → (q : Publication) → In q (published (logs w)) → holds_all new q ≡ true
+  pub complete : ((i : ℕ) → i < length w.members → (member w i).hidden ≡ []) → (q : Publication)
+      → In q (published (logs w)) → holds_all new q ≡ true
   complete clear q i =
       let there : IsIn (logs w) q = in_published (logs w) q i in
       let publisher : q.publisher < length w.members = publisher_within w (pair_in q) there.there in
       let theirs : IsSoundMember (logs w) q.publisher (member w q.publisher) = s.members q.publisher publisher in
-      let held : (x : ℕ) → x ≤ count (logs w) (pair_in q) → member_holds (member w q.publisher) (part_of (pair_in q) x) ≡ true =
+      let held : (x : ℕ) → x ≤ count (logs w) (pair_in q)
+      → member_holds (member w q.publisher) (part_of (pair_in q) x) ≡ true =
       elim (theirs.own_held q.seq there.there) [
-        | inl h ↦ absurd (true≢false (sym h ∙ ap (λ (xs : List Pair). contains pair_cmp xs (pair_in q)) (clear q.publisher publisher)))
+        | inl h ↦
+            absurd (true≢false
+            (sym h ∙ ap (λ (xs : List Pair). contains pair_cmp xs (pair_in q)) (clear q.publisher publisher)))
         | inr f ↦ f
       ] in
       all_in (member_holds new) (parts_in q) (λ t it.
       let p : IsPartOf t q = from_parts_in q t it in
-      let theirs_too : (x : ℕ) → x ≤ length q.object.contents → someone_holds w.members (part_of (pair_of t) x) ≡ true = λ x le.
+      let theirs_too : (x : ℕ) → x ≤ length q.object.contents → someone_holds w.members (part_of (pair_of t) x) ≡ true =
+      λ x le.
       someone w.members (member w q.publisher) (part_of (pair_of t) x) (in_at w.members q.publisher no_member publisher)
-      (subst (λ (pair : Pair). member_holds (member w q.publisher) (part_of pair x) ≡ true) (sym p.pair) (held x (subst (λ (o : NamedContents). x ≤ length o.contents) there.object le))) in
+      (subst (λ (pair : Pair). member_holds (member w q.publisher) (part_of pair x) ≡ true) (sym p.pair)
+      (held x (subst (λ (o : NamedContents). x ≤ length o.contents) there.object le))) in
       elim (cases_Bool (member_holds old t)) [
         | inl was ↦ keeps_held t was
         | inr free ↦ gets t (in_flat_map parts_in (published (logs w)) q t i it) (record {
           told =
               let own : get_or (member w q.publisher).known q.publisher 0 ≡ last_of (logs w) q.publisher = theirs.own in
-              let up : get_or (member w q.publisher).known q.publisher 0 ≤ get_or (settled_vector w) q.publisher 0 = told_by q.publisher q.publisher publisher in
-              subst (λ (pair : Pair). pair.1 ≤ get_or (settled_vector w) pair.0 0) (sym p.pair) (omega (arith, own, up, there.there.to_last));
+              let up : get_or (member w q.publisher).known q.publisher 0 ≤ get_or (settled_vector w) q.publisher 0 =
+              told_by q.publisher q.publisher publisher in
+              subst (λ (pair : Pair). pair.1 ≤ get_or (settled_vector w) pair.0 0) (sym p.pair)
+              (omega (arith, own, up, there.there.to_last));
           not_hidden = ap (λ (xs : List Pair). contains pair_cmp xs (pair_of t)) (clear j within);
           someones = theirs_too t.part p.counted;
           record_too = theirs_too 0 (omega arith);
@@ -198,46 +261,61 @@ module _ (w : World) (s : IsSoundGroup w) (j : ℕ) (within : j < length w.membe
 
 -- ---- the world
 
-pub settled-at : (out : Outside) (w : World) (k i : ℕ) (ms : List Member) → i < length ms → get_or (settle_each out w k ms) i no_member ≡ settles out w (k + i) (get_or ms i no_member)
+pub settled-at : (out : Outside) (w : World) (k i : ℕ) (ms : List Member) → i < length ms
+    → get_or (settle_each out w k ms) i no_member ≡ settles out w (k + i) (get_or ms i no_member)
 settled-at out w k i [] l = absurd (omega arith)
 settled-at out w k zero (m ∷ ms) l = ap (λ (j : ℕ). settles out w j m) (omega arith)
-settled-at out w k (suc i) (m ∷ ms) l = settled-at out w (k + 1) i ms (omega arith) ∙ ap (λ (j : ℕ). settles out w j (get_or ms i no_member)) (omega arith)
+settled-at out w k (suc i) (m ∷ ms) l =
+    settled-at out w (k + 1) i ms (omega arith) ∙ ap (λ (j : ℕ). settles out w j (get_or ms i no_member)) (omega arith)
 
-pub logs_settled : (out : Outside) (w : World) (k : ℕ) (ms : List Member) → logs_of (settle_each out w k ms) ≡ logs_of ms
+pub logs_settled : (out : Outside) (w : World) (k : ℕ) (ms : List Member)
+    → logs_of (settle_each out w k ms) ≡ logs_of ms
 logs_settled out w k [] = refl
 logs_settled out w k (m ∷ ms) = ap (λ (ls : Logs). m.log ∷ ls) (logs_settled out w (k + 1) ms)
 
-pub length_settled : (out : Outside) (w : World) (k : ℕ) (ms : List Member) → length (settle_each out w k ms) ≡ length ms
+pub length_settled : (out : Outside) (w : World) (k : ℕ) (ms : List Member)
+    → length (settle_each out w k ms) ≡ length ms
 length_settled out w k [] = refl
 length_settled out w k (m ∷ ms) = ap suc (length_settled out w (k + 1) ms)
 
-pub member_settled : (out : Outside) (w : World) (j : ℕ) → j < length w.members → member (after_settle out w) j ≡ settles out w j (member w j)
+pub member_settled : (out : Outside) (w : World) (j : ℕ) → j < length w.members
+    → member (after_settle out w) j ≡ settles out w j (member w j)
 member_settled out w j l = settled-at out w 0 j w.members l ∙ ap (λ (k : ℕ). settles out w k (member w j)) (omega arith)
 
 pub logs_gathered : (w : World) (ms : List Member) → logs_of (map (settled_member w) ms) ≡ logs_of ms
 logs_gathered w [] = refl
 logs_gathered w (m ∷ ms) = ap (λ (ls : Logs). m.log ∷ ls) (logs_gathered w ms)
 
-pub member_gathered : (out : Outside) (w : World) (j : ℕ) → j < length w.members → member (after_gathering out w) j ≡ settled_member w (member w j)
+pub member_gathered : (out : Outside) (w : World) (j : ℕ) → j < length w.members
+    → member (after_gathering out w) j ≡ settled_member w (member w j)
 member_gathered out w j l = get_or-map (settled_member w) w.members j no_member no_member l
 
 -- where nothing is hidden each catalogue is then the join of all publications, whatever the machine
-catalogue_joined : (w : World) (j : ℕ) → IsSoundGroup w → j < length w.members → ((i : ℕ) → i < length w.members → (member w i).hidden ≡ []) → catalogue (logs w) (settled_member w (member w j)) ≡ join_of (logs w)
+catalogue_joined : (w : World) (j : ℕ) → IsSoundGroup w → j < length w.members
+    → ((i : ℕ) → i < length w.members → (member w i).hidden ≡ [])
+    → catalogue (logs w) (settled_member w (member w j)) ≡ join_of (logs w)
 catalogue_joined w j s within clear =
-    ap (map published_entry) (filter_whole (holds_all (settled_member w (member w j))) (published (logs w)) (complete w s j within clear))
+    ap (map published_entry)
+    (filter_whole (holds_all (settled_member w (member w j))) (published (logs w)) (complete w s j within clear))
 
 pub settle_joins : InSoundGroups JoinsInSettle
 settle_joins out w s clear j l =
     let same : length (after_settle out w).members ≡ length w.members = length_settled out w 0 w.members in
     let within : j < length w.members = subst (λ (k : ℕ). j < k) same l in
-    subst (λ (ls : Logs). catalogue ls (member (after_settle out w) j) ≡ join_of ls) (sym (logs_settled out w 0 w.members))
+    subst (λ (ls : Logs). catalogue ls (member (after_settle out w) j) ≡ join_of ls)
+    (sym (logs_settled out w 0 w.members))
     (ap (λ (m : Member). catalogue (logs w) m) (member_settled out w j within)
-    ∙ catalogue_joined w j s within (λ i li. ap (λ (m : Member). m.hidden) (sym (member_settled out w i li)) ∙ clear i (subst (λ (k : ℕ). i < k) (sym same) li)))
+    ∙ catalogue_joined w j s within
+    (λ i li.
+    ap (λ (m : Member). m.hidden) (sym (member_settled out w i li)) ∙ clear i (subst (λ (k : ℕ). i < k) (sym same) li)))
 
 pub gathering_joins : InSoundGroups JoinsInGathering
 gathering_joins out w s clear j l =
     let same : length (map (settled_member w) w.members) ≡ length w.members = length-map w.members (settled_member w) in
     let within : j < length w.members = subst (λ (k : ℕ). j < k) same l in
-    subst (λ (ls : Logs). catalogue ls (member (after_gathering out w) j) ≡ join_of ls) (sym (logs_gathered w w.members))
+    subst (λ (ls : Logs). catalogue ls (member (after_gathering out w) j) ≡ join_of ls)
+    (sym (logs_gathered w w.members))
     (ap (λ (m : Member). catalogue (logs w) m) (member_gathered out w j within)
-    ∙ catalogue_joined w j s within (λ i li. ap (λ (m : Member). m.hidden) (sym (member_gathered out w i li)) ∙ clear i (subst (λ (k : ℕ). i < k) (sym same) li)))
+    ∙ catalogue_joined w j s within
+    (λ i li. ap (λ (m : Member). m.hidden) (sym (member_gathered out w i li))
+    ∙ clear i (subst (λ (k : ℕ). i < k) (sym same) li)))

@@ -1,6 +1,8 @@
 -- What a member wants and claims.
-use Rattle.std.proofs.Common.{◌≡◌, ◌≢◌, inl, inr, true, false, not, List, [], ◌∷◌, refl, sym, ◌∙◌, subst, arith, Some, None}
-use Rattle.std.proofs.lemmas.Bool.{true≢false, and_parts, and_from, not-true, not_from_false, true_from_ne_false, cases_eq}
+use Rattle.std.proofs.Common.{◌≡◌, ◌≢◌, inl, inr, true, false, not, List, [], ◌∷◌, refl, sym, ◌∙◌, subst, arith, Some}
+use Rattle.std.proofs.Common.{None}
+use Rattle.std.proofs.lemmas.Bool.{true≢false, and_parts, and_from, not-true, not_from_false, true_from_ne_false}
+use Rattle.std.proofs.lemmas.Bool.{cases_eq}
 use Rattle.std.specs.declared.cmp.Ordering.TheVariants.{Less}
 use Rattle.repo_plan.specs.declared.part.Part.{Part}
 use Rattle.repo_plan.specs.SortedList.{Rises}
@@ -25,7 +27,10 @@ in_words ls m t h =
       known = w.known;
       part = elim w.with_record [
         | inl z ↦ inl z
-        | inr r ↦ elim (cases_eq t.part 0) [ inl z ↦ inl z | inr p ↦ inr (record { from_one = omega (arith, p); counted = w.counted; with_record = r }) ]
+        | inr r ↦ elim (cases_eq t.part 0) [
+          | inl z ↦ inl z
+          | inr p ↦ inr (record { from_one = omega (arith, p); counted = w.counted; with_record = r })
+        ]
       ];
       not_held = w.not_held;
       not_hidden = w.not_hidden;
@@ -44,19 +49,26 @@ pub tests_those : TestsThose
 tests_those ls m t = (in_words ls m t, from_words ls m t)
 
 pub wants_those : WantsThose
-wants_those ls m t = (λ h. in_words ls m t (sym (contains-wanted (plan_of ls m) t) ∙ h), λ w. contains-wanted (plan_of ls m) t ∙ from_words ls m t w)
+wants_those ls m t = (
+  λ h. in_words ls m t (sym (contains-wanted (plan_of ls m) t) ∙ h),
+  λ w. contains-wanted (plan_of ls m) t ∙ from_words ls m t w,
+)
 
 -- ---- the first that nobody claims
 
-is_open : (ls : Logs) (m : Member) (t : Part) → IsWantedPart ls m t → is_claimed (plan_of ls m) t ≡ false → In t (unclaimed (plan_of ls m))
+is_open : (ls : Logs) (m : Member) (t : Part) → IsWantedPart ls m t → is_claimed (plan_of ls m) t ≡ false
+    → In t (unclaimed (plan_of ls m))
 is_open ls m t w free =
     let p = plan_of ls m in
-    in_contains exact_parts (unclaimed p) t (contains-unclaimed p t ∙ and_from (is_wanted p t) _ (from_words ls m t w) (not_from_false (is_claimed p t) free))
+    in_contains exact_parts (unclaimed p) t
+    (contains-unclaimed p t ∙ and_from (is_wanted p t) _ (from_words ls m t w) (not_from_false (is_claimed p t) free))
 
-from_open : (ls : Logs) (m : Member) (t : Part) → In t (unclaimed (plan_of ls m)) → IsWantedPart ls m t × (is_claimed (plan_of ls m) t ≡ false)
+from_open : (ls : Logs) (m : Member) (t : Part) → In t (unclaimed (plan_of ls m))
+    → IsWantedPart ls m t × (is_claimed (plan_of ls m) t ≡ false)
 from_open ls m t i =
     let p = plan_of ls m in
-    let r : (is_wanted p t ≡ true) × (not (is_claimed p t) ≡ true) = and_parts (is_wanted p t) _ (sym (contains-unclaimed p t) ∙ contains_in exact_parts (unclaimed p) t i) in
+    let r : (is_wanted p t ≡ true) × (not (is_claimed p t) ≡ true) =
+    and_parts (is_wanted p t) _ (sym (contains-unclaimed p t) ∙ contains_in exact_parts (unclaimed p) t i) in
     (in_words ls m t r.0, not-true (is_claimed p t) r.1)
 
 -- the first of a list in order, and the others
@@ -93,6 +105,9 @@ pub claims_none_where : ClaimsNoneWhere
 claims_none_where w j =
     let ls : Logs = logs w in
     let m : Member = member w j in (
-      λ e t want. true_from_ne_false (is_claimed (plan_of ls m) t) (λ free. none_first (open_at w j) e t (is_open ls m t want free)),
-      λ each. first_none (open_at w j) (λ t i. let o : IsWantedPart ls m t × (is_claimed (plan_of ls m) t ≡ false) = from_open ls m t i in true≢false (sym (each t o.0) ∙ o.1)),
+      λ e t want. true_from_ne_false (is_claimed (plan_of ls m) t)
+          (λ free. none_first (open_at w j) e t (is_open ls m t want free)),
+      λ each. first_none (open_at w j) (λ t i.
+          let o : IsWantedPart ls m t × (is_claimed (plan_of ls m) t ≡ false) = from_open ls m t i in
+          true≢false (sym (each t o.0) ∙ o.1)),
     )

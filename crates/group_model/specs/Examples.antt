@@ -1,5 +1,6 @@
 -- Small groups, with what happens to them and what they reply. The definitions compute the replies.
-use Rattle.std.specs.Prelude.{ℕ, ◌≡◌, ◌==◌, true, false, List, [], ◌∷◌, map, codes, replicate, Option, Some, None, Ok, Err, if◌then◌else◌}
+use Rattle.std.specs.Prelude.{ℕ, ◌≡◌, ◌==◌, true, false, List, [], ◌∷◌, map, codes, replicate, Option, Some, None, Ok}
+use Rattle.std.specs.Prelude.{Err, if◌then◌else◌}
 use Rattle.sha2.specs.Sha256.{sha256}
 use Rattle.ndn_name.specs.Names.{Component}
 use Rattle.repo_plan.specs.declared.part.Part.{Part}
@@ -14,9 +15,14 @@ use Rattle.repo_command.specs.declared.command.Command.TheVariants.{Insert, Chec
 use Rattle.group_model.specs.Events.{Came, Found, Event}
 use Rattle.group_model.specs.Events.Came.{Nothing, Its, Another}
 use Rattle.group_model.specs.Events.Found.{NoPacket, Packet}
-use Rattle.group_model.specs.Events.Event.{Publish, Deliver, Sync, Advance, Fire, Restart, Vector, Catalogue, Claim, Lose, Answer, Fetch, Settle, Dump, Hear, Ask, Feed, Order, Issue, Block, Summary, Traffic}
+use Rattle.group_model.specs.Events.Event.{Publish, Deliver, Sync, Advance, Fire, Restart, Vector, Catalogue, Claim}
+use Rattle.group_model.specs.Events.Event.{Lose, Answer, Fetch, Settle, Dump, Hear, Ask, Feed, Order, Issue, Block}
+use Rattle.group_model.specs.Events.Event.{Summary, Traffic}
 use Rattle.group_model.specs.Replies.{Reply}
-use Rattle.group_model.specs.Replies.Reply.{Published, Delivered, Synced, Advanced, Early, Quiet, Sent, Restarted, Numbers, Entries, Claimed, Lost, Answered, Fetched, Settled, Dumped, Heard, HearRefused, OwnNumberAhead, Asked, Fed, Commanded, NoBlock, BlockKept, BlockLate, BlockPublished, Summed, Counted}
+use Rattle.group_model.specs.Replies.Reply.{Published, Delivered, Synced, Advanced, Early, Quiet, Sent, Restarted}
+use Rattle.group_model.specs.Replies.Reply.{Numbers, Entries, Claimed, Lost, Answered, Fetched, Settled, Dumped, Heard}
+use Rattle.group_model.specs.Replies.Reply.{HearRefused, OwnNumberAhead, Asked, Fed, Commanded, NoBlock, BlockKept}
+use Rattle.group_model.specs.Replies.Reply.{BlockLate, BlockPublished, Summed, Counted}
 use Rattle.group_model.specs.World.{Outside, World, no_member, opening_world, logs}
 use Rattle.group_model.specs.Steps.{replies, after_event, after_events}
 use Rattle.group_model.specs.Refusals.{Refusal, refusal}
@@ -292,8 +298,8 @@ IdleIsRefused = Refuses plain_outside 2 claimed (
     ∷ []
     )
 
--- Octets that pass and that nobody of the group made: a vector that nobody sent, though another sent it or the sender sent
--- another; a packet that isn't the publisher's; and a command that this client didn't make for this member.
+-- Octets that pass and that nobody of the group made: a vector that nobody sent, though another sent it or the sender
+-- sent another; a packet that isn't the publisher's; and a command that this client didn't make for this member.
 abbrev pub HearIsForeign : Type 0
 HearIsForeign = Refuses plain_outside 2 claimed (
     (Hear 1 (Some (record { sender = 1; vector = 1 ∷ 0 ∷ [] })), Foreign)
@@ -426,4 +432,5 @@ ToldOfAll = Plays plain_outside 2 (told_of_all (
 
 abbrev pub JoinOfThem : Type 0
 JoinOfThem =
-    join_of (logs (after_events plain_outside (opening_world plain_outside 2) (map (λ l. l.0) (told_of_all [])))) ≡ entry 0 1 doc 3 3 abc ∷ []
+    join_of (logs (after_events plain_outside (opening_world plain_outside 2) (map (λ l. l.0) (told_of_all []))))
+    ≡ entry 0 1 doc 3 3 abc ∷ []

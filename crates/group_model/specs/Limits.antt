@@ -21,8 +21,8 @@ abbrev pub IsShortInsertion : Command → Type 0
 IsShortInsertion (Insert name first last) = last < first + 200
 IsShortInsertion _ = Unit {0}
 
--- An object has at most 200 segments, the moment moves by at most 1,000,000,000 milliseconds, and a fetch tries each part
--- 16 times at most.
+-- An object has at most 200 segments, the moment moves by at most 1,000,000,000 milliseconds, and a fetch tries each
+-- part 16 times at most.
 abbrev pub IsInRange : Event → Type 0
 IsInRange (Event.Publish m o) = length o.contents ≤ 200
 IsInRange (Event.Advance ms) = ms ≤ 1000000000
@@ -49,8 +49,8 @@ pub record IsTallyWithin (steps : ℕ) (t : Tally) : Type 0 where
   pub parts : t.parts ≤ steps * 321600000
   pub octets : t.octets ≤ steps * 2830080000000
 
--- After so many events the moment, what was sent and what was published are within these numbers, and each object has at
--- most 200 segments.
+-- After so many events the moment, what was sent and what was published are within these numbers, and each object has
+-- at most 200 segments.
 pub record IsWithinSteps (steps : ℕ) (w : World) : Type 0 where
   pub moment : w.moment ≤ steps * 1000000000
   pub sent : length w.sent ≤ steps * 16

@@ -1,5 +1,6 @@
 -- Which events are refused, and which are foreign: octets that pass their checks and that nobody of the group made.
-use Rattle.std.specs.Prelude.{ℕ, ◌≡◌, ◌<◌, ◌≤◌, Bool, not, List, [], ◌∷◌, length, Option, Some, None, Result, Ok, Err, nat_le, ◌==◌, ◌&&◌, if◌then◌else◌}
+use Rattle.std.specs.Prelude.{ℕ, ◌≡◌, ◌<◌, ◌≤◌, Bool, not, List, [], ◌∷◌, length, Option, Some, None, Result, Ok, Err}
+use Rattle.std.specs.Prelude.{nat_le, ◌==◌, ◌&&◌, if◌then◌else◌}
 use Rattle.std.specs.List.{list_any}
 use Rattle.std.specs.Str.{bytes_eq}
 use Rattle.repo_plan.specs.declared.part.Part.{Part}
@@ -33,7 +34,8 @@ abbrev pub has_sent : World → SyncInterest → Bool
 has_sent w sync = list_any (λ s. s.sender == sync.sender && bytes_eq s.vector sync.vector) w.sent
 
 abbrev pub has_issued : World → ℕ → ℕ × Command → Bool
-has_issued w j order = list_any (λ i. i.member == j && (i.client == order.0 && is_equal_command i.command order.1)) w.issued
+has_issued w j order =
+    list_any (λ i. i.member == j && (i.client == order.0 && is_equal_command i.command order.1)) w.issued
 
 -- ---- what refuses an event
 

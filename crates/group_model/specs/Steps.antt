@@ -1,5 +1,7 @@
 -- What each event makes of a group, and what is told of it.
-use Rattle.std.specs.Prelude.{ℕ, ◌+◌, ◌-◌, ◌*◌, Bool, true, false, not, List, [], ◌∷◌, ◌++◌, map, length, take, Option, Some, None, is_some, unwrap_or, Result, Ok, Err, slice_index, slice_set, nat_le, nat_lt, ◌==◌, ◌&&◌, if◌then◌else◌, filter, find, sum_by}
+use Rattle.std.specs.Prelude.{ℕ, ◌+◌, ◌-◌, ◌*◌, Bool, true, false, not, List, [], ◌∷◌, ◌++◌, map, length, take, Option}
+use Rattle.std.specs.Prelude.{Some, None, is_some, unwrap_or, Result, Ok, Err, slice_index, slice_set, nat_le, nat_lt}
+use Rattle.std.specs.Prelude.{◌==◌, ◌&&◌, if◌then◌else◌, filter, find, sum_by}
 use Rattle.std.specs.Ordering.{nat_cmp}
 use Rattle.repo_plan.specs.declared.part.Part.{Part}
 use Rattle.repo_plan.specs.SortedList.{value_of}
@@ -20,12 +22,15 @@ use Rattle.repo_command.specs.declared.command.Command.{Command}
 use Rattle.repo_command.specs.declared.answer.Answer.{Answer}
 use Rattle.repo_command.specs.Answers.{code_alone}
 use Rattle.repo_command.specs.declared.command.Command.TheVariants.{Insert, Check, Delete}
-use Rattle.group_model.specs.Member.{Member, member_holds, member_hides, plan_of, catalogued_under, gains, member_hides_all, tries_of, with_each_tried, member_without_claims}
-use Rattle.group_model.specs.Changes.{resets, publishes, learns, restarts, member_with_claim, takes, member_with_process, member_starts}
+use Rattle.group_model.specs.Member.{Member, member_holds, member_hides, plan_of, catalogued_under, gains}
+use Rattle.group_model.specs.Member.{member_hides_all, tries_of, with_each_tried, member_without_claims}
+use Rattle.group_model.specs.Changes.{resets, publishes, learns, restarts, member_with_claim, takes}
+use Rattle.group_model.specs.Changes.{member_with_process, member_starts}
 use Rattle.group_model.specs.Events.{SyncInterest, Came, Event}
 use Rattle.group_model.specs.Events.Came.{Nothing, Its, Another}
 use Rattle.group_model.specs.Replies.{CatalogueTotals, Reply}
-use Rattle.group_model.specs.World.{Issued, World, Outside, no_member, member, with_member, logs, sent_at, catalogue_at, someone_holds}
+use Rattle.group_model.specs.World.{Issued, World, Outside, no_member, member, with_member, logs, sent_at, catalogue_at}
+use Rattle.group_model.specs.World.{someone_holds}
 
 -- ---- claims
 
@@ -109,7 +114,8 @@ new_parts w m = filter (comes_to w m) (all_parts (logs w))
 abbrev pub settle_gains : World → ℕ
 settle_gains w = sum_by (λ m. length (new_parts w m)) w.members
 
--- What it makes of a member, but for its machine: the member knows what all know, its claims end, and the new parts come.
+-- What it makes of a member, but for its machine: the member knows what all know, its claims end, and the new parts
+-- come.
 abbrev pub settled_member : World → Member → Member
 settled_member w m = record (gains (new_parts w m) (member_without_claims m)) { known = settled_vector w }
 
@@ -281,7 +287,8 @@ module _ (out : Outside) where
   after_event w (Event.Catalogue j) = w
   after_event w (Event.Claim j f) = after_claiming w j f (to_claim w j)
   after_event w (Event.Lose j f) = with_member w j (member_with_claim f None (member w j))
-  after_event w (Event.Answer j f q) = after_came out (tried_once w) j f (claim_at w j f) (came_from out w q (claim_at w j f))
+  after_event w (Event.Answer j f q) =
+      after_came out (tried_once w) j f (claim_at w j f) (came_from out w q (claim_at w j f))
   after_event w (Event.Fetch j tries loss) = after_fetch w j tries loss
   after_event w Event.Settle = after_settle w
   after_event w (Event.Dump j t) = w
@@ -347,7 +354,8 @@ reply_to out w (Event.Claim j f) = Reply.Claimed (to_claim w j)
 reply_to out w (Event.Lose j f) = Reply.Lost (claim_at w j f)
 reply_to out w (Event.Answer j f q) = Reply.Answered (passes_checks (came_from out w q (claim_at w j f)))
 reply_to out w (Event.Fetch j tries loss) =
-    Reply.Fetched (length (planned_parts w j)) (length (fetched_parts out w j tries loss)) (attempts_made out w j tries loss)
+    Reply.Fetched (length (planned_parts w j)) (length (fetched_parts out w j tries loss))
+    (attempts_made out w j tries loss)
 reply_to out w Event.Settle = Reply.Settled (length w.members) (settle_gains w)
 reply_to out w (Event.Dump j t) = Reply.Dumped (if member_holds (member w j) t then Some t else None)
 reply_to out w (Event.Hear j read) = hear_reply out w j read

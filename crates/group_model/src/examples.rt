@@ -1,5 +1,9 @@
-ghost use Rattle.group_model.specs.Examples.{Settles, NothingHappens, Delivers, OldRepeats, PartByPart, SameObjectTwice, ThreeMembers, SegmentCounts, SettleEndsClaims, Timers, Fetches, ThirdAttempts, FromOutside, RestartKeepsNumbers, Insertion, Blocks, DeletedBefore, ToldOfAll, JoinOfThem};
-ghost use Rattle.group_model.specs.Examples.{UnsentIsRefused, BusyIsRefused, IdleIsRefused, HearIsForeign, FeedIsForeign, AnswerIsForeign, OrderIsForeign, SpentIsRefused};
+ghost use Rattle.group_model.specs.Examples.{Settles, NothingHappens, Delivers, OldRepeats, PartByPart};
+ghost use Rattle.group_model.specs.Examples.{SameObjectTwice, ThreeMembers, SegmentCounts, SettleEndsClaims, Timers};
+ghost use Rattle.group_model.specs.Examples.{Fetches, ThirdAttempts, FromOutside, RestartKeepsNumbers, Insertion};
+ghost use Rattle.group_model.specs.Examples.{Blocks, DeletedBefore, ToldOfAll, JoinOfThem};
+ghost use Rattle.group_model.specs.Examples.{UnsentIsRefused, BusyIsRefused, IdleIsRefused, HearIsForeign};
+ghost use Rattle.group_model.specs.Examples.{FeedIsForeign, AnswerIsForeign, OrderIsForeign, SpentIsRefused};
 
 /// What small groups reply to events that they take, event by event, computed from the definitions.
 pub fn groups_reply_so()

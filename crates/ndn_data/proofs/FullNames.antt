@@ -15,7 +15,8 @@ one_more (c ∷ name) [] last p one at =
 one_more (c ∷ name) (d ∷ of) last p one at =
     let first : c ≡ d = cc in
     let front : take (length of) name ≡ of = cc in
-    ap (λ (n : List Component). c ∷ n) (one_more name of last front (omega arith) at) ∙ ap (λ (x : Component). x ∷ (of ++ last ∷ [])) first
+    ap (λ (n : List Component). c ∷ n) (one_more name of last front (omega arith) at)
+    ∙ ap (λ (x : Component). x ∷ (of ++ last ∷ [])) first
 
 abbrev found : Component → Option Component
 found c = Some c
@@ -24,5 +25,6 @@ found c = Some c
 pub same_value : (typ : ℕ) (value : List ℕ) (c : Component) → found (typ, value) ≡ found c → value ≡ c.1
 same_value typ value c e = let same : (typ, value) ≡ c = cc in ap (λ (x : Component). x.1) same
 
-pub pair_is : (typ : ℕ) (value digest : List ℕ) (c : Component) → typ ≡ 1 → value ≡ digest → found c ≡ found (typ, value) → found c ≡ found (1, digest)
+pub pair_is : (typ : ℕ) (value digest : List ℕ) (c : Component) → typ ≡ 1 → value ≡ digest
+    → found c ≡ found (typ, value) → found c ≡ found (1, digest)
 pair_is typ value digest c t v e = e ∙ ap (λ (n : ℕ). found (n, value)) t ∙ ap (λ (o : List ℕ). found (1, o)) v

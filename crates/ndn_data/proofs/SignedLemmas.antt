@@ -1,5 +1,7 @@
 -- What a Data packet's signature signs stands in the packet, from the Name on.
-use Rattle.std.proofs.Common.{◌≡◌, ℕ, zero, suc, ◌+◌, ◌-◌, ◌^◌, ◌<◌, ◌≤◌, Bool, false, cond, List, ◌++◌, length, length-append, length-drop, take, drop, Option, Some, None, slice_get, slice_range, drop_at, Result, Ok, Err, IfSome, refl, sym, ap, subst, ◌∙◌, arith}
+use Rattle.std.proofs.Common.{◌≡◌, ℕ, zero, suc, ◌+◌, ◌-◌, ◌^◌, ◌<◌, ◌≤◌, Bool, false, cond, List, ◌++◌, length}
+use Rattle.std.proofs.Common.{length-append, length-drop, take, drop, Option, Some, None, slice_get, slice_range}
+use Rattle.std.proofs.Common.{drop_at, Result, Ok, Err, IfSome, refl, sym, ap, subst, ◌∙◌, arith}
 use Rattle.std.proofs.Math.Seq.{take-append-add}
 use Rattle.std.proofs.lemmas.List.{append-nil, nil_from_length}
 use Rattle.std.proofs.lemmas.List.Folds.{drop_split}
@@ -22,10 +24,12 @@ use Rattle.ndn_packet.specs.Contents.{ok_or, name_or, name_in}
 use Rattle.ndn_packet.specs.SignatureInfo.{Info, info_in}
 use Rattle.ndn_packet.proofs.Gathering.{none_before, Stands, elements_stand, keeps}
 use Rattle.ndn_data.specs.declared.data_fields.DataField.{DataField}
-use Rattle.ndn_data.specs.declared.data_fields.DataField.TheVariants.{Name, MetaInfo, Content, SignatureInfo, SignatureValue}
+use Rattle.ndn_data.specs.declared.data_fields.DataField.TheVariants.{Name, MetaInfo, Content, SignatureInfo}
+use Rattle.ndn_data.specs.declared.data_fields.DataField.TheVariants.{SignatureValue}
 use Rattle.ndn_data.specs.Signed.{Signs}
 use Rattle.ndn_data.specs.MetaInfo.{Meta, meta_in}
-use Rattle.ndn_data.specs.Data.{data_table, Data, DataSoFar, no_data_field, signed_before, with_data_field, data_fields, data_from, data_of, DataIsSpelled}
+use Rattle.ndn_data.specs.Data.{data_table, Data, DataSoFar, no_data_field, signed_before, with_data_field, data_fields}
+use Rattle.ndn_data.specs.Data.{data_from, data_of, DataIsSpelled}
 use Rattle.ndn_packet.specs.Outer.{outer_of}
 use Rattle.ndn_packet.proofs.Outers.{outer_ok}
 
@@ -108,7 +112,12 @@ name_later whole start low more (Some n) h s =
 later : (whole : List ℕ) (start from low more : ℕ) (s : DataSoFar) → low ≤ more
     → Keeps whole start from low s → Keeps whole start from more s
 later whole start from low more s h j =
-    record { above = omega (arith, j.above); name = name_later whole start low more s.name h j.name; signature = j.signature; last = j.last }
+    record {
+      above = omega (arith, j.above);
+      name = name_later whole start low more s.name h j.name;
+      signature = j.signature;
+      last = j.last;
+    }
 
 abbrev done : DataSoFar → Result DataSoFar PacketFault
 done s = Ok s
@@ -125,7 +134,8 @@ signs : (whole : List ℕ) (start low : ℕ) (name : Option Named) (e : Item) �
     → e.typ ≡ 0x17 → Stands whole e → IfSome name (NameStands whole start low)
     → SignatureStands (drop start whole) name (e.value, signed_before whole name e.start)
 signs whole start low None e above le typ stands n =
-    let tail : drop e.start whole ≡ element 0x17 e.value ++ stands.behind = stands.parts ∙ ap (λ (t : ℕ). element t e.value ++ stands.behind) typ in
+    let tail : drop e.start whole ≡ element 0x17 e.value ++ stands.behind =
+    stands.parts ∙ ap (λ (t : ℕ). element t e.value ++ stands.behind) typ in
     let before = slice_range whole start e.start in
     record {
       before = before;
@@ -134,7 +144,8 @@ signs whole start low None e above le typ stands n =
       named = tt;
     }
 signs whole start low (Some name) e above le typ stands n =
-    let tail : drop e.start whole ≡ element 0x17 e.value ++ stands.behind = stands.parts ∙ ap (λ (t : ℕ). element t e.value ++ stands.behind) typ in
+    let tail : drop e.start whole ≡ element 0x17 e.value ++ stands.behind =
+    stands.parts ∙ ap (λ (t : ℕ). element t e.value ++ stands.behind) typ in
     let before = slice_range whole start name.0 in
     let signed = slice_range whole name.0 e.start in
     let first = element 0x07 (encoding name.1) in
@@ -143,8 +154,17 @@ signs whole start low (Some name) e above le typ stands n =
     record {
       before = before;
       behind = stands.behind;
-      parts = drop_split whole start name.0 n.behind_start ∙ ap (λ (r : List ℕ). before ++ r) (drop_split whole name.0 e.start (omega (arith, n.ends)) ∙ ap (λ (r : List ℕ). signed ++ r) tail);
-      named = record { more = take left n.behind; parts = ap (λ (r : List ℕ). take (e.start - name.0) r) n.parts ∙ ap (λ (k : ℕ). take k (first ++ n.behind)) long ∙ take-append-add first n.behind left };
+      parts =
+          drop_split whole start name.0 n.behind_start
+          ∙ ap (λ (r : List ℕ). before ++ r)
+          (drop_split whole name.0 e.start (omega (arith, n.ends)) ∙ ap (λ (r : List ℕ). signed ++ r) tail);
+      named = record {
+        more = take left n.behind;
+        parts =
+            ap (λ (r : List ℕ). take (e.start - name.0) r) n.parts
+            ∙ ap (λ (k : ℕ). take k (first ++ n.behind)) long
+            ∙ take-append-add first n.behind left;
+      };
     }
 
 -- ---- field by field
@@ -153,21 +173,31 @@ module _ (whole : List ℕ) (start : ℕ) (fits : IsOctets whole) (short : lengt
   octets_of : (e : Item) → Stands whole e → IsOctets e.value
   octets_of e stands =
       let octets = subst IsOctets stands.parts (IsOctets-drop e.start whole fits) in
-      IsOctets-behind (head e.typ (length e.value)) e.value (IsOctets-before (element e.typ e.value) stands.behind octets)
+      IsOctets-behind (head e.typ (length e.value)) e.value
+      (IsOctets-before (element e.typ e.value) stands.behind octets)
 
   length_of : (e : Item) → Stands whole e → length e.value < 2 ^ 64
   length_of e stands =
-      omega (arith, ap length stands.parts, length-drop e.start whole, length-append (element e.typ e.value) stands.behind, length-append (head e.typ (length e.value)) e.value)
+      omega (
+        arith,
+        ap length stands.parts,
+        length-drop e.start whole,
+        length-append (element e.typ e.value) stands.behind,
+        length-append (head e.typ (length e.value)) e.value,
+      )
 
   with_name : (from low : ℕ) (s t : DataSoFar) (e : Item) → from ≤ 0 → e.typ ≡ 0x07 → Keeps whole start from low s
       → low ≤ e.start → e.start < e.value_start → e.value_start + length e.value ≡ e.end → Stands whole e
       → with_data_field whole s (Name, e) ≡ Ok t → Keeps whole start 1 e.end t
   with_name from low s t e le typ j above begins long stands h =
-      let b = bind_ok (name_in (BadField field.Name e.start) e) (λ (name : List Component). done (record s { name = Some (e.start, name) })) t h in
+      let b =
+      bind_ok (name_in (BadField field.Name e.start) e)
+      (λ (name : List Component). done (record s { name = Some (e.start, name) })) t h in
       let name = b.0 in
       let read = name_or_ok (BadField field.Name e.start) (name_of e.value_start e.value) name b.1 in
       let spelled = (name_of-encoded e.value_start e.value name (octets_of e stands) (length_of e stands) read).1 in
-      let first : element e.typ e.value ≡ element 0x07 (encoding name) = ap (λ (k : ℕ). element k e.value) typ ∙ ap (λ (v : List ℕ). element 0x07 v) spelled in
+      let first : element e.typ e.value ≡ element 0x07 (encoding name) =
+      ap (λ (k : ℕ). element k e.value) typ ∙ ap (λ (v : List ℕ). element 0x07 v) spelled in
       let stands_here : NameStands whole start e.end (e.start, name) = record {
         behind_start = omega (arith, j.above);
         behind = stands.behind;
@@ -177,7 +207,9 @@ module _ (whole : List ℕ) (start : ℕ) (fits : IsOctets whole) (short : lengt
       subst (Keeps whole start 1 e.end) (ok_is (record s { name = Some (e.start, name) }) t b.2) (record {
         above = omega (arith, j.above);
         name = stands_here;
-        signature = none_before s.signature 5 (SignatureStands (drop start whole) (Some (e.start, name))) from 0 j.last le (omega arith);
+        signature =
+            none_before s.signature 5 (SignatureStands (drop start whole) (Some (e.start, name))) from 0 j.last le
+            (omega arith);
         last = none_before s.signature 5 (λ _. 5 ≤ 1) from 0 j.last le (omega arith);
       })
 
@@ -185,29 +217,40 @@ module _ (whole : List ℕ) (start : ℕ) (fits : IsOctets whole) (short : lengt
   passes : (from low k : ℕ) (s u t : DataSoFar) (e : Item) → from ≤ k → k < 4 → Keeps whole start from low s
       → low ≤ e.end → s.name ≡ u.name → s.signature ≡ u.signature → done u ≡ Ok t → Keeps whole start (suc k) e.end t
   passes from low k s u t e le below j above same_name same_signature h =
-      let P : Option Named → Option Signature → Type 0 = λ name signature. IfSome name (NameStands whole start e.end) × IfSome signature (SignatureStands (drop start whole) name) × IfSome signature (λ _. 5 ≤ suc k) in
-      let here : P s.name s.signature = (name_later whole start low e.end s.name above j.name, j.signature, none_before s.signature 5 (λ _. 5 ≤ suc k) from k j.last le (omega arith)) in
+      let P : Option Named → Option Signature → Type 0 =
+      λ name signature. IfSome name (NameStands whole start e.end)
+      × IfSome signature (SignatureStands (drop start whole) name)
+      × IfSome signature (λ _. 5 ≤ suc k) in
+      let here : P s.name s.signature = (
+        name_later whole start low e.end s.name above j.name,
+        j.signature,
+        none_before s.signature 5 (λ _. 5 ≤ suc k) from k j.last le (omega arith),
+      ) in
       let Q : Option Named → Type 0 = λ name. P name s.signature in
       let named = subst Q same_name here in
       let R : Option Signature → Type 0 = λ signature. P u.name signature in
       let all = subst R same_signature named in
-      subst (Keeps whole start (suc k) e.end) (ok_is u t h) (record { above = omega (arith, j.above); name = all.0; signature = all.1; last = all.2 })
+      subst (Keeps whole start (suc k) e.end) (ok_is u t h)
+      (record { above = omega (arith, j.above); name = all.0; signature = all.1; last = all.2 })
 
   with_signature : (from low : ℕ) (s t : DataSoFar) (e : Item) → e.typ ≡ 0x17 → Keeps whole start from low s
       → low ≤ e.start → low ≤ e.end → Stands whole e
       → with_data_field whole s (SignatureValue, e) ≡ Ok t → Keeps whole start 5 e.end t
   with_signature from low s t e typ j above end stands h =
-      subst (Keeps whole start 5 e.end) (ok_is (record s { signature = Some (e.value, signed_before whole s.name e.start) }) t h) (record {
+      subst (Keeps whole start 5 e.end)
+      (ok_is (record s { signature = Some (e.value, signed_before whole s.name e.start) }) t h) (record {
         above = omega (arith, j.above);
         name = name_later whole start low e.end s.name end j.name;
         signature = signs whole start low s.name e (omega (arith, j.above)) above typ stands j.name;
         last = omega arith;
       })
 
-  with_field : (f : DataField) (from low : ℕ) (s t : DataSoFar) (e : Item) → from ≤ place_number f → e.typ ≡ type_of f → Keeps whole start from low s
+  with_field : (f : DataField) (from low : ℕ) (s t : DataSoFar) (e : Item) → from ≤ place_number f → e.typ ≡ type_of f
+      → Keeps whole start from low s
       → low ≤ e.start → e.start < e.value_start → e.value_start + length e.value ≡ e.end → Stands whole e
       → with_data_field whole s (f, e) ≡ Ok t → Keeps whole start (suc (place_number f)) e.end t
-  with_field Name from low s t e le typ j above begins long stands h = with_name from low s t e le typ j above begins long stands h
+  with_field Name from low s t e le typ j above begins long stands h =
+      with_name from low s t e le typ j above begins long stands h
   with_field MetaInfo from low s t e le typ j above begins long stands h =
       let b = bind_ok (meta_in e) (λ (m : Meta). done (record s { meta = m })) t h in
       passes from low 1 s (record s { meta = b.0 }) t e le (omega arith) j (omega arith) refl refl b.2
@@ -219,12 +262,15 @@ module _ (whole : List ℕ) (start : ℕ) (fits : IsOctets whole) (short : lengt
   with_field SignatureValue from low s t e le typ j above begins long stands h =
       with_signature from low s t e typ j above (omega arith) stands h
 
-  at_place : (from low k : ℕ) (place : Place DataField) (s t : DataSoFar) (e : Item) → from ≤ k → slice_get data_table k ≡ Some place → place.typ ≡ e.typ → Keeps whole start from low s
+  at_place : (from low k : ℕ) (place : Place DataField) (s t : DataSoFar) (e : Item) → from ≤ k
+      → slice_get data_table k ≡ Some place → place.typ ≡ e.typ → Keeps whole start from low s
       → low ≤ e.start → e.start < e.value_start → e.value_start + length e.value ≡ e.end → Stands whole e
       → with_data_field whole s (place.field, e) ≡ Ok t → Keeps whole start (cond place.repeats k (suc k)) e.end t
   at_place from low k place s t e le at same j above begins long stands h =
       let is = place_at k place at in
-      let kept = with_field place.field from low s t e (omega (arith, is.number)) (sym same ∙ is.typ) j above begins long stands h in
+      let kept =
+      with_field place.field from low s t e (omega (arith, is.number)) (sym same ∙ is.typ) j above begins long stands
+      h in
       let P : ℕ → Type 0 = λ (n : ℕ). Keeps whole start n e.end t in
       let Q : Bool → Type 0 = λ (b : Bool). Keeps whole start (cond b k (suc k)) e.end t in
       subst Q (sym is.once) (subst P (ap suc (sym is.number)) kept)
@@ -236,15 +282,24 @@ pub record Gathers (value : List ℕ) (s : DataSoFar) : Type 0 where
 pub data_gathers : (octets : List ℕ) (e : Item) (s : DataSoFar) → IsOctets octets → length octets < 2 ^ 64
     → octets ≡ element 0x06 e.value → e ≡ placed 0 0x06 e.value → data_fields octets e ≡ Ok s → Gathers e.value s
 data_gathers octets e s fits short whole at h =
-    let start : e.value_start ≡ length (head 0x06 (length e.value)) = omega (arith, ap (λ (x : Item). x.value_start) at) in
-    let value : drop e.value_start octets ≡ e.value = ap (λ (n : ℕ). drop n octets) start ∙ ap (drop (length (head 0x06 (length e.value)))) whole ∙ drop_at (head 0x06 (length e.value)) e.value (length (head 0x06 (length e.value))) refl in
+    let start : e.value_start ≡ length (head 0x06 (length e.value)) =
+    omega (arith, ap (λ (x : Item). x.value_start) at) in
+    let value : drop e.value_start octets ≡ e.value =
+    ap (λ (n : ℕ). drop n octets) start
+    ∙ ap (drop (length (head 0x06 (length e.value)))) whole
+    ∙ drop_at (head 0x06 (length e.value)) e.value (length (head 0x06 (length e.value))) refl in
     let octet = IsOctets-behind (head 0x06 (length e.value)) e.value (subst IsOctets whole fits) in
     let read = elements e.value_start e.value in
     let are = elements_are e.value_start e.value octet in
     let stand = elements_stand octets e.value_start e.value read.items read.fault value are in
-    let first : Keeps octets e.value_start 0 e.value_start no_data_field = record { above = omega arith; name = tt; signature = tt; last = tt } in
-    let kept = keeps data_table (with_data_field octets) (e.value_start + length e.value) (Stands octets) (Keeps octets e.value_start) (at_place octets e.value_start fits short) (λ from low more t le j. later octets e.value_start from low more t le j)
-    0 read.items read.fault (fields data_table read) (fields_stand data_table read.fault read.items 0 data_table refl) e.value_start no_data_field s first (elements_within_octets e.value_start e.value) stand h in
+    let first : Keeps octets e.value_start 0 e.value_start no_data_field =
+    record { above = omega arith; name = tt; signature = tt; last = tt } in
+    let kept =
+    keeps data_table (with_data_field octets) (e.value_start + length e.value) (Stands octets)
+    (Keeps octets e.value_start) (at_place octets e.value_start fits short)
+    (λ from low more t le j. later octets e.value_start from low more t le j)
+    0 read.items read.fault (fields data_table read) (fields_stand data_table read.fault read.items 0 data_table refl)
+    e.value_start no_data_field s first (elements_within_octets e.value_start e.value) stand h in
     let P : List ℕ → Type 0 = λ v. IfSome s.signature (SignatureStands v s.name) in
     record { signature = subst P value kept.holds.signature }
 
@@ -265,7 +320,17 @@ data_spelled octets d fits h =
     spelled octets e.value s d outer.whole gathers f.2 where
       made : List ℕ → DataSoFar → Named → Info → Signature → Data
       made value s name info signature =
-          record { name = name.1; content = s.content; content_type = s.meta.content_type; last = s.meta.last; signature_type = info.signature_type; locator = info.locator; signature = signature.0; signed = signature.1; value = value }
+          record {
+            name = name.1;
+            content = s.content;
+            content_type = s.meta.content_type;
+            last = s.meta.last;
+            signature_type = info.signature_type;
+            locator = info.locator;
+            signature = signature.0;
+            signed = signature.1;
+            value = value;
+          }
 
       finish : Data → Result Data PacketFault
       finish d = Ok d
@@ -273,10 +338,13 @@ data_spelled octets d fits h =
       same : (c d : Data) → finish c ≡ finish d → c ≡ d
       same c d e = cc
 
-      spelled : (octets value : List ℕ) (s : DataSoFar) (d : Data) → octets ≡ element 0x06 value → Gathers value s → data_from value s ≡ Ok d → DataIsSpelled octets d
+      spelled : (octets value : List ℕ) (s : DataSoFar) (d : Data) → octets ≡ element 0x06 value → Gathers value s
+          → data_from value s ≡ Ok d → DataIsSpelled octets d
       spelled octets value s d whole gathers h =
-          let last = λ (name : Named) (info : Info) (signature : Signature). finish (made value s name info signature) in
-          let second = λ (name : Named) (info : Info). ok_or s.signature (Missing field.SignatureValue) >>= last name info in
+          let last =
+          λ (name : Named) (info : Info) (signature : Signature). finish (made value s name info signature) in
+          let second =
+          λ (name : Named) (info : Info). ok_or s.signature (Missing field.SignatureValue) >>= last name info in
           let first = λ (name : Named). ok_or s.info (Missing field.SignatureInfo) >>= second name in
           let n = bind_ok (ok_or s.name (Missing field.Name)) first d h in
           let i = bind_ok (ok_or s.info (Missing field.SignatureInfo)) (second n.0) d n.2 in
@@ -296,7 +364,8 @@ data_spelled octets d fits h =
 
 -- ---- what the view keeps
 
-pub signs_of : (value : List ℕ) (name : Option Named) (g : Signature) → length value ≤ 8800 → SignatureStands value name g → Signs value g.1 g.0
+pub signs_of : (value : List ℕ) (name : Option Named) (g : Signature) → length value ≤ 8800
+    → SignatureStands value name g → Signs value g.1 g.0
 signs_of value name g small stands =
     let last = element 0x17 g.0 in
     let long = ap length stands.parts ∙ length-append stands.before (g.1 ++ (last ++ stands.behind)) in
@@ -307,5 +376,8 @@ signs_of value name g small stands =
       whole = λ same.
           let before = nil_from_length stands.before (omega (arith, long, inner, inmost)) in
           let behind = nil_from_length stands.behind (omega (arith, long, inner, inmost)) in
-          stands.parts ∙ ap (λ (b : List ℕ). b ++ (g.1 ++ (last ++ stands.behind))) before ∙ ap (λ (b : List ℕ). g.1 ++ (last ++ b)) behind ∙ ap (λ (b : List ℕ). g.1 ++ b) (append-nil last);
+          stands.parts
+          ∙ ap (λ (b : List ℕ). b ++ (g.1 ++ (last ++ stands.behind))) before
+          ∙ ap (λ (b : List ℕ). g.1 ++ (last ++ b)) behind
+          ∙ ap (λ (b : List ℕ). g.1 ++ b) (append-nil last);
     }

@@ -1,5 +1,6 @@
 -- What octets are as a Data packet, or the first fault (NDN Packet Format 0.3, "Data Packet").
-use Rattle.std.specs.Prelude.{◌≡◌, ◌⊎◌, ℕ, ◌≤◌, Bool, IsTrue, List, [], ◌∷◌, ◌++◌, Option, Some, None, option_map, IfSome, Result, Ok, slice_range}
+use Rattle.std.specs.Prelude.{◌≡◌, ◌⊎◌, ℕ, ◌≤◌, Bool, IsTrue, List, [], ◌∷◌, ◌++◌, Option, Some, None, option_map}
+use Rattle.std.specs.Prelude.{IfSome, Result, Ok, slice_range}
 use Rattle.ndn_tlv.specs.Types as types
 use Rattle.ndn_tlv.specs.Spelling.{element}
 use Rattle.ndn_tlv.specs.Listing.{gathered, ◌>>=◌}
@@ -17,7 +18,8 @@ use Rattle.ndn_packet.specs.Outer.{outer_of}
 use Rattle.ndn_name.specs.CanonicalOrder.{IsPrefix}
 use Rattle.ndn_data.specs.MetaInfo.{Meta, plain, meta_in, meta}
 use Rattle.ndn_data.specs.declared.data_fields.DataField.{DataField}
-use Rattle.ndn_data.specs.declared.data_fields.DataField.TheVariants.{Name, MetaInfo, Content, SignatureInfo, SignatureValue}
+use Rattle.ndn_data.specs.declared.data_fields.DataField.TheVariants.{Name, MetaInfo, Content, SignatureInfo}
+use Rattle.ndn_data.specs.declared.data_fields.DataField.TheVariants.{SignatureValue}
 use Rattle.ndn_data.specs.declared.data_fields.Gathered.{Gathered}
 use Rattle.ndn_data.specs.declared.data_view.DataView.{DataView}
 

@@ -1,5 +1,6 @@
 -- Lines one behind the other, and the lines of octets as the lines of their elements.
-use Rattle.std.proofs.Common.{◌≡◌, ℕ, zero, suc, ◌+◌, ◌-◌, ◌<◌, ◌≤◌, if◌then◌else◌, List, [], ◌∷◌, ◌++◌, length, append_assoc, append-nil, Option, Some, None, Err, refl, sym, ap, ◌∙◌, arith}
+use Rattle.std.proofs.Common.{◌≡◌, ℕ, zero, suc, ◌+◌, ◌-◌, ◌<◌, ◌≤◌, if◌then◌else◌, List, [], ◌∷◌, ◌++◌, length}
+use Rattle.std.proofs.Common.{append_assoc, append-nil, Option, Some, None, Err, refl, sym, ap, ◌∙◌, arith}
 use Rattle.ndn_tlv.specs.declared.tlv_fault.TlvFault.{TlvFault}
 use Rattle.ndn_tlv.specs.Listing.{Listing, ◌then◌}
 use Rattle.ndn_tlv.specs.Spelling.{element}
@@ -7,7 +8,8 @@ use Rattle.ndn_tlv.specs.Elements.{AreWithin, IsElement, Item, placed, element_a
 use Rattle.ndn_tlv.proofs.Fields.{AreWithin-ends}
 use Rattle.ndn_tlv.proofs.Listings.{elements-nil, elements-element, elements-fault, elements_within_octets}
 use Rattle.ndn_inspect.specs.Types.{has_elements}
-use Rattle.ndn_inspect.specs.Inspection.{Lines, no_lines, ◌before◌, carried_on, ◌and_then◌, element_line, inner_lines, lines_of, lines_within, lines_at}
+use Rattle.ndn_inspect.specs.Inspection.{Lines, no_lines, ◌before◌, carried_on, ◌and_then◌, element_line, inner_lines}
+use Rattle.ndn_inspect.specs.Inspection.{lines_of, lines_within, lines_at}
 
 pub before-before : (a b : List ℕ) (x : Lines) → (a ++ b) before x ≡ a before (b before x)
 before-before a b x =
@@ -63,7 +65,9 @@ within-same (suc n) zero depth offset octets p q =
     rw (elements-nil offset octets (omega arith)) refl
 within-same (suc n) (suc m) depth offset octets p q =
     let read = elements offset octets in
-    lines_of-same (lines_within n) (lines_within m) (length octets - 1) depth offset (offset + length octets) read.items read.fault (elements_within_octets offset octets) (omega arith) (λ d o inner short. within-same n m d o inner (omega arith) (omega arith))
+    lines_of-same (lines_within n) (lines_within m) (length octets - 1) depth offset (offset + length octets) read.items
+    read.fault (elements_within_octets offset octets) (omega arith)
+    (λ d o inner short. within-same n m d o inner (omega arith) (omega arith))
 
 -- the lines of elements, those inside them read in full
 abbrev pub listed_lines : ℕ → Listing Item TlvFault → Lines
@@ -75,7 +79,9 @@ unfolding lines_at lines_within lines_of
 lines_at-elements depth offset [] = rw (elements-nil offset [] refl) refl
 lines_at-elements depth offset (b ∷ bs) =
     let read = elements offset (b ∷ bs) in
-    lines_of-same (lines_within (length bs)) lines_at (length bs) depth offset (offset + length (b ∷ bs)) read.items read.fault (elements_within_octets offset (b ∷ bs)) (omega arith) (λ d o inner short. within-same (length bs) (length inner) d o inner short (omega arith))
+    lines_of-same (lines_within (length bs)) lines_at (length bs) depth offset (offset + length (b ∷ bs)) read.items
+    read.fault (elements_within_octets offset (b ∷ bs)) (omega arith)
+    (λ d o inner short. within-same (length bs) (length inner) d o inner short (omega arith))
 
 -- ---- what octets print, element by element
 
@@ -86,14 +92,16 @@ lines_at-nil depth offset = refl
 pub lines_at-element : (depth offset typ : ℕ) (value rest : List ℕ) → IsElement typ value
     → let e = placed offset typ value in
     lines_at depth offset (element typ value ++ rest)
-    ≡ (element_line depth e before inner_lines lines_at depth e and_then lines_at depth (offset + length (element typ value)) rest)
+    ≡ (element_line depth e before inner_lines lines_at depth e and_then lines_at depth
+    (offset + length (element typ value)) rest)
 unfolding lines_of
 lines_at-element depth offset typ value rest h =
     let e = placed offset typ value in
     let behind = offset + length (element typ value) in
     lines_at-elements depth offset (element typ value ++ rest)
     ∙ ap (listed_lines depth) (elements-element offset typ value rest h.0 h.1 h.2)
-    ∙ ap (λ (x : Lines). element_line depth e before inner_lines lines_at depth e and_then x) (sym (lines_at-elements depth behind rest))
+    ∙ ap (λ (x : Lines). element_line depth e before inner_lines lines_at depth e and_then x)
+    (sym (lines_at-elements depth behind rest))
 
 pub lines_at-fault : (depth offset : ℕ) (octets : List ℕ) (f : TlvFault) → 0 < length octets
     → element_at offset octets ≡ Err f

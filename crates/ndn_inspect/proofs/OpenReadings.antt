@@ -1,14 +1,17 @@
 -- Readings that stand inside each other, the deepest last: what is still to be printed of them, and
 -- how much work they are.
-use Rattle.std.proofs.Common.{◌≡◌, ℕ, suc, ◌+◌, ◌*◌, ◌^◌, ◌<◌, ◌≤◌, true, false, List, [], ◌∷◌, ◌++◌, length, length-append, append-nil, Some, None, refl, sym, ap, ◌∙◌, arith, add-zero, zero-add}
+use Rattle.std.proofs.Common.{◌≡◌, ℕ, suc, ◌+◌, ◌*◌, ◌^◌, ◌<◌, ◌≤◌, true, false, List, [], ◌∷◌, ◌++◌, length}
+use Rattle.std.proofs.Common.{length-append, append-nil, Some, None, refl, sym, ap, ◌∙◌, arith, add-zero, zero-add}
 use Rattle.ndn_tlv.specs.declared.tlv_fault.TlvFault.{TlvFault}
 use Rattle.ndn_tlv.specs.Listing.{Listing, nothing, only_fault, ◌then◌}
 use Rattle.ndn_tlv.specs.Elements.{AreWithin, Item, elements}
 use Rattle.ndn_tlv.proofs.Fields.{AreWithin-ends}
 use Rattle.ndn_tlv.proofs.Listings.{elements_within_octets}
 use Rattle.ndn_inspect.specs.Types.{has_elements}
-use Rattle.ndn_inspect.specs.Inspection.{Lines, no_lines, ◌before◌, ◌and_then◌, element_line, inner_lines, lines_of, lines_at}
-use Rattle.ndn_inspect.proofs.LineLemmas.{before-before, before-and_then, and_then-assoc, and_then-none, listed_lines, lines_at-elements}
+use Rattle.ndn_inspect.specs.Inspection.{Lines, no_lines, ◌before◌, ◌and_then◌, element_line, inner_lines, lines_of}
+use Rattle.ndn_inspect.specs.Inspection.{lines_at}
+use Rattle.ndn_inspect.proofs.LineLemmas.{before-before, before-and_then, and_then-assoc, and_then-none, listed_lines}
+use Rattle.ndn_inspect.proofs.LineLemmas.{lines_at-elements}
 
 abbrev pub Readings : Type 0
 Readings = List (Listing Item TlvFault)
@@ -20,7 +23,8 @@ pending depth (read ∷ inner) others =
     pending (depth + 1) inner (listed_lines depth read and_then others)
 
 pending-last : (depth : ℕ) (outer : Readings) (read : Listing Item TlvFault) (others : Lines)
-    → pending depth (outer ++ read ∷ []) others ≡ (listed_lines (depth + length outer) read and_then pending depth outer others)
+    → pending depth (outer ++ read ∷ []) others
+    ≡ (listed_lines (depth + length outer) read and_then pending depth outer others)
 unfolding pending
 pending-last depth [] read others = rw (add-zero depth) refl
 pending-last depth (first ∷ outer) read others =
@@ -35,21 +39,31 @@ pending-deepest outer read others =
     ∙ ap (λ (d : ℕ). listed_lines d read and_then pending 0 outer others) (zero-add (length outer))
 
 -- what a text and the readings come to, where the deepest is at its end, at a fault or at an element
-module _ (text : List ℕ) (outer : Readings) (read : Listing Item TlvFault) (whole : Lines) (so_far : text before pending 0 (outer ++ read ∷ []) no_lines ≡ whole) where
+module _ (text : List ℕ) (outer : Readings) (read : Listing Item TlvFault) (whole : Lines)
+    (so_far : text before pending 0 (outer ++ read ∷ []) no_lines ≡ whole) where
   opened : text before (listed_lines (length outer) read and_then pending 0 outer no_lines) ≡ whole
   opened = ap (λ (x : Lines). text before x) (sym (pending-deepest outer read no_lines)) ∙ so_far
 
   pub at_end : read ≡ nothing → text before pending 0 outer no_lines ≡ whole
   unfolding lines_of
-  at_end e = sym (ap (λ (r : Listing Item TlvFault). text before (listed_lines (length outer) r and_then pending 0 outer no_lines)) e) ∙ opened
+  at_end e =
+      sym (ap
+      (λ (r : Listing Item TlvFault). text before (listed_lines (length outer) r and_then pending 0 outer no_lines)) e)
+      ∙ opened
 
   pub at_fault : (f : TlvFault) → read ≡ only_fault f
       → text before (let ended : Lines = record { text = []; fault = Some f } in ended) ≡ whole
   unfolding lines_of
-  at_fault f e = sym (ap (λ (r : Listing Item TlvFault). text before (listed_lines (length outer) r and_then pending 0 outer no_lines)) e) ∙ opened
+  at_fault f e =
+      sym (ap
+      (λ (r : Listing Item TlvFault). text before (listed_lines (length outer) r and_then pending 0 outer no_lines)) e)
+      ∙ opened
 
   at_element : (e : Item) (rest : Listing Item TlvFault) → read ≡ (e then rest)
-      → (text ++ element_line (length outer) e) before (inner_lines lines_at (length outer) e and_then (listed_lines (length outer) rest and_then pending 0 outer no_lines)) ≡ whole
+      → (text ++ element_line (length outer) e) before
+      (inner_lines lines_at (length outer) e and_then
+      (listed_lines (length outer) rest and_then pending 0 outer no_lines))
+      ≡ whole
   unfolding lines_of
   at_element e rest is =
       let depth = length outer in
@@ -74,7 +88,9 @@ module _ (text : List ℕ) (outer : Readings) (read : Listing Item TlvFault) (wh
 
   pub at_nest : (e : Item) (rest : Listing Item TlvFault) → read ≡ (e then rest)
       → has_elements e.typ ≡ true
-      → (text ++ element_line (length outer) e) before pending 0 ((outer ++ rest ∷ []) ++ elements e.value_start e.value ∷ []) no_lines ≡ whole
+      → (text ++ element_line (length outer) e) before pending 0
+      ((outer ++ rest ∷ []) ++ elements e.value_start e.value ∷ []) no_lines
+      ≡ whole
   at_nest e rest is nest =
       let depth = length outer in
       let inner = elements e.value_start e.value in
@@ -84,7 +100,8 @@ module _ (text : List ℕ) (outer : Readings) (read : Listing Item TlvFault) (wh
       let deeper : length (outer ++ rest ∷ []) ≡ depth + 1 = omega (arith, length-append outer (rest ∷ [])) in
       ap (λ (x : Lines). front before x) (pending-deepest (outer ++ rest ∷ []) inner no_lines)
       ∙ ap (λ (d : ℕ). front before (listed_lines d inner and_then pending 0 (outer ++ rest ∷ []) no_lines)) deeper
-      ∙ ap (λ (x : Lines). front before (listed_lines (depth + 1) inner and_then x)) (pending-deepest outer rest no_lines)
+      ∙ ap (λ (x : Lines). front before (listed_lines (depth + 1) inner and_then x))
+      (pending-deepest outer rest no_lines)
       ∙ read
 
 -- where the first reading is opened, and where none is left
@@ -93,7 +110,9 @@ pub first_read : (text octets : List ℕ)
 unfolding pending
 first_read text octets =
     let all = lines_at 0 0 octets in
-    ap (λ (x : Lines). text before x) (pending-deepest [] (elements 0 octets) no_lines ∙ ap (λ (x : Lines). x and_then no_lines) (sym (lines_at-elements 0 0 octets)) ∙ and_then-none all.text all.fault)
+    ap (λ (x : Lines). text before x)
+    (pending-deepest [] (elements 0 octets) no_lines
+    ∙ ap (λ (x : Lines). x and_then no_lines) (sym (lines_at-elements 0 0 octets)) ∙ and_then-none all.text all.fault)
 
 pub all_read : (text : List ℕ) (left : Readings) (whole : Lines) → length left ≡ 0
     → text before pending 0 left no_lines ≡ whole
@@ -165,7 +184,8 @@ size_within low high (e ∷ es) w = let others = size_within e.end high es w.3 i
 pub size_elements : (offset : ℕ) (octets : List ℕ)
     → size (elements offset octets).items ≤ length octets
 size_elements offset octets =
-    let s = size_within offset (offset + length octets) (elements offset octets).items (elements_within_octets offset octets) in
+    let s =
+    size_within offset (offset + length octets) (elements offset octets).items (elements_within_octets offset octets) in
     omega arith
 
 pub work-last : (outer : Readings) (read : Listing Item TlvFault)

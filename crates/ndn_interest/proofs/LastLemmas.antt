@@ -1,5 +1,6 @@
 -- The last component of a name, where it was pushed and where it is a digest.
-use Rattle.std.proofs.Common.{◌≡◌, ℕ, zero, suc, ◌-◌, ◌<◌, true, false, eqb, List, [], ◌∷◌, ◌++◌, length, length-append, take, take_at, Option, Some, None, slice_get, refl, ap, subst, ◌∙◌, arith}
+use Rattle.std.proofs.Common.{◌≡◌, ℕ, zero, suc, ◌-◌, ◌<◌, true, false, eqb, List, [], ◌∷◌, ◌++◌, length, length-append}
+use Rattle.std.proofs.Common.{take, take_at, Option, Some, None, slice_get, refl, ap, subst, ◌∙◌, arith}
 use Rattle.std.specs.Option.{option_map_or}
 use Rattle.std.proofs.lemmas.List.{nil_from_length}
 use Rattle.std.proofs.lemmas.Bool.{eqb-true}
@@ -11,20 +12,23 @@ use Rattle.ndn_packet.proofs.Lengths.{length-digest_element}
 use Rattle.ndn_interest.specs.Interest.{last_component, without_last, ends_in_digest}
 
 -- a name and its last component
-pub split_at : (name : List Component) (k : ℕ) (c : Component) → length name ≡ suc k → slice_get name k ≡ Some c → name ≡ take k name ++ c ∷ []
+pub split_at : (name : List Component) (k : ℕ) (c : Component) → length name ≡ suc k → slice_get name k ≡ Some c
+    → name ≡ take k name ++ c ∷ []
 split_at [] k c long at = absurd (omega arith)
 split_at (d ∷ ds) zero c long at =
     let same : d ≡ c = cc in
     ap (λ (n : List Component). d ∷ n) (nil_from_length ds (omega arith)) ∙ ap (λ (x : Component). x ∷ []) same
 split_at (d ∷ ds) (suc k) c long at = ap (λ (n : List Component). d ∷ n) (split_at ds k c (omega arith) at)
 
-component_at : (name : List Component) (k : ℕ) (c : Component) → IsName name → slice_get name k ≡ Some c → IsComponent c × (k < length name)
+component_at : (name : List Component) (k : ℕ) (c : Component) → IsName name → slice_get name k ≡ Some c
+    → IsComponent c × (k < length name)
 component_at [] k c h at = absurd cc
 component_at (d ∷ ds) zero c h at = let same : d ≡ c = cc in (subst IsComponent same h.0, omega arith)
 component_at (d ∷ ds) (suc k) c h at = let rest = component_at ds k c h.1 at in (rest.0, omega (arith, rest.1))
 
 -- a component that the test finds
-pub found : (o : Option Component) → option_map_or (λ c. eqb c.0 2) o false ≡ true → (c : Component) × (o ≡ Some c) × (c.0 ≡ 2)
+pub found : (o : Option Component) → option_map_or (λ c. eqb c.0 2) o false ≡ true
+    → (c : Component) × (o ≡ Some c) × (c.0 ≡ 2)
 found None h = absurd cc
 found (Some c) h = (c, refl, eqb-true c.0 2 h)
 
@@ -45,7 +49,9 @@ digest_ends name valid h =
     let is = component_at name (length name - 1) c valid f.1 in
     let long : length c.1 ≡ 32 = is.0.digest (omega (arith, f.2)) in
     let same : pair c.0 c.1 ≡ pair 2 c.1 = ap (λ (t : ℕ). pair t c.1) f.2 in
-    let parts : name ≡ without_last name ++ (2, c.1) ∷ [] = split_at name (length name - 1) c (omega (arith, is.1)) f.1 ∙ ap (λ (x : Component). without_last name ++ x ∷ []) same in
+    let parts : name ≡ without_last name ++ (2, c.1) ∷ [] =
+    split_at name (length name - 1) c (omega (arith, is.1)) f.1
+    ∙ ap (λ (x : Component). without_last name ++ x ∷ []) same in
     record {
       digest = c.1;
       long = long;
@@ -63,7 +69,9 @@ pub last-push : (name : List Component) (c : Component) → last_component (name
 last-push name c = ap (slice_get (name ++ c ∷ [])) (last_place name c) ∙ slice_get-push name c
 
 pub without-push : (name : List Component) (c : Component) → without_last (name ++ c ∷ []) ≡ name
-without-push name c = ap (λ (n : ℕ). take n (name ++ c ∷ [])) (last_place name c) ∙ take_at name (c ∷ []) (length name) refl
+without-push name c =
+    ap (λ (n : ℕ). take n (name ++ c ∷ [])) (last_place name c) ∙ take_at name (c ∷ []) (length name) refl
 
 pub ends-push : (name : List Component) (digest : List ℕ) → ends_in_digest (name ++ (2, digest) ∷ []) ≡ true
-ends-push name digest = ap (λ (o : Option Component). option_map_or (λ c. eqb c.0 2) o false) (last-push name (2, digest))
+ends-push name digest =
+    ap (λ (o : Option Component). option_map_or (λ c. eqb c.0 2) o false) (last-push name (2, digest))

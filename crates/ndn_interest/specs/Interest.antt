@@ -1,6 +1,8 @@
 -- What octets are as an Interest, or the first fault (NDN Packet Format 0.3, "Interest Packet" and
 -- "Signed Interest").
-use Rattle.std.specs.Prelude.{◌≡◌, ℕ, ◌-◌, ◌≤◌, Bool, true, false, not, ◌&&◌, is_some, is_none, List, [], ◌∷◌, ◌++◌, length, take, drop, slice_get, slice_range, Option, Some, None, option_map, MatchOption, IfSome, Result, Ok, Err, ◌==◌, if◌then◌else◌}
+use Rattle.std.specs.Prelude.{◌≡◌, ℕ, ◌-◌, ◌≤◌, Bool, true, false, not, ◌&&◌, is_some, is_none, List, [], ◌∷◌, ◌++◌}
+use Rattle.std.specs.Prelude.{length, take, drop, slice_get, slice_range, Option, Some, None, option_map, MatchOption}
+use Rattle.std.specs.Prelude.{IfSome, Result, Ok, Err, ◌==◌, if◌then◌else◌}
 use Rattle.std.specs.Borrow.{Bor}
 use Rattle.std.specs.Int.{w32, from_be_bytes}
 use Rattle.std.specs.Option.{option_map_or}
@@ -21,7 +23,12 @@ use Rattle.ndn_packet.specs.Contents.{ok_or, number_in, name_in}
 use Rattle.ndn_packet.specs.SignatureInfo.{Info, info_in, info}
 use Rattle.ndn_packet.specs.Outer.{outer_of}
 use Rattle.ndn_interest.specs.declared.interest_fields.InterestField.{InterestField}
-use Rattle.ndn_interest.specs.declared.interest_fields.InterestField.TheVariants.{Name, CanBePrefix, MustBeFresh, ForwardingHint, Nonce, InterestLifetime, HopLimit, ApplicationParameters, InterestSignatureInfo, InterestSignatureValue}
+use Rattle.ndn_interest.specs.declared.interest_fields.InterestField.TheVariants.{Name, CanBePrefix, MustBeFresh}
+use Rattle.ndn_interest.specs.declared.interest_fields.InterestField.TheVariants.{ForwardingHint, Nonce}
+use Rattle.ndn_interest.specs.declared.interest_fields.InterestField.TheVariants.{InterestLifetime, HopLimit}
+use Rattle.ndn_interest.specs.declared.interest_fields.InterestField.TheVariants.{ApplicationParameters}
+use Rattle.ndn_interest.specs.declared.interest_fields.InterestField.TheVariants.{InterestSignatureInfo}
+use Rattle.ndn_interest.specs.declared.interest_fields.InterestField.TheVariants.{InterestSignatureValue}
 use Rattle.ndn_interest.specs.declared.interest_fields.Gathered.{Gathered}
 use Rattle.ndn_interest.specs.declared.interest_view.InterestView.{InterestView}
 

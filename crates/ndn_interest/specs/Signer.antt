@@ -1,6 +1,7 @@
 -- Who signed an Interest, among those whose keys a ring has, or the first reason why nobody did (NDN Packet Format 0.3,
 -- "Signed Interest"; RFC 2104).
-use Rattle.std.specs.Prelude.{ℕ, Bool, false, ◌&&◌, List, ◌++◌, Option, Some, None, ok_or, Result, Ok, Err, slice_get, ◌==◌, if◌then◌else◌}
+use Rattle.std.specs.Prelude.{ℕ, Bool, false, ◌&&◌, List, ◌++◌, Option, Some, None, ok_or, Result, Ok, Err, slice_get}
+use Rattle.std.specs.Prelude.{◌==◌, if◌then◌else◌}
 use Rattle.std.specs.Option.{option_map_or}
 use Rattle.std.specs.Str.{bytes_eq}
 use Rattle.sha2.specs.Sha256.{sha256}
@@ -12,7 +13,8 @@ use Rattle.ndn_sign.specs.Ring.{NamedKey, key_number}
 use Rattle.ndn_packet.specs.SignatureInfo.{SignatureHmacWithSha256}
 use Rattle.ndn_interest.specs.Interest.{Interest, last_component}
 use Rattle.ndn_interest.specs.declared.signature_refusal.SignatureRefusal.{SignatureRefusal}
-use Rattle.ndn_interest.specs.declared.signature_refusal.SignatureRefusal.TheVariants.{Unsigned, ParamsDigest, UnknownKey, BadSignature}
+use Rattle.ndn_interest.specs.declared.signature_refusal.SignatureRefusal.TheVariants.{Unsigned, ParamsDigest}
+use Rattle.ndn_interest.specs.declared.signature_refusal.SignatureRefusal.TheVariants.{UnknownKey, BadSignature}
 
 -- A refusal, where a test fails.
 abbrev pub ensured : {E : Type 0} → Bool → E → Result (Unit {0}) E

@@ -1,6 +1,7 @@
 ghost use Rattle.std.specs.Prelude.{◌≡◌, ◌+◌, ◌≤◌, ◌^◌, ◌<◌, length, MatchResult, Ok, Err, IfOk, OnOk};
 ghost use Rattle.ndn_tlv.specs.Elements.{item};
-ghost use Rattle.ndn_interest.specs.Interest.{interest_name_in, flag_in, nonce_in, hop_limit_in, with_interest_field, interest_fields, interest_so_far, ParametersStartBy};
+ghost use Rattle.ndn_interest.specs.Interest.{interest_name_in, flag_in, nonce_in, hop_limit_in, with_interest_field};
+ghost use Rattle.ndn_interest.specs.Interest.{interest_fields, interest_so_far, ParametersStartBy};
 
 use ndn_name::{Field, NameView, PacketFault};
 use ndn_packet::{SignatureInfo, bad_field, name_in, number_in};

@@ -1,7 +1,9 @@
-ghost use Rattle.std.specs.Prelude.{◌≡◌, ◌≤◌, ◌↔◌, length, is_some, option_map, IsTrue, MatchResult, MatchOption, IfOk, Ok, Err, Some, None};
+ghost use Rattle.std.specs.Prelude.{◌≡◌, ◌≤◌, ◌↔◌, length, is_some, option_map, IsTrue, MatchResult, MatchOption, IfOk};
+ghost use Rattle.std.specs.Prelude.{Ok, Err, Some, None};
 ghost use Rattle.std.specs.Option.{option_map_or};
 ghost use Rattle.ndn_packet.specs.SignatureInfo.{info};
-ghost use Rattle.ndn_interest.specs.Interest.{interest_of, interest_from, ends_in_digest, signed_of, signature_parts, interest_seen, interest_so_far, ParametersStartBy, IsDigested};
+ghost use Rattle.ndn_interest.specs.Interest.{interest_of, interest_from, ends_in_digest, signed_of, signature_parts};
+ghost use Rattle.ndn_interest.specs.Interest.{interest_seen, interest_so_far, ParametersStartBy, IsDigested};
 
 use crate::interest_fields::Gathered;
 use crate::parameters_digest::{before_digest, ends_in_digest, last_component};

@@ -1,4 +1,5 @@
-ghost use Rattle.std.specs.Prelude.{◌≡◌, ◌&&◌, ◌<◌, ◌≤◌, ◌↔◌, ◌++◌, ℕ, Bool, List, Ok, Some, IsTrue, length, is_some, slice_get};
+ghost use Rattle.std.specs.Prelude.{◌≡◌, ◌&&◌, ◌<◌, ◌≤◌, ◌↔◌, ◌++◌, ℕ, Bool, List, Ok, Some, IsTrue, length, is_some};
+ghost use Rattle.std.specs.Prelude.{slice_get};
 ghost use Rattle.ndn_tlv.specs.Elements.{IsOctets};
 ghost use Rattle.ndn_name.specs.Names.{Component, IsName, encoding};
 ghost use Rattle.ndn_sign.specs.Hmac.{hmac};

@@ -4,7 +4,8 @@ ghost use Rattle.ndn_tlv.specs.Types as standard;
 ghost use Rattle.ndn_tlv.specs.Spelling.{head};
 ghost use Rattle.ndn_name.specs.Names.{encoding};
 ghost use Rattle.ndn_packet.specs.Outer.{packet_limit};
-ghost use Rattle.ndn_interest.specs.WrittenInterest.{written_flag, written_plain, written_signed_parameters, written_digested, written_interest, with_digest};
+ghost use Rattle.ndn_interest.specs.WrittenInterest.{written_flag, written_plain, written_signed_parameters};
+ghost use Rattle.ndn_interest.specs.WrittenInterest.{written_digested, written_interest, with_digest};
 
 use ndn_name::{Name, PacketWriteFault};
 use ndn_packet::{

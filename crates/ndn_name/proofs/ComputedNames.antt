@@ -1,28 +1,36 @@
 -- The name that is computed of a text is the one that the grammar of URIs gives it.
-use Rattle.std.proofs.Common.{◌≡◌, ℕ, ◌+◌, Bool, true, false, cond, eqb, ltb, List, [], ◌∷◌, ◌++◌, length, Option, Some, None, refl, sym, ap, subst, ◌∙◌, arith, ◌↔◌, inl, inr}
+use Rattle.std.proofs.Common.{◌≡◌, ℕ, ◌+◌, Bool, true, false, cond, eqb, ltb, List, [], ◌∷◌, ◌++◌, length, Option, Some}
+use Rattle.std.proofs.Common.{None, refl, sym, ap, subst, ◌∙◌, arith, ◌↔◌, inl, inr}
 use Rattle.std.specs.Prelude.{codes, bytes_eq, unwrap_or}
 use Rattle.std.specs.Cmp.Lexicographic.{bytes_decides}
 use Rattle.std.specs.List.{slice_split, onto_first}
 use Rattle.std.specs.Option.{option_and_then}
-use Rattle.std.proofs.lemmas.Bool.{lt-ltb, ltb-true, eq-eqb, eqb-true, eqb-false, ne_eqb, cases_Bool, false_from_ne_true}
+use Rattle.std.proofs.lemmas.Bool.{lt-ltb, ltb-true, eq-eqb, eqb-true, eqb-false, ne_eqb, cases_Bool}
+use Rattle.std.proofs.lemmas.Bool.{false_from_ne_true}
 use Rattle.std.proofs.lemmas.List.{append-nil}
 use Rattle.std.proofs.lemmas.Option.{option_and_then_some, none-some, same_Some, some_pair_parts}
 use Rattle.ndn_name.specs.declared.uri_form.Form.{Form}
 use Rattle.ndn_name.specs.declared.uri_form.Form.TheVariants.{Digest, Number, Escaped}
 use Rattle.ndn_name.specs.Names.{Component}
-use Rattle.ndn_name.specs.Uri.{IsComponentText, headed, IsValueText, generic, Part, IsPath, IsRooted, IsUri, name_of_parts}
+use Rattle.ndn_name.specs.Uri.{IsComponentText, headed, IsValueText, generic, Part, IsPath, IsRooted, IsUri}
+use Rattle.ndn_name.specs.Uri.{name_of_parts}
 use Rattle.ndn_name.specs.UriVerdict.{HasUri}
 use Rattle.ndn_name.specs.UriReading.{HasNoHead, IsHead, IsTail, LacksOctet, tail_of_text}
-use Rattle.ndn_name.specs.UriText.{unescaped, value_of_text, digest_of_text, decimal_of_text, number_of_text, typed, typed_by, component_of_parts, cut_at, component_by, component_of_text, component_in_front, components_of_texts, name_of_path, behind_word, without_scheme, name_of_text}
+use Rattle.ndn_name.specs.UriText.{unescaped, value_of_text, digest_of_text, decimal_of_text, number_of_text, typed}
+use Rattle.ndn_name.specs.UriText.{typed_by, component_of_parts, cut_at, component_by, component_of_text}
+use Rattle.ndn_name.specs.UriText.{component_in_front, components_of_texts, name_of_path, behind_word, without_scheme}
+use Rattle.ndn_name.specs.UriText.{name_of_text}
 use Rattle.ndn_name.proofs.Heads.{head-lacks, head-same}
 use Rattle.ndn_name.proofs.ComponentTexts.{component-cases, component-headed, component-lacks, no_equals}
 use Rattle.ndn_name.proofs.PathTexts.{rooted_begins, rooted-path}
-use Rattle.ndn_name.proofs.ComputedValues.{option_map_some, none_from, either, value_is, is_value, digest_is, is_digest_text, decimal_is, is_decimal_text, number_is, is_number}
+use Rattle.ndn_name.proofs.ComputedValues.{option_map_some, none_from, either, value_is, is_value, digest_is}
+use Rattle.ndn_name.proofs.ComputedValues.{is_digest_text, decimal_is, is_decimal_text, number_is, is_number}
 
 -- ---- what stands before an equals sign
 
 -- the first separator of a text
-pub cut_at-splits : (s : ℕ) (front text : List ℕ) → LacksOctet s front → cut_at s (front ++ s ∷ text) ≡ Some (front, text)
+pub cut_at-splits : (s : ℕ) (front text : List ℕ) → LacksOctet s front
+    → cut_at s (front ++ s ∷ text) ≡ Some (front, text)
 unfolding cut_at
 cut_at-splits s [] text h = rw (eq-eqb s s refl) refl
 cut_at-splits s (c ∷ front) text h = rw (ne_eqb c s h.0, cut_at-splits s front text h.1) refl
@@ -133,7 +141,8 @@ read_typed : (typ : Option ℕ) (head tail : List ℕ) (c : Component) → decim
 read_typed None head tail c e h = absurd (none-some c h)
 read_typed (Some typ) head tail c e h =
     either (ltb 0 typ) (typed typ (value_of_text tail)) None c h
-    (λ some k. read_with (Escaped typ) head tail c (ltb-true 0 typ some, is_decimal_text 65535 typ head (omega arith) e) k)
+    (λ some k.
+    read_with (Escaped typ) head tail c (ltb-true 0 typ some, is_decimal_text 65535 typ head (omega arith) e) k)
     (λ k. absurd (none-some c k))
 
 -- the tests in turn
@@ -300,7 +309,8 @@ texts-named : (texts : List (List ℕ)) (at : ℕ) (name : List Component) → c
 unfolding components_of_texts
 texts-named [] at name h = record { parts = []; is = refl; name_is = sym (same_Some [] name h) }
 texts-named (text ∷ texts) at name h =
-    option_and_then_some (λ (c : Component). component_in_front c (components_of_texts texts)) (component_of_text text) name h
+    option_and_then_some (λ (c : Component). component_in_front c (components_of_texts texts)) (component_of_text text)
+    name h
     (λ c e k.
     let m = option_map_some (λ (others : List Component). c ∷ others) (components_of_texts texts) name k in
     let others = texts-named texts (at + 1 + length text) m.0 m.1 in
@@ -396,7 +406,8 @@ uri_is parts text h =
           ap rooted_name same ∙ rooted_is 0 parts text a
       | inr a ↦
           let same : without_scheme text ≡ a.0 =
-          ap without_scheme a.1 ∙ ap (λ (o : Option (List ℕ)). unwrap_or o (codes "ndn:" ++ a.0)) (behind-append (codes "ndn:") a.0) in
+          ap without_scheme a.1
+          ∙ ap (λ (o : Option (List ℕ)). unwrap_or o (codes "ndn:" ++ a.0)) (behind-append (codes "ndn:") a.0) in
           ap rooted_name same ∙ rooted_is 4 parts a.0 a.2
     ]
 

@@ -1,19 +1,25 @@
 -- What is computed of the text of a value is what the text stands for.
-use Rattle.std.proofs.Common.{◌≡◌, ℕ, zero, suc, ◌+◌, ◌*◌, ◌%◌, ◌<◌, ◌≤◌, ◌^◌, Bool, true, false, cond, not, ◌&&◌, ◌||◌, ltb, leb, eqb, List, [], ◌∷◌, ◌++◌, length, get_or, Option, Some, None, refl, sym, ap, subst, ◌∙◌, arith, rules, inl, inr}
+use Rattle.std.proofs.Common.{◌≡◌, ℕ, zero, suc, ◌+◌, ◌*◌, ◌%◌, ◌<◌, ◌≤◌, ◌^◌, Bool, true, false, cond, not, ◌&&◌, ◌||◌}
+use Rattle.std.proofs.Common.{ltb, leb, eqb, List, [], ◌∷◌, ◌++◌, length, get_or, Option, Some, None, refl, sym, ap}
+use Rattle.std.proofs.Common.{subst, ◌∙◌, arith, rules, inl, inr}
 use Rattle.std.specs.Char.{digit_value, is_ascii_digit}
 use Rattle.std.specs.Fmt.{decimal}
 use Rattle.std.specs.List.{list_all}
 use Rattle.std.specs.Option.{option_map, option_and_then}
 use Rattle.std.specs.Str.Parse.{digits_value}
-use Rattle.std.proofs.lemmas.Bool.{false≢true, and_parts, and_from, or_left, or_right, not_from_false, eqb-true, eq-eqb, lt-ltb, ltb-true, leb-true, le-leb}
+use Rattle.std.proofs.lemmas.Bool.{false≢true, and_parts, and_from, or_left, or_right, not_from_false, eqb-true, eq-eqb}
+use Rattle.std.proofs.lemmas.Bool.{lt-ltb, ltb-true, leb-true, le-leb}
 use Rattle.std.proofs.lemmas.Bool.Decides.{nat_tests, eqb_tells}
-use Rattle.std.proofs.lemmas.Fmt.{decimal_is_IsNumeral, decimal_nonempty, decimal_digit, decimal_by_steps, first_decimal, decimal-digits_value}
+use Rattle.std.proofs.lemmas.Fmt.{decimal_is_IsNumeral, decimal_nonempty, decimal_digit, decimal_by_steps}
+use Rattle.std.proofs.lemmas.Fmt.{first_decimal, decimal-digits_value}
 use Rattle.std.proofs.lemmas.List.Folds.{list_all-append}
 use Rattle.std.proofs.lemmas.Option.{cond_some, option_and_then_some, none-some, same_Some}
 use Rattle.std.proofs.lemmas.Str.Parse.{IsNumeralModel, numerals_by_value}
 use Rattle.ndn_tlv.specs.NumberField.{number_field}
-use Rattle.ndn_name.specs.Uri.{is_unreserved, IsPair, IsOctetText, plain, escape, IsEscaped, are_periods, guarded, IsValueText, IsDigits, IsDigestText, IsDecimal, IsNumberText}
-use Rattle.ndn_name.specs.UriText.{onto, is_escape, unescaped, behind_three, unguarded, value_of_text, octets_of_digits, digest_of_text, is_decimal, decimal_of_text, number_of_text}
+use Rattle.ndn_name.specs.Uri.{is_unreserved, IsPair, IsOctetText, plain, escape, IsEscaped, are_periods, guarded}
+use Rattle.ndn_name.specs.Uri.{IsValueText, IsDigits, IsDigestText, IsDecimal, IsNumberText}
+use Rattle.ndn_name.specs.UriText.{onto, is_escape, unescaped, behind_three, unguarded, value_of_text, octets_of_digits}
+use Rattle.ndn_name.specs.UriText.{digest_of_text, is_decimal, decimal_of_text, number_of_text}
 use Rattle.ndn_name.proofs.Values.{guarded-other, guarded-periods}
 
 -- ---- options
@@ -126,7 +132,8 @@ behind_periods (a ∷ b ∷ c ∷ octets) value h k =
 pub is_value : (text value : List ℕ) → value_of_text text ≡ Some value → IsValueText value text
 is_value text value h =
     option_and_then_some unguarded (unescaped text) value h
-    (λ octets e k. subst (λ (x : List ℕ). IsEscaped x text) (sym (guarded_is octets k)) (is_unescaped text octets e)) where
+    (λ octets e k.
+    subst (λ (x : List ℕ). IsEscaped x text) (sym (guarded_is octets k)) (is_unescaped text octets e)) where
       guarded_is : (octets : List ℕ) → unguarded octets ≡ Some value → guarded value ≡ octets
       guarded_is octets k = by_test (are_periods octets) refl where
         by_test : (b : Bool) → are_periods octets ≡ b → guarded value ≡ octets

@@ -1,5 +1,7 @@
 -- The encoding of a name is read back, and what is read is an encoding.
-use Rattle.std.proofs.Common.{◌≡◌, ℕ, ◌+◌, ◌^◌, ◌<◌, ◌≤◌, Bool, true, false, not, cond, ◌&&◌, ltb, leb, eqb, List, [], ◌∷◌, ◌++◌, length, length-append, map, Option, Some, None, Result, Ok, Err, refl, sym, ap, subst, ◌∙◌, append_assoc, arith, inl, inr}
+use Rattle.std.proofs.Common.{◌≡◌, ℕ, ◌+◌, ◌^◌, ◌<◌, ◌≤◌, Bool, true, false, not, cond, ◌&&◌, ltb, leb, eqb, List, []}
+use Rattle.std.proofs.Common.{◌∷◌, ◌++◌, length, length-append, map, Option, Some, None, Result, Ok, Err, refl, sym, ap}
+use Rattle.std.proofs.Common.{subst, ◌∙◌, append_assoc, arith, inl, inr}
 use Rattle.std.proofs.lemmas.Bool.{cases_lt, ltb-false, leb-true, le-leb, le-ltb, eqb-true}
 use Rattle.std.proofs.lemmas.List.{append-nil, take_at, drop_at}
 use Rattle.ndn_tlv.specs.declared.tlv_fault.TlvFault.{TlvFault}
@@ -10,7 +12,8 @@ use Rattle.ndn_tlv.proofs.Numbers.{IsOctets-drop, IsOctets-take, number-narrow, 
 use Rattle.ndn_tlv.proofs.Listings.{elements-nil, elements-element, elements_are}
 use Rattle.ndn_name.specs.declared.name_fault.NameFault.{NameFault}
 use Rattle.ndn_name.specs.declared.name_fault.NameFault.TheVariants.{Tlv, BadComponent, BadDigestLength}
-use Rattle.ndn_name.specs.Names.{Component, IsComponent, IsName, IsValue, encoding, component_of, with_component, name_of, components}
+use Rattle.ndn_name.specs.Names.{Component, IsComponent, IsName, IsValue, encoding, component_of, with_component}
+use Rattle.ndn_name.specs.Names.{name_of, components}
 
 abbrev pub pairs : List Item → List Component
 pairs es = map (λ (e : Item). (e.typ, e.value)) es
@@ -29,7 +32,8 @@ pub encoding-append : (a b : List Component) → encoding (a ++ b) ≡ encoding 
 unfolding encoding
 encoding-append [] b = refl
 encoding-append (c ∷ cs) b =
-    ap (λ (x : List ℕ). element c.0 c.1 ++ x) (encoding-append cs b) ∙ sym (append_assoc (element c.0 c.1) (encoding cs) (encoding b))
+    ap (λ (x : List ℕ). element c.0 c.1 ++ x) (encoding-append cs b)
+    ∙ sym (append_assoc (element c.0 c.1) (encoding cs) (encoding b))
 
 pub encoding-push : (a : List Component) (c : Component) → encoding (a ++ c ∷ []) ≡ encoding a ++ element c.0 c.1
 unfolding encoding
@@ -45,11 +49,15 @@ pub record Reads (name : List Component) (read : Listing Item TlvFault) : Type 0
   pub items : pairs read.items ≡ name
   pub fault : read.fault ≡ None
 
-pub elements-encoding : (offset : ℕ) (name : List Component) → IsName name → Reads name (elements offset (encoding name))
+pub elements-encoding : (offset : ℕ) (name : List Component) → IsName name
+    → Reads name (elements offset (encoding name))
 unfolding encoding
 elements-encoding offset [] h =
     let e = elements-nil offset [] refl in
-    record { items = ap (λ (l : Listing Item TlvFault). pairs l.items) e; fault = ap (λ (l : Listing Item TlvFault). l.fault) e }
+    record {
+      items = ap (λ (l : Listing Item TlvFault). pairs l.items) e;
+      fault = ap (λ (l : Listing Item TlvFault). l.fault) e;
+    }
 elements-encoding offset (c ∷ cs) h =
     let first = h.0 in
     let small : c.0 < 2 ^ 32 = omega (arith, first.below) in
@@ -72,14 +80,17 @@ component_again e h =
     let small : ltb 65535 e.typ ≡ false = le-ltb 65535 e.typ (omega (arith, h.below)) in
     rw small (digest (leb e.typ 2) refl)
   where
-    digest : (b : Bool) → leb e.typ 2 ≡ b → cond (b && not (eqb (length e.value) 32)) (Err (BadDigestLength e.start)) (taken e) ≡ taken e
+    digest : (b : Bool) → leb e.typ 2 ≡ b
+        → cond (b && not (eqb (length e.value) 32)) (Err (BadDigestLength e.start)) (taken e) ≡ taken e
     digest true k = let len : length e.value ≡ 32 = h.digest (leb-true e.typ 2 k) in rw len refl
     digest false k = refl
 
-pub gathered-encoding : (offset : ℕ) (front name : List Component) → IsName name → gathered with_component Tlv front (elements offset (encoding name)) ≡ Ok (front ++ name)
+pub gathered-encoding : (offset : ℕ) (front name : List Component) → IsName name
+    → gathered with_component Tlv front (elements offset (encoding name)) ≡ Ok (front ++ name)
 unfolding gather encoding
 gathered-encoding offset front [] h =
-    ap (gathered with_component Tlv front) (elements-nil offset [] refl) ∙ ap (λ (n : List Component). Ok n) (sym (append-nil front))
+    ap (gathered with_component Tlv front) (elements-nil offset [] refl)
+    ∙ ap (λ (n : List Component). Ok n) (sym (append-nil front))
 gathered-encoding offset front (c ∷ cs) h =
     let first = h.0 in
     let small : c.0 < 2 ^ 32 = omega (arith, first.below) in
@@ -87,9 +98,11 @@ gathered-encoding offset front (c ∷ cs) h =
     let behind = offset + length (element c.0 c.1) in
     let item = placed offset c.0 c.1 in
     let step : with_component front item ≡ Ok (front ++ c ∷ []) =
-    ap (λ (r : Result Component NameFault). r >>= λ d. let x : Result (List Component) NameFault = Ok (front ++ d ∷ []) in x) (component_again item first) in
+    ap (λ (r : Result Component NameFault).
+    r >>= λ d. let x : Result (List Component) NameFault = Ok (front ++ d ∷ []) in x) (component_again item first) in
     ap (gathered with_component Tlv front) e
-    ∙ ap (λ (r : Result (List Component) NameFault). r >>= λ t. gathered with_component Tlv t (elements behind (encoding cs))) step
+    ∙ ap (λ (r : Result (List Component) NameFault).
+    r >>= λ t. gathered with_component Tlv t (elements behind (encoding cs))) step
     ∙ gathered-encoding behind (front ++ c ∷ []) cs h.1
     ∙ ap (λ (n : List Component). Ok n) (append_assoc front (c ∷ []) cs)
 
@@ -99,7 +112,8 @@ name_of-encoding offset name h = gathered-encoding offset [] name h
 -- ---- what is read was encoded
 
 -- the value of a step that did not fail
-pub bind_ok : {A B E : Type 0} (r : Result A E) (f : A → Result B E) (y : B) → (r >>= f) ≡ Ok y → (x : A) × (r ≡ Ok x) × (f x ≡ Ok y)
+pub bind_ok : {A B E : Type 0} (r : Result A E) (f : A → Result B E) (y : B) → (r >>= f) ≡ Ok y
+    → (x : A) × (r ≡ Ok x) × (f x ≡ Ok y)
 bind_ok (Ok x) f y e = (x, refl, e)
 bind_ok (Err d) f y e = absurd cc
 
@@ -109,23 +123,30 @@ done x = Ok x
 pub ok_is : {A : Type 0} (x y : A) → done x ≡ done y → x ≡ y
 ok_is x y e = cc
 
-guard_ok : {A : Type 0} (b : Bool) (f : NameFault) (r : Result A NameFault) (y : A) → cond b (Err f) r ≡ Ok y → (b ≡ false) × (r ≡ Ok y)
+guard_ok : {A : Type 0} (b : Bool) (f : NameFault) (r : Result A NameFault) (y : A) → cond b (Err f) r ≡ Ok y
+    → (b ≡ false) × (r ≡ Ok y)
 guard_ok true f r y e = absurd cc
 guard_ok false f r y e = (refl, e)
 
-component_takes : (e : Item) (c : Component) → component_of e ≡ Ok c → 0 < e.typ → length e.value < 2 ^ 64 → IsOctets e.value → ((e.typ, e.value) ≡ c) × IsComponent (e.typ, e.value)
+component_takes : (e : Item) (c : Component) → component_of e ≡ Ok c → 0 < e.typ → length e.value < 2 ^ 64
+    → IsOctets e.value → ((e.typ, e.value) ≡ c) × IsComponent (e.typ, e.value)
 component_takes e c h above long octets =
-    let a = guard_ok (ltb 65535 e.typ) (BadComponent e.start) (cond (leb e.typ 2 && not (eqb (length e.value) 32)) (Err (BadDigestLength e.start)) (taken e)) c h in
+    let a =
+    guard_ok (ltb 65535 e.typ) (BadComponent e.start)
+    (cond (leb e.typ 2 && not (eqb (length e.value) 32)) (Err (BadDigestLength e.start)) (taken e)) c h in
     let b = guard_ok (leb e.typ 2 && not (eqb (length e.value) 32)) (BadDigestLength e.start) (taken e) c a.1 in
-    let small : e.typ ≤ 65535 = ltb-false 65535 e.typ a.0 in
-    (ok_is (e.typ, e.value) c b.1, record { above = above; below = omega arith; digest = digest b.0; long = long; octets = octets })
+    let small : e.typ ≤ 65535 = ltb-false 65535 e.typ a.0 in (
+      ok_is (e.typ, e.value) c b.1,
+      record { above = above; below = omega arith; digest = digest b.0; long = long; octets = octets },
+    )
   where
     digest : (leb e.typ 2 && not (eqb (length e.value) 32)) ≡ false → e.typ ≤ 2 → length e.value ≡ 32
-    digest k low = eqb-true (length e.value) 32 (sized (leb e.typ 2) (eqb (length e.value) 32) k (le-leb e.typ 2 low)) where
-      sized : (p q : Bool) → (p && not q) ≡ false → p ≡ true → q ≡ true
-      sized true true k h = refl
-      sized true false k h = absurd cc
-      sized false q k h = absurd cc
+    digest k low =
+        eqb-true (length e.value) 32 (sized (leb e.typ 2) (eqb (length e.value) 32) k (le-leb e.typ 2 low)) where
+          sized : (p q : Bool) → (p && not q) ≡ false → p ≡ true → q ≡ true
+          sized true true k h = refl
+          sized true false k h = absurd cc
+          sized false q k h = absurd cc
 
 pub IsOctets-behind : (a b : List ℕ) → IsOctets (a ++ b) → IsOctets b
 IsOctets-behind a b h = rw (drop_at a b (length a) refl) at (IsOctets-drop (length a) (a ++ b) h)
@@ -139,19 +160,25 @@ pub record Encoded (octets : List ℕ) (front name : List Component) : Type 0 wh
   pub valid : IsName whole
   pub spelled : octets ≡ encoding whole
 
-whole_is : (front : List Component) (c : Component) (whole name : List Component) → (front ++ c ∷ []) ++ whole ≡ name → front ++ c ∷ whole ≡ name
+whole_is : (front : List Component) (c : Component) (whole name : List Component) → (front ++ c ∷ []) ++ whole ≡ name
+    → front ++ c ∷ whole ≡ name
 whole_is front c whole name e = sym (append_assoc front (c ∷ []) whole) ∙ e
 
-gather_encoded : (offset : ℕ) (octets : List ℕ) (items : List Item) (fault : Option TlvFault) (front name : List Component) → IsOctets octets → length octets < 2 ^ 64 → AreElements offset octets items fault
+gather_encoded : (offset : ℕ) (octets : List ℕ) (items : List Item) (fault : Option TlvFault)
+    (front name : List Component)
+    → IsOctets octets → length octets < 2 ^ 64 → AreElements offset octets items fault
     → gather with_component Tlv front items fault ≡ Ok name → Encoded octets front name
 unfolding gather encoding
-gather_encoded offset octets [] None front name fits long are h = record { whole = []; parts = append-nil front ∙ ok_is front name h; valid = tt; spelled = are }
+gather_encoded offset octets [] None front name fits long are h =
+    record { whole = []; parts = append-nil front ∙ ok_is front name h; valid = tt; spelled = are }
 gather_encoded offset octets [] (Some f) front name fits long are h = absurd cc
 gather_encoded offset octets (e ∷ es) fault front name fits long are h =
     let rest = are.0 in
     let split = rw are.1 at fits in
     let size = ap length are.1 ∙ length-append (element e.typ e.value) rest in
-    let value_octets = IsOctets-behind (number e.typ ++ number (length e.value)) e.value (IsOctets-before (element e.typ e.value) rest split) in
+    let value_octets =
+    IsOctets-behind (number e.typ ++ number (length e.value)) e.value
+    (IsOctets-before (element e.typ e.value) rest split) in
     let value_size = length-append (number e.typ ++ number (length e.value)) e.value in
     let step = bind_ok (with_component front e) (λ t. gather with_component Tlv t es fault) name h in
     let inner = bind_ok (component_of e) (λ c. done (front ++ c ∷ [])) step.0 step.1 in
@@ -159,28 +186,38 @@ gather_encoded offset octets (e ∷ es) fault front name fits long are h =
     let taken = component_takes e c inner.1 are.3 (omega (arith, size, value_size)) value_octets in
     let next : front ++ c ∷ [] ≡ step.0 = ok_is (front ++ c ∷ []) step.0 inner.2 in
     let goes_on : gather with_component Tlv (front ++ c ∷ []) es fault ≡ Ok name = rw next step.2 in
-    let others = gather_encoded e.end rest es fault (front ++ c ∷ []) name (IsOctets-behind (element e.typ e.value) rest split) (omega (arith, size)) are.5 goes_on in
+    let others =
+    gather_encoded e.end rest es fault (front ++ c ∷ []) name (IsOctets-behind (element e.typ e.value) rest split)
+    (omega (arith, size)) are.5 goes_on in
     let P : Component → Type 0 = λ x. IsComponent x in
     record {
       whole = c ∷ others.whole;
       parts = whole_is front c others.whole name others.parts;
       valid = (subst P taken.0 taken.1, others.valid);
-      spelled = are.1 ∙ ap (λ (x : List ℕ). element e.typ e.value ++ x) others.spelled ∙ ap (λ (x : Component). element x.0 x.1 ++ encoding others.whole) taken.0;
+      spelled =
+          are.1
+          ∙ ap (λ (x : List ℕ). element e.typ e.value ++ x) others.spelled
+          ∙ ap (λ (x : Component). element x.0 x.1 ++ encoding others.whole) taken.0;
     }
 
-pub name_of-encoded : (offset : ℕ) (octets : List ℕ) (name : List Component) → IsOctets octets → length octets < 2 ^ 64 → name_of offset octets ≡ Ok name → IsName name × (octets ≡ encoding name)
+pub name_of-encoded : (offset : ℕ) (octets : List ℕ) (name : List Component) → IsOctets octets → length octets < 2 ^ 64
+    → name_of offset octets ≡ Ok name → IsName name × (octets ≡ encoding name)
 name_of-encoded offset octets name fits long h =
-    let e = gather_encoded offset octets (elements offset octets).items (elements offset octets).fault [] name fits long (elements_are offset octets fits) h in
+    let e =
+    gather_encoded offset octets (elements offset octets).items (elements offset octets).fault [] name fits long
+    (elements_are offset octets fits) h in
     let P : List Component → Type 0 = λ n. IsName n × (octets ≡ encoding n) in
     subst P e.parts (e.valid, e.spelled)
 
 -- octets that are read as a name are the value of that name
-pub value-name_of : (offset : ℕ) (octets : List ℕ) (name : List Component) → IsOctets octets → length octets < 2 ^ 64 → name_of offset octets ≡ Ok name → components octets ≡ name
+pub value-name_of : (offset : ℕ) (octets : List ℕ) (name : List Component) → IsOctets octets → length octets < 2 ^ 64
+    → name_of offset octets ≡ Ok name → components octets ≡ name
 value-name_of offset octets name fits long h =
     let e = name_of-encoded offset octets name fits long h in
     ap components e.1 ∙ components-encoding name e.0
 
-pub IsValue-encoding : (octets : List ℕ) (name : List Component) → IsName name → octets ≡ encoding name → IsValue octets (length name)
+pub IsValue-encoding : (octets : List ℕ) (name : List Component) → IsName name → octets ≡ encoding name
+    → IsValue octets (length name)
 IsValue-encoding octets name valid spelled =
     let same : components octets ≡ name = ap components spelled ∙ components-encoding name valid in
     let P : List Component → Type 0 = λ n. (octets ≡ encoding n) × IsName n × (length name ≡ length n) in
@@ -201,12 +238,21 @@ number-some n =
       | inr a ↦
           elim (cases_lt n (2 ^ 16)) [
             | inl b ↦ rw (number-16 n a b) (omega arith)
-            | inr b ↦ elim (cases_lt n (2 ^ 32)) [ inl d ↦ rw (number-32 n b d) (omega arith) | inr d ↦ rw (number-64 n d) (omega arith) ]
+            | inr b ↦ elim (cases_lt n (2 ^ 32)) [
+              | inl d ↦ rw (number-32 n b d) (omega arith)
+              | inr d ↦ rw (number-64 n d) (omega arith)
+            ]
           ]
     ]
 
 element_octets : (c : Component) → 0 < c.0 → 0 < length (element c.0 c.1)
-element_octets c above = omega (arith, length-append (number c.0 ++ number (length c.1)) c.1, length-append (number c.0) (number (length c.1)), number-some c.0)
+element_octets c above =
+    omega (
+      arith,
+      length-append (number c.0 ++ number (length c.1)) c.1,
+      length-append (number c.0) (number (length c.1)),
+      number-some c.0,
+    )
 
 -- a name has no more components than octets
 pub count-octets : (name : List Component) → IsName name → length name ≤ length (encoding name)
@@ -219,20 +265,28 @@ pub record Pushed (octets : List ℕ) (len : ℕ) (name : List Component) : Type
   pub value : IsValue octets len
   pub is : components octets ≡ name
 
-pub pushed : (octets new : List ℕ) (len : ℕ) (name : List Component) (c : Component) → IsValue octets len → components octets ≡ name → IsComponent c → new ≡ octets ++ element c.0 c.1 → Pushed new (len + 1) (name ++ c ∷ [])
+pub pushed : (octets new : List ℕ) (len : ℕ) (name : List Component) (c : Component) → IsValue octets len
+    → components octets ≡ name → IsComponent c → new ≡ octets ++ element c.0 c.1 → Pushed new (len + 1) (name ++ c ∷ [])
 pushed octets new len name c value is more e =
     let P : List Component → Type 0 = λ n. (octets ≡ encoding n) × IsName n × (len ≡ length n) in
     let old = subst P is (value.spelled, value.name, value.count) in
-    let spelled : new ≡ encoding (name ++ c ∷ []) = e ∙ ap (λ (x : List ℕ). x ++ element c.0 c.1) old.0 ∙ sym (encoding-push name c) in
+    let spelled : new ≡ encoding (name ++ c ∷ []) =
+    e ∙ ap (λ (x : List ℕ). x ++ element c.0 c.1) old.0 ∙ sym (encoding-push name c) in
     let valid = IsName-append name (c ∷ []) old.1 (more, tt) in
     let count : length (name ++ c ∷ []) ≡ len + 1 = omega (arith, length-append name (c ∷ []), old.2) in
     let Q : ℕ → Type 0 = λ n. IsValue new n in
-    record { value = subst Q count (IsValue-encoding new (name ++ c ∷ []) valid spelled); is = ap components spelled ∙ components-encoding (name ++ c ∷ []) valid }
+    record {
+      value = subst Q count (IsValue-encoding new (name ++ c ∷ []) valid spelled);
+      is = ap components spelled ∙ components-encoding (name ++ c ∷ []) valid;
+    }
 
 -- how long a name is with one component more
-pub pushed-length : (octets : List ℕ) (len : ℕ) (name : List Component) (c : Component) → IsValue octets len → components octets ≡ name → length (encoding (name ++ c ∷ [])) ≡ length (octets ++ element c.0 c.1)
+pub pushed-length : (octets : List ℕ) (len : ℕ) (name : List Component) (c : Component) → IsValue octets len
+    → components octets ≡ name → length (encoding (name ++ c ∷ [])) ≡ length (octets ++ element c.0 c.1)
 pushed-length octets len name c value is =
-    ap length (encoding-push name c ∙ ap (λ (x : List ℕ). x ++ element c.0 c.1) (ap encoding (sym is) ∙ sym value.spelled))
+    ap length
+    (encoding-push name c ∙ ap (λ (x : List ℕ). x ++ element c.0 c.1) (ap encoding (sym is) ∙ sym value.spelled))
 
 pub count-fits : (octets : List ℕ) (len : ℕ) → IsValue octets len → len ≤ length octets
-count-fits octets len value = omega (arith, value.count, ap length value.spelled, count-octets (components octets) value.name)
+count-fits octets len value =
+    omega (arith, value.count, ap length value.spelled, count-octets (components octets) value.name)

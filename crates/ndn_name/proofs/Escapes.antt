@@ -1,5 +1,7 @@
 -- The texts of octets: what is read at the front, and where a text leaves them.
-use Rattle.std.proofs.Common.{◌≡◌, ℕ, ◌+◌, ◌*◌, ◌<◌, Bool, true, false, cond, ltb, eqb, List, [], ◌∷◌, ◌++◌, length, length-append, Result, Ok, Err, refl, sym, ap, subst, ◌∙◌, append_assoc, arith, ◌⊎◌, inl, inr}
+use Rattle.std.proofs.Common.{◌≡◌, ℕ, ◌+◌, ◌*◌, ◌<◌, Bool, true, false, cond, ltb, eqb, List, [], ◌∷◌, ◌++◌, length}
+use Rattle.std.proofs.Common.{length-append, Result, Ok, Err, refl, sym, ap, subst, ◌∙◌, append_assoc, arith, ◌⊎◌, inl}
+use Rattle.std.proofs.Common.{inr}
 use Rattle.std.specs.Char.{digit_value}
 use Rattle.std.proofs.lemmas.Bool.{ltb-true, ltb-false, eqb-true, eqb-false}
 use Rattle.std.proofs.lemmas.List.{append-nil}
@@ -14,9 +16,11 @@ use Rattle.ndn_name.proofs.LeavesLemmas.{Leaves-behind, Leaves-first, Leaves-end
 
 -- ---- steps that fail
 
-bind_err : {A B : Type 0} (r : Result A NameFault) (f : A → Result B NameFault) (e : NameFault) → (r >>= f) ≡ Err e → (r ≡ Err e) ⊎ ((x : A) × (r ≡ Ok x) × (f x ≡ Err e))
+bind_err : {A B : Type 0} (r : Result A NameFault) (f : A → Result B NameFault) (e : NameFault) → (r >>= f) ≡ Err e
+    → (r ≡ Err e) ⊎ ((x : A) × (r ≡ Ok x) × (f x ≡ Err e))
 bind_err (Ok x) f e h = inr (x, refl, h)
-bind_err {A} {B} (Err d) f e h = inl (let g : d ≡ e = cc in ap (λ (x : NameFault). let y : Result A NameFault = Err x in y) g)
+bind_err {A} {B} (Err d) f e h =
+    inl (let g : d ≡ e = cc in ap (λ (x : NameFault). let y : Result A NameFault = Err x in y) g)
 
 abbrev failed : {A : Type 0} → NameFault → Result A NameFault
 failed f = Err f
@@ -57,7 +61,12 @@ digit-takes at (c ∷ text) x e =
     elim (chosen (ltb (digit_value c) 16) (done (digit_value c, text)) (failed (BadUri at)) (done x) e) [
       | inl a ↦
           let same = ok_is (digit_value c, text) x a.1 in
-          record { digit = c; split = ap (λ (p : ℕ × List ℕ). c ∷ p.1) same; small = ltb-true (digit_value c) 16 a.0; value = ap (λ (p : ℕ × List ℕ). p.0) same }
+          record {
+            digit = c;
+            split = ap (λ (p : ℕ × List ℕ). c ∷ p.1) same;
+            small = ltb-true (digit_value c) 16 a.0;
+            value = ap (λ (p : ℕ × List ℕ). p.0) same;
+          }
       | inr a ↦ absurd (let h = a.1 in cc)
     ]
 
@@ -83,13 +92,17 @@ pair-takes at text x e =
     record {
       high = high.digit;
       low = low.digit;
-      split = high.split ∙ ap (λ (t : List ℕ). high.digit ∷ t) low.split ∙ ap (λ (t : List ℕ). high.digit ∷ low.digit ∷ t) rest;
+      split =
+          high.split
+          ∙ ap (λ (t : List ℕ). high.digit ∷ t) low.split
+          ∙ ap (λ (t : List ℕ). high.digit ∷ low.digit ∷ t) rest;
       pair = (high.small, low.small, omega (arith, octet, high.value, low.value));
     }
 
 -- texts that all begin with two digits
 pub record BeginsWithPair (L : List ℕ → Type 0) : Type 0 where
-  pub only : (t : List ℕ) → L t → (h : ℕ) × (l : ℕ) × (r : List ℕ) × (t ≡ h ∷ l ∷ r) × (digit_value h < 16) × (digit_value l < 16)
+  pub only : (t : List ℕ) → L t
+      → (h : ℕ) × (l : ℕ) × (r : List ℕ) × (t ≡ h ∷ l ∷ r) × (digit_value h < 16) × (digit_value l < 16)
   pub goes : (h l : ℕ) → digit_value h < 16 → digit_value l < 16 → (more : List ℕ) × L (h ∷ l ∷ more)
 
 pub record FailsAt (L : List ℕ → Type 0) (at : ℕ) (text : List ℕ) (f : NameFault) : Type 0 where
@@ -98,7 +111,9 @@ pub record FailsAt (L : List ℕ → Type 0) (at : ℕ) (text : List ℕ) (f : N
   pub leaves : LeavesLanguage L text place
 
 first_digit : (L : List ℕ → Type 0) → BeginsWithPair L → (text : List ℕ) → NoDigit text → LeavesLanguage L text 0
-first_digit L begins [] none = Leaves-end L (let m = begins.goes 48 48 (omega arith) (omega arith) in (48 ∷ 48 ∷ m.0, m.1)) (λ m. let o = begins.only [] m in let e = o.3 in absurd cc)
+first_digit L begins [] none =
+    Leaves-end L (let m = begins.goes 48 48 (omega arith) (omega arith) in (48 ∷ 48 ∷ m.0, m.1))
+    (λ m. let o = begins.only [] m in let e = o.3 in absurd cc)
 first_digit L begins (c ∷ text) none =
     Leaves-first L c text (let m = begins.goes 48 48 (omega arith) (omega arith) in (48 ∷ 48 ∷ m.0, m.1)) (λ more m.
     let o = begins.only (c ∷ more) m in
@@ -107,9 +122,11 @@ first_digit L begins (c ∷ text) none =
     let P : ℕ → Type 0 = λ d. digit_value d < 16 in
     none (subst P same o.4))
 
-second_digit : (L : List ℕ → Type 0) → BeginsWithPair L → (c : ℕ) → digit_value c < 16 → (text : List ℕ) → NoDigit text → LeavesLanguage (λ t. L (c ∷ t)) text 0
+second_digit : (L : List ℕ → Type 0) → BeginsWithPair L → (c : ℕ) → digit_value c < 16 → (text : List ℕ) → NoDigit text
+    → LeavesLanguage (λ t. L (c ∷ t)) text 0
 second_digit L begins c small [] none =
-    Leaves-end (λ t. L (c ∷ t)) (let m = begins.goes c 48 small (omega arith) in (48 ∷ m.0, m.1)) (λ m. let o = begins.only (c ∷ []) m in let e = o.3 in absurd cc)
+    Leaves-end (λ t. L (c ∷ t)) (let m = begins.goes c 48 small (omega arith) in (48 ∷ m.0, m.1))
+    (λ m. let o = begins.only (c ∷ []) m in let e = o.3 in absurd cc)
 second_digit L begins c small (d ∷ text) none =
     Leaves-first (λ t. L (c ∷ t)) d text (let m = begins.goes c 48 small (omega arith) in (48 ∷ m.0, m.1)) (λ more m.
     let o = begins.only (c ∷ d ∷ more) m in
@@ -118,7 +135,8 @@ second_digit L begins c small (d ∷ text) none =
     let P : ℕ → Type 0 = λ x. digit_value x < 16 in
     none (subst P same o.5))
 
-pub pair-leaves : (L : List ℕ → Type 0) → BeginsWithPair L → (at : ℕ) (text : List ℕ) (f : NameFault) → pair_at at text ≡ Err f → FailsAt L at text f
+pub pair-leaves : (L : List ℕ → Type 0) → BeginsWithPair L → (at : ℕ) (text : List ℕ) (f : NameFault)
+    → pair_at at text ≡ Err f → FailsAt L at text f
 unfolding pair_at
 pair-leaves L begins at text f e =
     elim (bind_err (digit_at at text) (with_low at) f e) [
@@ -136,7 +154,10 @@ pair-leaves L begins at text f e =
                 record {
                   place = 1;
                   fault = none.0;
-                  leaves = subst P (sym high.split) (Leaves-behind (λ t. L (c ∷ t)) L (c ∷ []) a.0.1 0 (λ t m. m) (λ t m. m) (second_digit L begins c high.small a.0.1 none.1));
+                  leaves =
+                      subst P (sym high.split)
+                      (Leaves-behind (λ t. L (c ∷ t)) L (c ∷ []) a.0.1 0 (λ t m. m) (λ t m. m)
+                      (second_digit L begins c high.small a.0.1 none.1));
                 }
             | inr b ↦ absurd (let h = b.2 in cc)
           ]
@@ -149,7 +170,8 @@ octet-some o text (plain h e) = omega (arith, ap length e)
 octet-some o text (escape high low h e) = omega (arith, ap length e)
 
 not_percent : (o : ℕ) → is_unreserved o ≡ true → o ≡ 37 → ⊥
-not_percent o h e = let P : ℕ → Type 0 = λ n. is_unreserved n ≡ true in let k : is_unreserved 37 ≡ true = subst P e h in absurd cc
+not_percent o h e =
+    let P : ℕ → Type 0 = λ n. is_unreserved n ≡ true in let k : is_unreserved 37 ≡ true = subst P e h in absurd cc
 
 pub pair-same : (o p h l h' l' : ℕ) → IsPair o h l → IsPair p h' l' → h ≡ h' → l ≡ l' → o ≡ p
 pair-same o p h l h' l' a b e g = omega (arith, a.2, b.2, ap digit_value e, ap digit_value g)
@@ -160,13 +182,16 @@ octet-alone o p a b x y (plain h e) (plain k g) same =
     let both : o ∷ x ≡ p ∷ y = ap (λ (t : List ℕ). t ++ x) (sym e) ∙ same ∙ ap (λ (t : List ℕ). t ++ y) g in
     (cc, cc)
 octet-alone o p a b x y (plain h e) (escape high low k g) same =
-    let both : o ∷ x ≡ 37 ∷ high ∷ low ∷ y = ap (λ (t : List ℕ). t ++ x) (sym e) ∙ same ∙ ap (λ (t : List ℕ). t ++ y) g in
+    let both : o ∷ x ≡ 37 ∷ high ∷ low ∷ y =
+    ap (λ (t : List ℕ). t ++ x) (sym e) ∙ same ∙ ap (λ (t : List ℕ). t ++ y) g in
     absurd (not_percent o h cc)
 octet-alone o p a b x y (escape high low h e) (plain k g) same =
-    let both : 37 ∷ high ∷ low ∷ x ≡ p ∷ y = ap (λ (t : List ℕ). t ++ x) (sym e) ∙ same ∙ ap (λ (t : List ℕ). t ++ y) g in
+    let both : 37 ∷ high ∷ low ∷ x ≡ p ∷ y =
+    ap (λ (t : List ℕ). t ++ x) (sym e) ∙ same ∙ ap (λ (t : List ℕ). t ++ y) g in
     absurd (not_percent p k cc)
 octet-alone o p a b x y (escape high low h e) (escape high' low' k g) same =
-    let both : 37 ∷ high ∷ low ∷ x ≡ 37 ∷ high' ∷ low' ∷ y = ap (λ (t : List ℕ). t ++ x) (sym e) ∙ same ∙ ap (λ (t : List ℕ). t ++ y) g in
+    let both : 37 ∷ high ∷ low ∷ x ≡ 37 ∷ high' ∷ low' ∷ y =
+    ap (λ (t : List ℕ). t ++ x) (sym e) ∙ same ∙ ap (λ (t : List ℕ). t ++ y) g in
     let first : high ≡ high' = cc in
     let other : low ≡ low' = cc in
     (pair-same o p high low high' low' h k first other, cc)
@@ -176,7 +201,8 @@ pub record Behind (octets : List ℕ) (front : List ℕ) (text : List ℕ) : Typ
   pub parts : octets ≡ front ++ others
   pub read : IsEscaped others text
 
-octet-front : (o : ℕ) (first t octets : List ℕ) → IsOctetText o first → IsEscaped octets (first ++ t) → Behind octets (o ∷ []) t
+octet-front : (o : ℕ) (first t octets : List ℕ) → IsOctetText o first → IsEscaped octets (first ++ t)
+    → Behind octets (o ∷ []) t
 octet-front o first t [] h e = absurd (omega (arith, ap length e, length-append first t, octet-some o first h))
 octet-front o first t (p ∷ octets) h e =
     let alone = octet-alone o p first e.0 t e.1 h e.3 e.2 in
@@ -192,7 +218,9 @@ pub escaped-one : (o : ℕ) (text : List ℕ) → IsOctetText o text → IsEscap
 escaped-one o text h = (text, [], sym (append-nil text), h, refl)
 
 pub escaped-front : (a octets front t : List ℕ) → IsEscaped a front → IsEscaped octets (front ++ t) → Behind octets a t
-escaped-front [] octets front t h e = let P : List ℕ → Type 0 = λ x. IsEscaped octets (x ++ t) in record { others = octets; parts = refl; read = subst P h e }
+escaped-front [] octets front t h e =
+    let P : List ℕ → Type 0 = λ x. IsEscaped octets (x ++ t) in
+    record { others = octets; parts = refl; read = subst P h e }
 escaped-front (o ∷ a) octets front t h e =
     let P : List ℕ → Type 0 = λ x. IsEscaped octets x in
     let whole = subst P (ap (λ (x : List ℕ). x ++ t) h.2 ∙ append_assoc h.0 h.1 t) e in
@@ -217,14 +245,23 @@ abbrev pub IsEscapedText : List ℕ → Type 0
 IsEscapedText text = (octets : List ℕ) × IsEscaped octets text
 
 begins_escape : BeginsWithPair (λ t. IsEscapedText (37 ∷ t))
-begins_escape = record { only = λ t m. digits t m.0 m.1; goes = λ h l a b. ([], ((digit_value h * 16 + digit_value l) ∷ [], escaped-one _ (37 ∷ h ∷ l ∷ []) (escape h l (a, b, refl) refl))) } where
-  of_first : (o : ℕ) (first rest t : List ℕ) → IsOctetText o first → 37 ∷ t ≡ first ++ rest → (h : ℕ) × (l : ℕ) × (r : List ℕ) × (t ≡ h ∷ l ∷ r) × (digit_value h < 16) × (digit_value l < 16)
-  of_first o first rest t (plain h e) same = let both : 37 ∷ t ≡ o ∷ rest = same ∙ ap (λ (x : List ℕ). x ++ rest) e in absurd (not_percent o h cc)
+begins_escape = record {
+  only = λ t m. digits t m.0 m.1;
+  goes = λ h l a b. (
+    [],
+    ((digit_value h * 16 + digit_value l) ∷ [], escaped-one _ (37 ∷ h ∷ l ∷ []) (escape h l (a, b, refl) refl)),
+  );
+} where
+  of_first : (o : ℕ) (first rest t : List ℕ) → IsOctetText o first → 37 ∷ t ≡ first ++ rest
+      → (h : ℕ) × (l : ℕ) × (r : List ℕ) × (t ≡ h ∷ l ∷ r) × (digit_value h < 16) × (digit_value l < 16)
+  of_first o first rest t (plain h e) same =
+      let both : 37 ∷ t ≡ o ∷ rest = same ∙ ap (λ (x : List ℕ). x ++ rest) e in absurd (not_percent o h cc)
   of_first o first rest t (escape high low h e) same =
       let both : 37 ∷ t ≡ 37 ∷ high ∷ low ∷ rest = same ∙ ap (λ (x : List ℕ). x ++ rest) e in
       (high, low, rest, cc, h.0, h.1)
 
-  digits : (t octets : List ℕ) → IsEscaped octets (37 ∷ t) → (h : ℕ) × (l : ℕ) × (r : List ℕ) × (t ≡ h ∷ l ∷ r) × (digit_value h < 16) × (digit_value l < 16)
+  digits : (t octets : List ℕ) → IsEscaped octets (37 ∷ t)
+      → (h : ℕ) × (l : ℕ) × (r : List ℕ) × (t ≡ h ∷ l ∷ r) × (digit_value h < 16) × (digit_value l < 16)
   digits t [] e = absurd cc
   digits t (o ∷ octets) e = of_first o e.0 e.1 t e.3 e.2
 
@@ -234,17 +271,24 @@ pair-fails at text f e =
     let p = pair-leaves (λ t. IsEscapedText (37 ∷ t)) begins_escape at text f e in
     (at + p.place, p.fault)
 
-begins_otherwise : (c : ℕ) (more octets : List ℕ) → (eqb c 37 ≡ false) → is_unreserved c ≡ false → IsEscaped octets (c ∷ more) → ⊥
+begins_otherwise : (c : ℕ) (more octets : List ℕ) → (eqb c 37 ≡ false) → is_unreserved c ≡ false
+    → IsEscaped octets (c ∷ more) → ⊥
 begins_otherwise c more [] other reserved e = absurd cc
 begins_otherwise c more (o ∷ octets) other reserved e = of_first o e.0 e.3 e.2 where
   of_first : (o : ℕ) (first : List ℕ) → IsOctetText o first → c ∷ more ≡ first ++ e.1 → ⊥
-  of_first o first (plain h g) same = let both : c ∷ more ≡ o ∷ e.1 = same ∙ ap (λ (x : List ℕ). x ++ e.1) g in let k : c ≡ o = cc in let l : is_unreserved c ≡ is_unreserved o = ap is_unreserved k in absurd cc
-  of_first o first (escape high low h g) same = let both : c ∷ more ≡ 37 ∷ high ∷ low ∷ e.1 = same ∙ ap (λ (x : List ℕ). x ++ e.1) g in let k : c ≡ 37 = cc in eqb-false c 37 other k
+  of_first o first (plain h g) same =
+      let both : c ∷ more ≡ o ∷ e.1 = same ∙ ap (λ (x : List ℕ). x ++ e.1) g in
+      let k : c ≡ o = cc in let l : is_unreserved c ≡ is_unreserved o = ap is_unreserved k in absurd cc
+  of_first o first (escape high low h g) same =
+      let both : c ∷ more ≡ 37 ∷ high ∷ low ∷ e.1 = same ∙ ap (λ (x : List ℕ). x ++ e.1) g in
+      let k : c ≡ 37 = cc in eqb-false c 37 other k
 
-pub octet-leaves : (at c : ℕ) (text : List ℕ) (f : NameFault) → octet_at at (c ∷ text) ≡ Err f → FailsAt IsEscapedText at (c ∷ text) f
+pub octet-leaves : (at c : ℕ) (text : List ℕ) (f : NameFault) → octet_at at (c ∷ text) ≡ Err f
+    → FailsAt IsEscapedText at (c ∷ text) f
 unfolding octet_at
 octet-leaves at c text f e =
-    elim (chosen (eqb c 37) (pair_at (at + 1) text) (cond (is_unreserved c) (done (c, text)) (failed (BadUri at))) (failed f) e) [
+    elim (chosen (eqb c 37) (pair_at (at + 1) text) (cond (is_unreserved c) (done (c, text)) (failed (BadUri at)))
+    (failed f) e) [
       | inl a ↦
           let p = pair-leaves (λ t. IsEscapedText (37 ∷ t)) begins_escape (at + 1) text f a.1 in
           let k : c ≡ 37 = eqb-true c 37 a.0 in
@@ -253,7 +297,10 @@ octet-leaves at c text f e =
           record {
             place = 1 + p.place;
             fault = ap BadUri there ∙ p.fault;
-            leaves = subst P (sym k) (Leaves-behind (λ t. IsEscapedText (37 ∷ t)) IsEscapedText (37 ∷ []) text p.place (λ t m. m) (λ t m. m) p.leaves);
+            leaves =
+                subst P (sym k)
+                (Leaves-behind (λ t. IsEscapedText (37 ∷ t)) IsEscapedText (37 ∷ []) text p.place (λ t m. m) (λ t m. m)
+                p.leaves);
           }
       | inr a ↦
           elim (chosen (is_unreserved c) (done (c, text)) (failed (BadUri at)) (failed f) a.1) [
@@ -263,7 +310,9 @@ octet-leaves at c text f e =
                 record {
                   place = 0;
                   fault = ap BadUri here ∙ err_is (BadUri at) f b.1;
-                  leaves = Leaves-first IsEscapedText c text ([], ([], refl)) (λ more m. begins_otherwise c more m.0 a.0 b.0 m.1);
+                  leaves =
+                      Leaves-first IsEscapedText c text ([], ([], refl))
+                      (λ more m. begins_otherwise c more m.0 a.0 b.0 m.1);
                 }
           ]
     ]
@@ -278,7 +327,8 @@ pub octet-takes : (at : ℕ) (text : List ℕ) (x : ℕ × List ℕ) → octet_a
 unfolding octet_at
 octet-takes at [] x e = absurd cc
 octet-takes at (c ∷ text) x e =
-    elim (chosen (eqb c 37) (pair_at (at + 1) text) (cond (is_unreserved c) (done (c, text)) (failed (BadUri at))) (done x) e) [
+    elim (chosen (eqb c 37) (pair_at (at + 1) text) (cond (is_unreserved c) (done (c, text)) (failed (BadUri at)))
+    (done x) e) [
       | inl a ↦
           let p = pair-takes (at + 1) text x a.1 in
           let k : c ≡ 37 = eqb-true c 37 a.0 in
@@ -306,7 +356,10 @@ octet-takes at (c ∷ text) x e =
     ]
 
 -- behind what was read
-pub escaped-leaves : (a front rest text : List ℕ) (k : ℕ) → IsEscaped a front → front ++ rest ≡ text → LeavesLanguage IsEscapedText rest k → LeavesLanguage IsEscapedText text (length front + k)
+pub escaped-leaves : (a front rest text : List ℕ) (k : ℕ) → IsEscaped a front → front ++ rest ≡ text
+    → LeavesLanguage IsEscapedText rest k → LeavesLanguage IsEscapedText text (length front + k)
 escaped-leaves a front rest text k read split h =
     let P : List ℕ → Type 0 = λ t. LeavesLanguage IsEscapedText t (length front + k) in
-    subst P split (Leaves-behind IsEscapedText IsEscapedText front rest k (λ t m. (a ++ m.0, escaped-append a m.0 front t read m.1)) (λ t m. let b = escaped-front a m.0 front t read m.1 in (b.others, b.read)) h)
+    subst P split
+    (Leaves-behind IsEscapedText IsEscapedText front rest k (λ t m. (a ++ m.0, escaped-append a m.0 front t read m.1))
+    (λ t m. let b = escaped-front a m.0 front t read m.1 in (b.others, b.read)) h)

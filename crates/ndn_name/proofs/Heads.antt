@@ -1,5 +1,6 @@
 -- What stands before an equals sign.
-use Rattle.std.proofs.Common.{◌≡◌, ℕ, ◌<◌, ◌≤◌, Bool, true, false, cond, ◌&&◌, List, [], ◌∷◌, ◌++◌, length, Option, Some, None, refl, sym, ap, subst, ◌∙◌, arith, ◌⊎◌, inl, inr}
+use Rattle.std.proofs.Common.{◌≡◌, ℕ, ◌<◌, ◌≤◌, Bool, true, false, cond, ◌&&◌, List, [], ◌∷◌, ◌++◌, length, Option}
+use Rattle.std.proofs.Common.{Some, None, refl, sym, ap, subst, ◌∙◌, arith, ◌⊎◌, inl, inr}
 use Rattle.std.specs.Prelude.{codes, bytes_eq}
 use Rattle.std.specs.List.{list_all}
 use Rattle.std.specs.Char.{digit_value}
@@ -54,10 +55,13 @@ keyword-some head form e =
                   | inl d ↦ subst P (some_is (Number 50) form d.1) (inl (refl, is_word head (codes "seg") d.0))
                   | inr d ↦
                       elim (chosen (bytes_eq head (codes "v")) (Some (Number 54)) (from_seq head) (Some form) d.1) [
-                        | inl f ↦ subst P (some_is (Number 54) form f.1) (inr (inl (refl, is_word head (codes "v") f.0)))
+                        | inl f ↦
+                            subst P (some_is (Number 54) form f.1) (inr (inl (refl, is_word head (codes "v") f.0)))
                         | inr f ↦
                             elim (chosen (bytes_eq head (codes "seq")) (Some (Number 58)) None (Some form) f.1) [
-                              | inl g ↦ subst P (some_is (Number 58) form g.1) (inr (inr (refl, is_word head (codes "seq") g.0)))
+                              | inl g ↦
+                                  subst P (some_is (Number 58) form g.1)
+                                  (inr (inr (refl, is_word head (codes "seq") g.0)))
                               | inr g ↦ absurd (let h = g.1 in cc)
                             ]
                       ]
@@ -66,10 +70,12 @@ keyword-some head form e =
     ]
 
 -- what is read of a word
-word_form : (typ : ℕ) (k : ℕ) (head word : List ℕ) (make : ℕ → Form) → keyword_of word ≡ Some (make k) → (typ ≡ k) × (head ≡ word) → keyword_of head ≡ Some (make typ)
+word_form : (typ : ℕ) (k : ℕ) (head word : List ℕ) (make : ℕ → Form) → keyword_of word ≡ Some (make k)
+    → (typ ≡ k) × (head ≡ word) → keyword_of head ≡ Some (make typ)
 word_form typ k head word make read h = ap keyword_of h.1 ∙ read ∙ ap (λ (n : ℕ). some_form (make n)) (sym h.0)
 
-pub keyword-head : (form : Form) (head : List ℕ) → IsHead form head → (keyword_of head ≡ Some form) ⊎ ((typ : ℕ) × (form ≡ Escaped typ))
+pub keyword-head : (form : Form) (head : List ℕ) → IsHead form head
+    → (keyword_of head ≡ Some form) ⊎ ((typ : ℕ) × (form ≡ Escaped typ))
 keyword-head (Digest typ) head h =
     elim h [
       | inl a ↦ inl (word_form typ 1 head (codes "sha256digest") (λ n. Digest n) refl a)
@@ -93,51 +99,76 @@ digit_unreserved c h = let e = digit_char c h in grind arith
 
 pub all_digits_unreserved : (text : List ℕ) → AllDigits 10 text → list_all is_unreserved text ≡ true
 all_digits_unreserved [] h = refl
-all_digits_unreserved (c ∷ text) h = ap (λ (b : Bool). b && list_all is_unreserved text) (digit_unreserved c h.0) ∙ all_digits_unreserved text h.1
+all_digits_unreserved (c ∷ text) h =
+    ap (λ (b : Bool). b && list_all is_unreserved text) (digit_unreserved c h.0) ∙ all_digits_unreserved text h.1
 
 of_word : (head word : List ℕ) → list_all is_unreserved word ≡ true → head ≡ word → list_all is_unreserved head ≡ true
 of_word head word h e = ap (list_all is_unreserved) e ∙ h
 
 pub head-unreserved : (form : Form) (head : List ℕ) → IsHead form head → list_all is_unreserved head ≡ true
 head-unreserved (Digest typ) head h =
-    elim h [ inl a ↦ of_word head (codes "sha256digest") refl a.1 | inr a ↦ of_word head (codes "params-sha256") refl a.1 ]
+    elim h [
+      | inl a ↦ of_word head (codes "sha256digest") refl a.1
+      | inr a ↦ of_word head (codes "params-sha256") refl a.1
+    ]
 head-unreserved (Number typ) head h =
     elim h [
       | inl a ↦ of_word head (codes "seg") refl a.1
       | inr b ↦ elim b [ inl a ↦ of_word head (codes "v") refl a.1 | inr a ↦ of_word head (codes "seq") refl a.1 ]
     ]
 head-unreserved (Escaped typ) head h =
-    of_word head (decimal typ) (all_digits_unreserved (decimal typ) (decimal_is_IsNumeral typ (omega (arith, h.1.0))).0.1) h.1.1
+    of_word head (decimal typ)
+    (all_digits_unreserved (decimal typ) (decimal_is_IsNumeral typ (omega (arith, h.1.0))).0.1) h.1.1
 
 pub head-lacks : (s : ℕ) (form : Form) (head : List ℕ) → is_unreserved s ≡ false → IsHead form head → LacksOctet s head
 head-lacks s form head none h = lacks-test s is_unreserved head none (head-unreserved form head h)
 
 -- ---- a head is of one form
 
-first_is_digit : (text : List ℕ) → AllDigits 10 text → 0 < length text → (c : ℕ) × (rest : List ℕ) × (text ≡ c ∷ rest) × (digit_value c < 10)
+first_is_digit : (text : List ℕ) → AllDigits 10 text → 0 < length text
+    → (c : ℕ) × (rest : List ℕ) × (text ≡ c ∷ rest) × (digit_value c < 10)
 first_is_digit [] h some = absurd (omega arith)
 first_is_digit (c ∷ rest) h some = (c, rest, refl, h.0)
 
-no_digit_first : (typ c : ℕ) (word : List ℕ) (head : List ℕ) → typ ≤ 65535 → head ≡ decimal typ → head ≡ c ∷ word → 10 ≤ digit_value c → ⊥
+no_digit_first : (typ c : ℕ) (word : List ℕ) (head : List ℕ) → typ ≤ 65535 → head ≡ decimal typ → head ≡ c ∷ word
+    → 10 ≤ digit_value c → ⊥
 no_digit_first typ c word head low e g large =
-    let d = first_is_digit (decimal typ) (decimal_is_IsNumeral typ (omega arith)).0.1 (decimal_nonempty typ (omega arith)) in
+    let d =
+    first_is_digit (decimal typ) (decimal_is_IsNumeral typ (omega arith)).0.1 (decimal_nonempty typ (omega arith)) in
     let whole : c ∷ word ≡ d.0 ∷ d.1 = sym g ∙ e ∙ d.2 in
     let same : c ≡ d.0 = cc in
     absurd (omega (arith, ap digit_value same, d.3))
 
-keyword_no_decimal : (form : Form) (typ : ℕ) (head : List ℕ) → keyword_of head ≡ Some form → typ ≤ 65535 → head ≡ decimal typ → ⊥
+keyword_no_decimal : (form : Form) (typ : ℕ) (head : List ℕ) → keyword_of head ≡ Some form → typ ≤ 65535
+    → head ≡ decimal typ → ⊥
 keyword_no_decimal form typ head e low is = by_form form (keyword-some head form e) (keyword_form form e) where
   keyword_form : (f : Form) → keyword_of head ≡ Some f → ((n : ℕ) → f ≡ Escaped n → ⊥)
-  keyword_form f k n g = elim (keyword_is head) [ inl none ↦ let h = none in absurd cc | inr one ↦ one.2 n (let i : one.0 ≡ f = some_is one.0 f (sym one.1 ∙ k) in i ∙ g) ] where
-    keyword_is : (h : List ℕ) → (keyword_of h ≡ None) ⊎ ((o : Form) × (keyword_of h ≡ Some o) × ((m : ℕ) → o ≡ Escaped m → ⊥))
-    keyword_is h = tested (bytes_eq h (codes "sha256digest")) (bytes_eq h (codes "params-sha256")) (bytes_eq h (codes "seg")) (bytes_eq h (codes "v")) (bytes_eq h (codes "seq")) where
-      tested : (a b d g i : Bool) → (cond a (some_form (Digest 1)) (cond b (Some (Digest 2)) (cond d (Some (Number 50)) (cond g (Some (Number 54)) (cond i (Some (Number 58)) None)))) ≡ None) ⊎ ((o : Form) × (cond a (some_form (Digest 1)) (cond b (Some (Digest 2)) (cond d (Some (Number 50)) (cond g (Some (Number 54)) (cond i (Some (Number 58)) None)))) ≡ Some o) × ((m : ℕ) → o ≡ Escaped m → ⊥))
-      tested true b d g i = inr (Digest 1, refl, λ m x. absurd cc)
-      tested false true d g i = inr (Digest 2, refl, λ m x. absurd cc)
-      tested false false true g i = inr (Number 50, refl, λ m x. absurd cc)
-      tested false false false true i = inr (Number 54, refl, λ m x. absurd cc)
-      tested false false false false true = inr (Number 58, refl, λ m x. absurd cc)
-      tested false false false false false = inl refl
+  keyword_form f k n g = elim (keyword_is head) [
+    | inl none ↦ let h = none in absurd cc
+    | inr one ↦ one.2 n (let i : one.0 ≡ f = some_is one.0 f (sym one.1 ∙ k) in i ∙ g)
+  ] where
+    keyword_is : (h : List ℕ)
+        → (keyword_of h ≡ None) ⊎ ((o : Form) × (keyword_of h ≡ Some o) × ((m : ℕ) → o ≡ Escaped m → ⊥))
+    keyword_is h =
+        tested (bytes_eq h (codes "sha256digest")) (bytes_eq h (codes "params-sha256")) (bytes_eq h (codes "seg"))
+        (bytes_eq h (codes "v")) (bytes_eq h (codes "seq")) where
+          tested : (a b d g i : Bool)
+              → (cond a (some_form (Digest 1))
+              (cond b (Some (Digest 2))
+              (cond d (Some (Number 50)) (cond g (Some (Number 54)) (cond i (Some (Number 58)) None))))
+              ≡ None)
+              ⊎ ((o : Form)
+              × (cond a (some_form (Digest 1))
+              (cond b (Some (Digest 2))
+              (cond d (Some (Number 50)) (cond g (Some (Number 54)) (cond i (Some (Number 58)) None))))
+              ≡ Some o)
+              × ((m : ℕ) → o ≡ Escaped m → ⊥))
+          tested true b d g i = inr (Digest 1, refl, λ m x. absurd cc)
+          tested false true d g i = inr (Digest 2, refl, λ m x. absurd cc)
+          tested false false true g i = inr (Number 50, refl, λ m x. absurd cc)
+          tested false false false true i = inr (Number 54, refl, λ m x. absurd cc)
+          tested false false false false true = inr (Number 58, refl, λ m x. absurd cc)
+          tested false false false false false = inl refl
 
   by_form : (f : Form) → IsHead f head → ((n : ℕ) → f ≡ Escaped n → ⊥) → ⊥
   by_form (Digest n) h k =
@@ -162,7 +193,9 @@ head-same f g head h k =
       | inl a ↦
           elim (keyword-head g head k) [
             | inl b ↦ some_is f g (sym a ∙ b)
-            | inr b ↦ let P : Form → Type 0 = λ x. IsHead x head in let d = subst P b.1 k in absurd (keyword_no_decimal f b.0 head a d.1.0 d.1.1)
+            | inr b ↦
+                let P : Form → Type 0 = λ x. IsHead x head in
+                let d = subst P b.1 k in absurd (keyword_no_decimal f b.0 head a d.1.0 d.1.1)
           ]
       | inr a ↦
           let P : Form → Type 0 = λ x. IsHead x head in
@@ -171,11 +204,15 @@ head-same f g head h k =
             | inl b ↦ absurd (keyword_no_decimal g a.0 head b d.1.0 d.1.1)
             | inr b ↦
                 let e = subst P b.1 k in
-                a.1 ∙ ap (λ (n : ℕ). Escaped n) (decimal_injective a.0 b.0 (omega (arith, d.1.0)) (omega (arith, e.1.0)) (sym d.1.1 ∙ e.1.1)) ∙ sym b.1
+                a.1
+                ∙ ap (λ (n : ℕ). Escaped n)
+                (decimal_injective a.0 b.0 (omega (arith, d.1.0)) (omega (arith, e.1.0)) (sym d.1.1 ∙ e.1.1))
+                ∙ sym b.1
           ]
     ]
 
-pub no_head : (head : List ℕ) → keyword_of head ≡ None → ((typ : ℕ) → 0 < typ → IsDecimal 65535 typ head → ⊥) → (form : Form) → IsHead form head → ⊥
+pub no_head : (head : List ℕ) → keyword_of head ≡ None → ((typ : ℕ) → 0 < typ → IsDecimal 65535 typ head → ⊥)
+    → (form : Form) → IsHead form head → ⊥
 no_head head none no_type form h =
     elim (keyword-head form head h) [
       | inl a ↦ let k = sym none ∙ a in absurd cc
@@ -185,9 +222,11 @@ no_head head none no_type form h =
 -- ---- texts without a head
 
 pub lacks_head : (text : List ℕ) → LacksOctet 61 text → HasNoHead text
-lacks_head text h form head tail is_head e = let P : List ℕ → Type 0 = λ t. LacksOctet 61 t in lacks-separator 61 head tail (subst P e h)
+lacks_head text h form head tail is_head e =
+    let P : List ℕ → Type 0 = λ t. LacksOctet 61 t in lacks-separator 61 head tail (subst P e h)
 
-pub other_head : (text front rest : List ℕ) → text ≡ front ++ 61 ∷ rest → LacksOctet 61 front → ((form : Form) → IsHead form front → ⊥) → HasNoHead text
+pub other_head : (text front rest : List ℕ) → text ≡ front ++ 61 ∷ rest → LacksOctet 61 front
+    → ((form : Form) → IsHead form front → ⊥) → HasNoHead text
 other_head text front rest split lacks none form head tail is_head e =
     let same = split-same 61 front head rest tail lacks (head-lacks 61 form head refl is_head) (sym split ∙ e) in
     let P : List ℕ → Type 0 = λ x. IsHead form x in

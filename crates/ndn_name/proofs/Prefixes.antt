@@ -1,5 +1,6 @@
 -- Prefixes, as fronts of the octets and in the canonical order.
-use Rattle.std.proofs.Common.{◌≡◌, ◌≢◌, ℕ, Bool, true, List, [], ◌∷◌, ◌++◌, length, take, drop, refl, sym, ap, ◌∙◌, append_assoc, arith}
+use Rattle.std.proofs.Common.{◌≡◌, ◌≢◌, ℕ, Bool, true, List, [], ◌∷◌, ◌++◌, length, take, drop, refl, sym, ap, ◌∙◌}
+use Rattle.std.proofs.Common.{append_assoc, arith}
 use Rattle.std.specs.declared.cmp.Ordering.{Ordering}
 use Rattle.std.specs.declared.cmp.Ordering.TheVariants.{Less, Equal, Greater}
 use Rattle.std.specs.Ordering.{nat_cmp, ordering_then}
@@ -21,19 +22,28 @@ use Rattle.ndn_name.proofs.OrderLemmas.{element-some}
 
 pub prefix-encoding : (a b : List Component) → IsPrefix a b → encoding b ≡ encoding a ++ encoding (drop (length a) b)
 prefix-encoding a b h =
-    let whole : b ≡ a ++ drop (length a) b = sym (take-append-drop (length a) b) ∙ ap (λ (x : List Component). x ++ drop (length a) b) h in
+    let whole : b ≡ a ++ drop (length a) b =
+    sym (take-append-drop (length a) b) ∙ ap (λ (x : List Component). x ++ drop (length a) b) h in
     ap encoding whole ∙ encoding-append a (drop (length a) b)
 
-pub prefix-octets : (a b : List Component) (rest : List ℕ) → IsName a → IsName b → encoding b ≡ encoding a ++ rest → IsPrefix a b
+pub prefix-octets : (a b : List Component) (rest : List ℕ) → IsName a → IsName b → encoding b ≡ encoding a ++ rest
+    → IsPrefix a b
 unfolding encoding
 prefix-octets [] b rest h k e = refl
 prefix-octets (c ∷ a) [] rest h k e =
-    absurd (omega (arith, ap length e, ap length (append_assoc (element c.0 c.1) (encoding a) rest), element-some c (encoding a ++ rest) h.0))
+    absurd (omega (
+      arith,
+      ap length e,
+      ap length (append_assoc (element c.0 c.1) (encoding a) rest),
+      element-some c (encoding a ++ rest) h.0,
+    ))
 prefix-octets (c ∷ a) (d ∷ b) rest h k e =
     let first = h.0 in
     let other = k.0 in
     let same = e ∙ append_assoc (element c.0 c.1) (encoding a) rest in
-    let parts = element_alone d.0 c.0 d.1 c.1 (encoding b) (encoding a ++ rest) (other.above, omega (arith, other.below), other.long) (first.above, omega (arith, first.below), first.long) same in
+    let parts =
+    element_alone d.0 c.0 d.1 c.1 (encoding b) (encoding a ++ rest)
+    (other.above, omega (arith, other.below), other.long) (first.above, omega (arith, first.below), first.long) same in
     let behind = prefix-octets a b rest h.1 k.1 parts.2 in
     let one : d ≡ c = ap (λ (t : ℕ). (t, d.1)) parts.0 ∙ ap (λ (v : List ℕ). (c.0, v)) parts.1 in
     ap (λ (x : List Component). d ∷ x) behind ∙ ap (λ (x : Component). x ∷ a) one
@@ -47,9 +57,11 @@ both_equal Greater b e = absurd cc
 
 component_cmp-equal : (c d : Component) → component_cmp c d ≡ Equal → c ≡ d
 component_cmp-equal c d e =
-    let outer = both_equal (nat_cmp c.0 d.0) (ordering_then (nat_cmp (length c.1) (length d.1)) (slice_cmp nat_cmp c.1 d.1)) e in
+    let outer =
+    both_equal (nat_cmp c.0 d.0) (ordering_then (nat_cmp (length c.1) (length d.1)) (slice_cmp nat_cmp c.1 d.1)) e in
     let inner = both_equal (nat_cmp (length c.1) (length d.1)) (slice_cmp nat_cmp c.1 d.1) outer.1 in
-    ap (λ (t : ℕ). (t, c.1)) (exact_unsigned c.0 d.0 outer.0) ∙ ap (λ (v : List ℕ). (d.0, v)) (exact_bytes c.1 d.1 inner.1)
+    ap (λ (t : ℕ). (t, c.1)) (exact_unsigned c.0 d.0 outer.0)
+    ∙ ap (λ (v : List ℕ). (d.0, v)) (exact_bytes c.1 d.1 inner.1)
 
 pub canonical_cmp-equal : (a b : List Component) → canonical_cmp a b ≡ Equal → a ≡ b
 canonical_cmp-equal [] [] e = refl
@@ -57,7 +69,8 @@ canonical_cmp-equal [] (d ∷ b) e = absurd cc
 canonical_cmp-equal (c ∷ a) [] e = absurd cc
 canonical_cmp-equal (c ∷ a) (d ∷ b) e =
     let parts = both_equal (component_cmp c d) (canonical_cmp a b) e in
-    ap (λ (x : Component). x ∷ a) (component_cmp-equal c d parts.0) ∙ ap (λ (x : List Component). d ∷ x) (canonical_cmp-equal a b parts.1)
+    ap (λ (x : Component). x ∷ a) (component_cmp-equal c d parts.0)
+    ∙ ap (λ (x : List Component). d ∷ x) (canonical_cmp-equal a b parts.1)
 
 pub prefix-first : (a b : List Component) → IsPrefix a b → a ≢ b → canonical_cmp a b ≡ Less
 prefix-first [] [] h k = absurd (k refl)
@@ -66,16 +79,22 @@ prefix-first (c ∷ a) [] h k = absurd cc
 prefix-first (c ∷ a) (d ∷ b) h k =
     let one : d ≡ c = cc in
     let behind : take (length a) b ≡ a = cc in
-    let less = prefix-first a b behind (λ e. k (ap (λ (x : Component). x ∷ a) (sym one) ∙ ap (λ (x : List Component). d ∷ x) e)) in
+    let less =
+    prefix-first a b behind (λ e. k (ap (λ (x : Component). x ∷ a) (sym one) ∙ ap (λ (x : List Component). d ∷ x) e)) in
     let tied = tied_itself canonical_cmp_total (d ∷ []) in
-    let level : component_cmp c d ≡ Equal = ap (λ (x : Component). component_cmp x d) (sym one) ∙ (both_equal (component_cmp d d) Equal tied).0 in
+    let level : component_cmp c d ≡ Equal =
+    ap (λ (x : Component). component_cmp x d) (sym one) ∙ (both_equal (component_cmp d d) Equal tied).0 in
     ap (λ (o : Ordering). ordering_then o (canonical_cmp a b)) level ∙ less
 
 -- ---- as fronts of the octets
 
-pub values-prefix : (o p : List ℕ) (m n : ℕ) → IsValue o m → IsValue p n → (b : Bool) → b ≡ starts_with nat_eq p o → (b ≡ true) ↔ IsPrefix (components o) (components p)
+pub values-prefix : (o p : List ℕ) (m n : ℕ) → IsValue o m → IsValue p n → (b : Bool) → b ≡ starts_with nat_eq p o
+    → (b ≡ true) ↔ IsPrefix (components o) (components p)
 values-prefix o p m n h k b e =
     let front = starts_is unsigned_Decides p o b e in (
-      λ yes. prefix-octets (components o) (components p) (drop (length o) p) h.name k.name (sym k.spelled ∙ front.0 yes ∙ ap (λ (x : List ℕ). x ++ drop (length o) p) h.spelled),
-      λ prefix. front.1 (encoding (drop (length (components o)) (components p))) (k.spelled ∙ prefix-encoding (components o) (components p) prefix ∙ ap (λ (x : List ℕ). x ++ encoding (drop (length (components o)) (components p))) (sym h.spelled)),
+      λ yes. prefix-octets (components o) (components p) (drop (length o) p) h.name k.name
+          (sym k.spelled ∙ front.0 yes ∙ ap (λ (x : List ℕ). x ++ drop (length o) p) h.spelled),
+      λ prefix. front.1 (encoding (drop (length (components o)) (components p)))
+          (k.spelled ∙ prefix-encoding (components o) (components p) prefix
+          ∙ ap (λ (x : List ℕ). x ++ encoding (drop (length (components o)) (components p))) (sym h.spelled)),
     )

@@ -19,11 +19,14 @@ lacks-separator s (c ∷ a) x h = lacks-separator s a x h.1
 pub lacks-test : (s : ℕ) (p : ℕ → Bool) (text : List ℕ) → p s ≡ false → list_all p text ≡ true → LacksOctet s text
 lacks-test s p [] none h = tt
 lacks-test s p (c ∷ text) none h =
-    let both = and_parts (p c) (list_all p text) h in
-    (λ e. let same : p c ≡ p s = ap p e in let never : true ≡ false = sym both.0 ∙ same ∙ none in absurd cc, lacks-test s p text none both.1)
+    let both = and_parts (p c) (list_all p text) h in (
+      λ e. let same : p c ≡ p s = ap p e in let never : true ≡ false = sym both.0 ∙ same ∙ none in absurd cc,
+      lacks-test s p text none both.1,
+    )
 
 -- the front and what follows, where the separator stands first
-pub split-same : (s : ℕ) (a b x y : List ℕ) → LacksOctet s a → LacksOctet s b → a ++ s ∷ x ≡ b ++ s ∷ y → (a ≡ b) × (x ≡ y)
+pub split-same : (s : ℕ) (a b x y : List ℕ) → LacksOctet s a → LacksOctet s b → a ++ s ∷ x ≡ b ++ s ∷ y
+    → (a ≡ b) × (x ≡ y)
 split-same s [] [] x y h k e = (refl, cc)
 split-same s [] (d ∷ b) x y h k e = absurd (k.0 cc)
 split-same s (c ∷ a) [] x y h k e = absurd (h.0 cc)
@@ -34,7 +37,8 @@ split-same s (c ∷ a) (d ∷ b) x y h k e =
     (ap (λ (n : ℕ). n ∷ a) first ∙ ap (λ (t : List ℕ). d ∷ t) rest.0, rest.1)
 
 -- where a front ends, before the separator or behind it
-pub cut : (s : ℕ) (p more a x : List ℕ) → p ++ more ≡ a ++ s ∷ x → ((r : List ℕ) × (a ≡ p ++ r)) ⊎ ((r : List ℕ) × (p ≡ a ++ s ∷ r))
+pub cut : (s : ℕ) (p more a x : List ℕ) → p ++ more ≡ a ++ s ∷ x
+    → ((r : List ℕ) × (a ≡ p ++ r)) ⊎ ((r : List ℕ) × (p ≡ a ++ s ∷ r))
 cut s [] more a x e = inl (a, refl)
 cut s (c ∷ p) more [] x e = let first : c ≡ s = cc in inr (p, ap (λ (n : ℕ). n ∷ p) first)
 cut s (c ∷ p) more (d ∷ a) x e =
@@ -50,7 +54,8 @@ abbrev pub Bounded : ℕ → List ℕ → Type 0
 Bounded s [] = Unit {0}
 Bounded s (c ∷ text) = c ≡ s
 
-pub parts-same : (s : ℕ) (a b x y : List ℕ) → LacksOctet s a → LacksOctet s b → Bounded s x → Bounded s y → a ++ x ≡ b ++ y → (a ≡ b) × (x ≡ y)
+pub parts-same : (s : ℕ) (a b x y : List ℕ) → LacksOctet s a → LacksOctet s b → Bounded s x → Bounded s y
+    → a ++ x ≡ b ++ y → (a ≡ b) × (x ≡ y)
 parts-same s [] [] x y h k p q e = (refl, e)
 parts-same s [] (d ∷ b) [] y h k p q e = absurd cc
 parts-same s [] (d ∷ b) (c ∷ x) y h k p q e = let first : c ≡ d = cc in absurd (k.0 (sym first ∙ p))
@@ -63,7 +68,8 @@ parts-same s (c ∷ a) (d ∷ b) x y h k p q e =
     (ap (λ (n : ℕ). n ∷ a) first ∙ ap (λ (t : List ℕ). d ∷ t) rest.0, rest.1)
 
 -- a front without the separator is a front of the first part
-pub front-first : (s : ℕ) (p more a x : List ℕ) → LacksOctet s p → Bounded s x → p ++ more ≡ a ++ x → (r : List ℕ) × (a ≡ p ++ r)
+pub front-first : (s : ℕ) (p more a x : List ℕ) → LacksOctet s p → Bounded s x → p ++ more ≡ a ++ x
+    → (r : List ℕ) × (a ≡ p ++ r)
 front-first s [] more a x h b e = (a, refl)
 front-first s (c ∷ p) more [] [] h b e = absurd cc
 front-first s (c ∷ p) more [] (d ∷ x) h b e = let first : c ≡ d = cc in absurd (h.0 (first ∙ b))

@@ -1,5 +1,7 @@
 -- How many octets the name has that a text stands for.
-use Rattle.std.proofs.Common.{◌≡◌, ℕ, zero, suc, ◌+◌, ◌*◌, ◌-◌, ◌/◌, ◌%◌, ◌<◌, ◌≤◌, ◌^◌, Bool, true, false, cond, ◌&&◌, eqb, List, [], ◌∷◌, ◌++◌, length, length-append, take, Option, Some, None, Result, Ok, Err, refl, sym, ap, subst, ◌∙◌, append_assoc, arith, inl, inr, Bor}
+use Rattle.std.proofs.Common.{◌≡◌, ℕ, zero, suc, ◌+◌, ◌*◌, ◌-◌, ◌/◌, ◌%◌, ◌<◌, ◌≤◌, ◌^◌, Bool, true, false, cond, ◌&&◌}
+use Rattle.std.proofs.Common.{eqb, List, [], ◌∷◌, ◌++◌, length, length-append, take, Option, Some, None, Result, Ok}
+use Rattle.std.proofs.Common.{Err, refl, sym, ap, subst, ◌∙◌, append_assoc, arith, inl, inr, Bor}
 use Rattle.std.specs.Prelude.{codes, unwrap_or, MatchResult}
 use Rattle.std.specs.Fmt.{decimal}
 use Rattle.std.specs.List.{slice_split, list_any}
@@ -13,16 +15,21 @@ use Rattle.std.proofs.lemmas.Option.{none-some, same_Some}
 use Rattle.ndn_tlv.specs.Spelling.{number, head, element}
 use Rattle.ndn_tlv.specs.NumberField.{number_field}
 use Rattle.ndn_name.specs.declared.name_fault.NameFault.{NameFault}
-use Rattle.ndn_name.specs.declared.name_fault.NameFault.TheVariants.{Tlv, BadComponent, BadDigestLength, NameTooLong, BadUri, NoMemory}
+use Rattle.ndn_name.specs.declared.name_fault.NameFault.TheVariants.{Tlv, BadComponent, BadDigestLength, NameTooLong}
+use Rattle.ndn_name.specs.declared.name_fault.NameFault.TheVariants.{BadUri, NoMemory}
 use Rattle.ndn_name.specs.declared.uri_form.Form.{Form}
 use Rattle.ndn_name.specs.declared.uri_form.Form.TheVariants.{Digest, Number, Escaped}
 use Rattle.ndn_name.specs.Names.{Component, encoding}
 use Rattle.ndn_name.specs.Uri.{are_periods, IsDecimal, IsDigestText}
 use Rattle.ndn_name.specs.UriReading.{BeginsWithAnother, BreaksOff, FailsIn, IsHead, Splits, octet_at, shape}
-use Rattle.ndn_name.specs.UriText.{onto, digest_of_text, unescaped, behind_three, value_of_text, decimal_of_text, number_of_text, typed, component_of_text, component_in_front, components_of_texts, name_of_path, behind_word, without_scheme, name_of_text, is_digest, plain_component, plain_name}
+use Rattle.ndn_name.specs.UriText.{onto, digest_of_text, unescaped, behind_three, value_of_text, decimal_of_text}
+use Rattle.ndn_name.specs.UriText.{number_of_text, typed, component_of_text, component_in_front, components_of_texts}
+use Rattle.ndn_name.specs.UriText.{name_of_path, behind_word, without_scheme, name_of_text, is_digest, plain_component}
+use Rattle.ndn_name.specs.UriText.{plain_name}
 use Rattle.ndn_name.proofs.Digests.{length-digits}
 use Rattle.ndn_name.proofs.Escapes.{octet-takes, octet-leaves}
-use Rattle.ndn_name.proofs.ComputedValues.{none_from, unescaped-octet, is_unescaped, digest_is, is_digest_text, decimal_is, is_decimal_text}
+use Rattle.ndn_name.proofs.ComputedValues.{none_from, unescaped-octet, is_unescaped, digest_is, is_digest_text}
+use Rattle.ndn_name.proofs.ComputedValues.{decimal_is, is_decimal_text}
 use Rattle.ndn_name.proofs.ComputedNames.{behind-append, is_slash, rooted_name, split-lacks, split-slash}
 
 -- ---- values
@@ -76,7 +83,8 @@ so_far-step text rest after len octet periods s e =
     } where
       last : periods ≡ are_periods s.front → (periods && eqb octet 46) ≡ are_periods (s.front ++ octet ∷ [])
       last h =
-          ap (λ (b : Bool). b && eqb octet 46) h ∙ ap (λ (b : Bool). are_periods s.front && b) (sym (and_true (eqb octet 46)))
+          ap (λ (b : Bool). b && eqb octet 46) h
+          ∙ ap (λ (b : Bool). are_periods s.front && b) (sym (and_true (eqb octet 46)))
           ∙ sym (list_all-append (λ (o : ℕ). eqb o 46) s.front (octet ∷ []))
 
 pub so_far-shrinks : (rest after : List ℕ) (octet : ℕ) → octet_at 0 rest ≡ Ok (octet, after)
@@ -150,7 +158,8 @@ failed f = Err f
 pub number-fails : (text : List ℕ) (f : NameFault) → (failed {A = ℕ} f ≡ failed NoMemory → ⊥)
     → FailsIn (IsDecimal most_number) 0 text f → option_map length (number_of_text text) ≡ None
 number-fails text (BadUri place) told h =
-    rw (none_from (decimal_of_text most_number text) (λ n e. h.2.ends (n, is_decimal_text most_number n text (omega arith) e)))
+    rw (none_from (decimal_of_text most_number text)
+    (λ n e. h.2.ends (n, is_decimal_text most_number n text (omega arith) e)))
     refl
 number-fails text NoMemory told h = absurd (told refl)
 number-fails text NameTooLong told h = absurd h
@@ -294,7 +303,8 @@ unfolding components_of_texts encoding
 size-no_texts = refl
 
 -- a component that is none, or a digest
-pub size-none : (text : List ℕ) (texts : List (List ℕ)) → component_size text ≡ None → size_of_texts (text ∷ texts) ≡ None
+pub size-none : (text : List ℕ) (texts : List (List ℕ)) → component_size text ≡ None
+    → size_of_texts (text ∷ texts) ≡ None
 unfolding components_of_texts
 size-none text texts h = by_component (component_of_text text) refl where
   by_component : (c : Option Component) → component_of_text text ≡ c → size_of_texts (text ∷ texts) ≡ None
@@ -303,7 +313,9 @@ size-none text texts h = by_component (component_of_text text) refl where
     by_test : (b : Bool) → is_digest c ≡ b → size_of_texts (text ∷ texts) ≡ None
     by_test true g = rw e (others (components_of_texts texts)) where
       others : (o : Option (List Component))
-          → option_map (λ (name : List Component). length (encoding name)) (option_and_then plain_name (component_in_front c o)) ≡ None
+          → option_map (λ (name : List Component). length (encoding name))
+          (option_and_then plain_name (component_in_front c o))
+          ≡ None
       others None = refl
       others (Some name) = rw g refl
     by_test false g = let k = rw (e, g) at h in absurd cc
@@ -323,7 +335,8 @@ size-some text texts n h = by_component (component_of_text text) refl where
       size = same_Some (length (element c.0 c.1)) n (rw (e, g) at h)
 
       others : (o : Option (List Component))
-          → option_map (λ (name : List Component). length (encoding name)) (option_and_then plain_name (component_in_front c o))
+          → option_map (λ (name : List Component). length (encoding name))
+          (option_and_then plain_name (component_in_front c o))
           ≡ plus n (option_map (λ (name : List Component). length (encoding name)) (option_and_then plain_name o))
       others None = refl
       others (Some name) = rw g (tested (list_any is_digest name)) where
@@ -386,7 +399,8 @@ pub scheme-is : (r : Result (Bor (List ℕ)) ℕ) (text : Bor (List ℕ))
     → MatchResult r (λ path. text.now ≡ codes "ndn:" ++ path.now) (BreaksOff (codes "ndn:") text.now)
     → (result_unwrap_or r text).now ≡ without_scheme text.now
 scheme-is (Ok path) text h =
-    sym (ap without_scheme h ∙ ap (λ (o : Option (List ℕ)). unwrap_or o (codes "ndn:" ++ path.now)) (behind-append (codes "ndn:") path.now))
+    sym (ap without_scheme h
+    ∙ ap (λ (o : Option (List ℕ)). unwrap_or o (codes "ndn:" ++ path.now)) (behind-append (codes "ndn:") path.now))
 scheme-is (Err place) text h =
     sym (ap (λ (o : Option (List ℕ)). unwrap_or o text.now) (broken_off (codes "ndn:") text.now place h))
 

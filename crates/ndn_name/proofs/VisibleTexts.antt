@@ -1,5 +1,6 @@
 -- The texts of names are of visible characters of ASCII.
-use Rattle.std.proofs.Common.{◌≡◌, ℕ, zero, suc, ◌+◌, ◌<◌, ◌^◌, Bool, true, List, [], ◌∷◌, ◌++◌, length, refl, ap, ◌∙◌, arith, inl, inr}
+use Rattle.std.proofs.Common.{◌≡◌, ℕ, zero, suc, ◌+◌, ◌<◌, ◌^◌, Bool, true, List, [], ◌∷◌, ◌++◌, length, refl, ap, ◌∙◌}
+use Rattle.std.proofs.Common.{arith, inl, inr}
 use Rattle.std.specs.Char.{digit_value, is_ascii_graphic}
 use Rattle.std.specs.Fmt.{decimal}
 use Rattle.std.specs.List.{list_all}
@@ -11,7 +12,8 @@ use Rattle.std.proofs.lemmas.List.Folds.{list_all-append}
 use Rattle.ndn_name.specs.declared.uri_form.Form.{Form}
 use Rattle.ndn_name.specs.declared.uri_form.Form.TheVariants.{Digest, Number, Escaped}
 use Rattle.ndn_name.specs.Names.{Component, IsName}
-use Rattle.ndn_name.specs.Uri.{is_unreserved, IsOctetText, plain, escape, IsEscaped, guarded, IsDigits, IsComponentText, Part, IsPath, IsRooted, IsUri, uri}
+use Rattle.ndn_name.specs.Uri.{is_unreserved, IsOctetText, plain, escape, IsEscaped, guarded, IsDigits, IsComponentText}
+use Rattle.ndn_name.specs.Uri.{Part, IsPath, IsRooted, IsUri, uri}
 use Rattle.ndn_name.specs.UriReading.{IsTail}
 use Rattle.ndn_name.proofs.Heads.{all_digits_unreserved, head-unreserved}
 use Rattle.ndn_name.proofs.ComponentTexts.{component-cases}

@@ -1,4 +1,5 @@
-ghost use Rattle.std.specs.Prelude.{◌≡◌, ◌+◌, ◌^◌, ◌<◌, ◌↔◌, length, IsTrue, MatchResult, IfOk, Ok, Err, Some, slice_get};
+ghost use Rattle.std.specs.Prelude.{◌≡◌, ◌+◌, ◌^◌, ◌<◌, ◌↔◌, length, IsTrue, MatchResult, IfOk, Ok, Err, Some};
+ghost use Rattle.std.specs.Prelude.{slice_get};
 ghost use Rattle.ndn_name.specs.Names.{IsName, IsValue, component, components, encoding, name_of};
 ghost use Rattle.ndn_name.specs.CanonicalOrder.{IsPrefix, canonical_cmp};
 

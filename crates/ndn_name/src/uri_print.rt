@@ -2,7 +2,8 @@ ghost use Rattle.std.specs.Prelude.{◌≡◌, ◌++◌, ◌<◌, IfOk, OnOk, On
 ghost use Rattle.std.specs.Fmt.{digit_glyph};
 ghost use Rattle.std.specs.List.{flat_map};
 ghost use Rattle.ndn_tlv.specs.NumberField.{number_field, number_of};
-ghost use Rattle.ndn_name.specs.Uri.{component_text, digest_text, escape_of, in_shortest_width, number_text, hex_pair, plain_text, uri, value_text};
+ghost use Rattle.ndn_name.specs.Uri.{component_text, digest_text, escape_of, in_shortest_width, number_text, hex_pair};
+ghost use Rattle.ndn_name.specs.Uri.{plain_text, uri, value_text};
 
 use crate::name::Name;
 use crate::name_view::NameView;

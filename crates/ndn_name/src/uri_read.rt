@@ -1,4 +1,5 @@
-ghost use Rattle.std.specs.Prelude.{◌≡◌, ◌≢◌, ◌+◌, ◌^◌, ◌<◌, ◌≤◌, [], ◌∷◌, ◌++◌, ◌⊎◌, ◌↔◌, length, map, codes, MatchOption, MatchResult, IfOk, IfErr, OnOk, None, Some, Ok, Err, List};
+ghost use Rattle.std.specs.Prelude.{◌≡◌, ◌≢◌, ◌+◌, ◌^◌, ◌<◌, ◌≤◌, [], ◌∷◌, ◌++◌, ◌⊎◌, ◌↔◌, length, map, codes};
+ghost use Rattle.std.specs.Prelude.{MatchOption, MatchResult, IfOk, IfErr, OnOk, None, Some, Ok, Err, List};
 ghost use Rattle.std.specs.List.{AllByRecursion};
 ghost use Rattle.ndn_name.specs.Names.{Component, encoding};
 ghost use Rattle.ndn_name.specs.Uri.{IsPath, IsRooted, IsUri, name_of_parts};

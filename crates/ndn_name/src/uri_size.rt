@@ -4,7 +4,8 @@ ghost use Rattle.std.specs.Option.{option_map};
 ghost use Rattle.ndn_tlv.specs.Spelling.{element, head};
 ghost use Rattle.ndn_name.specs.Names.{encoding};
 ghost use Rattle.ndn_name.specs.UriReading.{shape, tail_of_text};
-ghost use Rattle.ndn_name.specs.UriText.{component_of_text, components_of_texts, digest_of_text, number_of_text, plain_component, plain_name, plain_name_of_text, value_of_text};
+ghost use Rattle.ndn_name.specs.UriText.{component_of_text, components_of_texts, digest_of_text, number_of_text};
+ghost use Rattle.ndn_name.specs.UriText.{plain_component, plain_name, plain_name_of_text, value_of_text};
 
 use crate::uri_component::{split_head, split_once};
 use crate::uri_digits::{read_decimal, read_digest};

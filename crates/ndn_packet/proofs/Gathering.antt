@@ -1,5 +1,6 @@
 -- What a gathering over the fields of a table keeps true, as it comes from field to field.
-use Rattle.std.proofs.Common.{◌≡◌, ℕ, suc, ◌+◌, ◌<◌, ◌≤◌, cond, List, [], ◌∷◌, ◌++◌, length, drop, drop_at, drop-drop, Option, Some, None, slice_get, Result, Ok, refl, sym, ap, subst, ◌∙◌, arith}
+use Rattle.std.proofs.Common.{◌≡◌, ℕ, suc, ◌+◌, ◌<◌, ◌≤◌, cond, List, [], ◌∷◌, ◌++◌, length, drop, drop_at, drop-drop}
+use Rattle.std.proofs.Common.{Option, Some, None, slice_get, Result, Ok, refl, sym, ap, subst, ◌∙◌, arith}
 use Rattle.std.specs.Prelude.{IfSome}
 use Rattle.ndn_tlv.specs.Spelling.{element}
 use Rattle.ndn_tlv.specs.Listing.{Listing, gather, gathered}
@@ -32,8 +33,14 @@ elements_stand whole offset octets (e ∷ es) fault at are =
     let ends : e.end ≡ offset + length (element e.typ e.value) = ap (λ (x : Item). x.end) are.2 in
     let here : drop e.start whole ≡ element e.typ e.value ++ are.0 = ap (λ (n : ℕ). drop n whole) starts ∙ at ∙ are.1 in
     let long = length (element e.typ e.value) in
-    let behind : drop e.end whole ≡ are.0 = ap (λ (n : ℕ). drop n whole) ends ∙ sym (drop-drop long offset whole) ∙ ap (drop long) (at ∙ are.1) ∙ drop_at (element e.typ e.value) are.0 long refl in
-    (record { behind = are.0; parts = here; ends = omega arith }, elements_stand whole e.end are.0 es fault behind are.5)
+    let behind : drop e.end whole ≡ are.0 =
+    ap (λ (n : ℕ). drop n whole) ends
+    ∙ sym (drop-drop long offset whole)
+    ∙ ap (drop long) (at ∙ are.1)
+    ∙ drop_at (element e.typ e.value) are.0 long refl in (
+      record { behind = are.0; parts = here; ends = omega arith },
+      elements_stand whole e.end are.0 es fault behind are.5,
+    )
 
 -- nothing has come that only comes at place `last`, where a field before that comes
 pub none_before : {A : Type 0} (o : Option A) (last : ℕ) (Q : A → Type 0) (from k : ℕ) → IfSome o (λ _. last ≤ from)
@@ -41,9 +48,12 @@ pub none_before : {A : Type 0} (o : Option A) (last : ℕ) (Q : A → Type 0) (f
 none_before None last Q from k h le lt = tt
 none_before (Some x) last Q from k h le lt = absurd (omega (arith, h))
 
-module _ {F S : Type 0} (table : List (Place F)) (take : S → F × Item → Result S PacketFault) (high : ℕ) (P : Item → Type 0) (J : ℕ → ℕ → S → Type 0)
-    (step : (from low k : ℕ) (place : Place F) (s t : S) (e : Item) → from ≤ k → slice_get table k ≡ Some place → place.typ ≡ e.typ → J from low s
-    → low ≤ e.start → e.start < e.value_start → e.value_start + length e.value ≡ e.end → P e → take s (place.field, e) ≡ Ok t → J (cond place.repeats k (suc k)) e.end t)
+module _ {F S : Type 0} (table : List (Place F)) (take : S → F × Item → Result S PacketFault) (high : ℕ)
+    (P : Item → Type 0) (J : ℕ → ℕ → S → Type 0)
+    (step : (from low k : ℕ) (place : Place F) (s t : S) (e : Item) → from ≤ k → slice_get table k ≡ Some place
+    → place.typ ≡ e.typ → J from low s
+    → low ≤ e.start → e.start < e.value_start → e.value_start + length e.value ≡ e.end → P e
+    → take s (place.field, e) ≡ Ok t → J (cond place.repeats k (suc k)) e.end t)
     (later : (from low more : ℕ) (s : S) → low ≤ more → J from low s → J from more s) where
   pub record Kept (t : S) : Type 0 where
     pub from : ℕ
@@ -51,14 +61,18 @@ module _ {F S : Type 0} (table : List (Place F)) (take : S → F × Item → Res
     pub within : low ≤ high
     pub holds : J from low t
 
-  pub keeps : (from : ℕ) (es : List Item) (fault : Option TlvFault) (read : Listing (F × Item) FieldFault) → AreFields table from es fault read
-      → (low : ℕ) (s t : S) → J from low s → AreWithin low high es → Each P es → gathered take packet_fault s read ≡ Ok t → Kept t
+  pub keeps : (from : ℕ) (es : List Item) (fault : Option TlvFault) (read : Listing (F × Item) FieldFault)
+      → AreFields table from es fault read
+      → (low : ℕ) (s t : S) → J from low s → AreWithin low high es → Each P es
+      → gathered take packet_fault s read ≡ Ok t → Kept t
   unfolding gather
-  keeps from es fault read ended low s t j w each e = record { from = from; low = low; within = w; holds = subst (J from low) (ok_is s t e) j }
+  keeps from es fault read ended low s t j w each e =
+      record { from = from; low = low; within = w; holds = subst (J from low) (ok_is s t e) j }
   keeps from es fault read broken low s t j w each e = absurd cc
   keeps from es fault read (field k place above get same free rest) low s t j w each e =
       let b = bind_ok (take s (place.field, _)) (λ u. gathered take packet_fault u _) t e in
-      keeps (cond place.repeats k (suc k)) _ fault _ rest _ b.0 t (step from low k place s b.0 _ above get same j w.0 w.1 w.2 each.0 b.1) w.3 each.1 b.2
+      keeps (cond place.repeats k (suc k)) _ fault _ rest _ b.0 t
+      (step from low k place s b.0 _ above get same j w.0 w.1 w.2 each.0 b.1) w.3 each.1 b.2
   keeps from es fault read (stranger none not_critical rest) low s t j w each e =
       keeps from _ fault read rest _ s t (later from low _ s (omega (arith, w.0, w.1, w.2)) j) w.3 each.1 e
   keeps from es fault read (critical none is_critical) low s t j w each e = absurd cc

@@ -1,5 +1,6 @@
 -- The element that comes first is all of the octets where nothing follows it.
-use Rattle.std.proofs.Common.{◌≡◌, ℕ, ◌+◌, ◌≤◌, cond, ltb, eqb, inl, inr, List, [], ◌∷◌, ◌++◌, length, length-append, Option, Some, None, Result, Ok, Err, ap, subst, ◌∙◌, arith}
+use Rattle.std.proofs.Common.{◌≡◌, ℕ, ◌+◌, ◌≤◌, cond, ltb, eqb, inl, inr, List, [], ◌∷◌, ◌++◌, length, length-append}
+use Rattle.std.proofs.Common.{Option, Some, None, Result, Ok, Err, ap, subst, ◌∙◌, arith}
 use Rattle.std.proofs.lemmas.List.{append-nil, nil_from_length}
 use Rattle.ndn_tlv.specs.declared.tlv_fault.TlvFault.{TlvFault}
 use Rattle.ndn_tlv.specs.Spelling.{head, element}
@@ -34,7 +35,8 @@ first_in absent offset octets (d ∷ ds) f e are h =
 pub first_stands : (absent : PacketFault) (offset : ℕ) (octets : List ℕ) (e : Item) → IsOctets octets
     → first_of absent offset octets ≡ Ok e → IsFirst offset octets e
 first_stands absent offset octets e fits h =
-    first_in absent offset octets (elements offset octets).items (elements offset octets).fault e (elements_are offset octets fits) h
+    first_in absent offset octets (elements offset octets).items (elements offset octets).fault e
+    (elements_are offset octets fits) h
 
 pub record IsAlone (typ : ℕ) (octets : List ℕ) (e : Item) : Type 0 where
   pub whole : octets ≡ element typ e.value
@@ -48,16 +50,21 @@ first_alone absent typ octets e fits h same long =
     let size = ap length first.parts ∙ length-append (element e.typ e.value) first.rest in
     let empty = nil_from_length first.rest (omega arith) in
     let P : ℕ → Type 0 = λ t. (octets ≡ element t e.value) × (e ≡ placed 0 t e.value) in
-    let whole : octets ≡ element e.typ e.value = first.parts ∙ ap (λ (r : List ℕ). element e.typ e.value ++ r) empty ∙ append-nil (element e.typ e.value) in
+    let whole : octets ≡ element e.typ e.value =
+    first.parts ∙ ap (λ (r : List ℕ). element e.typ e.value ++ r) empty ∙ append-nil (element e.typ e.value) in
     let all = subst P same (whole, first.is_placed) in
     record { whole = all.0; is_placed = all.1 }
 
 -- ---- the packet's element
 
-only_ok : (typ len : ℕ) (first e : Item) → only_of typ len first ≡ Ok e → (first ≡ e) × (first.typ ≡ typ) × (len ≤ first.end)
+only_ok : (typ len : ℕ) (first e : Item) → only_of typ len first ≡ Ok e
+    → (first ≡ e) × (first.typ ≡ typ) × (len ≤ first.end)
 only_ok typ len first e h =
-    elim (chosen (eqb first.typ typ) (cond (ltb first.end len) (Err (TrailingOctets first.end)) (done first)) (Err (WrongType first.typ)) (done e) h) [
-      | inl a ↦ let b = guard_ok (ltb first.end len) (TrailingOctets first.end) (done first) e a.1 in (ok_is first e b.1, eqb-true first.typ typ a.0, ltb-false first.end len b.0)
+    elim (chosen (eqb first.typ typ) (cond (ltb first.end len) (Err (TrailingOctets first.end)) (done first))
+    (Err (WrongType first.typ)) (done e) h) [
+      | inl a ↦
+          let b = guard_ok (ltb first.end len) (TrailingOctets first.end) (done first) e a.1 in
+          (ok_is first e b.1, eqb-true first.typ typ a.0, ltb-false first.end len b.0)
       | inr a ↦ absurd (different first.typ e a.1)
     ] where
       different : (typ : ℕ) (e : Item) → Err (WrongType typ) ≡ done e → ⊥
@@ -68,10 +75,12 @@ pub record IsPacket (typ : ℕ) (octets : List ℕ) (e : Item) : Type 0 where
   pub is_placed : e ≡ placed 0 typ e.value
   pub short : length octets ≤ 8800
 
-pub outer_ok : (typ : ℕ) (octets : List ℕ) (e : Item) → IsOctets octets → outer_of typ octets ≡ Ok e → IsPacket typ octets e
+pub outer_ok : (typ : ℕ) (octets : List ℕ) (e : Item) → IsOctets octets → outer_of typ octets ≡ Ok e
+    → IsPacket typ octets e
 outer_ok typ octets e fits h =
     let absent = Tlv (Truncated 0) in
-    let g = guard_ok (ltb 8800 (length octets)) PacketTooLong (first_of absent 0 octets >>= only_of typ (length octets)) e h in
+    let g =
+    guard_ok (ltb 8800 (length octets)) PacketTooLong (first_of absent 0 octets >>= only_of typ (length octets)) e h in
     let b = bind_ok (first_of absent 0 octets) (only_of typ (length octets)) e g.1 in
     let only = only_ok typ (length octets) b.0 e b.2 in
     let alone = first_alone absent typ octets b.0 fits b.1 only.1 only.2 in
@@ -83,4 +92,5 @@ outer_ok typ octets e fits h =
 pub value_ends : (typ : ℕ) (octets : List ℕ) (e : Item) → octets ≡ element typ e.value → e ≡ placed 0 typ e.value
     → e.value_start + length e.value ≡ length octets
 value_ends typ octets e whole at =
-    omega (arith, ap length whole, length-append (head typ (length e.value)) e.value, ap (λ (x : Item). x.value_start) at)
+    omega
+    (arith, ap length whole, length-append (head typ (length e.value)) e.value, ap (λ (x : Item). x.value_start) at)

@@ -1,6 +1,7 @@
 ghost use Rattle.std.specs.Prelude.{◌≡◌, ◌+◌, ◌^◌, ◌<◌, length, MatchResult, Ok, Err};
 ghost use Rattle.ndn_tlv.specs.Elements.{item};
-ghost use Rattle.ndn_packet.specs.SignatureInfo.{locator_in, with_info_field, info_fields, info_from, info_in, info, info_so_far};
+ghost use Rattle.ndn_packet.specs.SignatureInfo.{locator_in, with_info_field, info_fields, info_from, info_in, info};
+ghost use Rattle.ndn_packet.specs.SignatureInfo.{info_so_far};
 
 use crate::contents::{bad_field, first_element, name_in, number_in};
 use ndn_name::{Field, NameView, PacketFault};

@@ -1,5 +1,7 @@
 -- The pairs of a ring among the entries of a map.
-use Rattle.std.proofs.Common.{◌≡◌, ℕ, zero, suc, ◌+◌, ◌<◌, ◌≤◌, Bool, true, false, not, List, [], ◌∷◌, ◌++◌, map, length, length-append, position, Option, Some, None, Vec, refl, sym, ap, subst, ◌∙◌, arith, slice_get}
+use Rattle.std.proofs.Common.{◌≡◌, ℕ, zero, suc, ◌+◌, ◌<◌, ◌≤◌, Bool, true, false, not, List, [], ◌∷◌, ◌++◌, map}
+use Rattle.std.proofs.Common.{length, length-append, position, Option, Some, None, Vec, refl, sym, ap, subst, ◌∙◌}
+use Rattle.std.proofs.Common.{arith, slice_get}
 use Rattle.std.specs.List.{AllByRecursion, IsDistinct, prefix_len}
 use Rattle.std.specs.Str.{bytes_eq}
 use Rattle.std.specs.Cmp.Lexicographic.{bytes_decides}
@@ -90,12 +92,14 @@ differs_at first [] number p apart at = absurd (none-some p at)
 differs_at first (q ∷ ring) zero p apart at = ap (has_same_name first) (sym (same_Some q p at)) ∙ apart.0
 differs_at first (q ∷ ring) (suc number) p apart at = differs_at first ring number p apart.1 at
 
-place : (ring : List NamedKey) (number : ℕ) (p : NamedKey) → IsDistinct has_same_name ring → slice_get ring number ≡ Some p
+place : (ring : List NamedKey) (number : ℕ) (p : NamedKey) → IsDistinct has_same_name ring
+    → slice_get ring number ≡ Some p
     → prefix_len (λ q. not (bytes_eq p.name q.name)) ring ≡ number
 unfolding IsDistinct
 place [] number p apart at = absurd (none-some p at)
 place (q ∷ ring) zero p apart at =
-    let same : bytes_eq p.name q.name ≡ true = (bytes_decides p.name q.name).1 (ap (λ (r : NamedKey). r.name) (sym (same_Some q p at))) in
+    let same : bytes_eq p.name q.name ≡ true =
+    (bytes_decides p.name q.name).1 (ap (λ (r : NamedKey). r.name) (sym (same_Some q p at))) in
     rw same refl
 place (q ∷ ring) (suc number) p apart at =
     let other = other_way q.name p.name (differs_at q ring number p apart.0 at) in

@@ -1,5 +1,7 @@
 -- The fields that a table gives stand in its order.
-use Rattle.std.proofs.Common.{◌≡◌, ◌≢◌, ℕ, zero, suc, ◌≤◌, Bool, true, false, cond, eqb, List, [], ◌∷◌, length, length-drop, drop, Option, Some, None, slice_get, refl, sym, ap, subst, ◌⊎◌, inl, inr, ◌∙◌, arith}
+use Rattle.std.proofs.Common.{◌≡◌, ◌≢◌, ℕ, zero, suc, ◌≤◌, Bool, true, false, cond, eqb, List, [], ◌∷◌, length}
+use Rattle.std.proofs.Common.{length-drop, drop, Option, Some, None, slice_get, refl, sym, ap, subst, ◌⊎◌, inl, inr}
+use Rattle.std.proofs.Common.{◌∙◌, arith}
 use Rattle.std.proofs.lemmas.Bool.{cases_lt, eqb-true, eqb-false}
 use Rattle.std.proofs.lemmas.Option.{slice_get_within}
 use Rattle.ndn_tlv.specs.declared.order_table.Place.{Place}
@@ -8,7 +10,8 @@ use Rattle.ndn_tlv.specs.declared.order_table.FieldFault.TheVariants.{Critical}
 use Rattle.ndn_tlv.specs.declared.tlv_fault.TlvFault.{TlvFault}
 use Rattle.ndn_tlv.specs.Listing.{Listing, only_fault, ◌then◌}
 use Rattle.ndn_tlv.specs.Elements.{Item}
-use Rattle.ndn_tlv.specs.OrderTable.{is_critical_type, place_of, field_then, fields_among, IsFreeOf, HasNoPlace, AreFields}
+use Rattle.ndn_tlv.specs.OrderTable.{is_critical_type, place_of, field_then, fields_among, IsFreeOf, HasNoPlace}
+use Rattle.ndn_tlv.specs.OrderTable.{AreFields}
 use Rattle.ndn_tlv.specs.OrderTable.AreFields.{ended, broken, field, stranger, critical}
 use Rattle.ndn_tlv.proofs.Steps.{chosen}
 
@@ -38,7 +41,8 @@ at_or_behind from k h = elim (cases_lt from k) [ inl lt ↦ inr (omega arith) | 
 -- no place stands where the table has ended
 past_the_end : {F : Type 0} (table : List (Place F)) (from k : ℕ) (place : Place F)
     → drop from table ≡ [] → from ≤ k → slice_get table k ≡ Some place → ⊥
-past_the_end table from k place h above get = omega (arith, slice_get_within table k place get, ap length h, length-drop from table)
+past_the_end table from k place h above get =
+    omega (arith, slice_get_within table k place get, ap length h, length-drop from table)
 
 module _ {F : Type 0} (table : List (Place F)) (typ : ℕ) where
   -- a place of another type is no place of this one
@@ -82,7 +86,10 @@ module _ {F : Type 0} (table : List (Place F)) (typ : ℕ) where
               behind = omega (arith, f.behind);
               stands = f.stands;
               same = f.same;
-              free = λ k place above below get. elim (at_or_behind from k above) [ inl at ↦ other_here from k p place step.0 a.0 at get | inr behind ↦ f.free k place behind below get ];
+              free = λ k place above below get. elim (at_or_behind from k above) [
+                | inl at ↦ other_here from k p place step.0 a.0 at get
+                | inr behind ↦ f.free k place behind below get
+              ];
               field_is = f.field_is;
               rest = f.rest;
             }
@@ -97,31 +104,43 @@ module _ {F : Type 0} (table : List (Place F)) (typ : ℕ) where
       let here : F × List (Place F) = (p.field, cond p.repeats (p ∷ places) places) in
       elim (chosen (eqb p.typ typ) (Some here) (place_of typ places) None e) [
         | inl a ↦ let no = a.1 in absurd cc
-        | inr a ↦ elim (at_or_behind from k above) [ inl at ↦ other_here from k p place step.0 a.0 at get | inr behind ↦ place_missing places (suc from) step.1 a.1 k place behind get ]
+        | inr a ↦ elim (at_or_behind from k above) [
+          | inl at ↦ other_here from k p place step.0 a.0 at get
+          | inr behind ↦ place_missing places (suc from) step.1 a.1 k place behind get
+        ]
       ]
 
 module _ {F : Type 0} (table : List (Place F)) (fault : Option TlvFault) where
-  critical_or_not : (from : ℕ) (places : List (Place F)) (e : Item) (es : List Item) (behind : Listing (F × Item) FieldFault) (b : Bool)
+  critical_or_not : (from : ℕ) (places : List (Place F)) (e : Item) (es : List Item)
+      (behind : Listing (F × Item) FieldFault) (b : Bool)
       → HasNoPlace table e.typ from → is_critical_type e.typ ≡ b
       → AreFields table from es fault behind
       → AreFields table from (e ∷ es) fault (cond b (only_fault (Critical e.typ e.start)) behind)
   critical_or_not from places e es behind true none is go = critical none is
   critical_or_not from places e es behind false none is go = stranger none is go
 
-  stands_or_not : (from : ℕ) (places : List (Place F)) (e : Item) (es : List Item) (others : List (Place F) → Listing (F × Item) FieldFault) (r : Option (F × List (Place F)))
+  stands_or_not : (from : ℕ) (places : List (Place F)) (e : Item) (es : List Item)
+      (others : List (Place F) → Listing (F × Item) FieldFault) (r : Option (F × List (Place F)))
       → drop from table ≡ places → place_of e.typ places ≡ r
-      → ((next : ℕ) (behind : List (Place F)) → drop next table ≡ behind → AreFields table next es fault (others behind))
+      → ((next : ℕ) (behind : List (Place F)) → drop next table ≡ behind
+      → AreFields table next es fault (others behind))
       → AreFields table from (e ∷ es) fault (field_then others places e r)
-  stands_or_not from places e es others None h none go = critical_or_not from places e es (others places) (is_critical_type e.typ) (place_missing table e.typ places from h none) refl (go from places h)
+  stands_or_not from places e es others None h none go =
+      critical_or_not from places e es (others places) (is_critical_type e.typ)
+      (place_missing table e.typ places from h none) refl (go from places h)
   stands_or_not from places e es others (Some found) h some go =
       let f = place_found table e.typ places from found h some in
       let P : F → Type 0 = λ name. AreFields table from (e ∷ es) fault ((name, e) then others found.1) in
-      subst P f.field_is (field f.at f.place f.behind f.stands f.same f.free (go (cond f.place.repeats f.at (suc f.at)) found.1 f.rest))
+      subst P f.field_is
+      (field f.at f.place f.behind f.stands f.same f.free (go (cond f.place.repeats f.at (suc f.at)) found.1 f.rest))
 
 -- the fields that a table gives stand in its order
-pub fields_stand : {F : Type 0} (table : List (Place F)) (fault : Option TlvFault) (es : List Item) (from : ℕ) (places : List (Place F))
+pub fields_stand : {F : Type 0} (table : List (Place F)) (fault : Option TlvFault) (es : List Item) (from : ℕ)
+    (places : List (Place F))
     → drop from table ≡ places → AreFields table from es fault (fields_among places es fault)
 unfolding fields_among
 fields_stand table None [] from places h = ended
 fields_stand table (Some f) [] from places h = broken
-fields_stand table fault (e ∷ es) from places h = stands_or_not table fault from places e es (λ behind. fields_among behind es fault) (place_of e.typ places) h refl (λ next behind at. fields_stand table fault es next behind at)
+fields_stand table fault (e ∷ es) from places h =
+    stands_or_not table fault from places e es (λ behind. fields_among behind es fault) (place_of e.typ places) h refl
+    (λ next behind at. fields_stand table fault es next behind at)

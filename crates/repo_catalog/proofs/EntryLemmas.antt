@@ -1,5 +1,6 @@
 -- Where an entry stands in a catalogue, and what an edit at that place makes of it.
-use Rattle.std.proofs.Common.{◌≡◌, ℕ, zero, suc, ◌<◌, ◌≤◌, Bool, true, false, cond, not, List, [], ◌∷◌, map, length, get_or, Option, Some, None, Result, Ok, Err, refl, sym, ap, subst, ◌∙◌, arith}
+use Rattle.std.proofs.Common.{◌≡◌, ℕ, zero, suc, ◌<◌, ◌≤◌, Bool, true, false, cond, not, List, [], ◌∷◌, map, length}
+use Rattle.std.proofs.Common.{get_or, Option, Some, None, Result, Ok, Err, refl, sym, ap, subst, ◌∙◌, arith}
 use Rattle.std.specs.List.{insert, remove, filter, HoldsAt, AllWithin}
 use Rattle.std.specs.List.Sorted.{IsSearchInRange, IsBinarySearchResult}
 use Rattle.std.specs.Cmp.{IsTotalOrder}
@@ -22,7 +23,8 @@ order = exact_pairs.total
 abbrev pub IsPlace : Pair → List Entry → Result ℕ ℕ → Type 0
 IsPlace pair entries = Found pair_cmp publication_of entries pair
 
-entry_before : (k : Pair) (es : List Entry) (i : ℕ) (d : Entry) → IsBefore pair_cmp k (map publication_of es) → i < length es
+entry_before : (k : Pair) (es : List Entry) (i : ℕ) (d : Entry) → IsBefore pair_cmp k (map publication_of es)
+    → i < length es
     → pair_cmp k (publication_of (get_or es i d)) ≡ Less
 entry_before k [] i d b l = absurd (omega arith)
 entry_before k (e ∷ es) zero d b l = b.0
@@ -47,23 +49,29 @@ module _ (k : Pair) where
   abbrev looked : Entry → List Entry → Ordering → Option Entry
   looked e es c = cond (is_eq c) (Some e) (entry_of k es)
 
-  entry_found : (es : List Entry) (i : ℕ) (d : Entry) → IsCatalogue es → i < length es → HoldsAt IsAt es i → entry_of k es ≡ Some (get_or es i d)
+  entry_found : (es : List Entry) (i : ℕ) (d : Entry) → IsCatalogue es → i < length es → HoldsAt IsAt es i
+      → entry_of k es ≡ Some (get_or es i d)
   entry_found [] i d r l h = absurd (omega arith)
   entry_found (e ∷ es) zero d r l h = ap (looked e es) (equal_back order (publication_of e) k (h e))
   entry_found (e ∷ es) (suc i) d r l h =
-      ap (looked e es) (behind_front k (publication_of e) (publication_of (get_or es i e)) (entry_before (publication_of e) es i e r.0 (omega arith)) (h e))
+      ap (looked e es)
+      (behind_front k (publication_of e) (publication_of (get_or es i e))
+      (entry_before (publication_of e) es i e r.0 (omega arith)) (h e))
       ∙ entry_found es i d r.1 (omega arith) h
 
-  entry_gap : (es : List Entry) (i : ℕ) → AllWithin IsLess es 0 i → AllWithin IsGreater es i (length es) → entry_of k es ≡ None
+  entry_gap : (es : List Entry) (i : ℕ) → AllWithin IsLess es 0 i → AllWithin IsGreater es i (length es)
+      → entry_of k es ≡ None
   entry_gap [] i below above = refl
   entry_gap (e ∷ es) zero below above =
       ap (looked e es) (greater_back order (publication_of e) k (above 0 e (omega arith) (omega arith)))
       ∙ entry_gap es zero (λ j d a b. absurd (omega arith)) (λ j d a b. above (suc j) d (omega arith) (omega arith))
   entry_gap (e ∷ es) (suc i) below above =
       ap (looked e es) (less_back order (publication_of e) k (below 0 e (omega arith) (omega arith)))
-      ∙ entry_gap es i (λ j d a b. below (suc j) d (omega arith) (omega arith)) (λ j d a b. above (suc j) d (omega arith) (omega arith))
+      ∙ entry_gap es i (λ j d a b. below (suc j) d (omega arith) (omega arith))
+      (λ j d a b. above (suc j) d (omega arith) (omega arith))
 
-  pub entry_at : (es : List Entry) (i : ℕ) (d : Entry) → IsCatalogue es → IsPlace k es (Ok i) → entry_of k es ≡ Some (get_or es i d)
+  pub entry_at : (es : List Entry) (i : ℕ) (d : Entry) → IsCatalogue es → IsPlace k es (Ok i)
+      → entry_of k es ≡ Some (get_or es i d)
   entry_at es i d r (at_key j l h) = entry_found es j d r l h
 
   pub no_entry_between : (es : List Entry) (i : ℕ) → IsPlace k es (Err i) → entry_of k es ≡ None
@@ -74,27 +82,36 @@ module _ (k : Pair) where
   abbrev sifted : Entry → List Entry → Ordering → List Entry
   sifted e es c = cond (not (is_eq c)) (e ∷ without k es) (without k es)
 
-  without_behind : (x : Pair) (es : List Entry) → IsBefore pair_cmp x (map publication_of es) → pair_cmp x k ≡ Equal → without k es ≡ es
+  without_behind : (x : Pair) (es : List Entry) → IsBefore pair_cmp x (map publication_of es) → pair_cmp x k ≡ Equal
+      → without k es ≡ es
   without_behind x [] b equal = refl
   without_behind x (e ∷ es) b equal =
       ap (sifted e es) (sym (order.congr x k (publication_of e) equal) ∙ b.0)
       ∙ ap (λ (rest : List Entry). e ∷ rest) (without_behind x es b.1 equal)
 
-  without_found : (es : List Entry) (i : ℕ) → IsCatalogue es → i < length es → HoldsAt IsAt es i → without k es ≡ remove es i
+  without_found : (es : List Entry) (i : ℕ) → IsCatalogue es → i < length es → HoldsAt IsAt es i
+      → without k es ≡ remove es i
   without_found [] i r l h = absurd (omega arith)
-  without_found (e ∷ es) zero r l h = ap (sifted e es) (equal_back order (publication_of e) k (h e)) ∙ without_behind (publication_of e) es r.0 (h e)
+  without_found (e ∷ es) zero r l h =
+      ap (sifted e es) (equal_back order (publication_of e) k (h e)) ∙ without_behind (publication_of e) es r.0 (h e)
   without_found (e ∷ es) (suc i) r l h =
-      ap (sifted e es) (behind_front k (publication_of e) (publication_of (get_or es i e)) (entry_before (publication_of e) es i e r.0 (omega arith)) (h e))
+      ap (sifted e es)
+      (behind_front k (publication_of e) (publication_of (get_or es i e))
+      (entry_before (publication_of e) es i e r.0 (omega arith)) (h e))
       ∙ ap (λ (rest : List Entry). e ∷ rest) (without_found es i r.1 (omega arith) h)
 
-  without_gap : (es : List Entry) (i : ℕ) → AllWithin IsLess es 0 i → AllWithin IsGreater es i (length es) → without k es ≡ es
+  without_gap : (es : List Entry) (i : ℕ) → AllWithin IsLess es 0 i → AllWithin IsGreater es i (length es)
+      → without k es ≡ es
   without_gap [] i below above = refl
   without_gap (e ∷ es) zero below above =
       ap (sifted e es) (greater_back order (publication_of e) k (above 0 e (omega arith) (omega arith)))
-      ∙ ap (λ (rest : List Entry). e ∷ rest) (without_gap es zero (λ j d a b. absurd (omega arith)) (λ j d a b. above (suc j) d (omega arith) (omega arith)))
+      ∙ ap (λ (rest : List Entry). e ∷ rest)
+      (without_gap es zero (λ j d a b. absurd (omega arith)) (λ j d a b. above (suc j) d (omega arith) (omega arith)))
   without_gap (e ∷ es) (suc i) below above =
       ap (sifted e es) (less_back order (publication_of e) k (below 0 e (omega arith) (omega arith)))
-      ∙ ap (λ (rest : List Entry). e ∷ rest) (without_gap es i (λ j d a b. below (suc j) d (omega arith) (omega arith)) (λ j d a b. above (suc j) d (omega arith) (omega arith)))
+      ∙ ap (λ (rest : List Entry). e ∷ rest)
+      (without_gap es i (λ j d a b. below (suc j) d (omega arith) (omega arith))
+      (λ j d a b. above (suc j) d (omega arith) (omega arith)))
 
   pub without_at : (es : List Entry) (i : ℕ) → IsCatalogue es → IsPlace k es (Ok i) → without k es ≡ remove es i
   without_at es i r (at_key j l h) = without_found es j r l h
@@ -108,12 +125,16 @@ module _ (k : Pair) where
   keys-without : (es : List Entry) → map publication_of (without k es) ≡ filter is_other (map publication_of es)
   keys-without [] = refl
   keys-without (e ∷ es) = go (keys-without es) (is_of k e) where
-    go : map publication_of (without k es) ≡ filter is_other (map publication_of es) → (b : Bool) → map publication_of (cond (not b) (e ∷ without k es) (without k es)) ≡ cond (not b) (publication_of e ∷ filter is_other (map publication_of es)) (filter is_other (map publication_of es))
+    go : map publication_of (without k es) ≡ filter is_other (map publication_of es) → (b : Bool)
+        → map publication_of (cond (not b) (e ∷ without k es) (without k es))
+        ≡ cond (not b) (publication_of e ∷ filter is_other (map publication_of es))
+        (filter is_other (map publication_of es))
     go h true = h
     go h false = ap (λ (rest : List Pair). publication_of e ∷ rest) h
 
   pub without_rises : (es : List Entry) → IsCatalogue es → IsCatalogue (without k es)
-  without_rises es r = subst (Rises pair_cmp) (sym (keys-without es)) (rises_filter order is_other (map publication_of es) r)
+  without_rises es r =
+      subst (Rises pair_cmp) (sym (keys-without es)) (rises_filter order is_other (map publication_of es) r)
 
 -- ---- one more entry
 
@@ -121,39 +142,58 @@ module _ (new : Entry) where
   abbrev placed : Entry → List Entry → Ordering → List Entry
   placed e es c = by_order c (new ∷ e ∷ es) (e ∷ es) (e ∷ with_entry new es)
 
-  with_found : (es : List Entry) (i : ℕ) → IsCatalogue es → i < length es → HoldsAt (IsAt (publication_of new)) es i → with_entry new es ≡ es
+  with_found : (es : List Entry) (i : ℕ) → IsCatalogue es → i < length es → HoldsAt (IsAt (publication_of new)) es i
+      → with_entry new es ≡ es
   with_found [] i r l h = absurd (omega arith)
   with_found (e ∷ es) zero r l h = ap (placed e es) (equal_back order (publication_of e) (publication_of new) (h e))
   with_found (e ∷ es) (suc i) r l h =
-      ap (placed e es) (behind_front (publication_of new) (publication_of e) (publication_of (get_or es i e)) (entry_before (publication_of e) es i e r.0 (omega arith)) (h e))
+      ap (placed e es)
+      (behind_front (publication_of new) (publication_of e) (publication_of (get_or es i e))
+      (entry_before (publication_of e) es i e r.0 (omega arith)) (h e))
       ∙ ap (λ (rest : List Entry). e ∷ rest) (with_found es i r.1 (omega arith) h)
 
-  with_gap : (es : List Entry) (i : ℕ) → i ≤ length es → AllWithin (IsLess (publication_of new)) es 0 i → AllWithin (IsGreater (publication_of new)) es i (length es) → with_entry new es ≡ insert es i new
+  with_gap : (es : List Entry) (i : ℕ) → i ≤ length es → AllWithin (IsLess (publication_of new)) es 0 i
+      → AllWithin (IsGreater (publication_of new)) es i (length es) → with_entry new es ≡ insert es i new
   with_gap [] zero l below above = refl
   with_gap [] (suc i) l below above = absurd (omega arith)
-  with_gap (e ∷ es) zero l below above = ap (placed e es) (greater_back order (publication_of e) (publication_of new) (above 0 e (omega arith) (omega arith)))
+  with_gap (e ∷ es) zero l below above =
+      ap (placed e es)
+      (greater_back order (publication_of e) (publication_of new) (above 0 e (omega arith) (omega arith)))
   with_gap (e ∷ es) (suc i) l below above =
       ap (placed e es) (less_back order (publication_of e) (publication_of new) (below 0 e (omega arith) (omega arith)))
-      ∙ ap (λ (rest : List Entry). e ∷ rest) (with_gap es i (omega arith) (λ j d a b. below (suc j) d (omega arith) (omega arith)) (λ j d a b. above (suc j) d (omega arith) (omega arith)))
+      ∙ ap (λ (rest : List Entry). e ∷ rest)
+      (with_gap es i (omega arith) (λ j d a b. below (suc j) d (omega arith) (omega arith))
+      (λ j d a b. above (suc j) d (omega arith) (omega arith)))
 
-  pub with_entry_at : (es : List Entry) (i : ℕ) → IsCatalogue es → IsPlace (publication_of new) es (Ok i) → with_entry new es ≡ es
+  pub with_entry_at : (es : List Entry) (i : ℕ) → IsCatalogue es → IsPlace (publication_of new) es (Ok i)
+      → with_entry new es ≡ es
   with_entry_at es i r (at_key j l h) = with_found es j r l h
 
-  pub with_entry_between : (es : List Entry) (i : ℕ) → IsPlace (publication_of new) es (Err i) → with_entry new es ≡ insert es i new
+  pub with_entry_between : (es : List Entry) (i : ℕ) → IsPlace (publication_of new) es (Err i)
+      → with_entry new es ≡ insert es i new
   with_entry_between es i (at_gap j l below above) = with_gap es j l below above
 
-  keys-with_entry : (es : List Entry) → map publication_of (with_entry new es) ≡ insert_key pair_cmp (publication_of new) (map publication_of es)
+  keys-with_entry : (es : List Entry)
+      → map publication_of (with_entry new es) ≡ insert_key pair_cmp (publication_of new) (map publication_of es)
   keys-with_entry [] = refl
   keys-with_entry (e ∷ es) = go (keys-with_entry es) (pair_cmp (publication_of new) (publication_of e)) where
-    go : map publication_of (with_entry new es) ≡ insert_key pair_cmp (publication_of new) (map publication_of es) → (c : Ordering) → map publication_of (placed e es c) ≡ by_order c (publication_of new ∷ publication_of e ∷ map publication_of es) (publication_of e ∷ map publication_of es) (publication_of e ∷ insert_key pair_cmp (publication_of new) (map publication_of es))
+    go : map publication_of (with_entry new es) ≡ insert_key pair_cmp (publication_of new) (map publication_of es)
+        → (c : Ordering)
+        → map publication_of (placed e es c)
+        ≡ by_order c (publication_of new ∷ publication_of e ∷ map publication_of es)
+        (publication_of e ∷ map publication_of es)
+        (publication_of e ∷ insert_key pair_cmp (publication_of new) (map publication_of es))
     go h Less = refl
     go h Equal = refl
     go h Greater = ap (λ (rest : List Pair). publication_of e ∷ rest) h
 
   pub with_entry_rises : (es : List Entry) → IsCatalogue es → IsCatalogue (with_entry new es)
-  with_entry_rises es r = subst (Rises pair_cmp) (sym (keys-with_entry es)) (rises_insert order (publication_of new) (map publication_of es) r)
+  with_entry_rises es r =
+      subst (Rises pair_cmp) (sym (keys-with_entry es))
+      (rises_insert order (publication_of new) (map publication_of es) r)
 
 -- ---- where a search ends
 
-pub found_place : (es : List Entry) (k : Pair) (r : Result ℕ ℕ) → IsCatalogue es → IsSearchInRange r (length es) → IsBinarySearchResult (λ e. pair_cmp (publication_of e) k) es r → IsPlace k es r
+pub found_place : (es : List Entry) (k : Pair) (r : Result ℕ ℕ) → IsCatalogue es → IsSearchInRange r (length es)
+    → IsBinarySearchResult (λ e. pair_cmp (publication_of e) k) es r → IsPlace k es r
 found_place es k r = found order publication_of es k r

@@ -1,5 +1,6 @@
 -- The laws of a catalogue's changes and look-ups.
-use Rattle.std.proofs.Common.{◌≡◌, ◌≢◌, Bool, true, false, cond, not, ◌&&◌, List, [], ◌∷◌, map, Option, Some, None, refl, sym, ap, subst, ◌∙◌}
+use Rattle.std.proofs.Common.{◌≡◌, ◌≢◌, Bool, true, false, cond, not, ◌&&◌, List, [], ◌∷◌, map, Option, Some, None}
+use Rattle.std.proofs.Common.{refl, sym, ap, subst, ◌∙◌}
 use Rattle.std.specs.Prelude.{MatchOption, is_some}
 use Rattle.std.specs.Ordering.{eq_by_cmp, is_eq}
 use Rattle.std.specs.declared.cmp.Ordering.{Ordering}
@@ -14,8 +15,10 @@ use Rattle.repo_plan.specs.SortedList.{by_order, IsBefore}
 use Rattle.repo_plan.proofs.Orders.{less_back, greater_back, equal_from_is_eq, exact_pairs}
 use Rattle.repo_plan.proofs.Sets.{before_more, eq_same, eq_itself}
 use Rattle.repo_catalog.specs.declared.entry.Entry.{Entry}
-use Rattle.repo_catalog.specs.Entries.{publication_of, is_of, entry_has_name, entry_of, lists, first_named, with_entry, without, IsCatalogue}
-use Rattle.repo_catalog.specs.Laws.{AddsOne, RemovesOne, EntriesTellAll, IsListed, IsLeastNamed, NoEntryHasName, FirstIsLeast}
+use Rattle.repo_catalog.specs.Entries.{publication_of, is_of, entry_has_name, entry_of, lists, first_named, with_entry}
+use Rattle.repo_catalog.specs.Entries.{without, IsCatalogue}
+use Rattle.repo_catalog.specs.Laws.{AddsOne, RemovesOne, EntriesTellAll, IsListed, IsLeastNamed, NoEntryHasName}
+use Rattle.repo_catalog.specs.Laws.{FirstIsLeast}
 
 -- ---- keys
 
@@ -47,14 +50,16 @@ module _ (e : Entry) (k : Pair) where
   and_true false rest = refl
 
   -- the entry stands before all others
-  in_front : (es : List Entry) → IsBefore pair_cmp p (map publication_of es) → (b : Bool) → is_of k e ≡ b → cond b (Some e) (entry_of k es) ≡ cond (b && not (lists k es)) (Some e) (entry_of k es)
+  in_front : (es : List Entry) → IsBefore pair_cmp p (map publication_of es) → (b : Bool) → is_of k e ≡ b
+      → cond b (Some e) (entry_of k es) ≡ cond (b && not (lists k es)) (Some e) (entry_of k es)
   in_front es before true h =
       let none : entry_of k es ≡ None = ap (λ (q : Pair). entry_of q es) (of_same k e h) ∙ none_before p es before in
       sym (ap (λ (o : Option Entry). cond (not (is_some o)) (Some e) (entry_of k es)) none)
   in_front es before false h = refl
 
   -- there is one of its publication
-  in_place : (x : Entry) (es : List Entry) → p ≡ publication_of x → (b : Bool) → is_of k e ≡ b → entry_of k (x ∷ es) ≡ cond (b && not (lists k (x ∷ es))) (Some e) (entry_of k (x ∷ es))
+  in_place : (x : Entry) (es : List Entry) → p ≡ publication_of x → (b : Bool) → is_of k e ≡ b
+      → entry_of k (x ∷ es) ≡ cond (b && not (lists k (x ∷ es))) (Some e) (entry_of k (x ∷ es))
   in_place x es same true h =
       let here : is_of k x ≡ true = ap (λ (q : Pair). eq_by_cmp pair_cmp k q) (sym same) ∙ h in
       let there : lists k (x ∷ es) ≡ true = ap (λ (c : Bool). is_some (cond c (Some x) (entry_of k es))) here in
@@ -62,19 +67,28 @@ module _ (e : Entry) (k : Pair) where
   in_place x es same false h = refl
 
   -- it stands behind another
-  behind : (x : Entry) (es : List Entry) (b c : Bool) → cond c (Some x) (cond (b && not (lists k es)) (Some e) (entry_of k es)) ≡ cond (b && not (is_some (cond c (Some x) (entry_of k es)))) (Some e) (cond c (Some x) (entry_of k es))
+  behind : (x : Entry) (es : List Entry) (b c : Bool)
+      → cond c (Some x) (cond (b && not (lists k es)) (Some e) (entry_of k es))
+      ≡ cond (b && not (is_some (cond c (Some x) (entry_of k es)))) (Some e) (cond c (Some x) (entry_of k es))
   behind x es true true = refl
   behind x es true false = refl
   behind x es false true = refl
   behind x es false false = refl
 
-  adds : (es : List Entry) → IsCatalogue es → entry_of k (with_entry e es) ≡ cond (is_of k e && not (lists k es)) (Some e) (entry_of k es)
+  adds : (es : List Entry) → IsCatalogue es
+      → entry_of k (with_entry e es) ≡ cond (is_of k e && not (lists k es)) (Some e) (entry_of k es)
   adds [] r = and_true (is_of k e) None
   adds (x ∷ xs) r = go (adds xs r.1) (pair_cmp p (publication_of x)) refl where
-    go : entry_of k (with_entry e xs) ≡ cond (is_of k e && not (lists k xs)) (Some e) (entry_of k xs) → (o : Ordering) → pair_cmp p (publication_of x) ≡ o → entry_of k (by_order o (e ∷ x ∷ xs) (x ∷ xs) (x ∷ with_entry e xs)) ≡ cond (is_of k e && not (lists k (x ∷ xs))) (Some e) (entry_of k (x ∷ xs))
-    go h Less o = in_front (x ∷ xs) (o, before_more exact_pairs.total p (publication_of x) (map publication_of xs) o r.0) (is_of k e) refl
+    go : entry_of k (with_entry e xs) ≡ cond (is_of k e && not (lists k xs)) (Some e) (entry_of k xs) → (o : Ordering)
+        → pair_cmp p (publication_of x) ≡ o
+        → entry_of k (by_order o (e ∷ x ∷ xs) (x ∷ xs) (x ∷ with_entry e xs))
+        ≡ cond (is_of k e && not (lists k (x ∷ xs))) (Some e) (entry_of k (x ∷ xs))
+    go h Less o =
+        in_front (x ∷ xs) (o, before_more exact_pairs.total p (publication_of x) (map publication_of xs) o r.0)
+        (is_of k e) refl
     go h Equal o = in_place x xs (exact_pairs.same p (publication_of x) o) (is_of k e) refl
-    go h Greater o = ap (λ (rest : Option Entry). cond (is_of k x) (Some x) rest) h ∙ behind x xs (is_of k e) (is_of k x)
+    go h Greater o =
+        ap (λ (rest : Option Entry). cond (is_of k x) (Some x) rest) h ∙ behind x xs (is_of k e) (is_of k x)
 
 pub adds_one : AddsOne
 adds_one e es k = adds e k es
@@ -83,14 +97,16 @@ adds_one e es k = adds e k es
 
 module _ (gone k : Pair) where
   -- the entry that goes
-  went : (x : Entry) (es : List Entry) → is_of gone x ≡ true → (b : Bool) → eq_by_cmp pair_cmp k gone ≡ b → cond b None (entry_of k es) ≡ cond b None (entry_of k (x ∷ es))
+  went : (x : Entry) (es : List Entry) → is_of gone x ≡ true → (b : Bool) → eq_by_cmp pair_cmp k gone ≡ b
+      → cond b None (entry_of k es) ≡ cond b None (entry_of k (x ∷ es))
   went x es h true e = refl
   went x es h false e =
       let other : is_of k x ≡ false = ap (eq_by_cmp pair_cmp k) (sym (of_same gone x h)) ∙ e in
       sym (ap (λ (c : Bool). cond c (Some x) (entry_of k es)) other)
 
   -- an entry that stays
-  stays : (x : Entry) (es : List Entry) → is_of gone x ≡ false → (b : Bool) → eq_by_cmp pair_cmp k gone ≡ b → cond (is_of k x) (Some x) (cond b None (entry_of k es)) ≡ cond b None (entry_of k (x ∷ es))
+  stays : (x : Entry) (es : List Entry) → is_of gone x ≡ false → (b : Bool) → eq_by_cmp pair_cmp k gone ≡ b
+      → cond (is_of k x) (Some x) (cond b None (entry_of k es)) ≡ cond b None (entry_of k (x ∷ es))
   stays x es h true e =
       let other : is_of k x ≡ false = ap (λ (q : Pair). is_of q x) (eq_same exact_pairs k gone e) ∙ h in
       ap (λ (c : Bool). cond c (Some x) None) other
@@ -102,9 +118,13 @@ module _ (gone k : Pair) where
     none true = refl
     none false = refl
   removes (x ∷ xs) = go (removes xs) (is_of gone x) refl where
-    go : entry_of k (without gone xs) ≡ cond (eq_by_cmp pair_cmp k gone) None (entry_of k xs) → (b : Bool) → is_of gone x ≡ b → entry_of k (cond (not b) (x ∷ without gone xs) (without gone xs)) ≡ cond (eq_by_cmp pair_cmp k gone) None (entry_of k (x ∷ xs))
+    go : entry_of k (without gone xs) ≡ cond (eq_by_cmp pair_cmp k gone) None (entry_of k xs) → (b : Bool)
+        → is_of gone x ≡ b
+        → entry_of k (cond (not b) (x ∷ without gone xs) (without gone xs))
+        ≡ cond (eq_by_cmp pair_cmp k gone) None (entry_of k (x ∷ xs))
     go h true e = h ∙ went x xs e (eq_by_cmp pair_cmp k gone) refl
-    go h false e = ap (λ (rest : Option Entry). cond (is_of k x) (Some x) rest) h ∙ stays x xs e (eq_by_cmp pair_cmp k gone) refl
+    go h false e =
+        ap (λ (rest : Option Entry). cond (is_of k x) (Some x) rest) h ∙ stays x xs e (eq_by_cmp pair_cmp k gone) refl
 
 pub removes_one : RemovesOne
 removes_one gone es k = removes gone k es
@@ -112,14 +132,17 @@ removes_one gone es k = removes gone k es
 -- ---- all entries
 
 -- a publication that one list has and the other doesn't
-apart : (k : Pair) (e : Entry) (a b : List Entry) → entry_of k a ≡ Some e → entry_of k b ≡ None → entry_of k a ≡ entry_of k b → ⊥
+apart : (k : Pair) (e : Entry) (a b : List Entry) → entry_of k a ≡ Some e → entry_of k b ≡ None
+    → entry_of k a ≡ entry_of k b → ⊥
 apart k e a b some none same = absurd cc
 
 first_entry : (x : Entry) (xs : List Entry) → entry_of (publication_of x) (x ∷ xs) ≡ Some x
 first_entry x xs = ap (λ (c : Bool). cond c (Some x) (entry_of (publication_of x) xs)) (of_itself x)
 
 -- the tails have the same entries, where both heads are of one publication
-tails_tell : (x y : Entry) (xs ys : List Entry) → publication_of x ≡ publication_of y → IsCatalogue (x ∷ xs) → IsCatalogue (y ∷ ys) → ((k : Pair) → entry_of k (x ∷ xs) ≡ entry_of k (y ∷ ys)) → (k : Pair) → entry_of k xs ≡ entry_of k ys
+tails_tell : (x y : Entry) (xs ys : List Entry) → publication_of x ≡ publication_of y → IsCatalogue (x ∷ xs)
+    → IsCatalogue (y ∷ ys) → ((k : Pair) → entry_of k (x ∷ xs) ≡ entry_of k (y ∷ ys)) → (k : Pair)
+    → entry_of k xs ≡ entry_of k ys
 tails_tell x y xs ys same r s h k = go (is_of k x) refl where
   head : is_of k y ≡ is_of k x
   head = ap (λ (q : Pair). eq_by_cmp pair_cmp k q) (sym same)
@@ -128,29 +151,44 @@ tails_tell x y xs ys same r s h k = go (is_of k x) refl where
   go true e =
       let at_x : k ≡ publication_of x = of_same k x e in
       let left : entry_of k xs ≡ None = ap (λ (q : Pair). entry_of q xs) at_x ∙ none_before (publication_of x) xs r.0 in
-      let right : entry_of k ys ≡ None = ap (λ (q : Pair). entry_of q ys) (at_x ∙ same) ∙ none_before (publication_of y) ys s.0 in
+      let right : entry_of k ys ≡ None =
+      ap (λ (q : Pair). entry_of q ys) (at_x ∙ same) ∙ none_before (publication_of y) ys s.0 in
       left ∙ sym right
   go false e =
-      sym (ap (λ (c : Bool). cond c (Some x) (entry_of k xs)) e) ∙ h k ∙ ap (λ (c : Bool). cond c (Some y) (entry_of k ys)) (head ∙ e)
+      sym (ap (λ (c : Bool). cond c (Some x) (entry_of k xs)) e)
+      ∙ h k
+      ∙ ap (λ (c : Bool). cond c (Some y) (entry_of k ys)) (head ∙ e)
 
 pub entries_tell_all : EntriesTellAll
 entries_tell_all [] [] r s h = refl
-entries_tell_all [] (y ∷ ys) r s h = absurd (apart (publication_of y) y (y ∷ ys) [] (first_entry y ys) refl (sym (h (publication_of y))))
-entries_tell_all (x ∷ xs) [] r s h = absurd (apart (publication_of x) x (x ∷ xs) [] (first_entry x xs) refl (h (publication_of x)))
-entries_tell_all (x ∷ xs) (y ∷ ys) r s h = go (λ t. entries_tell_all xs ys r.1 s.1 t) (pair_cmp (publication_of x) (publication_of y)) refl where
-  go : (((k : Pair) → entry_of k xs ≡ entry_of k ys) → xs ≡ ys) → (o : Ordering) → pair_cmp (publication_of x) (publication_of y) ≡ o → x ∷ xs ≡ y ∷ ys
-  go t Less o =
-      absurd (apart (publication_of x) x (x ∷ xs) (y ∷ ys) (first_entry x xs) (none_before (publication_of x) (y ∷ ys) (o, before_more exact_pairs.total (publication_of x) (publication_of y) (map publication_of ys) o s.0)) (h (publication_of x)))
-  go t Equal o =
-      let same : publication_of x ≡ publication_of y = exact_pairs.same (publication_of x) (publication_of y) o in
-      let there : entry_of (publication_of x) (y ∷ ys) ≡ Some y = ap (λ (q : Pair). entry_of q (y ∷ ys)) same ∙ first_entry y ys in
-      let both : Some x ≡ Some y = sym (first_entry x xs) ∙ h (publication_of x) ∙ there in
-      let heads : x ≡ y = cc in
-      let rest : xs ≡ ys = t (tails_tell x y xs ys same r s h) in
-      λ i. heads i ∷ rest i
-  go t Greater o =
-      let back : pair_cmp (publication_of y) (publication_of x) ≡ Less = greater_back exact_pairs.total (publication_of x) (publication_of y) o in
-      absurd (apart (publication_of y) y (y ∷ ys) (x ∷ xs) (first_entry y ys) (none_before (publication_of y) (x ∷ xs) (back, before_more exact_pairs.total (publication_of y) (publication_of x) (map publication_of xs) back r.0)) (sym (h (publication_of y))))
+entries_tell_all [] (y ∷ ys) r s h =
+    absurd (apart (publication_of y) y (y ∷ ys) [] (first_entry y ys) refl (sym (h (publication_of y))))
+entries_tell_all (x ∷ xs) [] r s h =
+    absurd (apart (publication_of x) x (x ∷ xs) [] (first_entry x xs) refl (h (publication_of x)))
+entries_tell_all (x ∷ xs) (y ∷ ys) r s h =
+    go (λ t. entries_tell_all xs ys r.1 s.1 t) (pair_cmp (publication_of x) (publication_of y)) refl where
+      go : (((k : Pair) → entry_of k xs ≡ entry_of k ys) → xs ≡ ys) → (o : Ordering)
+          → pair_cmp (publication_of x) (publication_of y) ≡ o → x ∷ xs ≡ y ∷ ys
+      go t Less o =
+          absurd (apart (publication_of x) x (x ∷ xs) (y ∷ ys) (first_entry x xs)
+          (none_before (publication_of x) (y ∷ ys)
+          (o, before_more exact_pairs.total (publication_of x) (publication_of y) (map publication_of ys) o s.0))
+          (h (publication_of x)))
+      go t Equal o =
+          let same : publication_of x ≡ publication_of y = exact_pairs.same (publication_of x) (publication_of y) o in
+          let there : entry_of (publication_of x) (y ∷ ys) ≡ Some y =
+          ap (λ (q : Pair). entry_of q (y ∷ ys)) same ∙ first_entry y ys in
+          let both : Some x ≡ Some y = sym (first_entry x xs) ∙ h (publication_of x) ∙ there in
+          let heads : x ≡ y = cc in
+          let rest : xs ≡ ys = t (tails_tell x y xs ys same r s h) in
+          λ i. heads i ∷ rest i
+      go t Greater o =
+          let back : pair_cmp (publication_of y) (publication_of x) ≡ Less =
+          greater_back exact_pairs.total (publication_of x) (publication_of y) o in
+          absurd (apart (publication_of y) y (y ∷ ys) (x ∷ xs) (first_entry y ys)
+          (none_before (publication_of y) (x ∷ xs)
+          (back, before_more exact_pairs.total (publication_of y) (publication_of x) (map publication_of xs) back r.0))
+          (sym (h (publication_of y))))
 
 -- ---- the first of a name
 
@@ -158,13 +196,17 @@ named : (name : List Component) (e : Entry) → entry_has_name name e ≡ true �
 named name e h = canonical_cmp-equal e.name name (equal_from_is_eq (canonical_cmp e.name name) h)
 
 has_named : (name : List Component) (e : Entry) → e.name ≡ name → entry_has_name name e ≡ true
-has_named name e same = ap (λ (n : List Component). eq_by_cmp canonical_cmp e.name n) (sym same) ∙ ap is_eq (tied_itself canonical_cmp_total e.name)
+has_named name e same =
+    ap (λ (n : List Component). eq_by_cmp canonical_cmp e.name n) (sym same)
+    ∙ ap is_eq (tied_itself canonical_cmp_total e.name)
 
 -- what is listed behind an entry is of a later publication
-listed_behind : (k q : Pair) (es : List Entry) (f : Entry) → IsBefore pair_cmp k (map publication_of es) → entry_of q es ≡ Some f → pair_cmp k (publication_of f) ≡ Less
+listed_behind : (k q : Pair) (es : List Entry) (f : Entry) → IsBefore pair_cmp k (map publication_of es)
+    → entry_of q es ≡ Some f → pair_cmp k (publication_of f) ≡ Less
 listed_behind k q [] f b h = absurd cc
 listed_behind k q (x ∷ xs) f b h = go (listed_behind k q xs f b.1) (is_of q x) h where
-  go : (entry_of q xs ≡ Some f → pair_cmp k (publication_of f) ≡ Less) → (c : Bool) → cond c (Some x) (entry_of q xs) ≡ Some f → pair_cmp k (publication_of f) ≡ Less
+  go : (entry_of q xs ≡ Some f → pair_cmp k (publication_of f) ≡ Less) → (c : Bool)
+      → cond c (Some x) (entry_of q xs) ≡ Some f → pair_cmp k (publication_of f) ≡ Less
   go r true e = let same : x ≡ f = cc in subst (λ (g : Entry). pair_cmp k (publication_of g) ≡ Less) same b.0
   go r false e = r e
 
@@ -179,24 +221,32 @@ is_in x xs f h = go (is_of (publication_of f) x) h where
   go true e = first cc
   go false e = later e
 
-listed_later : (x e : Entry) (xs : List Entry) → IsBefore pair_cmp (publication_of x) (map publication_of xs) → IsListed xs e → IsListed (x ∷ xs) e
+listed_later : (x e : Entry) (xs : List Entry) → IsBefore pair_cmp (publication_of x) (map publication_of xs)
+    → IsListed xs e → IsListed (x ∷ xs) e
 listed_later x e xs b h =
-    let other : is_of (publication_of e) x ≡ false = not_of_back (publication_of e) x (listed_behind (publication_of x) (publication_of e) xs e b h) in
+    let other : is_of (publication_of e) x ≡ false =
+    not_of_back (publication_of e) x (listed_behind (publication_of x) (publication_of e) xs e b h) in
     ap (λ (c : Bool). cond c (Some x) (entry_of (publication_of e) xs)) other ∙ h
 
-not_less : (x f : Entry) → pair_cmp (publication_of x) (publication_of f) ≡ Less → pair_cmp (publication_of f) (publication_of x) ≢ Less
+not_less : (x f : Entry) → pair_cmp (publication_of x) (publication_of f) ≡ Less
+    → pair_cmp (publication_of f) (publication_of x) ≢ Less
 not_less x f h e = let back = less_back exact_pairs.total (publication_of x) (publication_of f) h in absurd cc
 
 module _ (name : List Component) where
   abbrev IsAnswer : List Entry → Option Entry → Type 0
   IsAnswer es o = MatchOption o (NoEntryHasName name es) (IsLeastNamed name es)
 
-  here : (x : Entry) (xs : List Entry) → IsCatalogue (x ∷ xs) → entry_has_name name x ≡ true → IsLeastNamed name (x ∷ xs) x
+  here : (x : Entry) (xs : List Entry) → IsCatalogue (x ∷ xs) → entry_has_name name x ≡ true
+      → IsLeastNamed name (x ∷ xs) x
   here x xs r h = record {
     listed = first_entry x xs;
     named = named name x h;
     least = λ f l n. elim (is_in x xs f l) [
-      | first same ↦ λ e. let tied : pair_cmp (publication_of f) (publication_of x) ≡ Equal = ap (λ (g : Entry). pair_cmp (publication_of f) (publication_of g)) same ∙ exact_pairs.itself (publication_of f) in absurd cc
+      | first same ↦ λ e.
+          let tied : pair_cmp (publication_of f) (publication_of x) ≡ Equal =
+          ap (λ (g : Entry). pair_cmp (publication_of f) (publication_of g)) same
+          ∙ exact_pairs.itself (publication_of f) in
+          absurd cc
       | later behind ↦ not_less x f (listed_behind (publication_of x) (publication_of f) xs f r.0 behind)
     ];
   }
@@ -204,8 +254,10 @@ module _ (name : List Component) where
   differs : (x f : Entry) → entry_has_name name x ≡ false → x ≡ f → f.name ≢ name
   differs x f h same n = true≢false (sym (has_named name x (ap (λ (g : Entry). g.name) same ∙ n)) ∙ h)
 
-  later_on : (x : Entry) (xs : List Entry) → IsCatalogue (x ∷ xs) → entry_has_name name x ≡ false → (o : Option Entry) → IsAnswer xs o → IsAnswer (x ∷ xs) o
-  later_on x xs r h None none = λ f l. elim (is_in x xs f l) [ first same ↦ differs x f h same | later behind ↦ none f behind ]
+  later_on : (x : Entry) (xs : List Entry) → IsCatalogue (x ∷ xs) → entry_has_name name x ≡ false → (o : Option Entry)
+      → IsAnswer xs o → IsAnswer (x ∷ xs) o
+  later_on x xs r h None none =
+      λ f l. elim (is_in x xs f l) [ first same ↦ differs x f h same | later behind ↦ none f behind ]
   later_on x xs r h (Some e) least = record {
     listed = listed_later x e xs r.0 least.listed;
     named = least.named;
@@ -218,7 +270,8 @@ module _ (name : List Component) where
   least_first : (es : List Entry) → IsCatalogue es → IsAnswer es (first_named name es)
   least_first [] r = λ f l. absurd cc
   least_first (x ∷ xs) r = go (least_first xs r.1) (entry_has_name name x) refl where
-    go : IsAnswer xs (first_named name xs) → (b : Bool) → entry_has_name name x ≡ b → IsAnswer (x ∷ xs) (cond b (Some x) (first_named name xs))
+    go : IsAnswer xs (first_named name xs) → (b : Bool) → entry_has_name name x ≡ b
+        → IsAnswer (x ∷ xs) (cond b (Some x) (first_named name xs))
     go a true h = here x xs r h
     go a false h = later_on x xs r h (first_named name xs) a
 

@@ -16,7 +16,8 @@ abbrev pub entry_eq : Entry → Entry → Bool
 entry_eq a b =
     (a.publisher == b.publisher)
     && ((a.seq == b.seq)
-    && (eq_by_cmp canonical_cmp a.name b.name && ((a.segments == b.segments) && ((a.octets == b.octets) && bytes_eq a.digest b.digest))))
+    && (eq_by_cmp canonical_cmp a.name b.name
+    && ((a.segments == b.segments) && ((a.octets == b.octets) && bytes_eq a.digest b.digest))))
 
 same_entries : (a b : Entry) → entry_eq a b ≡ true → a ≡ b
 same_entries a b h =
@@ -27,11 +28,19 @@ same_entries a b h =
     let o = and_parts (a.octets == b.octets) _ g.1 in
     let publisher : a.publisher ≡ b.publisher = eqb-true a.publisher b.publisher p.0 in
     let seq : a.seq ≡ b.seq = eqb-true a.seq b.seq s.0 in
-    let name : a.name ≡ b.name = canonical_cmp-equal a.name b.name (equal_from_is_eq (canonical_cmp a.name b.name) n.0) in
+    let name : a.name ≡ b.name =
+    canonical_cmp-equal a.name b.name (equal_from_is_eq (canonical_cmp a.name b.name) n.0) in
     let segments : a.segments ≡ b.segments = eqb-true a.segments b.segments g.0 in
     let octets : a.octets ≡ b.octets = eqb-true a.octets b.octets o.0 in
     let digest : a.digest ≡ b.digest = (bytes_eq-Decides a.digest b.digest).0 o.1 in
-    λ i. record { publisher = publisher i; seq = seq i; name = name i; segments = segments i; octets = octets i; digest = digest i }
+    λ i. record {
+      publisher = publisher i;
+      seq = seq i;
+      name = name i;
+      segments = segments i;
+      octets = octets i;
+      digest = digest i;
+    }
 
 itself : (a : Entry) → entry_eq a a ≡ true
 itself a =

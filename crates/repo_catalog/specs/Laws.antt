@@ -5,7 +5,8 @@ use Rattle.std.specs.declared.cmp.Ordering.TheVariants.{Less}
 use Rattle.ndn_name.specs.Names.{Component}
 use Rattle.repo_plan.specs.Parts.{Pair, pair_cmp}
 use Rattle.repo_catalog.specs.declared.entry.Entry.{Entry}
-use Rattle.repo_catalog.specs.Entries.{publication_of, is_of, entry_of, lists, first_named, with_entry, without, IsCatalogue}
+use Rattle.repo_catalog.specs.Entries.{publication_of, is_of, entry_of, lists, first_named, with_entry, without}
+use Rattle.repo_catalog.specs.Entries.{IsCatalogue}
 
 -- An entry that is added is that of its publication, where this had none. All others stay.
 abbrev pub AddsOne : Type 0

@@ -1,8 +1,10 @@
-ghost use Rattle.std.specs.Prelude.{◌≡◌, ◌-◌, ◌<◌, ◌^◌, ◌↔◌, [], not, max, length, option_map, IfOk, OnOk, OnErr, IsTrue};
+ghost use Rattle.std.specs.Prelude.{◌≡◌, ◌-◌, ◌<◌, ◌^◌, ◌↔◌, [], not, max, length, option_map, IfOk, OnOk, OnErr};
+ghost use Rattle.std.specs.Prelude.{IsTrue};
 ghost use Rattle.std.specs.List.{sum_by};
 ghost use Rattle.std.specs.List.Sorted.{IsSearchInRange, IsBinarySearchResult};
 ghost use Rattle.std.specs.Option.{option_copied};
-ghost use Rattle.repo_catalog.specs.Entries.{publication_of, beside, entry_of, lists, first_named, with_entry, without, IsCatalogue};
+ghost use Rattle.repo_catalog.specs.Entries.{publication_of, beside, entry_of, lists, first_named, with_entry, without};
+ghost use Rattle.repo_catalog.specs.Entries.{IsCatalogue};
 
 use crate::entry::Entry;
 use ndn_name::NameView;

@@ -1,5 +1,6 @@
 -- An answer that was written is read back.
-use Rattle.std.proofs.Common.{◌≡◌, ℕ, ◌+◌, ◌^◌, ◌<◌, ◌≤◌, List, [], ◌∷◌, ◌++◌, length, length-append, append_assoc, Option, Some, None, Result, Ok, refl, ap, ◌∙◌, arith}
+use Rattle.std.proofs.Common.{◌≡◌, ℕ, ◌+◌, ◌^◌, ◌<◌, ◌≤◌, List, [], ◌∷◌, ◌++◌, length, length-append, append_assoc}
+use Rattle.std.proofs.Common.{Option, Some, None, Result, Ok, refl, ap, ◌∙◌, arith}
 use Rattle.std.specs.Prelude.{ok_or}
 use Rattle.std.specs.Option.{option_and_then}
 use Rattle.std.specs.Result.{result_ok}
@@ -16,9 +17,12 @@ use Rattle.ndn_tlv.proofs.NumberFields.{number_of-number_field}
 use Rattle.ndn_packet.proofs.ReadBack.{alone}
 use Rattle.repo_command.specs.declared.answer.Answer.{Answer}
 use Rattle.repo_command.specs.declared.answer_fields.AnswerField.{AnswerField}
-use Rattle.repo_command.specs.declared.answer_fields.AnswerField.TheVariants.{ProcessId, StatusCode, InsertNum, DeleteNum}
+use Rattle.repo_command.specs.declared.answer_fields.AnswerField.TheVariants.{ProcessId, StatusCode, InsertNum}
+use Rattle.repo_command.specs.declared.answer_fields.AnswerField.TheVariants.{DeleteNum}
 use Rattle.repo_command.specs.OrderTables.{repo_command_response}
-use Rattle.repo_command.specs.Answers.{IsSmall, IsAnswer, NoAnswer, none, written_field, response_value, written_answer, AnswerSoFar, no_number, with_number, with_answer_field, bad_answer_field, answer_fields, whole_answer, response_among, answer_in, answer_of}
+use Rattle.repo_command.specs.Answers.{IsSmall, IsAnswer, NoAnswer, none, written_field, response_value, written_answer}
+use Rattle.repo_command.specs.Answers.{AnswerSoFar, no_number, with_number, with_answer_field, bad_answer_field}
+use Rattle.repo_command.specs.Answers.{answer_fields, whole_answer, response_among, answer_in, answer_of}
 use Rattle.repo_command.proofs.LengthLemmas.{field_short, number_element-size}
 use Rattle.repo_command.proofs.FieldLemmas.{field_again, fields_end}
 
@@ -44,53 +48,68 @@ number_taken : (s : AnswerSoFar) (field : AnswerField) (o typ n : ℕ) → n < 2
 number_taken s field o typ n small =
     ap (λ (r : Option ℕ). ok_or r none >>= λ m. Ok (with_number s field m)) (number_of-number_field n small)
 
-next_number : (places behind : List (Place AnswerField)) (field : AnswerField) (o typ n : ℕ) (rest : List ℕ) (s : AnswerSoFar)
+next_number :
+    (places behind : List (Place AnswerField)) (field : AnswerField) (o typ n : ℕ) (rest : List ℕ) (s : AnswerSoFar)
     → place_of typ places ≡ Some (field, behind) → 0 < typ → typ < 2 ^ 32 → n < 2 ^ 64
     → gather_answer s places o (element typ (number_field n) ++ rest)
     ≡ gather_answer (with_number s field n) behind (o + length (element typ (number_field n))) rest
 next_number places behind field o typ n rest s place above below small =
-    field_again with_answer_field bad_answer_field places behind field o typ (number_field n) rest s (with_number s field n) place above below (omega (arith, field_short n)) (number_taken s field o typ n small)
+    field_again with_answer_field bad_answer_field places behind field o typ (number_field n) rest s
+    (with_number s field n) place above below (omega (arith, field_short n)) (number_taken s field o typ n small)
 
 -- ---- field by field, from the last
 
-deleted_again : (places : List (Place AnswerField)) (o : ℕ) (s : AnswerSoFar) (d : Option ℕ) → place_of 210 places ≡ Some (DeleteNum, []) → IsSmall d
+deleted_again : (places : List (Place AnswerField)) (o : ℕ) (s : AnswerSoFar) (d : Option ℕ)
+    → place_of 210 places ≡ Some (DeleteNum, []) → IsSmall d
     → gather_answer s places o (written_field 210 d ++ []) ≡ Ok (with_some s DeleteNum d)
 deleted_again places o s None place small = fields_end with_answer_field bad_answer_field places o s
 deleted_again places o s (Some n) place small =
     next_number places [] DeleteNum o 210 n [] s place (omega arith) (omega arith) small
-    ∙ fields_end with_answer_field bad_answer_field [] (o + length (element 210 (number_field n))) (with_number s DeleteNum n)
+    ∙ fields_end with_answer_field bad_answer_field [] (o + length (element 210 (number_field n)))
+    (with_number s DeleteNum n)
 
 last_place : place_of 210 behind_inserted ≡ Some (DeleteNum, [])
 unfolding place_of
 last_place = refl
 
 inserted_again : (o : ℕ) (s : AnswerSoFar) (i d : Option ℕ) → IsSmall i → IsSmall d
-    → gather_answer s behind_code o (written_field 209 i ++ (written_field 210 d ++ [])) ≡ Ok (with_some (with_some s InsertNum i) DeleteNum d)
+    → gather_answer s behind_code o (written_field 209 i ++ (written_field 210 d ++ []))
+    ≡ Ok (with_some (with_some s InsertNum i) DeleteNum d)
 unfolding place_of
 inserted_again o s None d small_i small_d = deleted_again behind_code o s d refl small_d
 inserted_again o s (Some n) d small_i small_d =
-    next_number behind_code behind_inserted InsertNum o 209 n (written_field 210 d ++ []) s refl (omega arith) (omega arith) small_i
-    ∙ deleted_again behind_inserted (o + length (element 209 (number_field n))) (with_number s InsertNum n) d last_place small_d
+    next_number behind_code behind_inserted InsertNum o 209 n (written_field 210 d ++ []) s refl (omega arith)
+    (omega arith) small_i
+    ∙ deleted_again behind_inserted (o + length (element 209 (number_field n))) (with_number s InsertNum n) d last_place
+    small_d
 
-code_again : (places : List (Place AnswerField)) (o : ℕ) (s : AnswerSoFar) (code : ℕ) (i d : Option ℕ) → place_of 208 places ≡ Some (StatusCode, behind_code)
+code_again : (places : List (Place AnswerField)) (o : ℕ) (s : AnswerSoFar) (code : ℕ) (i d : Option ℕ)
+    → place_of 208 places ≡ Some (StatusCode, behind_code)
     → code < 2 ^ 16 → IsSmall i → IsSmall d
     → gather_answer s places o (element 208 (number_field code) ++ (written_field 209 i ++ (written_field 210 d ++ [])))
     ≡ Ok (with_some (with_some (with_number s StatusCode code) InsertNum i) DeleteNum d)
 code_again places o s code i d place small small_i small_d =
-    next_number places behind_code StatusCode o 208 code (written_field 209 i ++ (written_field 210 d ++ [])) s place (omega arith) (omega arith) (omega arith)
+    next_number places behind_code StatusCode o 208 code (written_field 209 i ++ (written_field 210 d ++ [])) s place
+    (omega arith) (omega arith) (omega arith)
     ∙ inserted_again (o + length (element 208 (number_field code))) (with_number s StatusCode code) i d small_i small_d
 
 abbrev made : Option ℕ → ℕ → Option ℕ → Option ℕ → AnswerSoFar
-made p code i d = with_some (with_some (with_number (with_some no_number ProcessId p) StatusCode code) InsertNum i) DeleteNum d
+made p code i d =
+    with_some (with_some (with_number (with_some no_number ProcessId p) StatusCode code) InsertNum i) DeleteNum d
 
 value_again : (o code : ℕ) (p i d : Option ℕ) → IsSmall p → code < 2 ^ 16 → IsSmall i → IsSmall d
-    → gather_answer no_number repo_command_response o (written_field 206 p ++ (element 208 (number_field code) ++ (written_field 209 i ++ (written_field 210 d ++ []))))
+    → gather_answer no_number repo_command_response o
+    (written_field 206 p ++ (element 208 (number_field code) ++ (written_field 209 i ++ (written_field 210 d ++ []))))
     ≡ Ok (made p code i d)
 unfolding place_of
-value_again o code None i d small_p small small_i small_d = code_again repo_command_response o no_number code i d refl small small_i small_d
+value_again o code None i d small_p small small_i small_d =
+    code_again repo_command_response o no_number code i d refl small small_i small_d
 value_again o code (Some n) i d small_p small small_i small_d =
-    next_number repo_command_response behind_process ProcessId o 206 n (element 208 (number_field code) ++ (written_field 209 i ++ (written_field 210 d ++ []))) no_number refl (omega arith) (omega arith) small_p
-    ∙ code_again behind_process (o + length (element 206 (number_field n))) (with_number no_number ProcessId n) code i d refl small small_i small_d
+    next_number repo_command_response behind_process ProcessId o 206 n
+    (element 208 (number_field code) ++ (written_field 209 i ++ (written_field 210 d ++ []))) no_number refl
+    (omega arith) (omega arith) small_p
+    ∙ code_again behind_process (o + length (element 206 (number_field n))) (with_number no_number ProcessId n) code i d
+    refl small small_i small_d
 
 -- ---- the whole
 
@@ -122,7 +141,17 @@ answer_again a is =
     let c = element 208 (number_field a.code) in
     let i = written_field 209 a.inserted in
     let d = written_field 210 a.deleted in
-    let long : length value < 2 ^ 64 = omega (arith, length-append ((p ++ c) ++ i) d, length-append (p ++ c) i, length-append p c, field-size 206 a.process (omega arith), number_element-size 208 a.code (omega arith), field-size 209 a.inserted (omega arith), field-size 210 a.deleted (omega arith)) in
+    let long : length value < 2 ^ 64 =
+    omega (
+      arith,
+      length-append ((p ++ c) ++ i) d,
+      length-append (p ++ c) i,
+      length-append p c,
+      field-size 206 a.process (omega arith),
+      number_element-size 208 a.code (omega arith),
+      field-size 209 a.inserted (omega arith),
+      field-size 210 a.deleted (omega arith),
+    ) in
     let read : elements 0 (written_answer a) ≡ (e then nothing) = alone 0 207 value (omega arith) (omega arith) long in
     let all : answer_fields e ≡ Ok (made a.process a.code a.inserted a.deleted) =
     ap (gather_answer no_number repo_command_response e.value_start) (regroup p c i d)

@@ -21,12 +21,14 @@ module _ {F S E : Type 0} (take : S → F × Item → Result S E) (named : Field
       ≡ gathered take named t (fields behind (elements (o + length (element typ value)) rest))
   field_again places behind field o typ value rest s t place above below fits step =
       let others = elements (o + length (element typ value)) rest in
-      ap (λ (l : Listing Item TlvFault). gathered take named s (fields places l)) (elements-element o typ value rest above below fits)
+      ap (λ (l : Listing Item TlvFault). gathered take named s (fields places l))
+      (elements-element o typ value rest above below fits)
       ∙ ap (gathered take named s) (fields-field places (placed o typ value) others field behind place)
       ∙ gathers take named s t (field, placed o typ value) (fields behind others) step
 
   -- the end
-  pub fields_end : (places : List (Place F)) (o : ℕ) (s : S) → gathered take named s (fields places (elements o [])) ≡ Ok s
+  pub fields_end : (places : List (Place F)) (o : ℕ) (s : S)
+      → gathered take named s (fields places (elements o [])) ≡ Ok s
   fields_end places o s =
       ap (λ (l : Listing Item TlvFault). gathered take named s (fields places l)) (elements-nil o [] refl)
       ∙ ap (gathered take named s) (fields-nothing places)

@@ -1,5 +1,6 @@
 -- How many octets a command has: fewer than a packet may have.
-use Rattle.std.proofs.Common.{ℕ, ◌^◌, ◌<◌, ◌≤◌, List, [], ◌∷◌, ◌++◌, length, length-append, Option, Some, None, inl, inr, arith}
+use Rattle.std.proofs.Common.{ℕ, ◌^◌, ◌<◌, ◌≤◌, List, [], ◌∷◌, ◌++◌, length, length-append, Option, Some, None, inl}
+use Rattle.std.proofs.Common.{inr, arith}
 use Rattle.std.proofs.lemmas.Bool.{cases_lt, le-ltb, lt-ltb}
 use Rattle.sha2.specs.Sha256.{sha256}
 use Rattle.sha2.proofs.Facts256.{length-sha256}
@@ -21,10 +22,14 @@ use Rattle.repo_command.specs.Commands.{named_length, parameters_value, written_
 
 -- ---- names
 
-pub command_name-size : (node : List Component) (v : Verb) → length (encoding node) ≤ 200 → length (encoding (command_name node v)) ≤ 208
-command_name-size node verb.Insert short = omega (arith, pushed-size node 8 (105 ∷ 110 ∷ 115 ∷ 101 ∷ 114 ∷ 116 ∷ []) (omega arith) (omega arith))
-command_name-size node verb.Check short = omega (arith, pushed-size node 8 (99 ∷ 104 ∷ 101 ∷ 99 ∷ 107 ∷ []) (omega arith) (omega arith))
-command_name-size node verb.Delete short = omega (arith, pushed-size node 8 (100 ∷ 101 ∷ 108 ∷ 101 ∷ 116 ∷ 101 ∷ []) (omega arith) (omega arith))
+pub command_name-size : (node : List Component) (v : Verb) → length (encoding node) ≤ 200
+    → length (encoding (command_name node v)) ≤ 208
+command_name-size node verb.Insert short =
+    omega (arith, pushed-size node 8 (105 ∷ 110 ∷ 115 ∷ 101 ∷ 114 ∷ 116 ∷ []) (omega arith) (omega arith))
+command_name-size node verb.Check short =
+    omega (arith, pushed-size node 8 (99 ∷ 104 ∷ 101 ∷ 99 ∷ 107 ∷ []) (omega arith) (omega arith))
+command_name-size node verb.Delete short =
+    omega (arith, pushed-size node 8 (100 ∷ 101 ∷ 108 ∷ 101 ∷ 116 ∷ 101 ∷ []) (omega arith) (omega arith))
 
 -- ---- parameters
 
@@ -41,14 +46,23 @@ field_short n = elim (cases_lt n (2 ^ 8)) [
 ]
 
 pub number_element-size : (typ n : ℕ) → typ < 253 → length (element typ (number_field n)) ≤ 10
-number_element-size typ n low = omega (arith, field_short n, element-narrow typ (number_field n) low (omega (arith, field_short n)))
+number_element-size typ n low =
+    omega (arith, field_short n, element-narrow typ (number_field n) low (omega (arith, field_short n)))
 
 pub value-size : (c : Command) → named_length c ≤ 400 → length (parameters_value c) ≤ 424
 value-size (Insert name first last) short =
     let named = element 7 (encoding name) in
     let a = element 204 (number_field first) in
     let b = element 205 (number_field last) in
-    omega (arith, short, length-append named (a ++ b), length-append a b, element-at_most 7 (encoding name) (omega arith) (omega arith), number_element-size 204 first (omega arith), number_element-size 205 last (omega arith))
+    omega (
+      arith,
+      short,
+      length-append named (a ++ b),
+      length-append a b,
+      element-at_most 7 (encoding name) (omega arith) (omega arith),
+      number_element-size 204 first (omega arith),
+      number_element-size 205 last (omega arith),
+    )
 value-size (Check process) short = omega (arith, number_element-size 206 process (omega arith))
 value-size (Delete name) short = omega (arith, short, element-at_most 7 (encoding name) (omega arith) (omega arith))
 
@@ -86,7 +100,13 @@ answer-size a =
 pub info-size : (key_name : List Component) → length (encoding key_name) ≤ 205 → length (written_info key_name) ≤ 216
 info-size key_name short =
     let inner = element-at_most 7 (encoding key_name) (omega arith) (omega arith) in
-    omega (arith, length-append (element 0x1b (4 ∷ [])) (element 0x1c (element 7 (encoding key_name))), element-narrow 0x1b (4 ∷ []) (omega arith) (omega arith), inner, element-at_most 0x1c (element 7 (encoding key_name)) (omega arith) (omega (arith, inner)))
+    omega (
+      arith,
+      length-append (element 0x1b (4 ∷ [])) (element 0x1c (element 7 (encoding key_name))),
+      element-narrow 0x1b (4 ∷ []) (omega arith) (omega arith),
+      inner,
+      element-at_most 0x1c (element 7 (encoding key_name)) (omega arith) (omega (arith, inner)),
+    )
 
 -- a command within the limits is a packet
 pub command-size : (node : List Component) (c : Command) (key_name : List Component) (key : List ℕ)
@@ -103,9 +123,18 @@ command-size node c key_name key short_node short short_key =
     let a = element-at_most 0x24 parameters (omega arith) (omega (arith, given)) in
     let b = element-at_most 0x2c (written_info key_name) (omega arith) (omega (arith, info)) in
     let digested = written_digested name parameters key_name key in
-    let long : length digested ≤ 690 = omega (arith, given, info, a, b, length-digested name key_name parameters key, length-append first second) in
+    let long : length digested ≤ 690 =
+    omega (arith, given, info, a, b, length-digested name key_name parameters key, length-append first second) in
     let value = encoding (name ++ (2, sha256 digested) ∷ []) in
     let size = length-named name (sha256 digested) (length-sha256 digested) in
     let d = element-at_most 7 value (omega arith) (omega (arith, size, named)) in
     let body = length-append (element 7 value) digested in
-    omega (arith, named, long, size, d, body, element-at_most 5 (element 7 value ++ digested) (omega arith) (omega (arith, named, long, size, d, body)))
+    omega (
+      arith,
+      named,
+      long,
+      size,
+      d,
+      body,
+      element-at_most 5 (element 7 value ++ digested) (omega arith) (omega (arith, named, long, size, d, body)),
+    )

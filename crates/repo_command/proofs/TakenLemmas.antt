@@ -1,5 +1,6 @@
 -- What every command is within that is taken.
-use Rattle.std.proofs.Common.{◌≡◌, ℕ, ◌-◌, ◌<◌, Bool, true, false, ◌&&◌, leb, ltb, List, [], length, Option, Some, None, Result, Ok, Err, if◌then◌else◌, refl, sym, ap, ◌∙◌, arith}
+use Rattle.std.proofs.Common.{◌≡◌, ℕ, ◌-◌, ◌<◌, Bool, true, false, ◌&&◌, leb, ltb, List, [], length, Option, Some, None}
+use Rattle.std.proofs.Common.{Result, Ok, Err, if◌then◌else◌, refl, sym, ap, ◌∙◌, arith}
 use Rattle.std.specs.Prelude.{unwrap_or, ok_or}
 use Rattle.ndn_tlv.specs.Listing.{◌>>=◌}
 use Rattle.ndn_name.specs.Names.{Component}
@@ -33,7 +34,8 @@ tested : {A : Type 0} (b : Bool) (x y : A) → (if b then done x else Err BadPar
 tested true x y e = (refl, done_is x y e)
 tested false x y e = absurd cc
 
-object_name_taken : (o : Option (List Component)) (name : List Component) → object_name_of o ≡ Ok name → is_object_name name ≡ true
+object_name_taken : (o : Option (List Component)) (name : List Component) → object_name_of o ≡ Ok name
+    → is_object_name name ≡ true
 object_name_taken None name e = absurd cc
 object_name_taken (Some n) name e =
     let t = tested (is_object_name n) n name e in
@@ -54,10 +56,15 @@ both_true a b h k = rw (h, k) refl
 
 command_taken : (verb : Verb) (p : Parameters) (c : Command) → command_from verb p ≡ Ok c → is_command c ≡ true
 command_taken Insert p c e =
-    let named = bind_ok (object_name_of p.name) (λ name. range_of p.first p.last >>= λ range. done (command.Insert name range.0 range.1)) c e in
+    let named =
+    bind_ok (object_name_of p.name)
+    (λ name. range_of p.first p.last >>= λ range. done (command.Insert name range.0 range.1)) c e in
     let ranged = bind_ok (range_of p.first p.last) (λ range. done (command.Insert named.0 range.0 range.1)) c named.2 in
-    let same : command.Insert named.0 ranged.0.0 ranged.0.1 ≡ c = done_is (command.Insert named.0 ranged.0.0 ranged.0.1) c ranged.2 in
-    ap is_command (sym same) ∙ both_true (is_object_name named.0) (in_range ranged.0) (object_name_taken p.name named.0 named.1) (range_taken p.first p.last ranged.0 ranged.1)
+    let same : command.Insert named.0 ranged.0.0 ranged.0.1 ≡ c =
+    done_is (command.Insert named.0 ranged.0.0 ranged.0.1) c ranged.2 in
+    ap is_command (sym same)
+    ∙ both_true (is_object_name named.0) (in_range ranged.0) (object_name_taken p.name named.0 named.1)
+    (range_taken p.first p.last ranged.0 ranged.1)
 command_taken Check p c e =
     let asked = bind_ok (ok_or p.process BadParameter) (λ process. done (command.Check process)) c e in
     let same : command.Check asked.0 ≡ c = done_is (command.Check asked.0) c asked.2 in
@@ -80,9 +87,18 @@ pub taken_commands : (node : List Component) (ring : List NamedKey) (octets : Li
 taken_commands node ring octets client c e =
     let read = bind_ok (packet_or (interest_of octets)) (command_interest_verdict node ring) (client, c) e in
     let i = read.0 in
-    let named = bind_ok (ok_or (verb_in node i.name) OtherName) (λ verb. signed_or (signer_of ring i) >>= λ n. parameters_of (unwrap_or i.parameters []) >>= λ p. command_from verb p >>= λ x. done (n, x)) (client, c) read.2 in
-    let signed = bind_ok (signed_or (signer_of ring i)) (λ n. parameters_of (unwrap_or i.parameters []) >>= λ p. command_from named.0 p >>= λ x. done (n, x)) (client, c) named.2 in
-    let given = bind_ok (parameters_of (unwrap_or i.parameters [])) (λ p. command_from named.0 p >>= λ x. done (signed.0, x)) (client, c) signed.2 in
+    let named =
+    bind_ok (ok_or (verb_in node i.name) OtherName)
+    (λ verb. signed_or (signer_of ring i)
+    >>= λ n. parameters_of (unwrap_or i.parameters []) >>= λ p. command_from verb p >>= λ x. done (n, x)) (client, c)
+    read.2 in
+    let signed =
+    bind_ok (signed_or (signer_of ring i))
+    (λ n. parameters_of (unwrap_or i.parameters []) >>= λ p. command_from named.0 p >>= λ x. done (n, x)) (client, c)
+    named.2 in
+    let given =
+    bind_ok (parameters_of (unwrap_or i.parameters [])) (λ p. command_from named.0 p >>= λ x. done (signed.0, x))
+    (client, c) signed.2 in
     let asked = bind_ok (command_from named.0 given.0) (λ x. done (signed.0, x)) (client, c) given.2 in
     let same = done_is (signed.0, asked.0) (client, c) asked.2 in
     let first : signed.0 ≡ client = ap (λ (x : ℕ × Command). x.0) same in

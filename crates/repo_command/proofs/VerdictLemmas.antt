@@ -16,14 +16,16 @@ use Rattle.repo_command.specs.Parameters.{Parameters, parameters_of, command_fro
 use Rattle.repo_command.specs.Verdict.{command_verdict}
 
 -- what is lent, or nothing
-pub lent_or : (o : Option (Bor (List ℕ))) (d r : Bor (List ℕ)) → d.now ≡ [] → r ≡ unwrap_or o d → unwrap_or (option_map (λ (p : Bor (List ℕ)). p.now) o) [] ≡ r.now
+pub lent_or : (o : Option (Bor (List ℕ))) (d r : Bor (List ℕ)) → d.now ≡ [] → r ≡ unwrap_or o d
+    → unwrap_or (option_map (λ (p : Bor (List ℕ)). p.now) o) [] ≡ r.now
 lent_or None d r none is = sym (ap (λ (p : Bor (List ℕ)). p.now) is ∙ none)
 lent_or (Some p) d r none is = sym (ap (λ (b : Bor (List ℕ)). b.now) is)
 
 abbrev pub from_client : ℕ → Command → Result (ℕ × Command) CommandRefusal
 from_client client command = Ok (client, command)
 
-module _ (node : List Component) (ring : List NamedKey) (octets : List ℕ) (i : Interest) (verb : Verb) (client : ℕ) (p : Parameters)
+module _ (node : List Component) (ring : List NamedKey) (octets : List ℕ) (i : Interest) (verb : Verb) (client : ℕ)
+    (p : Parameters)
     (read : interest_of octets ≡ Ok i) (named : verb_in node i.name ≡ Some verb) (signed : signer_of ring i ≡ Ok client)
     (given : parameters_of (unwrap_or i.parameters []) ≡ Ok p) where
   -- what is left of the verdict
@@ -37,6 +39,8 @@ module _ (node : List Component) (ring : List NamedKey) (octets : List ℕ) (i :
   -- a refusal of the last test is that of all
   pub last_refusal : (refusal : CommandRefusal)
       → (command_from verb p ≡ Err refusal) ⊎ ((refusal ≡ NoMemory) × IsOk (command_from verb p))
-      → (command_verdict node ring octets ≡ Err refusal) ⊎ ((refusal ≡ NoMemory) × IsOk (command_verdict node ring octets))
-  last_refusal refusal (inl refused) = inl (last_test ∙ ap (λ (r : Result Command CommandRefusal). r >>= from_client client) refused)
+      → (command_verdict node ring octets ≡ Err refusal)
+      ⊎ ((refusal ≡ NoMemory) × IsOk (command_verdict node ring octets))
+  last_refusal refusal (inl refused) =
+      inl (last_test ∙ ap (λ (r : Result Command CommandRefusal). r >>= from_client client) refused)
   last_refusal refusal (inr memory) = inr (memory.0, rw last_test (still_ok (command_from verb p) memory.1))

@@ -1,5 +1,6 @@
 -- What octets are as the parameters of a command, or that they are none.
-use Rattle.std.specs.Prelude.{ℕ, ◌-◌, ◌&&◌, List, [], ◌∷◌, Option, Some, None, ok_or, Result, Ok, Err, nat_le, nat_lt, ◌==◌, if◌then◌else◌}
+use Rattle.std.specs.Prelude.{ℕ, ◌-◌, ◌&&◌, List, [], ◌∷◌, Option, Some, None, ok_or, Result, Ok, Err, nat_le, nat_lt}
+use Rattle.std.specs.Prelude.{◌==◌, if◌then◌else◌}
 use Rattle.ndn_tlv.specs.declared.order_table.FieldFault.{FieldFault}
 use Rattle.ndn_tlv.specs.Listing.{gathered, ◌>>=◌}
 use Rattle.ndn_tlv.specs.Elements.{Item, elements}

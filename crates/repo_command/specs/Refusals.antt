@@ -2,7 +2,8 @@
 use Rattle.ndn_interest.specs.declared.signature_refusal.SignatureRefusal.{SignatureRefusal}
 use Rattle.ndn_interest.specs.declared.signature_refusal.SignatureRefusal.TheVariants as signature
 use Rattle.repo_command.specs.declared.command_refusal.CommandRefusal.{CommandRefusal}
-use Rattle.repo_command.specs.declared.command_refusal.CommandRefusal.TheVariants.{Unsigned, ParamsDigest, UnknownKey, BadSignature}
+use Rattle.repo_command.specs.declared.command_refusal.CommandRefusal.TheVariants.{Unsigned, ParamsDigest, UnknownKey}
+use Rattle.repo_command.specs.declared.command_refusal.CommandRefusal.TheVariants.{BadSignature}
 
 abbrev pub unsigned_as : SignatureRefusal → CommandRefusal
 unsigned_as signature.Unsigned = Unsigned

@@ -1,7 +1,8 @@
 -- The status codes of answers, in this project's profile of the repo protocol.
 use Rattle.std.specs.Prelude.{ℕ}
 use Rattle.repo_command.specs.declared.command_refusal.CommandRefusal.{CommandRefusal}
-use Rattle.repo_command.specs.declared.command_refusal.CommandRefusal.TheVariants.{ParamsDigest, UnknownKey, BadSignature}
+use Rattle.repo_command.specs.declared.command_refusal.CommandRefusal.TheVariants.{ParamsDigest, UnknownKey}
+use Rattle.repo_command.specs.declared.command_refusal.CommandRefusal.TheVariants.{BadSignature}
 
 abbrev pub Accepted : ℕ
 Accepted = 100

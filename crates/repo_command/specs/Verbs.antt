@@ -27,8 +27,8 @@ verb_component verb = (types.GenericNameComponent, verb_text verb)
 abbrev pub command_name : List Component → Verb → List Component
 command_name node verb = node ++ verb_component verb ∷ []
 
--- The name is that of a command of the verb for the node, with a parameters digest behind it. Names are the same exactly
--- where their octets are.
+-- The name is that of a command of the verb for the node, with a parameters digest behind it. Names are the same
+-- exactly where their octets are.
 abbrev pub is_command_name : List Component → Verb → List Component → Bool
 is_command_name node verb name =
     bytes_eq (encoding (without_last name)) (encoding (command_name node verb)) && ends_in_digest name
@@ -40,8 +40,8 @@ verb_in node name =
     else if is_command_name node Delete name then Some Delete
     else None
 
--- What stands in such a name's octets between the node's name and the octets of the digest: the verb's component, and the
--- head of the digest's.
+-- What stands in such a name's octets between the node's name and the octets of the digest: the verb's component, and
+-- the head of the digest's.
 abbrev pub between : Verb → List ℕ
 between Insert = 8 ∷ 6 ∷ codes "insert" ++ 2 ∷ 32 ∷ []
 between Check = 8 ∷ 5 ∷ codes "check" ++ 2 ∷ 32 ∷ []

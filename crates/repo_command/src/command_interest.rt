@@ -1,6 +1,7 @@
 ghost use Rattle.std.specs.Prelude.{◌≡◌, ◌≤◌, ◌⊎◌, ◌++◌, length, IsOk, IfOk, OnOk, MatchResult, Ok, Err};
 ghost use Rattle.ndn_name.specs.Names.{encoding};
-ghost use Rattle.repo_command.specs.Commands.{CommandIsSpelled, command_interest, written_parameters, parameters_value, named_length};
+ghost use Rattle.repo_command.specs.Commands.{CommandIsSpelled, command_interest, written_parameters, parameters_value};
+ghost use Rattle.repo_command.specs.Commands.{named_length};
 ghost use Rattle.repo_command.specs.Verdict.{command_verdict};
 ghost use Rattle.repo_command.specs.Verbs.{verb_of};
 
@@ -81,8 +82,8 @@ fn put_fields(writer: &mut Writer, command: &Command) -> Result<(), AllocError>
 
 /// Checks the octets of a command for a node, and gives the number of the client's key in the ring, and the command.
 ///
-/// The client is known by its key alone. What follows the RepoCommandParameter is passed over. Only a name in the command
-/// takes memory, and that comes last.
+/// The client is known by its key alone. What follows the RepoCommandParameter is passed over. Only a name in the
+/// command takes memory, and that comes last.
 pub fn check_command(
     alloc: Global,
     octets: &[u8],

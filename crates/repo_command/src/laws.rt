@@ -1,4 +1,5 @@
-ghost use Rattle.std.specs.Prelude.{◌≡◌, ◌^◌, ◌<◌, ◌≤◌, ◌↔◌, ◌++◌, ◌∷◌, [], ℕ, List, Ok, Err, Some, IsTrue, length, slice_get, if◌then◌else◌};
+ghost use Rattle.std.specs.Prelude.{◌≡◌, ◌^◌, ◌<◌, ◌≤◌, ◌↔◌, ◌++◌, ◌∷◌, [], ℕ, List, Ok, Err, Some, IsTrue, length};
+ghost use Rattle.std.specs.Prelude.{slice_get, if◌then◌else◌};
 ghost use Rattle.ndn_tlv.specs.Types as standard;
 ghost use Rattle.ndn_name.specs.Names.{Component, IsName, encoding};
 ghost use Rattle.ndn_sign.specs.Ring.{NamedKey, key_number, pair};
@@ -69,7 +70,8 @@ pub fn taken_commands_are_within_limits()
 pub fn commands_are_tested()
     ensures { (node name : List Component) (verb : Verb) → IsName node → IsName name
         → (verb_in node name ≡ Some verb)
-        ↔ ((digest : List ℕ) × (name ≡ node ++ verb_component verb ∷ (standard.ParametersSha256DigestComponent, digest) ∷ [])) }
+        ↔ ((digest : List ℕ)
+        × (name ≡ node ++ verb_component verb ∷ (standard.ParametersSha256DigestComponent, digest) ∷ [])) }
 {}
 
 /// An answer that was written is read back.

@@ -2,7 +2,9 @@ ghost use Rattle.std.specs.Prelude.{◌≡◌, ◌+◌, ◌^◌, ◌<◌, ◌≤
 ghost use Rattle.ndn_name.specs.Names.{IsName, encoding};
 ghost use Rattle.ndn_tlv.specs.Elements.{item, elements};
 ghost use Rattle.repo_command.specs.Commands.{CommandIsSpelled};
-ghost use Rattle.repo_command.specs.Parameters.{parameters, with_parameter, parameters_in, parameters_of, parameter_among, parameter_number, object_name_of, range_of, command_from};
+ghost use Rattle.repo_command.specs.Parameters.{parameters, with_parameter, parameters_in, parameters_of};
+ghost use Rattle.repo_command.specs.Parameters.{parameter_among, parameter_number, object_name_of, range_of};
+ghost use Rattle.repo_command.specs.Parameters.{command_from};
 
 use crate::command::Command;
 use crate::command_refusal::CommandRefusal;

@@ -27,8 +27,8 @@ impl Verb {
         }
     }
 
-    // What stands between the node's name and the octets of the parameters digest: the verb's component, and the head of
-    // the digest's.
+    // What stands between the node's name and the octets of the parameters digest: the verb's component, and the head
+    // of the digest's.
     fn between(self) -> &'static [u8]
         ensures { result.now ≡ between self }
     {

@@ -1,5 +1,6 @@
 -- What a part that a member asks for tells of what is stored.
-use Rattle.std.proofs.Common.{◌≡◌, inl, inr, List, ◌≤◌, ◌<◌, true, false, ◌&&◌, ◌==◌, refl, sym, ap, ◌∙◌, subst, Option, Some, None, option_map, length, arith}
+use Rattle.std.proofs.Common.{◌≡◌, inl, inr, List, ◌≤◌, ◌<◌, true, false, ◌&&◌, ◌==◌, refl, sym, ap, ◌∙◌, subst, Option}
+use Rattle.std.proofs.Common.{Some, None, option_map, length, arith}
 use Rattle.std.specs.Prelude.{nat_le, slice_index}
 use Rattle.std.proofs.lemmas.Bool.{true≢false, and_parts, or_cases, leb-true, cases_lt}
 use Rattle.std.proofs.lemmas.List.{get_or_past}
@@ -19,7 +20,8 @@ pub record IsListedSegment (packets : List Packet) (t : Part) : Type 0 where
   pub listed : listing_at packets (pair_of t) ≡ Some listing
   pub counted : t.part ≤ listed_shape listing
 
-pub asked_segment : (plan : Holdings) (packets : List Packet) (t : Part) → AreTied plan packets → is_asked plan t ≡ true → (t.part == 0) ≡ false → IsListedSegment packets t
+pub asked_segment : (plan : Holdings) (packets : List Packet) (t : Part) → AreTied plan packets → is_asked plan t ≡ true
+    → (t.part == 0) ≡ false → IsListedSegment packets t
 asked_segment plan packets t tied asked segment = go (listing_at packets (pair_of t)) refl where
   told : shape_of plan (pair_of t) ≡ option_map listed_shape (listing_at packets (pair_of t))
   told = ap (λ es. value_of pair_cmp es (pair_of t)) tied.shapes ∙ shapes_value packets (pair_of t) tied.in_order
@@ -29,13 +31,20 @@ asked_segment plan packets t tied asked segment = go (listing_at packets (pair_o
 
   go : (o : Option Listed) → listing_at packets (pair_of t) ≡ o → IsListedSegment packets t
   go None p =
-      let none : can_be_asked plan.held None t ≡ true = subst (λ (s : Option Shape). can_be_asked plan.held s t ≡ true) (told ∙ ap (option_map listed_shape) p) can in
+      let none : can_be_asked plan.held None t ≡ true =
+      subst (λ (s : Option Shape). can_be_asked plan.held s t ≡ true) (told ∙ ap (option_map listed_shape) p) can in
       absurd (true≢false (sym none ∙ segment))
   go (Some l) p =
-      let some : can_be_asked plan.held (Some (listed_shape l)) t ≡ true = subst (λ (s : Option Shape). can_be_asked plan.held s t ≡ true) (told ∙ ap (option_map listed_shape) p) can in
-      elim (or_cases (t.part == 0) (nat_le t.part (listed_shape l) && contains part_cmp plan.held (parent (listed_shape l) t)) some) [
+      let some : can_be_asked plan.held (Some (listed_shape l)) t ≡ true =
+      subst (λ (s : Option Shape). can_be_asked plan.held s t ≡ true) (told ∙ ap (option_map listed_shape) p) can in
+      elim (or_cases (t.part == 0)
+      (nat_le t.part (listed_shape l) && contains part_cmp plan.held (parent (listed_shape l) t)) some) [
         | inl zero ↦ absurd (true≢false (sym zero ∙ segment))
-        | inr both ↦ record { listing = l; listed = p; counted = leb-true t.part (listed_shape l) (and_parts (nat_le t.part (listed_shape l)) _ both).0 }
+        | inr both ↦ record {
+          listing = l;
+          listed = p;
+          counted = leb-true t.part (listed_shape l) (and_parts (nat_le t.part (listed_shape l)) _ both).0;
+        }
       ]
 
 -- the publisher of a part that is asked for is a member

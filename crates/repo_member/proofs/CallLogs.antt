@@ -1,5 +1,7 @@
 -- What calls make of a member's log.
-use Rattle.std.proofs.Common.{◌≡◌, ℕ, zero, suc, ◌-◌, Bool, true, false, cond, ◌==◌, List, [], ◌∷◌, ◌++◌, length, take, length-append, append_assoc, append-nil, Option, Some, None, Result, Ok, Err, slice_get, refl, sym, ap, ◌∙◌, arith}
+use Rattle.std.proofs.Common.{◌≡◌, ℕ, zero, suc, ◌-◌, Bool, true, false, cond, ◌==◌, List, [], ◌∷◌, ◌++◌, length, take}
+use Rattle.std.proofs.Common.{length-append, append_assoc, append-nil, Option, Some, None, Result, Ok, Err, slice_get}
+use Rattle.std.proofs.Common.{refl, sym, ap, ◌∙◌, arith}
 use Rattle.std.specs.Prelude.{nat_lt}
 use Rattle.std.specs.Option.{option_and_then}
 use Rattle.std.proofs.lemmas.Bool.{lt-ltb}
@@ -18,16 +20,21 @@ use Rattle.repo_member.specs.declared.refusals.AcceptRefusal.{AcceptRefusal}
 use Rattle.repo_member.specs.Groups.{GroupKeys, publisher_at}
 use Rattle.repo_member.specs.Records.{Packet}
 use Rattle.group_model.specs.Member.{with_tries}
-use Rattle.repo_member.specs.Alone.{Alone, Fetched, alone_plan, alone_publishes, packet_in, logged, alone_takes, with_fetched}
+use Rattle.repo_member.specs.Alone.{Alone, Fetched, alone_plan, alone_publishes, packet_in, logged, alone_takes}
+use Rattle.repo_member.specs.Alone.{with_fetched}
 use Rattle.repo_member.specs.Verdicts.{hear_verdict, accept_verdict}
 use Rattle.repo_member.specs.Outcomes.{outcome_of}
 use Rattle.repo_member.specs.Deleting.{alone_deletes}
 use Rattle.repo_member.specs.Commanded.{order_of, alone_starts, alone_obeys, alone_after_order}
 use Rattle.repo_member.specs.Blocks.{alone_block, alone_keeps, after_block}
-use Rattle.repo_member.specs.Calls.{MemberCall, Publish, Hear, JoinFrom, Fire, Claim, Lose, Accept, TakeOutcome, Command, Block, EndClaims, Reset, Restart, if_heard, if_joined, if_claimed, if_lost, if_accepted, after_call, after_calls, LogsGoOn, PublicationsStay, LoggedPacketsStay}
+use Rattle.repo_member.specs.Calls.{MemberCall, Publish, Hear, JoinFrom, Fire, Claim, Lose, Accept, TakeOutcome}
+use Rattle.repo_member.specs.Calls.{Command, Block, EndClaims, Reset, Restart, if_heard, if_joined, if_claimed, if_lost}
+use Rattle.repo_member.specs.Calls.{if_accepted, after_call, after_calls, LogsGoOn, PublicationsStay, LoggedPacketsStay}
 
 -- an outcome changes what is stored and tried alone
-pub takes_same : {A : Type 0} (f : Alone → A) → ((a : Alone) (store : List Packet) (attempts : List (Part × ℕ)) → f (record a { store = store; attempts = attempts }) ≡ f a)
+pub takes_same : {A : Type 0} (f : Alone → A)
+    → ((a : Alone) (store : List Packet) (attempts : List (Part × ℕ))
+    → f (record a { store = store; attempts = attempts }) ≡ f a)
     → (xs : List Fetched) (a : Alone) → f (alone_takes xs a) ≡ f a
 takes_same f h [] a = refl
 takes_same f h (x ∷ xs) a =
@@ -74,7 +81,8 @@ more_after g (Accept f octets) a = go (accept_verdict g a f octets) where
   go (Err refusal) = nothing_more a a refl refl
 more_after g (TakeOutcome jobs parts attempts) a =
     let xs = outcome_of jobs parts attempts in
-    nothing_more a (alone_takes xs a) (takes_same (λ b. b.number) (λ b s t. refl) xs a) (takes_same (λ b. b.log) (λ b s t. refl) xs a)
+    nothing_more a (alone_takes xs a) (takes_same (λ b. b.number) (λ b s t. refl) xs a)
+    (takes_same (λ b. b.log) (λ b s t. refl) xs a)
 more_after g (Command octets) a = go (order_of g a.number octets) where
   started : (name : List Component) (first last : ℕ) (o : Option ℕ) → HasMore a (alone_starts name first last a o)
   started name first last None = nothing_more a a refl refl
@@ -89,7 +97,8 @@ more_after g (Command octets) a = go (order_of g a.number octets) where
   go (Ok order) = obeyed order.1
   go (Err code) = nothing_more a a refl refl
 more_after g (Block process index content moment draw) a = go (alone_block a process index content) where
-  published : (p : Process) (b : Bool) → HasMore a (cond b (alone_publishes g (object_of p) moment draw (alone_keeps process (closed p) a)) a)
+  published : (p : Process) (b : Bool)
+      → HasMore a (cond b (alone_publishes g (object_of p) moment draw (alone_keeps process (closed p) a)) a)
   published p true = record { number = refl; more = object_of p ∷ []; log = refl }
   published p false = nothing_more a a refl refl
 
@@ -110,7 +119,10 @@ more_after_all g (call ∷ calls) a =
     record {
       number = others.number ∙ one.number;
       more = one.more ++ others.more;
-      log = others.log ∙ ap (λ (log : List NamedContents). log ++ others.more) one.log ∙ append_assoc a.log one.more others.more;
+      log =
+          others.log
+          ∙ ap (λ (log : List NamedContents). log ++ others.more) one.log
+          ∙ append_assoc a.log one.more others.more;
     }
 
 -- ---- the laws
@@ -120,7 +132,9 @@ logs_go_on g calls a =
     let grown = more_after_all g calls a in
     let long = ap (λ (log : List NamedContents). length log) grown.log in
     record {
-      front = ap (λ (log : List NamedContents). take (length a.log) log) grown.log ∙ take_at a.log grown.more (length a.log) refl;
+      front =
+          ap (λ (log : List NamedContents). take (length a.log) log) grown.log
+          ∙ take_at a.log grown.more (length a.log) refl;
       longer = omega (arith, long, length-append a.log grown.more);
     }
 
@@ -138,31 +152,43 @@ pub publications_stay : PublicationsStay
 publications_stay g object moment draw calls a room =
     let next : Alone = alone_publishes g object moment draw a in
     let grown = more_after_all g calls next in
-    ap (λ (b : Bool). slice_get (after_calls g calls (cond b next a)).log (length a.log)) (lt-ltb (length a.log) 65535 room)
+    ap (λ (b : Bool). slice_get (after_calls g calls (cond b next a)).log (length a.log))
+    (lt-ltb (length a.log) 65535 room)
     ∙ ap (λ (log : List NamedContents). slice_get log (length a.log)) grown.log
     ∙ at_front (a.log ++ object ∷ []) grown.more (length a.log) object (at_end a.log object)
 
 -- the packet of a part of the publications of a log
 abbrev packet_logged : GroupKeys → ℕ → List NamedContents → Part → Option (List ℕ)
 packet_logged g number log t =
-    cond (t.publisher == number) (cond (t.seq == 0) None (option_and_then (packet_in (publisher_at g number) t) (slice_get log (t.seq - 1)))) None
+    cond (t.publisher == number)
+    (cond (t.seq == 0) None (option_and_then (packet_in (publisher_at g number) t) (slice_get log (t.seq - 1)))) None
 
-logged_on : (g : GroupKeys) (number : ℕ) (log more : List NamedContents) (t : Part) (octets : List ℕ) → packet_logged g number log t ≡ Some octets → packet_logged g number (log ++ more) t ≡ Some octets
+logged_on : (g : GroupKeys) (number : ℕ) (log more : List NamedContents) (t : Part) (octets : List ℕ)
+    → packet_logged g number log t ≡ Some octets → packet_logged g number (log ++ more) t ≡ Some octets
 logged_on g number log more t octets = own (t.publisher == number) (t.seq == 0) where
-  own : (b c : Bool) → cond b (cond c None (option_and_then (packet_in (publisher_at g number) t) (slice_get log (t.seq - 1)))) None ≡ Some octets
-      → cond b (cond c None (option_and_then (packet_in (publisher_at g number) t) (slice_get (log ++ more) (t.seq - 1)))) None ≡ Some octets
+  own : (b c : Bool)
+      → cond b (cond c None (option_and_then (packet_in (publisher_at g number) t) (slice_get log (t.seq - 1)))) None
+      ≡ Some octets
+      → cond b
+      (cond c None (option_and_then (packet_in (publisher_at g number) t) (slice_get (log ++ more) (t.seq - 1)))) None
+      ≡ Some octets
   own false c h = absurd cc
   own true true h = absurd cc
   own true false h = at (slice_get log (t.seq - 1)) refl h where
-    at : (o : Option NamedContents) → slice_get log (t.seq - 1) ≡ o → option_and_then (packet_in (publisher_at g number) t) o ≡ Some octets
+    at : (o : Option NamedContents) → slice_get log (t.seq - 1) ≡ o
+        → option_and_then (packet_in (publisher_at g number) t) o ≡ Some octets
         → option_and_then (packet_in (publisher_at g number) t) (slice_get (log ++ more) (t.seq - 1)) ≡ Some octets
     at None p q = absurd cc
-    at (Some object) p q = ap (option_and_then (packet_in (publisher_at g number) t)) (at_front log more (t.seq - 1) object p) ∙ q
+    at (Some object) p q =
+        ap (option_and_then (packet_in (publisher_at g number) t)) (at_front log more (t.seq - 1) object p) ∙ q
 
-pub logged_with_more : (g : GroupKeys) (a b : Alone) (t : Part) (octets : List ℕ) → HasMore a b → logged g a t ≡ Some octets → logged g b t ≡ Some octets
+pub logged_with_more : (g : GroupKeys) (a b : Alone) (t : Part) (octets : List ℕ) → HasMore a b
+    → logged g a t ≡ Some octets → logged g b t ≡ Some octets
 logged_with_more g a b t octets grown h =
-    ap (λ (number : ℕ). packet_logged g number b.log t) grown.number ∙ ap (λ (log : List NamedContents). packet_logged g a.number log t) grown.log
+    ap (λ (number : ℕ). packet_logged g number b.log t) grown.number
+    ∙ ap (λ (log : List NamedContents). packet_logged g a.number log t) grown.log
     ∙ logged_on g a.number a.log grown.more t octets h
 
 pub logged_packets_stay : LoggedPacketsStay
-logged_packets_stay g calls a t octets h = logged_with_more g a (after_calls g calls a) t octets (more_after_all g calls a) h
+logged_packets_stay g calls a t octets h =
+    logged_with_more g a (after_calls g calls a) t octets (more_after_all g calls a) h

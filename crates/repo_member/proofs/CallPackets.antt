@@ -1,5 +1,6 @@
 -- What calls make of the packets that a member stores.
-use Rattle.std.proofs.Common.{◌≡◌, ℕ, Bool, true, false, cond, not, ◌&&◌, List, [], ◌∷◌, length, Option, Some, None, Result, Ok, Err, refl, sym, ap, ◌∙◌, subst}
+use Rattle.std.proofs.Common.{◌≡◌, ℕ, Bool, true, false, cond, not, ◌&&◌, List, [], ◌∷◌, length, Option, Some, None}
+use Rattle.std.proofs.Common.{Result, Ok, Err, refl, sym, ap, ◌∙◌, subst}
 use Rattle.std.specs.Prelude.{nat_lt}
 use Rattle.std.specs.Ordering.{eq_by_cmp}
 use Rattle.std.proofs.lemmas.Bool.{or_parts, or_right}
@@ -22,13 +23,17 @@ use Rattle.repo_member.specs.declared.refusals.AcceptRefusal.{AcceptRefusal}
 use Rattle.repo_member.specs.Records.{Packet}
 use Rattle.repo_member.specs.Groups.{GroupKeys}
 use Rattle.group_model.specs.Member.{with_tries}
-use Rattle.repo_member.specs.Alone.{Alone, Fetched, alone_plan, with_packets, new_packets, alone_publishes, logged, alone_takes, with_fetched}
+use Rattle.repo_member.specs.Alone.{Alone, Fetched, alone_plan, with_packets, new_packets, alone_publishes, logged}
+use Rattle.repo_member.specs.Alone.{alone_takes, with_fetched}
 use Rattle.repo_member.specs.Verdicts.{hear_verdict, accept_verdict}
 use Rattle.repo_member.specs.Outcomes.{outcome_of}
 use Rattle.repo_member.specs.Deleting.{catalogued_named, alone_hides}
 use Rattle.repo_member.specs.Commanded.{order_of, alone_starts, alone_obeys, alone_after_order}
 use Rattle.repo_member.specs.Blocks.{alone_block, alone_keeps, after_block}
-use Rattle.repo_member.specs.Calls.{MemberCall, Publish, Hear, JoinFrom, Fire, Claim, Lose, Accept, TakeOutcome, Command, Block, EndClaims, Reset, Restart, if_heard, if_joined, if_claimed, if_lost, if_accepted, after_call, after_calls, HeldPacketsStay, HiddenForGood, HiddenIsGone, OwnStored}
+use Rattle.repo_member.specs.Calls.{MemberCall, Publish, Hear, JoinFrom, Fire, Claim, Lose, Accept, TakeOutcome}
+use Rattle.repo_member.specs.Calls.{Command, Block, EndClaims, Reset, Restart, if_heard, if_joined, if_claimed, if_lost}
+use Rattle.repo_member.specs.Calls.{if_accepted, after_call, after_calls, HeldPacketsStay, HiddenForGood, HiddenIsGone}
+use Rattle.repo_member.specs.Calls.{OwnStored}
 use Rattle.repo_member.proofs.GainingLemmas.{put_elsewhere}
 use Rattle.repo_member.proofs.HidingLemmas.{other_way, value_outside}
 use Rattle.repo_member.proofs.HeldParts.{IsReached, StaysStored, missing_value}
@@ -38,22 +43,29 @@ use Rattle.repo_member.proofs.CallLogs.{takes_same}
 stays_as_it_is : (stored : List Packet) → StaysStored stored stored
 stays_as_it_is stored = record { still = λ t octets h. h }
 
-stays_longer : (first second third : List Packet) → StaysStored first second → StaysStored second third → StaysStored first third
+stays_longer : (first second third : List Packet) → StaysStored first second → StaysStored second third
+    → StaysStored first third
 stays_longer first second third a b = record { still = λ t octets h. b.still t octets (a.still t octets h) }
 
 stays_with : (part : Part) (more : List ℕ) (stored : List Packet) → StaysStored stored (with_packet part more stored)
 stays_with part more stored = go (contains part_cmp (keys stored) part) refl where
-  beside : contains part_cmp (keys stored) part ≡ false → (t : Part) (octets : List ℕ) (b : Bool) → eq_by_cmp part_cmp t part ≡ b → value_of part_cmp stored t ≡ Some octets
+  beside : contains part_cmp (keys stored) part ≡ false → (t : Part) (octets : List ℕ) (b : Bool)
+      → eq_by_cmp part_cmp t part ≡ b → value_of part_cmp stored t ≡ Some octets
       → value_of part_cmp (with_packet part more stored) t ≡ Some octets
   beside absent t octets false p h = put_elsewhere stored part more absent t p ∙ h
   beside absent t octets true p h =
-      let none : value_of part_cmp stored t ≡ None = ap (value_of part_cmp stored) (eq_same exact_parts t part p) ∙ missing_value stored part absent in
+      let none : value_of part_cmp stored t ≡ None =
+      ap (value_of part_cmp stored) (eq_same exact_parts t part p) ∙ missing_value stored part absent in
       absurd (nothing (sym none ∙ h)) where
         nothing : (let o : Option (List ℕ) = None in o) ≡ Some octets → ⊥
         nothing k = cc
 
   go : (b : Bool) → contains part_cmp (keys stored) part ≡ b → StaysStored stored (with_packet part more stored)
-  go true p = record { still = λ t octets h. ap (λ (b : Bool). value_of part_cmp (cond b stored (with_value part_cmp part more stored)) t) p ∙ h }
+  go true p = record {
+    still =
+        λ t octets h.
+        ap (λ (b : Bool). value_of part_cmp (cond b stored (with_value part_cmp part more stored)) t) p ∙ h;
+  }
   go false p = record { still = λ t octets h. beside p t octets (eq_by_cmp part_cmp t part) refl h }
 
 stays_with_all : (es stored : List Packet) → StaysStored stored (with_packets es stored)
@@ -62,22 +74,26 @@ stays_with_all (e ∷ es) stored =
     let next = with_packet e.0 e.1 stored in
     stays_longer stored next (with_packets es next) (stays_with e.0 e.1 stored) (stays_with_all es next)
 
-stays_fetched : (t : Part) (packet : Option (List ℕ)) (stored : List Packet) → StaysStored stored (with_fetched t packet stored)
+stays_fetched : (t : Part) (packet : Option (List ℕ)) (stored : List Packet)
+    → StaysStored stored (with_fetched t packet stored)
 stays_fetched t None stored = stays_as_it_is stored
 stays_fetched t (Some octets) stored = stays_with t octets stored
 
 stays_taken : (xs : List Fetched) (a : Alone) → StaysStored a.store (alone_takes xs a).store
 stays_taken [] a = stays_as_it_is a.store
 stays_taken (x ∷ xs) a =
-    let next : Alone = record a { store = with_fetched x.part x.packet a.store; attempts = with_tries x.part x.attempts a.attempts } in
-    stays_longer a.store next.store (alone_takes xs next).store (stays_fetched x.part x.packet a.store) (stays_taken xs next)
+    let next : Alone =
+    record a { store = with_fetched x.part x.packet a.store; attempts = with_tries x.part x.attempts a.attempts } in
+    stays_longer a.store next.store (alone_takes xs next).store (stays_fetched x.part x.packet a.store)
+    (stays_taken xs next)
 
 -- ---- a call
 
 -- What is hidden stays hidden, and what is stored stays, but for what is hidden.
 record Keeps (old new : Alone) : Type 0 where
   hidden : (pair : Pair) → hides (alone_plan old) pair ≡ true → hides (alone_plan new) pair ≡ true
-  stored : (t : Part) (octets : List ℕ) → value_of part_cmp old.store t ≡ Some octets → hides (alone_plan new) (pair_of t) ≡ false → value_of part_cmp new.store t ≡ Some octets
+  stored : (t : Part) (octets : List ℕ) → value_of part_cmp old.store t ≡ Some octets
+      → hides (alone_plan new) (pair_of t) ≡ false → value_of part_cmp new.store t ≡ Some octets
 
 keeps_all : (old new : Alone) → new.hidden ≡ old.hidden → StaysStored old.store new.store → Keeps old new
 keeps_all old new hidden stays = record {
@@ -92,32 +108,47 @@ keeps_as_it_is old new hidden store =
 keeps_longer : (first second third : Alone) → Keeps first second → Keeps second third → Keeps first third
 keeps_longer first second third a b = record {
   hidden = λ pair h. b.hidden pair (a.hidden pair h);
-  stored = λ t octets h shown. b.stored t octets (a.stored t octets h (still_shown (pair_of t) (hides (alone_plan second) (pair_of t)) refl shown)) shown;
+  stored =
+      λ t octets h shown. b.stored t octets
+      (a.stored t octets h (still_shown (pair_of t) (hides (alone_plan second) (pair_of t)) refl shown)) shown;
 } where
-  still_shown : (pair : Pair) (c : Bool) → hides (alone_plan second) pair ≡ c → hides (alone_plan third) pair ≡ false → c ≡ false
+  still_shown : (pair : Pair) (c : Bool) → hides (alone_plan second) pair ≡ c → hides (alone_plan third) pair ≡ false
+      → c ≡ false
   still_shown pair true h shown = sym (b.hidden pair h) ∙ shown
   still_shown pair false h shown = refl
 
 keeps_hidden_one : (pair : Pair) (a : Alone) → Keeps a (hidden_one pair a)
 keeps_hidden_one pair a = record {
-  hidden = λ q h. contains-insert_key exact_pairs pair a.hidden q ∙ or_right (eq_by_cmp pair_cmp q pair) (contains pair_cmp a.hidden q) h;
+  hidden =
+      λ q h. contains-insert_key exact_pairs pair a.hidden q
+      ∙ or_right (eq_by_cmp pair_cmp q pair) (contains pair_cmp a.hidden q) h;
   stored = λ t octets h shown.
-      let apart = or_parts (eq_by_cmp pair_cmp (pair_of t) pair) (contains pair_cmp a.hidden (pair_of t)) (sym (contains-insert_key exact_pairs pair a.hidden (pair_of t)) ∙ shown) in
-      value_outside pair a.store t ∙ ap (λ (b : Bool). cond (not b) (value_of part_cmp a.store t) None) (other_way (pair_of t) pair apart.0) ∙ h;
+      let apart =
+      or_parts (eq_by_cmp pair_cmp (pair_of t) pair) (contains pair_cmp a.hidden (pair_of t))
+      (sym (contains-insert_key exact_pairs pair a.hidden (pair_of t)) ∙ shown) in
+      value_outside pair a.store t
+      ∙ ap (λ (b : Bool). cond (not b) (value_of part_cmp a.store t) None) (other_way (pair_of t) pair apart.0)
+      ∙ h;
 }
 
 keeps_hidden : (pairs : List Pair) (a : Alone) → Keeps a (alone_hides pairs a)
 keeps_hidden [] a = keeps_as_it_is a (alone_hides [] a) refl refl
-keeps_hidden (pair ∷ pairs) a = keeps_longer a (hidden_one pair a) (alone_hides pairs (hidden_one pair a)) (keeps_hidden_one pair a) (keeps_hidden pairs (hidden_one pair a))
+keeps_hidden (pair ∷ pairs) a =
+    keeps_longer a (hidden_one pair a) (alone_hides pairs (hidden_one pair a)) (keeps_hidden_one pair a)
+    (keeps_hidden pairs (hidden_one pair a))
 
-keeps_published : (g : GroupKeys) (object : NamedContents) (moment draw : ℕ) (old a : Alone) → a.hidden ≡ old.hidden → a.store ≡ old.store → (b : Bool)
+keeps_published : (g : GroupKeys) (object : NamedContents) (moment draw : ℕ) (old a : Alone) → a.hidden ≡ old.hidden
+    → a.store ≡ old.store → (b : Bool)
     → Keeps old (cond b (alone_publishes g object moment draw a) old)
 keeps_published g object moment draw old a hidden store true =
-    keeps_all old (alone_publishes g object moment draw a) hidden (subst (λ (stored : List Packet). StaysStored stored (with_packets (new_packets g object a) a.store)) store (stays_with_all (new_packets g object a) a.store))
+    keeps_all old (alone_publishes g object moment draw a) hidden
+    (subst (λ (stored : List Packet). StaysStored stored (with_packets (new_packets g object a) a.store)) store
+    (stays_with_all (new_packets g object a) a.store))
 keeps_published g object moment draw old a hidden store false = keeps_as_it_is old old refl refl
 
 keeps_after : (g : GroupKeys) (call : MemberCall) (a : Alone) → Keeps a (after_call g call a)
-keeps_after g (Publish object moment draw) a = keeps_published g object moment draw a a refl refl (nat_lt (length a.log) 65535)
+keeps_after g (Publish object moment draw) a =
+    keeps_published g object moment draw a a refl refl (nat_lt (length a.log) 65535)
 keeps_after g (Hear octets moment draw) a = go (hear_verdict g a octets) where
   go : (v : Result (List ℕ) HearRefusal) → Keeps a (if_heard moment draw a v)
   go (Ok told) = keeps_as_it_is a (if_heard moment draw a (Ok told)) refl refl
@@ -160,7 +191,9 @@ keeps_after g (Block process index content moment draw) a = go (alone_block a pr
   go Unknown = keeps_as_it_is a a refl refl
   go Already = keeps_as_it_is a a refl refl
   go (Waiting p) = keeps_as_it_is a (alone_keeps process p a) refl refl
-  go (Whole p) = keeps_published g (object_of p) moment draw a (alone_keeps process (closed p) a) refl refl (nat_lt (length a.log) 65535)
+  go (Whole p) =
+      keeps_published g (object_of p) moment draw a (alone_keeps process (closed p) a) refl refl
+      (nat_lt (length a.log) 65535)
 keeps_after g EndClaims a = keeps_as_it_is a (after_call g EndClaims a) refl refl
 keeps_after g (Reset moment draw) a = keeps_as_it_is a (after_call g (Reset moment draw) a) refl refl
 keeps_after g (Restart moment draw) a = keeps_as_it_is a (after_call g (Restart moment draw) a) refl refl
@@ -170,7 +203,8 @@ keeps_after g (Restart moment draw) a = keeps_as_it_is a (after_call g (Restart 
 keeps_after_all : (g : GroupKeys) (calls : List MemberCall) (a : Alone) → Keeps a (after_calls g calls a)
 keeps_after_all g [] a = keeps_as_it_is a a refl refl
 keeps_after_all g (call ∷ calls) a =
-    keeps_longer a (after_call g call a) (after_calls g calls (after_call g call a)) (keeps_after g call a) (keeps_after_all g calls (after_call g call a))
+    keeps_longer a (after_call g call a) (after_calls g calls (after_call g call a)) (keeps_after g call a)
+    (keeps_after_all g calls (after_call g call a))
 
 pub held_packets_stay : HeldPacketsStay
 held_packets_stay g calls a t octets h shown = (keeps_after_all g calls a).stored t octets h shown
@@ -180,7 +214,8 @@ hidden_for_good g calls a pair h = (keeps_after_all g calls a).hidden pair h
 
 pub hidden_is_gone : (g : GroupKeys) (a : Alone) → IsReached g a → HiddenIsGone g a
 hidden_is_gone g a r t h = (
-  ap (λ (b : Bool). is_asked (alone_plan a) t && (not (holds (alone_plan a) t) && not b)) h ∙ none (is_asked (alone_plan a) t) (not (holds (alone_plan a) t)),
+  ap (λ (b : Bool). is_asked (alone_plan a) t && (not (holds (alone_plan a) t) && not b)) h
+      ∙ none (is_asked (alone_plan a) t) (not (holds (alone_plan a) t)),
   missing_value a.store t (r.sound.hidden t h),
 ) where
   none : (b c : Bool) → (b && (c && false)) ≡ false

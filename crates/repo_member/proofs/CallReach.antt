@@ -1,5 +1,6 @@
 -- What holds of every member that calls reach.
-use Rattle.std.proofs.Common.{◌≡◌, ℕ, ◌-◌, Bool, true, false, cond, List, [], ◌∷◌, length, Option, Some, None, Result, Ok, Err, refl, ap, ◌∙◌, subst, arith}
+use Rattle.std.proofs.Common.{◌≡◌, ℕ, ◌-◌, Bool, true, false, cond, List, [], ◌∷◌, length, Option, Some, None, Result}
+use Rattle.std.proofs.Common.{Ok, Err, refl, ap, ◌∙◌, subst, arith}
 use Rattle.std.specs.Prelude.{nat_lt, is_ok}
 use Rattle.std.proofs.lemmas.Bool.{ltb-true}
 use Rattle.svs_sync.specs.KeptVector.{Keeper, steady_kept, hears_kept, fired_kept}
@@ -14,13 +15,17 @@ use Rattle.repo_object.specs.Verdict.{ring_verdict}
 use Rattle.repo_member.specs.declared.refusals.HearRefusal.{HearRefusal}
 use Rattle.repo_member.specs.declared.refusals.AcceptRefusal.{AcceptRefusal}
 use Rattle.repo_member.specs.Groups.{GroupKeys}
-use Rattle.repo_member.specs.Alone.{Alone, alone_plan, alone_publishes, alone_learns, alone_claims, alone_accepts, alone_ends_claims, alone_clears, want_of}
+use Rattle.repo_member.specs.Alone.{Alone, alone_plan, alone_publishes, alone_learns, alone_claims, alone_accepts}
+use Rattle.repo_member.specs.Alone.{alone_ends_claims, alone_clears, want_of}
 use Rattle.repo_member.specs.Verdicts.{hear_verdict, passed, claim_verdict, accept_verdict}
-use Rattle.repo_member.specs.Calls.{MemberCall, Publish, Hear, JoinFrom, Fire, Claim, Lose, Accept, TakeOutcome, Command, Block, EndClaims, Reset, Restart, if_heard, if_joined, if_claimed, if_lost, if_accepted, after_call, after_calls, IsAllowedCall, AreAllowedCalls, InEveryMember}
+use Rattle.repo_member.specs.Calls.{MemberCall, Publish, Hear, JoinFrom, Fire, Claim, Lose, Accept, TakeOutcome}
+use Rattle.repo_member.specs.Calls.{Command, Block, EndClaims, Reset, Restart, if_heard, if_joined, if_claimed, if_lost}
+use Rattle.repo_member.specs.Calls.{if_accepted, after_call, after_calls, IsAllowedCall, AreAllowedCalls, InEveryMember}
 use Rattle.repo_member.proofs.MemberLemmas.{still_wide}
 use Rattle.repo_member.proofs.CallVectors.{told_is}
 use Rattle.svs_sync.proofs.ToldWidth.{told_wide}
-use Rattle.repo_member.proofs.HeldParts.{IsReached, PassesNow, reached_opening, reached_with, reached_learns, reached_gains}
+use Rattle.repo_member.proofs.HeldParts.{IsReached, PassesNow, reached_opening, reached_with, reached_learns}
+use Rattle.repo_member.proofs.HeldParts.{reached_gains}
 use Rattle.repo_member.proofs.PublishedParts.{reached_publishes}
 use Rattle.repo_member.proofs.FetchedParts.{reached_takes}
 use Rattle.repo_member.proofs.InsertionParts.{reached_order, reached_blocks, reached_clears}
@@ -28,13 +33,16 @@ use Rattle.repo_member.proofs.InsertionParts.{reached_order, reached_blocks, rea
 -- ---- a call
 
 -- what octets tell is learnt
-learnt : (g : GroupKeys) (a : Alone) (octets told : List ℕ) → hear_verdict g a octets ≡ Ok told → IsReached g a → IsReached g (alone_learns told a)
+learnt : (g : GroupKeys) (a : Alone) (octets told : List ℕ) → hear_verdict g a octets ≡ Ok told → IsReached g a
+    → IsReached g (alone_learns told a)
 learnt g a octets told verdict r =
     let is = told_is g a octets told verdict in
-    reached_learns g a told (told_wide g.members.names g.name g.members.ring octets (is.signer, told) is.verdict) is.not_ahead r
+    reached_learns g a told (told_wide g.members.names g.name g.members.ring octets (is.signer, told) is.verdict)
+    is.not_ahead r
 
 -- only the machine changes
-machine_too : (g : GroupKeys) (a : Alone) (machine : Keeper) → machine.members ≡ a.machine.members → IsReached g a → IsReached g (record a { machine = machine })
+machine_too : (g : GroupKeys) (a : Alone) (machine : Keeper) → machine.members ≡ a.machine.members → IsReached g a
+    → IsReached g (record a { machine = machine })
 machine_too g a machine wide r = reached_with g a a.claims a.attempts machine wide r.sound r
 
 pub fired_wide : (moment draw : ℕ) (k : Keeper) → (fired_kept moment draw k).members ≡ k.members
@@ -44,7 +52,9 @@ fired_wide moment draw k = go (nat_lt moment k.deadline) where
   go false = refl
 
 -- only claims change
-claims_too : (g : GroupKeys) (a : Alone) (claims : List (Option Part)) → PlanIsSound (alone_plan (record a { claims = claims })) → IsReached g a → IsReached g (record a { claims = claims })
+claims_too : (g : GroupKeys) (a : Alone) (claims : List (Option Part))
+    → PlanIsSound (alone_plan (record a { claims = claims })) → IsReached g a
+    → IsReached g (record a { claims = claims })
 claims_too g a claims sound r = reached_with g a claims a.attempts a.machine refl sound r
 
 -- what is accepted passes for the part that is claimed
@@ -52,26 +62,35 @@ pub record IsAccepted (g : GroupKeys) (a : Alone) (f : ℕ) (t : Part) (octets :
   pub claimed : claim_of (alone_plan a) f ≡ Some t
   pub passes : PassesNow g a.store t octets
 
-pub accepted : (g : GroupKeys) (a : Alone) (f : ℕ) (t : Part) (octets : List ℕ) → accept_verdict g a f octets ≡ Ok t → IsAccepted g a f t octets
+pub accepted : (g : GroupKeys) (a : Alone) (f : ℕ) (t : Part) (octets : List ℕ) → accept_verdict g a f octets ≡ Ok t
+    → IsAccepted g a f t octets
 accepted g a f t octets h = go (claim_of (alone_plan a) f) refl h where
-  of_part : (u : Part) → claim_of (alone_plan a) f ≡ Some u → (v : Result Data PartRefusal) → ring_verdict (want_of g a.store u) g.members.ring octets ≡ v → passed u v ≡ Ok t → IsAccepted g a f t octets
+  of_part : (u : Part) → claim_of (alone_plan a) f ≡ Some u → (v : Result Data PartRefusal)
+      → ring_verdict (want_of g a.store u) g.members.ring octets ≡ v → passed u v ≡ Ok t → IsAccepted g a f t octets
   of_part u p (Err refusal) q k = absurd cc
   of_part u p (Ok d) q k =
       let same : u ≡ t = cc in
       let passes : PassesNow g a.store u octets = ap (λ v. is_ok v) q in
-      record { claimed = p ∙ ap (λ (x : Part). Some x) same; passes = subst (λ (x : Part). PassesNow g a.store x octets) same passes }
+      record {
+        claimed = p ∙ ap (λ (x : Part). Some x) same;
+        passes = subst (λ (x : Part). PassesNow g a.store x octets) same passes;
+      }
 
-  go : (claim : Option Part) → claim_of (alone_plan a) f ≡ claim → claim_verdict g a octets claim ≡ Ok t → IsAccepted g a f t octets
+  go : (claim : Option Part) → claim_of (alone_plan a) f ≡ claim → claim_verdict g a octets claim ≡ Ok t
+      → IsAccepted g a f t octets
   go None p k = absurd cc
   go (Some u) p k = of_part u p (ring_verdict (want_of g a.store u) g.members.ring octets) refl k
 
-reached_accepts : (g : GroupKeys) (a : Alone) (f : ℕ) (t : Part) (octets : List ℕ) → IsAccepted g a f t octets → IsReached g a → IsReached g (alone_accepts f t octets a)
+reached_accepts : (g : GroupKeys) (a : Alone) (f : ℕ) (t : Part) (octets : List ℕ) → IsAccepted g a f t octets
+    → IsReached g a → IsReached g (alone_accepts f t octets a)
 reached_accepts g a f t octets is r =
     let released = alone_claims f None a in
     let wanted = wanted_parts (alone_plan a) t (r.sound.claimed (f - 1) t is.claimed) in
-    reached_gains g released t octets (claims_too g a released.claims (sound_release f (alone_plan a) r.sound) r) (released_can_be_held f t (alone_plan a) r.sound is.claimed) wanted.not_held is.passes
+    reached_gains g released t octets (claims_too g a released.claims (sound_release f (alone_plan a) r.sound) r)
+    (released_can_be_held f t (alone_plan a) r.sound is.claimed) wanted.not_held is.passes
 
-reached_call : (g : GroupKeys) (call : MemberCall) (a : Alone) → IsAllowedCall g a call → IsReached g a → IsReached g (after_call g call a)
+reached_call : (g : GroupKeys) (call : MemberCall) (a : Alone) → IsAllowedCall g a call → IsReached g a
+    → IsReached g (after_call g call a)
 reached_call g (Publish object moment draw) a can r = go (nat_lt (length a.log) 65535) refl where
   go : (b : Bool) → nat_lt (length a.log) 65535 ≡ b → IsReached g (cond b (alone_publishes g object moment draw a) a)
   go true p = reached_publishes g object moment draw a can (ltb-true (length a.log) 65535 p) r
@@ -80,13 +99,15 @@ reached_call g (Hear octets moment draw) a can r = go (hear_verdict g a octets) 
   go : (v : Result (List ℕ) HearRefusal) → hear_verdict g a octets ≡ v → IsReached g (if_heard moment draw a v)
   go (Ok told) p =
       let machine = hears_kept moment told a.known draw a.machine a.machine.heard in
-      machine_too g (alone_learns told a) machine (still_wide moment told a.known draw a.machine machine refl) (learnt g a octets told p r)
+      machine_too g (alone_learns told a) machine (still_wide moment told a.known draw a.machine machine refl)
+      (learnt g a octets told p r)
   go (Err refusal) p = r
 reached_call g (JoinFrom octets) a can r = go (hear_verdict g a octets) refl where
   go : (v : Result (List ℕ) HearRefusal) → hear_verdict g a octets ≡ v → IsReached g (if_joined a v)
   go (Ok told) p = learnt g a octets told p r
   go (Err refusal) p = r
-reached_call g (Fire moment draw) a can r = machine_too g a (fired_kept moment draw a.machine) (fired_wide moment draw a.machine) r
+reached_call g (Fire moment draw) a can r =
+    machine_too g a (fired_kept moment draw a.machine) (fired_wide moment draw a.machine) r
 reached_call g (Claim f) a can r = go (claim_of (alone_plan a) f) where
   go : (claim : Option Part) → IsReached g (if_claimed f a claim)
   go None =
@@ -103,20 +124,25 @@ reached_call g (Accept f octets) a can r = go (accept_verdict g a f octets) refl
   go (Err refusal) p = r
 reached_call g (TakeOutcome jobs parts attempts) a can r = reached_takes g a jobs parts attempts can.0 can.1 r
 reached_call g (Command octets) a can r = reached_order g octets a can r
-reached_call g (Block process index content moment draw) a can r = reached_blocks g process index content moment draw a can r
+reached_call g (Block process index content moment draw) a can r =
+    reached_blocks g process index content moment draw a can r
 reached_call g EndClaims a can r = claims_too g a (alone_ends_claims a).claims (sound_end (alone_plan a) r.sound) r
 reached_call g (Reset moment draw) a can r = machine_too g a (steady_kept moment draw a.machine) refl r
 reached_call g (Restart moment draw) a can r =
     let ended = alone_ends_claims a in
-    machine_too g (alone_clears ended) (steady_kept moment draw a.machine) refl (reached_clears g ended (claims_too g a ended.claims (sound_end (alone_plan a) r.sound) r))
+    machine_too g (alone_clears ended) (steady_kept moment draw a.machine) refl
+    (reached_clears g ended (claims_too g a ended.claims (sound_end (alone_plan a) r.sound) r))
 
 -- ---- all calls
 
-reached_calls : (g : GroupKeys) (calls : List MemberCall) (a : Alone) → AreAllowedCalls g a calls → IsReached g a → IsReached g (after_calls g calls a)
+reached_calls : (g : GroupKeys) (calls : List MemberCall) (a : Alone) → AreAllowedCalls g a calls → IsReached g a
+    → IsReached g (after_calls g calls a)
 reached_calls g [] a can r = r
-reached_calls g (call ∷ calls) a can r = reached_calls g calls (after_call g call a) can.1 (reached_call g call a can.0 r)
+reached_calls g (call ∷ calls) a can r =
+    reached_calls g calls (after_call g call a) can.1 (reached_call g call a can.0 r)
 
-pub in_every_member : (P : GroupKeys → Alone → Type 0) → ((g : GroupKeys) (a : Alone) → IsReached g a → P g a) → InEveryMember P
+pub in_every_member : (P : GroupKeys → Alone → Type 0) → ((g : GroupKeys) (a : Alone) → IsReached g a → P g a)
+    → InEveryMember P
 in_every_member P h g number moment draw calls group inside can =
     h g (after_calls g calls _) (reached_calls g calls _ can (reached_opening g number moment draw group inside))
 
@@ -124,6 +150,8 @@ in_every_member P h g number moment draw calls group inside can =
 
 pub claims_once : (g : GroupKeys) (a : Alone) → IsReached g a → ClaimsOnce (alone_plan a)
 claims_once g a r = record {
-  once = λ f h t is_f is_h differ e k. differ (omega (arith, is_f.from_one, is_h.from_one, r.sound.apart (f - 1) (h - 1) t e k));
+  once =
+      λ f h t is_f is_h differ e k.
+      differ (omega (arith, is_f.from_one, is_h.from_one, r.sound.apart (f - 1) (h - 1) t e k));
   wanted = λ f t e. r.sound.claimed (f - 1) t e;
 }

@@ -1,5 +1,6 @@
 -- What calls make of the numbers that a member knows.
-use Rattle.std.proofs.Common.{◌≡◌, inl, inr, ℕ, zero, suc, ◌+◌, ◌<◌, ◌≤◌, max, Bool, true, false, cond, List, [], ◌∷◌, ◌++◌, length, Option, Some, None, Result, Ok, Err, refl, sym, ap, ◌∙◌, arith}
+use Rattle.std.proofs.Common.{◌≡◌, inl, inr, ℕ, zero, suc, ◌+◌, ◌<◌, ◌≤◌, max, Bool, true, false, cond, List, [], ◌∷◌}
+use Rattle.std.proofs.Common.{◌++◌, length, Option, Some, None, Result, Ok, Err, refl, sym, ap, ◌∙◌, arith}
 use Rattle.std.specs.Prelude.{nat_lt, slice_index, slice_set}
 use Rattle.std.proofs.lemmas.Bool.{cases_eq, ltb-false}
 use Rattle.std.proofs.lemmas.List.{length-set, length_push, set-get_or, get_or-set_same, get_or-set_other}
@@ -26,7 +27,10 @@ use Rattle.repo_member.specs.Outcomes.{outcome_of}
 use Rattle.repo_member.specs.Deleting.{alone_deletes}
 use Rattle.repo_member.specs.Commanded.{order_of, alone_starts, alone_obeys, alone_after_order}
 use Rattle.repo_member.specs.Blocks.{alone_block, alone_keeps, after_block}
-use Rattle.repo_member.specs.Calls.{MemberCall, Publish, Hear, JoinFrom, Fire, Claim, Lose, Accept, TakeOutcome, Command, Block, EndClaims, Reset, Restart, if_heard, if_joined, if_claimed, if_lost, if_accepted, after_call, after_calls, vector_taken, vector_of_call, vectors_told, NumbersNeverFall, KnownIsTheJoin}
+use Rattle.repo_member.specs.Calls.{MemberCall, Publish, Hear, JoinFrom, Fire, Claim, Lose, Accept, TakeOutcome}
+use Rattle.repo_member.specs.Calls.{Command, Block, EndClaims, Reset, Restart, if_heard, if_joined, if_claimed, if_lost}
+use Rattle.repo_member.specs.Calls.{if_accepted, after_call, after_calls, vector_taken, vector_of_call, vectors_told}
+use Rattle.repo_member.specs.Calls.{NumbersNeverFall, KnownIsTheJoin}
 use Rattle.repo_member.proofs.CallLogs.{takes_same}
 
 -- ---- what octets tell
@@ -40,20 +44,28 @@ pub record IsTold (g : GroupKeys) (a : Alone) (octets told : List ℕ) : Type 0 
 is_ok_told : (x y : List ℕ) → (let r : Result (List ℕ) HearRefusal = Ok x in r) ≡ Ok y → x ≡ y
 is_ok_told x y h = cc
 
-pub told_is : (g : GroupKeys) (a : Alone) (octets told : List ℕ) → hear_verdict g a octets ≡ Ok told → IsTold g a octets told
+pub told_is : (g : GroupKeys) (a : Alone) (octets told : List ℕ) → hear_verdict g a octets ≡ Ok told
+    → IsTold g a octets told
 told_is g a octets told h = go (sync_verdict g.name g.members.names g.members.ring octets) refl h where
-  go : (r : Result (ℕ × List ℕ) SyncRefusal) → sync_verdict g.name g.members.names g.members.ring octets ≡ r → told_verdict a r ≡ Ok told → IsTold g a octets told
+  go : (r : Result (ℕ × List ℕ) SyncRefusal) → sync_verdict g.name g.members.names g.members.ring octets ≡ r
+      → told_verdict a r ≡ Ok told → IsTold g a octets told
   go (Err refusal) p q = absurd cc
   go (Ok sync) p q = within (nat_lt (length a.log) (slice_index sync.1 a.number)) refl q where
     within : (b : Bool) → nat_lt (length a.log) (slice_index sync.1 a.number) ≡ b
-        → cond b (Err (OwnNumberAhead (length a.log) (slice_index sync.1 a.number))) (Ok sync.1) ≡ Ok told → IsTold g a octets told
+        → cond b (Err (OwnNumberAhead (length a.log) (slice_index sync.1 a.number))) (Ok sync.1) ≡ Ok told
+        → IsTold g a octets told
     within true n k = absurd cc
     within false n k =
         let same : sync.1 ≡ told = is_ok_told sync.1 told k in
         record {
           signer = sync.0;
           verdict = p ∙ ap (λ (v : List ℕ). Ok (sync.0, v)) same;
-          not_ahead = omega (arith, ltb-false (length a.log) (slice_index sync.1 a.number) n, ap (λ (v : List ℕ). slice_index v a.number) same);
+          not_ahead =
+              omega (
+                arith,
+                ltb-false (length a.log) (slice_index sync.1 a.number) n,
+                ap (λ (v : List ℕ). slice_index v a.number) same,
+              );
         }
 
 -- ---- the number of an own publication
@@ -70,11 +82,15 @@ long_join (n ∷ v) [] = omega arith
 long_join (n ∷ v) (m ∷ w) = omega (arith, long_join v w)
 
 -- two numbers that are put into one place, and a vector that is joined between
-set_joined : (v w : List ℕ) (i n m : ℕ) → i < length v → slice_set (join (slice_set v i n) w) i m ≡ slice_set (join v w) i m
+set_joined : (v w : List ℕ) (i n m : ℕ) → i < length v
+    → slice_set (join (slice_set v i n) w) i m ≡ slice_set (join v w) i m
 unfolding join
 set_joined [] w i n m h = absurd (omega arith)
 set_joined (x ∷ v) [] zero n m h = refl
-set_joined (x ∷ v) [] (suc i) n m h = ap (λ (u : List ℕ). x ∷ u) (ap (λ (u : List ℕ). slice_set u i m) (sym (join-[] (slice_set v i n))) ∙ set_joined v [] i n m (omega arith) ∙ ap (λ (u : List ℕ). slice_set u i m) (join-[] v))
+set_joined (x ∷ v) [] (suc i) n m h =
+    ap (λ (u : List ℕ). x ∷ u)
+    (ap (λ (u : List ℕ). slice_set u i m) (sym (join-[] (slice_set v i n))) ∙ set_joined v [] i n m (omega arith)
+    ∙ ap (λ (u : List ℕ). slice_set u i m) (join-[] v))
 set_joined (x ∷ v) (y ∷ w) zero n m h = refl
 set_joined (x ∷ v) (y ∷ w) (suc i) n m h = ap (λ (u : List ℕ). max x y ∷ u) (set_joined v w i n m (omega arith))
 
@@ -85,21 +101,29 @@ record Learns (told : List (List ℕ)) (old new : Alone) : Type 0 where
   number : new.number ≡ old.number
   knows : KnowsOwn new
   rises : (p : ℕ) → slice_index old.known p ≤ slice_index new.known p
-  joined : (others : List ℕ) (n : ℕ) → slice_set (join new.known others) old.number n ≡ slice_set (join old.known (join (join_all told) others)) old.number n
+  joined : (others : List ℕ) (n : ℕ)
+      → slice_set (join new.known others) old.number n
+      ≡ slice_set (join old.known (join (join_all told) others)) old.number n
 
-learns_nothing : (old new : Alone) → new.number ≡ old.number → new.known ≡ old.known → new.log ≡ old.log → KnowsOwn old → Learns [] old new
+learns_nothing : (old new : Alone) → new.number ≡ old.number → new.known ≡ old.known → new.log ≡ old.log → KnowsOwn old
+    → Learns [] old new
 unfolding join_all join
 learns_nothing old new number known log is = record {
   number = number;
   knows = record {
     member = omega (arith, number, ap (λ (v : List ℕ). length v) known, is.member);
-    own = ap (λ (v : List ℕ). slice_index v new.number) known ∙ ap (slice_index old.known) number ∙ is.own ∙ sym (ap (λ (l : List NamedContents). length l) log);
+    own =
+        ap (λ (v : List ℕ). slice_index v new.number) known
+        ∙ ap (slice_index old.known) number
+        ∙ is.own
+        ∙ sym (ap (λ (l : List NamedContents). length l) log);
   };
   rises = λ p. omega (arith, ap (λ (v : List ℕ). slice_index v p) known);
   joined = λ others n. ap (λ (v : List ℕ). slice_set (join v others) old.number n) known;
 }
 
-learns_vector : (g : GroupKeys) (octets told : List ℕ) (old new : Alone) → hear_verdict g old octets ≡ Ok told → new.number ≡ old.number → new.known ≡ join old.known told → new.log ≡ old.log → KnowsOwn old
+learns_vector : (g : GroupKeys) (octets told : List ℕ) (old new : Alone) → hear_verdict g old octets ≡ Ok told
+    → new.number ≡ old.number → new.known ≡ join old.known told → new.log ≡ old.log → KnowsOwn old
     → Learns (told ∷ []) old new
 unfolding join_all
 learns_vector g octets told old new verdict number known log is =
@@ -110,7 +134,11 @@ learns_vector g octets told old new verdict number known log is =
       number = number;
       knows = record {
         member = omega (arith, number, ap (λ (v : List ℕ). length v) known, is.member, long_join old.known told);
-        own = ap (λ (v : List ℕ). slice_index v new.number) known ∙ ap (slice_index (join old.known told)) number ∙ at old.number ∙ omega (arith, is.own, few, lasting);
+        own =
+            ap (λ (v : List ℕ). slice_index v new.number) known
+            ∙ ap (slice_index (join old.known told)) number
+            ∙ at old.number
+            ∙ omega (arith, is.own, few, lasting);
       };
       rises = λ p. omega (arith, ap (λ (v : List ℕ). slice_index v p) known, at p);
       joined = λ others n.
@@ -119,7 +147,9 @@ learns_vector g octets told old new verdict number known log is =
           ∙ ap (λ (v : List ℕ). slice_set (join old.known (join v others)) old.number n) (sym (join-[] told));
     }
 
-learns_own : (object : NamedContents) (old new : Alone) → new.number ≡ old.number → new.known ≡ slice_set old.known old.number (length old.log + 1) → new.log ≡ old.log ++ object ∷ [] → KnowsOwn old → Learns [] old new
+learns_own : (object : NamedContents) (old new : Alone) → new.number ≡ old.number
+    → new.known ≡ slice_set old.known old.number (length old.log + 1) → new.log ≡ old.log ++ object ∷ [] → KnowsOwn old
+    → Learns [] old new
 unfolding join_all join
 learns_own object old new number known log is =
     let at = get_or-set_same old.known old.number (length old.log + 1) 0 is.member in
@@ -127,25 +157,51 @@ learns_own object old new number known log is =
     record {
       number = number;
       knows = record {
-        member = omega (arith, number, ap (λ (v : List ℕ). length v) known, length-set old.known old.number (length old.log + 1), is.member);
-        own = ap (λ (v : List ℕ). slice_index v new.number) known ∙ ap (slice_index (slice_set old.known old.number (length old.log + 1))) number ∙ at ∙ omega (arith, longer);
+        member =
+            omega (
+              arith,
+              number,
+              ap (λ (v : List ℕ). length v) known,
+              length-set old.known old.number (length old.log + 1),
+              is.member,
+            );
+        own =
+            ap (λ (v : List ℕ). slice_index v new.number) known
+            ∙ ap (slice_index (slice_set old.known old.number (length old.log + 1))) number
+            ∙ at
+            ∙ omega (arith, longer);
       };
       rises = λ p. elim (cases_eq p old.number) [
-        | inl here ↦ omega (arith, ap (λ (v : List ℕ). slice_index v p) known, ap (slice_index (slice_set old.known old.number (length old.log + 1))) here, at, is.own, ap (slice_index old.known) here)
-        | inr other ↦ omega (arith, ap (λ (v : List ℕ). slice_index v p) known, get_or-set_other old.known old.number p (length old.log + 1) 0 other)
+        | inl here ↦
+            omega (
+              arith,
+              ap (λ (v : List ℕ). slice_index v p) known,
+              ap (slice_index (slice_set old.known old.number (length old.log + 1))) here,
+              at,
+              is.own,
+              ap (slice_index old.known) here,
+            )
+        | inr other ↦
+            omega (
+              arith,
+              ap (λ (v : List ℕ). slice_index v p) known,
+              get_or-set_other old.known old.number p (length old.log + 1) 0 other,
+            )
       ];
       joined = λ others n.
           ap (λ (v : List ℕ). slice_set (join v others) old.number n) known
           ∙ set_joined old.known others old.number (length old.log + 1) n is.member;
     }
 
-learns_by : (g : GroupKeys) (call : MemberCall) (a : Alone) → KnowsOwn a → Learns (vector_of_call g a call) a (after_call g call a)
+learns_by : (g : GroupKeys) (call : MemberCall) (a : Alone) → KnowsOwn a
+    → Learns (vector_of_call g a call) a (after_call g call a)
 learns_by g (Publish object moment draw) a is = go (nat_lt (length a.log) 65535) where
   go : (b : Bool) → Learns [] a (cond b (alone_publishes g object moment draw a) a)
   go true = learns_own object a (alone_publishes g object moment draw a) refl refl refl is
   go false = learns_nothing a a refl refl refl is
 learns_by g (Hear octets moment draw) a is = go (hear_verdict g a octets) refl where
-  go : (r : Result (List ℕ) HearRefusal) → hear_verdict g a octets ≡ r → Learns (vector_taken r) a (if_heard moment draw a r)
+  go : (r : Result (List ℕ) HearRefusal) → hear_verdict g a octets ≡ r
+      → Learns (vector_taken r) a (if_heard moment draw a r)
   go (Ok told) p = learns_vector g octets told a (if_heard moment draw a (Ok told)) p refl refl refl is
   go (Err refusal) p = learns_nothing a a refl refl refl is
 learns_by g (JoinFrom octets) a is = go (hear_verdict g a octets) refl where
@@ -167,7 +223,8 @@ learns_by g (Accept f octets) a is = go (accept_verdict g a f octets) where
   go (Err refusal) = learns_nothing a a refl refl refl is
 learns_by g (TakeOutcome jobs parts attempts) a is =
     let xs = outcome_of jobs parts attempts in
-    learns_nothing a (alone_takes xs a) (takes_same (λ b. b.number) (λ b s t. refl) xs a) (takes_same (λ b. b.known) (λ b s t. refl) xs a) (takes_same (λ b. b.log) (λ b s t. refl) xs a) is
+    learns_nothing a (alone_takes xs a) (takes_same (λ b. b.number) (λ b s t. refl) xs a)
+    (takes_same (λ b. b.known) (λ b s t. refl) xs a) (takes_same (λ b. b.log) (λ b s t. refl) xs a) is
 learns_by g (Command octets) a is = go (order_of g a.number octets) where
   started : (name : List Component) (first last : ℕ) (o : Option ℕ) → Learns [] a (alone_starts name first last a o)
   started name first last None = learns_nothing a a refl refl refl is
@@ -182,8 +239,11 @@ learns_by g (Command octets) a is = go (order_of g a.number octets) where
   go (Ok order) = obeyed order.1
   go (Err code) = learns_nothing a a refl refl refl is
 learns_by g (Block process index content moment draw) a is = go (alone_block a process index content) where
-  published : (p : Process) (b : Bool) → Learns [] a (cond b (alone_publishes g (object_of p) moment draw (alone_keeps process (closed p) a)) a)
-  published p true = learns_own (object_of p) a (alone_publishes g (object_of p) moment draw (alone_keeps process (closed p) a)) refl refl refl is
+  published : (p : Process) (b : Bool)
+      → Learns [] a (cond b (alone_publishes g (object_of p) moment draw (alone_keeps process (closed p) a)) a)
+  published p true =
+      learns_own (object_of p) a (alone_publishes g (object_of p) moment draw (alone_keeps process (closed p) a)) refl
+      refl refl is
   published p false = learns_nothing a a refl refl refl is
 
   go : (state : BlockState) → Learns [] a (after_block g process moment draw a state)
@@ -197,7 +257,8 @@ learns_by g (Restart moment draw) a is = learns_nothing a (after_call g (Restart
 
 -- ---- the laws
 
-rises_by_all : (g : GroupKeys) (calls : List MemberCall) (a : Alone) (p : ℕ) → KnowsOwn a → slice_index a.known p ≤ slice_index (after_calls g calls a).known p
+rises_by_all : (g : GroupKeys) (calls : List MemberCall) (a : Alone) (p : ℕ) → KnowsOwn a
+    → slice_index a.known p ≤ slice_index (after_calls g calls a).known p
 rises_by_all g [] a p is = omega arith
 rises_by_all g (call ∷ calls) a p is =
     let one = learns_by g call a is in
@@ -212,10 +273,12 @@ join_all-append [] ws = refl
 join_all-append (v ∷ vs) ws = ap (join v) (join_all-append vs ws) ∙ sym (join_assoc v (join_all vs) (join_all ws))
 
 known_by_all : (g : GroupKeys) (calls : List MemberCall) (a : Alone) → KnowsOwn a
-    → (after_calls g calls a).known ≡ slice_set (join a.known (join_all (vectors_told g calls a))) a.number (length (after_calls g calls a).log)
+    → (after_calls g calls a).known
+    ≡ slice_set (join a.known (join_all (vectors_told g calls a))) a.number (length (after_calls g calls a).log)
 unfolding join_all
 known_by_all g [] a is =
-    sym (ap (λ (v : List ℕ). slice_set v a.number (length a.log)) (join-[] a.known) ∙ ap (slice_set a.known a.number) (sym is.own) ∙ set-get_or a.known a.number 0)
+    sym (ap (λ (v : List ℕ). slice_set v a.number (length a.log)) (join-[] a.known)
+    ∙ ap (slice_set a.known a.number) (sym is.own) ∙ set-get_or a.known a.number 0)
 known_by_all g (call ∷ calls) a is =
     let next = after_call g call a in
     let one = learns_by g call a is in

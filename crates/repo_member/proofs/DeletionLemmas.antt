@@ -18,25 +18,38 @@ use Rattle.repo_member.proofs.HidingLemmas.{keys_outside}
 use Rattle.repo_member.proofs.HiddenParts.{hidden_one}
 use Rattle.repo_member.proofs.GroupCatalogues.{lists_alike}
 
-pub hides_alike : (ps : List Publication) (a : Alone) → in_group (alone_hides (map pair_in ps) a) ≡ member_hides_all ps (in_group a)
+pub hides_alike : (ps : List Publication) (a : Alone)
+    → in_group (alone_hides (map pair_in ps) a) ≡ member_hides_all ps (in_group a)
 hides_alike [] a = refl
 hides_alike (p ∷ ps) a =
-    let shown : List Part → Member = λ held. record (in_group a) { held = held; hidden = insert_key pair_cmp (pair_in p) a.hidden } in
-    hides_alike ps (hidden_one (pair_in p) a) ∙ ap (λ (held : List Part). member_hides_all ps (shown held)) (keys_outside (pair_in p) a.store)
+    let shown : List Part → Member =
+    λ held. record (in_group a) { held = held; hidden = insert_key pair_cmp (pair_in p) a.hidden } in
+    hides_alike ps (hidden_one (pair_in p) a)
+    ∙ ap (λ (held : List Part). member_hides_all ps (shown held)) (keys_outside (pair_in p) a.store)
 
-named_entries : (name : List Component) (ps : List Publication) → publications_named name (map published_entry ps) ≡ map pair_in (filter (λ p. is_equal_name p.object.name name) ps)
+named_entries : (name : List Component) (ps : List Publication)
+    → publications_named name (map published_entry ps) ≡ map pair_in (filter (λ p. is_equal_name p.object.name name) ps)
 named_entries name [] = refl
 named_entries name (p ∷ ps) = go (is_equal_name p.object.name name) (named_entries name ps) where
-  go : (b : Bool) → publications_named name (map published_entry ps) ≡ map pair_in (filter (λ q. is_equal_name q.object.name name) ps)
-      → map publication_of (cond b (published_entry p ∷ filter (entry_has_name name) (map published_entry ps)) (filter (entry_has_name name) (map published_entry ps)))
-      ≡ map pair_in (cond b (p ∷ filter (λ q. is_equal_name q.object.name name) ps) (filter (λ q. is_equal_name q.object.name name) ps))
+  go : (b : Bool)
+      → publications_named name (map published_entry ps)
+      ≡ map pair_in (filter (λ q. is_equal_name q.object.name name) ps)
+      → map publication_of
+      (cond b (published_entry p ∷ filter (entry_has_name name) (map published_entry ps))
+      (filter (entry_has_name name) (map published_entry ps)))
+      ≡ map pair_in
+      (cond b (p ∷ filter (λ q. is_equal_name q.object.name name) ps)
+      (filter (λ q. is_equal_name q.object.name name) ps))
   go true h = ap (λ (rest : List Pair). pair_in p ∷ rest) h
   go false h = h
 
-pub named_alike : (g : GroupKeys) (logs : Logs) (name : List Component) (a : Alone) → AreLogs g logs → StoresTruly g logs a
+pub named_alike : (g : GroupKeys) (logs : Logs) (name : List Component) (a : Alone) → AreLogs g logs
+    → StoresTruly g logs a
     → alone.catalogued_named name a ≡ map pair_in (catalogued_under logs (in_group a) name)
-named_alike g logs name a are truly = ap (publications_named name) (lists_alike g logs a are truly) ∙ named_entries name (catalogued logs (in_group a))
+named_alike g logs name a are truly =
+    ap (publications_named name) (lists_alike g logs a are truly) ∙ named_entries name (catalogued logs (in_group a))
 
 pub deletes_alike : DeletesAlike
 deletes_alike g logs name a are truly =
-    ap (λ (pairs : List Pair). in_group (alone_hides pairs a)) (named_alike g logs name a are truly) ∙ hides_alike (catalogued_under logs (in_group a) name) a
+    ap (λ (pairs : List Pair). in_group (alone_hides pairs a)) (named_alike g logs name a are truly)
+    ∙ hides_alike (catalogued_under logs (in_group a) name) a

@@ -1,5 +1,6 @@
 -- What an event of a group makes of a member by itself.
-use Rattle.std.proofs.Common.{◌≡◌, ℕ, ◌-◌, Bool, true, false, cond, ◌||◌, List, [], ◌∷◌, map, length, get_or, set, Option, Some, None, refl, sym, ap, ◌∙◌}
+use Rattle.std.proofs.Common.{◌≡◌, ℕ, ◌-◌, Bool, true, false, cond, ◌||◌, List, [], ◌∷◌, map, length, get_or, set}
+use Rattle.std.proofs.Common.{Option, Some, None, refl, sym, ap, ◌∙◌}
 use Rattle.std.specs.Prelude.{nat_lt, slice_index}
 use Rattle.std.proofs.lemmas.List.{get_or-set_same, set-get_or}
 use Rattle.std.proofs.lemmas.List.Elements.{All-head, All-tail}
@@ -19,57 +20,79 @@ use Rattle.group_model.specs.Changes as group
 use Rattle.group_model.specs.Events.{Came}
 use Rattle.group_model.specs.Events.Came.{Nothing, Its, Another}
 use Rattle.group_model.specs.World.{Outside, World, no_member, member, logs, sent_at}
-use Rattle.group_model.specs.Steps.{drawn, timer_at, claim_at, passes_checks, came_from, came_as, tried_once, planned_parts, attempts_for, fetches, settled_vector, settled_member, new_parts, after_deliver, after_fire, after_claiming, after_came}
+use Rattle.group_model.specs.Steps.{drawn, timer_at, claim_at, passes_checks, came_from, came_as, tried_once}
+use Rattle.group_model.specs.Steps.{planned_parts, attempts_for, fetches, settled_vector, settled_member, new_parts}
+use Rattle.group_model.specs.Steps.{after_deliver, after_fire, after_claiming, after_came}
 use Rattle.group_model.proofs.Lists.{contains-insert_keys, rises_insert_keys}
 use Rattle.group_model.proofs.Settles.{member_settled, member_gathered}
 use Rattle.group_model.proofs.SortedSets.{same_members}
-use Rattle.repo_member.specs.Alone.{Alone, alone_plan, alone_learns, alone_hears, alone_fires, alone_claims, alone_accepts, alone_takes, alone_ends_claims}
+use Rattle.repo_member.specs.Alone.{Alone, alone_plan, alone_learns, alone_hears, alone_fires, alone_claims}
+use Rattle.repo_member.specs.Alone.{alone_accepts, alone_takes, alone_ends_claims}
 use Rattle.repo_member.specs.InGroup.{in_group, StoresInOrder, AreTries, that_came, after_timer}
 use Rattle.repo_member.specs.Outcomes.{with_all_tries}
 use Rattle.repo_member.specs.Alone.{Fetched}
-use Rattle.repo_member.specs.InEvents.{IsMemberOf, PublishIsEvent, DeliverIsEvent, HearIsEvent, FireIsEvent, RestartIsEvent, ClaimIsEvent, LoseIsEvent, AnswerIsEvent, FeedIsEvent, FetchIsEvent, LearnsAtOnce, LearnsWhatAllKnow, IsSettling, GatheringIsEvent, SettleIsEvent, learns_all, OpenPartsAlike, CataloguesAlike}
+use Rattle.repo_member.specs.InEvents.{IsMemberOf, PublishIsEvent, DeliverIsEvent, HearIsEvent, FireIsEvent}
+use Rattle.repo_member.specs.InEvents.{RestartIsEvent, ClaimIsEvent, LoseIsEvent, AnswerIsEvent, FeedIsEvent}
+use Rattle.repo_member.specs.InEvents.{FetchIsEvent, LearnsAtOnce, LearnsWhatAllKnow, IsSettling, GatheringIsEvent}
+use Rattle.repo_member.specs.InEvents.{SettleIsEvent, learns_all, OpenPartsAlike, CataloguesAlike}
 use Rattle.repo_member.proofs.ChangeLemmas.{publishes_alike, accepts_alike, takes_alike, takes_in_group}
 use Rattle.repo_member.proofs.GroupPlans.{plans_alike}
 use Rattle.repo_member.proofs.GroupCatalogues.{lists_alike}
 
 module _ (w : World) (j : ℕ) (a : Alone) (is : IsMemberOf w j a) where
   -- the member after a change of it
-  pub changed : (change : Member → Member) → get_or (set w.members j (change (member w j))) j no_member ≡ change (in_group a)
+  pub changed : (change : Member → Member)
+      → get_or (set w.members j (change (member w j))) j no_member ≡ change (in_group a)
   changed change = get_or-set_same w.members j (change (member w j)) no_member is.there ∙ ap change is.same
 
 pub publish_is_event : PublishIsEvent
 publish_is_event out w j g object a is r =
     changed w j a is (group.publishes (drawn out w j) w.moment j object)
-    ∙ ap (λ (n : ℕ). group.publishes (drawn out w j) w.moment n object (in_group a)) (sym is.number) ∙ sym (publishes_alike g object w.moment (drawn out w j) a r)
+    ∙ ap (λ (n : ℕ). group.publishes (drawn out w j) w.moment n object (in_group a)) (sym is.number)
+    ∙ sym (publishes_alike g object w.moment (drawn out w j) a r)
 
 pub deliver_is_event : DeliverIsEvent
 deliver_is_event out w k j a is = changed w j a is (group.learns (drawn out w j) w.moment (sent_at w k).vector)
 
 pub hear_is_event : HearIsEvent
-hear_is_event out w j sync a is = ap (λ (b : Bool). member (cond b w (after_deliver out w j sync.vector)) j) test ∙ go (nat_lt (length a.log) (slice_index sync.vector a.number)) where
-  test : nat_lt (length (member w j).log) (slice_index sync.vector j) ≡ nat_lt (length a.log) (slice_index sync.vector a.number)
-  test = ap (λ (m : Member). nat_lt (length m.log) (slice_index sync.vector j)) is.same ∙ ap (λ (n : ℕ). nat_lt (length a.log) (slice_index sync.vector n)) (sym is.number)
+hear_is_event out w j sync a is =
+    ap (λ (b : Bool). member (cond b w (after_deliver out w j sync.vector)) j) test
+    ∙ go (nat_lt (length a.log) (slice_index sync.vector a.number)) where
+      test : nat_lt (length (member w j).log) (slice_index sync.vector j)
+          ≡ nat_lt (length a.log) (slice_index sync.vector a.number)
+      test =
+          ap (λ (m : Member). nat_lt (length m.log) (slice_index sync.vector j)) is.same
+          ∙ ap (λ (n : ℕ). nat_lt (length a.log) (slice_index sync.vector n)) (sym is.number)
 
-  go : (b : Bool) → member (cond b w (after_deliver out w j sync.vector)) j ≡ in_group (cond b a (alone_hears sync.vector w.moment (drawn out w j) a))
-  go true = is.same
-  go false = changed w j a is (group.learns (drawn out w j) w.moment sync.vector)
+      go : (b : Bool)
+          → member (cond b w (after_deliver out w j sync.vector)) j
+          ≡ in_group (cond b a (alone_hears sync.vector w.moment (drawn out w j) a))
+      go true = is.same
+      go false = changed w j a is (group.learns (drawn out w j) w.moment sync.vector)
 
-fires_alike : (moment draw : ℕ) (a : Alone) → in_group (alone_fires moment draw a) ≡ after_timer (fires_kept moment a.known a.machine) draw moment (in_group a)
+fires_alike : (moment draw : ℕ) (a : Alone)
+    → in_group (alone_fires moment draw a) ≡ after_timer (fires_kept moment a.known a.machine) draw moment (in_group a)
 fires_alike moment draw a = go (nat_lt moment a.machine.deadline) where
-  due : (heard : Option (List ℕ)) → group.resets draw moment (in_group a) ≡ after_timer (due_kept a.known heard) draw moment (in_group a)
+  due : (heard : Option (List ℕ))
+      → group.resets draw moment (in_group a) ≡ after_timer (due_kept a.known heard) draw moment (in_group a)
   due None = refl
   due (Some vector) = covered (covers vector a.known) where
-    covered : (b : Bool) → group.resets draw moment (in_group a) ≡ after_timer (cond b Quiet Send) draw moment (in_group a)
+    covered : (b : Bool)
+        → group.resets draw moment (in_group a) ≡ after_timer (cond b Quiet Send) draw moment (in_group a)
     covered true = refl
     covered false = refl
 
-  go : (b : Bool) → in_group (record a { machine = cond b a.machine (steady_kept moment draw a.machine) }) ≡ after_timer (cond b Early (due_kept a.known a.machine.heard)) draw moment (in_group a)
+  go : (b : Bool)
+      → in_group (record a { machine = cond b a.machine (steady_kept moment draw a.machine) })
+      ≡ after_timer (cond b Early (due_kept a.known a.machine.heard)) draw moment (in_group a)
   go true = refl
   go false = due a.machine.heard
 
 pub fire_is_event : FireIsEvent
 fire_is_event out w j a is =
-    go (timer_at w j) ∙ ap (λ (m : Member). after_timer (fires_kept w.moment m.known m.machine) (drawn out w j) w.moment m) is.same ∙ sym (fires_alike w.moment (drawn out w j) a) where
+    go (timer_at w j)
+    ∙ ap (λ (m : Member). after_timer (fires_kept w.moment m.known m.machine) (drawn out w j) w.moment m) is.same
+    ∙ sym (fires_alike w.moment (drawn out w j) a) where
       go : (x : Fired) → member (after_fire out w j x) j ≡ after_timer x (drawn out w j) w.moment (member w j)
       go Early = refl
       go Quiet = get_or-set_same w.members j (group.resets (drawn out w j) w.moment (member w j)) no_member is.there
@@ -79,36 +102,47 @@ pub restart_is_event : RestartIsEvent
 restart_is_event out w j a is = changed w j a is (group.restarts (drawn out w j) w.moment)
 
 pub open_parts_alike : OpenPartsAlike
-open_parts_alike w j g a is truly = ap (λ (m : Member). unclaimed (group_member.plan_of (logs w) m)) is.same ∙ ap unclaimed (sym (plans_alike g (logs w) a truly.published truly.stores))
+open_parts_alike w j g a is truly =
+    ap (λ (m : Member). unclaimed (group_member.plan_of (logs w) m)) is.same
+    ∙ ap unclaimed (sym (plans_alike g (logs w) a truly.published truly.stores))
 
 pub catalogues_alike : CataloguesAlike
-catalogues_alike w j g a is truly = ap (catalogue (logs w)) is.same ∙ sym (lists_alike g (logs w) a truly.published truly.stores)
+catalogues_alike w j g a is truly =
+    ap (catalogue (logs w)) is.same ∙ sym (lists_alike g (logs w) a truly.published truly.stores)
 
 pub claim_is_event : ClaimIsEvent
-claim_is_event out w j f g a is truly idle = ap (λ (ts : List Part). member (after_claiming w j f (first ts)) j) (open_parts_alike w j g a is truly) ∙ go (first (unclaimed (alone_plan a))) where
-  with_claims : List (Option Part) → Member
-  with_claims claims = record (in_group a) { claims = claims }
+claim_is_event out w j f g a is truly idle =
+    ap (λ (ts : List Part). member (after_claiming w j f (first ts)) j) (open_parts_alike w j g a is truly)
+    ∙ go (first (unclaimed (alone_plan a))) where
+      with_claims : List (Option Part) → Member
+      with_claims claims = record (in_group a) { claims = claims }
 
-  go : (x : Option Part) → member (after_claiming w j f x) j ≡ in_group (alone_claims f x a)
-  go None = is.same ∙ ap with_claims (sym (ap (set a.claims (f - 1)) (sym idle) ∙ set-get_or a.claims (f - 1) None))
-  go (Some t) = changed w j a is (group.member_with_claim f (Some t))
+      go : (x : Option Part) → member (after_claiming w j f x) j ≡ in_group (alone_claims f x a)
+      go None = is.same ∙ ap with_claims (sym (ap (set a.claims (f - 1)) (sym idle) ∙ set-get_or a.claims (f - 1) None))
+      go (Some t) = changed w j a is (group.member_with_claim f (Some t))
 
 pub lose_is_event : LoseIsEvent
 lose_is_event out w j f a is = changed w j a is (group.member_with_claim f None)
 
-claimed_alike : (w : World) (j f : ℕ) (t : Part) (a : Alone) → IsMemberOf w j a → claim_of (alone_plan a) f ≡ Some t → claim_at w j f ≡ Some t
+claimed_alike : (w : World) (j f : ℕ) (t : Part) (a : Alone) → IsMemberOf w j a → claim_of (alone_plan a) f ≡ Some t
+    → claim_at w j f ≡ Some t
 claimed_alike w j f t a is claim = ap (λ (m : Member). get_or m.claims (f - 1) None) is.same ∙ claim
 
-came_is_event : (out : Outside) (w : World) (j f : ℕ) (t : Part) (octets : List ℕ) (a : Alone) (came : Came) → IsMemberOf w j a → StoresInOrder a
-    → member (after_came out w j f (Some t) came) j ≡ in_group (cond (passes_checks came) (alone_accepts f t octets a) a)
+came_is_event : (out : Outside) (w : World) (j f : ℕ) (t : Part) (octets : List ℕ) (a : Alone) (came : Came)
+    → IsMemberOf w j a → StoresInOrder a
+    → member (after_came out w j f (Some t) came) j
+    ≡ in_group (cond (passes_checks came) (alone_accepts f t octets a) a)
 came_is_event out w j f t octets a Nothing is r = is.same
 came_is_event out w j f t octets a Its is r = changed w j a is (group.takes f t) ∙ sym (accepts_alike f t octets a r)
-came_is_event out w j f t octets a Another is r = changed w j a is (group.takes f t) ∙ sym (accepts_alike f t octets a r)
+came_is_event out w j f t octets a Another is r =
+    changed w j a is (group.takes f t) ∙ sym (accepts_alike f t octets a r)
 
 pub answer_is_event : AnswerIsEvent
 answer_is_event out w j f q t octets a is r claim =
-    ap (λ (x : Option Part). member (after_came out (tried_once w) j f x (came_from out w q x)) j) (claimed_alike w j f t a is claim)
-    ∙ came_is_event out (tried_once w) j f t octets a (came_from out w q (Some t)) (record { there = is.there; number = is.number; same = is.same }) r
+    ap (λ (x : Option Part). member (after_came out (tried_once w) j f x (came_from out w q x)) j)
+    (claimed_alike w j f t a is claim)
+    ∙ came_is_event out (tried_once w) j f t octets a (came_from out w q (Some t))
+    (record { there = is.there; number = is.number; same = is.same }) r
 
 pub feed_is_event : FeedIsEvent
 feed_is_event out w j f read t octets a is r claim =
@@ -117,9 +151,12 @@ feed_is_event out w j f read t octets a is r claim =
 
 pub fetch_is_event : FetchIsEvent
 fetch_is_event out w j tries loss xs a is r outcome =
-    let after_it : List Part → List Part → Member = λ came asked. record (gains came (in_group a)) { attempts = with_each_tried (attempts_for out w j tries loss) asked a.attempts } in
+    let after_it : List Part → List Part → Member = λ came asked. record (gains came (in_group a)) {
+      attempts = with_each_tried (attempts_for out w j tries loss) asked a.attempts;
+    } in
     changed w j a is (fetches out w j tries loss)
-    ∙ ap (λ (came : List Part). after_it came (planned_parts w j)) (sym outcome.came) ∙ ap (after_it (that_came xs)) (sym outcome.asked)
+    ∙ ap (λ (came : List Part). after_it came (planned_parts w j)) (sym outcome.came)
+    ∙ ap (after_it (that_came xs)) (sym outcome.asked)
     ∙ sym (takes_alike (attempts_for out w j tries loss) xs a r outcome.tried)
 
 -- ---- a settle
@@ -133,7 +170,8 @@ learns_at_once (told ∷ vectors) a =
 
 pub learns_what_all_know : LearnsWhatAllKnow
 learns_what_all_know w a vectors told =
-    ap (λ (b : Alone). b.known) (learns_at_once vectors a) ∙ join_all_same (a.known ∷ vectors) (map (λ (m : Member). m.known) w.members) told
+    ap (λ (b : Alone). b.known) (learns_at_once vectors a)
+    ∙ join_all_same (a.known ∷ vectors) (map (λ (m : Member). m.known) w.members) told
 
 none_tried : (xs : List Fetched) (tried : List (Part × ℕ)) → AreTries (λ t. 0) xs → with_all_tries xs tried ≡ tried
 none_tried [] tried all = refl
@@ -142,29 +180,43 @@ none_tried (x ∷ xs) tried all =
     ∙ none_tried xs tried (All-tail (λ (y : Fetched). y.attempts ≡ 0) x xs all)
 
 -- parts that come in any order make one list in order
-same_gained : (ts us held : List Part) → Rises part_cmp held → ((t : Part) → contains part_cmp ts t ≡ contains part_cmp us t) → insert_keys ts held ≡ insert_keys us held
+same_gained : (ts us held : List Part) → Rises part_cmp held
+    → ((t : Part) → contains part_cmp ts t ≡ contains part_cmp us t) → insert_keys ts held ≡ insert_keys us held
 same_gained ts us held r same =
-    same_members exact_parts (insert_keys ts held) (insert_keys us held) (rises_insert_keys ts held r) (rises_insert_keys us held r)
-    (λ t. contains-insert_keys ts held t ∙ ap (λ (b : Bool). b || contains part_cmp held t) (same t) ∙ sym (contains-insert_keys us held t))
+    same_members exact_parts (insert_keys ts held) (insert_keys us held) (rises_insert_keys ts held r)
+    (rises_insert_keys us held r)
+    (λ t. contains-insert_keys ts held t ∙ ap (λ (b : Bool). b || contains part_cmp held t) (same t)
+    ∙ sym (contains-insert_keys us held t))
 
-gathered_alike : (w : World) (j : ℕ) (vectors : List (List ℕ)) (xs : List Fetched) (a : Alone) → IsMemberOf w j a → StoresInOrder a → IsSettling w j a vectors xs
+gathered_alike : (w : World) (j : ℕ) (vectors : List (List ℕ)) (xs : List Fetched) (a : Alone) → IsMemberOf w j a
+    → StoresInOrder a → IsSettling w j a vectors xs
     → settled_member w (member w j) ≡ in_group (alone_takes xs (learns_all vectors (alone_ends_claims a)))
 gathered_alike w j vectors xs a is r settling =
-    let gathered : Member → List Part → List ℕ → Member = λ m held known. record m { known = known; held = held; claims = no_claims } in
+    let gathered : Member → List Part → List ℕ → Member =
+    λ m held known. record m { known = known; held = held; claims = no_claims } in
     let ended : Alone = alone_ends_claims a in
     let told : Alone = record ended { known = (learns_all vectors ended).known } in
-    let known : (learns_all vectors ended).known ≡ settled_vector w = learns_what_all_know w ended vectors settling.told in
-    let learnt : learns_all vectors ended ≡ told = learns_at_once vectors ended ∙ ap (λ (v : List ℕ). let b : Alone = record ended { known = v } in b) (ap (λ (b : Alone). b.known) (sym (learns_at_once vectors ended))) in
-    let outcome : List (Part × ℕ) → Member = λ attempts. record (gathered (in_group a) (insert_keys (that_came xs) (keys a.store)) (learns_all vectors ended).known) { attempts = attempts } in
+    let known : (learns_all vectors ended).known ≡ settled_vector w =
+    learns_what_all_know w ended vectors settling.told in
+    let learnt : learns_all vectors ended ≡ told =
+    learns_at_once vectors ended
+    ∙ ap (λ (v : List ℕ). let b : Alone = record ended { known = v } in b)
+    (ap (λ (b : Alone). b.known) (sym (learns_at_once vectors ended))) in
+    let outcome : List (Part × ℕ) → Member = λ attempts.
+    record (gathered (in_group a) (insert_keys (that_came xs) (keys a.store)) (learns_all vectors ended).known) {
+      attempts = attempts;
+    } in
     ap (λ (m : Member). gathered m (insert_keys (new_parts w (member w j)) m.held) (settled_vector w)) is.same
-    ∙ ap (λ (held : List Part). gathered (in_group a) held (settled_vector w)) (sym (same_gained (that_came xs) (new_parts w (member w j)) (keys a.store) r settling.came))
+    ∙ ap (λ (held : List Part). gathered (in_group a) held (settled_vector w))
+    (sym (same_gained (that_came xs) (new_parts w (member w j)) (keys a.store) r settling.came))
     ∙ ap (gathered (in_group a) (insert_keys (that_came xs) (keys a.store))) (sym known)
     ∙ ap outcome (sym (none_tried xs a.attempts settling.tried))
     ∙ sym (takes_in_group xs told r)
     ∙ ap (λ (b : Alone). in_group (alone_takes xs b)) (sym learnt)
 
 pub gathering_is_event : GatheringIsEvent
-gathering_is_event out w j vectors xs a is r settling = member_gathered out w j is.there ∙ gathered_alike w j vectors xs a is r settling
+gathering_is_event out w j vectors xs a is r settling =
+    member_gathered out w j is.there ∙ gathered_alike w j vectors xs a is r settling
 
 pub settle_is_event : SettleIsEvent
 settle_is_event out w j vectors xs a is r settling =

@@ -1,5 +1,6 @@
 -- What a fetch's outcome makes of a member that calls reach.
-use Rattle.std.proofs.Common.{◌≡◌, ℕ, Bool, true, false, not, List, [], ◌∷◌, map, Option, Some, None, option_map, is_some, refl, sym, ap, ◌∙◌, subst}
+use Rattle.std.proofs.Common.{◌≡◌, ℕ, Bool, true, false, not, List, [], ◌∷◌, map, Option, Some, None, option_map}
+use Rattle.std.proofs.Common.{is_some, refl, sym, ap, ◌∙◌, subst}
 use Rattle.std.specs.Prelude.{IsOk, IfSome}
 use Rattle.std.specs.List.{All}
 use Rattle.std.specs.Ordering.{eq_by_cmp}
@@ -25,7 +26,8 @@ use Rattle.repo_member.specs.Alone.{Alone, alone_plan, want_of, alone_takes}
 use Rattle.repo_member.specs.Outcomes.{outcome_of, PartsDiffer, IsCheckedFor, AreFetched, IsOutcome}
 use Rattle.repo_member.proofs.GainingLemmas.{contains-value, put_elsewhere, shape_told}
 use Rattle.repo_member.proofs.PlanChanges.{gains, tied_alone, sound_tried}
-use Rattle.repo_member.proofs.HeldParts.{IsReached, PassesNow, StaysStored, listing_still, want_stays, stays_stored, missing_value, not_there, reached_with, reached_gains}
+use Rattle.repo_member.proofs.HeldParts.{IsReached, PassesNow, StaysStored, listing_still, want_stays, stays_stored}
+use Rattle.repo_member.proofs.HeldParts.{missing_value, not_there, reached_with, reached_gains}
 
 -- ---- jobs whose outcome can be taken
 
@@ -46,19 +48,25 @@ AreOpen g a [] (part ∷ parts) ns = ⊥
 AreOpen g a (job ∷ jobs) [] ns = ⊥
 AreOpen g a (job ∷ jobs) (part ∷ parts) [] = ⊥
 
-checked_passes : (g : GroupKeys) (job : Job) (part : Option CheckedPart) → IfSome part (IsCheckedFor g job.want) → IfSome part IsChecked → Passed g job part
+checked_passes : (g : GroupKeys) (job : Job) (part : Option CheckedPart) → IfSome part (IsCheckedFor g job.want)
+    → IfSome part IsChecked → Passed g job part
 checked_passes g job None h k = tt
 checked_passes g job (Some c) h k =
-    subst (λ (key : List ℕ). IsOk (part_verdict job.want (publisher_key g.members.ring job.want).name key c.octets)) h.key
-    (subst (λ (name : List ℕ). IsOk (part_verdict job.want name c.key c.octets)) h.key_name (subst (λ (want : WantedPart). IsOk (part_verdict want c.key_name c.key c.octets)) h.same k))
+    subst (λ (key : List ℕ). IsOk (part_verdict job.want (publisher_key g.members.ring job.want).name key c.octets))
+    h.key
+    (subst (λ (name : List ℕ). IsOk (part_verdict job.want name c.key c.octets)) h.key_name
+    (subst (λ (want : WantedPart). IsOk (part_verdict want c.key_name c.key c.octets)) h.same k))
 
 abbrev IfChecked : Option CheckedPart → Type 0
 IfChecked part = IfSome part IsChecked
 
-fetched_open : (g : GroupKeys) (a : Alone) (jobs : List Job) (parts : List (Option CheckedPart)) (ns : List ℕ) → AreFetched g a jobs parts ns → All IfChecked parts → AreOpen g a jobs parts ns
+fetched_open : (g : GroupKeys) (a : Alone) (jobs : List Job) (parts : List (Option CheckedPart)) (ns : List ℕ)
+    → AreFetched g a jobs parts ns → All IfChecked parts → AreOpen g a jobs parts ns
 fetched_open g a [] [] [] h k = tt
-fetched_open g a (job ∷ jobs) (part ∷ parts) (n ∷ ns) h k =
-    (((h.0.unclaimed, h.0.wanted), checked_passes g job part h.0.checked (All-head IfChecked part parts k)), fetched_open g a jobs parts ns h.1 (All-tail IfChecked part parts k))
+fetched_open g a (job ∷ jobs) (part ∷ parts) (n ∷ ns) h k = (
+  ((h.0.unclaimed, h.0.wanted), checked_passes g job part h.0.checked (All-head IfChecked part parts k)),
+  fetched_open g a jobs parts ns h.1 (All-tail IfChecked part parts k),
+)
 fetched_open g a [] [] (n ∷ ns) h k = absurd h
 fetched_open g a [] (part ∷ parts) ns h k = absurd h
 fetched_open g a (job ∷ jobs) [] ns h k = absurd h
@@ -73,15 +81,21 @@ record IsFree (a : Alone) (t : Part) : Type 0 where
 free_from : (a : Alone) (t : Part) → is_unclaimed (alone_plan a) t ≡ true → IsFree a t
 free_from a t h =
     let both = and_parts (is_wanted (alone_plan a) t) (not (is_claimed (alone_plan a) t)) h in
-    record { wanted = wanted_parts (alone_plan a) t both.0; not_claimed = not-true (is_claimed (alone_plan a) t) both.1 }
+    record {
+      wanted = wanted_parts (alone_plan a) t both.0;
+      not_claimed = not-true (is_claimed (alone_plan a) t) both.1;
+    }
 
 free_can : (a : Alone) (t : Part) → IsFree a t → CanBeHeld (alone_plan a) t
-free_can a t free = record { asked = free.wanted.asked; not_hidden = free.wanted.not_hidden; not_claimed = free.not_claimed }
+free_can a t free =
+    record { asked = free.wanted.asked; not_hidden = free.wanted.not_hidden; not_claimed = free.not_claimed }
 
 swapped : (t u : Part) → eq_by_cmp part_cmp t u ≡ false → eq_by_cmp part_cmp u t ≡ false
 swapped t u h = go (eq_by_cmp part_cmp u t) refl where
   go : (b : Bool) → eq_by_cmp part_cmp u t ≡ b → b ≡ false
-  go true p = absurd (true≢false (sym (eq_itself exact_parts t) ∙ ap (eq_by_cmp part_cmp t) (sym (eq_same exact_parts u t p)) ∙ h))
+  go true p =
+      absurd
+      (true≢false (sym (eq_itself exact_parts t) ∙ ap (eq_by_cmp part_cmp t) (sym (eq_same exact_parts u t p)) ∙ h))
   go false p = refl
 
 there_value : (o : Option (List ℕ)) → is_some o ≡ true → (octets : List ℕ) × (o ≡ Some octets)
@@ -91,7 +105,8 @@ there_value (Some octets) h = (octets, refl)
 no_shape : (n : Shape) → (let o : Option Shape = None in o) ≡ Some n → ⊥
 no_shape n h = cc
 
-module _ (g : GroupKeys) (a : Alone) (t : Part) (octets : List ℕ) (r : IsReached g a) (free : IsFree a t) (passed : PassesNow g a.store t octets) where
+module _ (g : GroupKeys) (a : Alone) (t : Part) (octets : List ℕ) (r : IsReached g a) (free : IsFree a t)
+    (passed : PassesNow g a.store t octets) where
   fresh : holds (alone_plan a) t ≡ false
   fresh = free.wanted.not_held
 
@@ -107,33 +122,43 @@ module _ (g : GroupKeys) (a : Alone) (t : Part) (octets : List ℕ) (r : IsReach
     held = λ u h.
         let there = there_value (value_of part_cmp a.store u) (sym (contains-value a.store u) ∙ h) in
         contains-value (with_packet t octets a.store) u ∙ ap is_some (stays.still u there.0 there.1);
-    shapes = λ pair n h. go pair n (listing_at a.store pair) refl (sym (shape_told (alone_plan a) a.store pair (tied_alone a r.alone.in_order)) ∙ h);
+    shapes =
+        λ pair n h. go pair n (listing_at a.store pair) refl
+        (sym (shape_told (alone_plan a) a.store pair (tied_alone a r.alone.in_order)) ∙ h);
   } where
-    go : (pair : Pair) (n : Shape) (o : Option Listed) → listing_at a.store pair ≡ o → option_map listed_shape o ≡ Some n → shape_of (alone_plan (gains t octets a)) pair ≡ Some n
+    go : (pair : Pair) (n : Shape) (o : Option Listed) → listing_at a.store pair ≡ o
+        → option_map listed_shape o ≡ Some n → shape_of (alone_plan (gains t octets a)) pair ≡ Some n
     go pair n None p q = absurd (no_shape n q)
     go pair n (Some l) p q =
-        shape_told (alone_plan (gains t octets a)) (with_packet t octets a.store) pair (tied_alone (gains t octets a) next.alone.in_order)
+        shape_told (alone_plan (gains t octets a)) (with_packet t octets a.store) pair
+        (tied_alone (gains t octets a) next.alone.in_order)
         ∙ ap (option_map listed_shape) (listing_still a.store (with_packet t octets a.store) pair l stays p) ∙ q
 
   -- another job can be taken still
-  open_still : (job : Job) → eq_by_cmp part_cmp t job.want.part ≡ false → IsOpen g a job → IsOpen g (gains t octets a) job
+  open_still : (job : Job) → eq_by_cmp part_cmp t job.want.part ≡ false → IsOpen g a job
+      → IsOpen g (gains t octets a) job
   open_still job other is =
       let u = job.want.part in
       let its = free_from a u is.0 in
-      let missing = put_elsewhere a.store t octets fresh u (swapped t u other) ∙ missing_value a.store u its.wanted.not_held in
+      let missing =
+      put_elsewhere a.store t octets fresh u (swapped t u other) ∙ missing_value a.store u its.wanted.not_held in
       let wanted = wanted_from (alone_plan (gains t octets a)) u (record {
         asked = asked_kept (alone_plan a) (alone_plan (gains t octets a)) u keeps its.wanted.asked;
         not_held = not_there (with_packet t octets a.store) u missing;
         not_hidden = its.wanted.not_hidden;
       }) in (
-        and_from (is_wanted (alone_plan (gains t octets a)) u) (not (is_claimed (alone_plan a) u)) wanted (and_parts (is_wanted (alone_plan a) u) (not (is_claimed (alone_plan a) u)) is.0).1,
+        and_from (is_wanted (alone_plan (gains t octets a)) u) (not (is_claimed (alone_plan a) u)) wanted
+            (and_parts (is_wanted (alone_plan a) u) (not (is_claimed (alone_plan a) u)) is.0).1,
         is.1 ∙ sym (want_stays g a (with_packet t octets a.store) u r.alone.in_order stays its.wanted.asked),
       )
 
-  all_open_still : (jobs : List Job) (parts : List (Option CheckedPart)) (ns : List ℕ) → contains part_cmp (map (λ (job : Job). job.want.part) jobs) t ≡ false → AreOpen g a jobs parts ns → AreOpen g (gains t octets a) jobs parts ns
+  all_open_still : (jobs : List Job) (parts : List (Option CheckedPart)) (ns : List ℕ)
+      → contains part_cmp (map (λ (job : Job). job.want.part) jobs) t ≡ false → AreOpen g a jobs parts ns
+      → AreOpen g (gains t octets a) jobs parts ns
   all_open_still [] [] [] other h = tt
   all_open_still (job ∷ jobs) (part ∷ parts) (n ∷ ns) other h =
-      let both = or_parts (eq_by_cmp part_cmp t job.want.part) (contains part_cmp (map (λ (x : Job). x.want.part) jobs) t) other in
+      let both =
+      or_parts (eq_by_cmp part_cmp t job.want.part) (contains part_cmp (map (λ (x : Job). x.want.part) jobs) t) other in
       ((open_still job both.0 h.0.0, h.0.1), all_open_still jobs parts ns both.1 h.1)
   all_open_still [] [] (n ∷ ns) other h = absurd h
   all_open_still [] (part ∷ parts) ns other h = absurd h
@@ -142,18 +167,22 @@ module _ (g : GroupKeys) (a : Alone) (t : Part) (octets : List ℕ) (r : IsReach
 
 -- ---- all parts
 
-tried : (g : GroupKeys) (a : Alone) (t : Part) (n : ℕ) → IsReached g a → IsReached g (record a { attempts = with_tries t n a.attempts })
+tried : (g : GroupKeys) (a : Alone) (t : Part) (n : ℕ) → IsReached g a
+    → IsReached g (record a { attempts = with_tries t n a.attempts })
 tried g a t n r = reached_with g a a.claims (with_tries t n a.attempts) a.machine refl (sound_tried a t n r.sound) r
 
-takes_open : (g : GroupKeys) (a : Alone) (jobs : List Job) (parts : List (Option CheckedPart)) (ns : List ℕ) → PartsDiffer (map (λ (job : Job). job.want.part) jobs) → AreOpen g a jobs parts ns → IsReached g a
+takes_open : (g : GroupKeys) (a : Alone) (jobs : List Job) (parts : List (Option CheckedPart)) (ns : List ℕ)
+    → PartsDiffer (map (λ (job : Job). job.want.part) jobs) → AreOpen g a jobs parts ns → IsReached g a
     → IsReached g (alone_takes (outcome_of jobs parts ns) a)
 takes_open g a [] [] [] apart h r = r
 takes_open g a (job ∷ jobs) (None ∷ parts) (n ∷ ns) apart h r =
-    takes_open g (record a { attempts = with_tries job.want.part n a.attempts }) jobs parts ns apart.1 h.1 (tried g a job.want.part n r)
+    takes_open g (record a { attempts = with_tries job.want.part n a.attempts }) jobs parts ns apart.1 h.1
+    (tried g a job.want.part n r)
 takes_open g a (job ∷ jobs) (Some c ∷ parts) (n ∷ ns) apart h r =
     let t = job.want.part in
     let free = free_from a t h.0.0.0 in
-    let passed : PassesNow g a.store t c.octets = subst (λ (want : WantedPart). IsOk (ring_verdict want g.members.ring c.octets)) h.0.0.1 h.0.1 in
+    let passed : PassesNow g a.store t c.octets =
+    subst (λ (want : WantedPart). IsOk (ring_verdict want g.members.ring c.octets)) h.0.0.1 h.0.1 in
     let gained = gains t c.octets a in
     takes_open g (record gained { attempts = with_tries t n a.attempts }) jobs parts ns apart.1
     (all_open_still g a t c.octets r free passed jobs parts ns apart.0 h.1)
@@ -163,6 +192,8 @@ takes_open g a [] (part ∷ parts) ns apart h r = absurd h
 takes_open g a (job ∷ jobs) [] ns apart h r = absurd h
 takes_open g a (job ∷ jobs) (part ∷ parts) [] apart h r = absurd h
 
-pub reached_takes : (g : GroupKeys) (a : Alone) (jobs : List Job) (parts : List (Option CheckedPart)) (ns : List ℕ) → IsOutcome g a jobs parts ns → All IfChecked parts → IsReached g a
+pub reached_takes : (g : GroupKeys) (a : Alone) (jobs : List Job) (parts : List (Option CheckedPart)) (ns : List ℕ)
+    → IsOutcome g a jobs parts ns → All IfChecked parts → IsReached g a
     → IsReached g (alone_takes (outcome_of jobs parts ns) a)
-reached_takes g a jobs parts ns is checked r = takes_open g a jobs parts ns is.apart (fetched_open g a jobs parts ns is.each checked) r
+reached_takes g a jobs parts ns is checked r =
+    takes_open g a jobs parts ns is.apart (fetched_open g a jobs parts ns is.each checked) r

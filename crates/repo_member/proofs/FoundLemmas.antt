@@ -1,5 +1,7 @@
 -- A catalogued publication: its parts are stored and no others, it is known, and no fetcher claims a part of it.
-use Rattle.std.proofs.Common.{◌≡◌, ◌⊎◌, inl, inr, ℕ, zero, suc, ◌+◌, ◌<◌, ◌≤◌, Bool, true, false, cond, ◌==◌, List, [], ◌∷◌, ◌++◌, map, length, take, refl, sym, ap, ◌∙◌, subst, Option, Some, None, option_map, is_some, arith}
+use Rattle.std.proofs.Common.{◌≡◌, ◌⊎◌, inl, inr, ℕ, zero, suc, ◌+◌, ◌<◌, ◌≤◌, Bool, true, false, cond, ◌==◌, List, []}
+use Rattle.std.proofs.Common.{◌∷◌, ◌++◌, map, length, take, refl, sym, ap, ◌∙◌, subst, Option, Some, None, option_map}
+use Rattle.std.proofs.Common.{is_some, arith}
 use Rattle.std.specs.Prelude.{filter, slice_index_or, get_or}
 use Rattle.std.proofs.lemmas.Bool.{true≢false, and_parts, cases_eq, eqb-true}
 use Rattle.std.proofs.lemmas.List.{length-map}
@@ -11,10 +13,12 @@ use Rattle.ndn_name.specs.Names.{Component}
 use Rattle.repo_plan.specs.declared.part.Part.{Part}
 use Rattle.repo_plan.specs.SortedList.{keys, Rises, contains}
 use Rattle.repo_plan.specs.Parts.{Pair, pair_cmp, part_cmp, pair_of, part_of, parts_of, numbers_from}
-use Rattle.repo_plan.specs.Plan.{Holdings, holds, knows, is_in, is_asked, can_be_asked, shape_of, is_claim_in, claims_part_in, opening}
+use Rattle.repo_plan.specs.Plan.{Holdings, holds, knows, is_in, is_asked, can_be_asked, shape_of, is_claim_in}
+use Rattle.repo_plan.specs.Plan.{claims_part_in, opening}
 use Rattle.repo_plan.specs.Sound.{PlanIsSound}
 use Rattle.repo_plan.proofs.Orders.{exact_pairs, exact_parts}
-use Rattle.repo_plan.proofs.Sets.{In, eq_same, eq_itself, keys-filter, rises_filter, in_filter, contains_in, in_contains, from_map, in_map, each_before}
+use Rattle.repo_plan.proofs.Sets.{In, eq_same, eq_itself, keys-filter, rises_filter, in_filter, contains_in}
+use Rattle.repo_plan.proofs.Sets.{in_contains, from_map, in_map, each_before}
 use Rattle.repo_plan.proofs.Known.{in_numbers, rises_numbers, from_parts_of, in_parts_of}
 use Rattle.repo_plan.proofs.Changes.{wanted_parts}
 use Rattle.repo_object.specs.Publication.{Listed}
@@ -27,7 +31,8 @@ use Rattle.repo_catalog.specs.Entries.{publication_of, entry_has_name, IsCatalog
 use Rattle.group_model.proofs.Lists.{from_filter, each_all, in_at}
 use Rattle.group_model.proofs.SortedSets.{same_set}
 use Rattle.repo_member.specs.Records.{Packet}
-use Rattle.repo_member.specs.Listed.{stored_at, listing_at, listed_shape, are_stored, entry_at, entry_listed, entry_of_listing, entries_in, alone_catalogue}
+use Rattle.repo_member.specs.Listed.{stored_at, listing_at, listed_shape, are_stored, entry_at, entry_listed}
+use Rattle.repo_member.specs.Listed.{entry_of_listing, entries_in, alone_catalogue}
 use Rattle.repo_member.specs.Gaining.{AreTied}
 use Rattle.repo_member.specs.Deleting.{publications_named, outside_all}
 use Rattle.repo_member.proofs.CatalogueLemmas.{entries_value, entries_rise, Keyed, entries_keyed}
@@ -45,13 +50,16 @@ pub record IsWhole (packets : List Packet) (pair : Pair) (n : ℕ) : Type 0 wher
 none_some : {A : Type 0} (x : A) → (let n : Option A = None in n) ≡ Some x → ⊥
 none_some x h = cc
 
-whole_of_entry : (packets : List Packet) (pair : Pair) (e : Entry) → entry_at packets pair ≡ Some e → IsWhole packets pair e.segments
+whole_of_entry : (packets : List Packet) (pair : Pair) (e : Entry) → entry_at packets pair ≡ Some e
+    → IsWhole packets pair e.segments
 whole_of_entry packets pair e h = go (listing_at packets pair) refl h where
   record_there : (l : Listed) (o : Option (List ℕ)) → option_and_then listing_in o ≡ Some l → is_some o ≡ true
   record_there l None p = absurd (none_some l p)
   record_there l (Some octets) p = refl
 
-  of_listing : (l : Listed) → listing_at packets pair ≡ Some l → (b : Bool) → are_stored packets pair (listed_shape l) ≡ b → cond b (Some (entry_of_listing packets pair l)) None ≡ Some e → IsWhole packets pair e.segments
+  of_listing : (l : Listed) → listing_at packets pair ≡ Some l → (b : Bool)
+      → are_stored packets pair (listed_shape l) ≡ b → cond b (Some (entry_of_listing packets pair l)) None ≡ Some e
+      → IsWhole packets pair e.segments
   of_listing l p false q h = absurd (none_some e h)
   of_listing l p true q h =
       let same : entry_of_listing packets pair l ≡ e = cc in
@@ -61,15 +69,18 @@ whole_of_entry packets pair e h = go (listing_at packets pair) refl h where
         each = λ x below. at x below (cases_eq x 0);
       } where
         at : (x : ℕ) → x ≤ e.segments → ((x ≡ 0) ⊎ (x ≡ 0 → ⊥)) → is_some (stored_at packets pair x) ≡ true
-        at x below (inl z) = ap (λ (y : ℕ). is_some (stored_at packets pair y)) z ∙ record_there l (stored_at packets pair 0) p
+        at x below (inl z) =
+            ap (λ (y : ℕ). is_some (stored_at packets pair y)) z ∙ record_there l (stored_at packets pair 0) p
         at x below (inr nz) =
             let long : listed_shape l ≡ e.segments = ap (λ (o : Option Entry). option_segments o) h in
-            each_all (λ (y : ℕ). is_some (stored_at packets pair y)) (numbers_from 1 (listed_shape l)) q x (in_numbers 1 (listed_shape l) x (omega (arith, nz)) (omega (arith, below, long))) where
+            each_all (λ (y : ℕ). is_some (stored_at packets pair y)) (numbers_from 1 (listed_shape l)) q x
+            (in_numbers 1 (listed_shape l) x (omega (arith, nz)) (omega (arith, below, long))) where
               option_segments : Option Entry → ℕ
               option_segments None = 0
               option_segments (Some y) = y.segments
 
-  go : (o : Option Listed) → listing_at packets pair ≡ o → option_and_then (entry_listed packets pair) o ≡ Some e → IsWhole packets pair e.segments
+  go : (o : Option Listed) → listing_at packets pair ≡ o → option_and_then (entry_listed packets pair) o ≡ Some e
+      → IsWhole packets pair e.segments
   go None p q = absurd (none_some e q)
   go (Some l) p q = of_listing l p (are_stored packets pair (listed_shape l)) refl q
 
@@ -78,17 +89,22 @@ keyed_at [] x k i = absurd i
 keyed_at (y ∷ es) x k (inl same) = subst (λ (z : Pair × Entry). publication_of z.1 ≡ z.0) (sym same) k.0
 keyed_at (y ∷ es) x k (inr i) = keyed_at es x k.1 i
 
-pub entry_listed_whole : (packets : List Packet) (e : Entry) → Rises part_cmp (keys packets) → In e (alone_catalogue packets) → IsWhole packets (publication_of e) e.segments
+pub entry_listed_whole : (packets : List Packet) (e : Entry) → Rises part_cmp (keys packets)
+    → In e (alone_catalogue packets) → IsWhole packets (publication_of e) e.segments
 entry_listed_whole packets e r i =
-    let x : (x : Pair × Entry) × (In x (entries_in packets)) × (e ≡ x.1) = from_map (λ (y : Pair × Entry). y.1) (entries_in packets) e i in
+    let x : (x : Pair × Entry) × (In x (entries_in packets)) × (e ≡ x.1) =
+    from_map (λ (y : Pair × Entry). y.1) (entries_in packets) e i in
     let key : publication_of x.0.1 ≡ x.0.0 = keyed_at (entries_in packets) x.0 (entries_keyed packets) x.1 in
-    let value : entry_at packets x.0.0 ≡ Some x.0.1 = sym (entries_value packets x.0.0 r) ∙ value_in exact_pairs (entries_in packets) x.0 (entries_rise packets r) x.1 in
+    let value : entry_at packets x.0.0 ≡ Some x.0.1 =
+    sym (entries_value packets x.0.0 r) ∙ value_in exact_pairs (entries_in packets) x.0 (entries_rise packets r) x.1 in
     let pair : x.0.0 ≡ publication_of e = sym key ∙ ap publication_of (sym x.2) in
-    whole_of_entry packets (publication_of e) e (ap (entry_at packets) (sym pair) ∙ value ∙ ap (λ (y : Entry). Some y) (sym x.2))
+    whole_of_entry packets (publication_of e) e
+    (ap (entry_at packets) (sym pair) ∙ value ∙ ap (λ (y : Entry). Some y) (sym x.2))
 
 -- ---- such a publication in a sound plan
 
-module _ (p : Holdings) (packets : List Packet) (pair : Pair) (n : ℕ) (s : PlanIsSound p) (tied : AreTied p packets) (whole : IsWhole packets pair n) where
+module _ (p : Holdings) (packets : List Packet) (pair : Pair) (n : ℕ) (s : PlanIsSound p) (tied : AreTied p packets)
+    (whole : IsWhole packets pair n) where
   pub held_each : (x : ℕ) → x ≤ n → holds p (part_of pair x) ≡ true
   held_each x below = held_value p packets pair tied (part_of pair x) ∙ whole.each x below
 
@@ -98,13 +114,17 @@ module _ (p : Holdings) (packets : List Packet) (pair : Pair) (n : ℕ) (s : Pla
     go true z = omega (arith, eqb-true t.part 0 z)
     go false nz =
         let segment = asked_segment p packets t tied asked nz in
-        let told : option_map listed_shape (listing_at packets pair) ≡ Some (listed_shape segment.listing) = ap (λ (q : Pair). option_map listed_shape (listing_at packets q)) (sym here) ∙ ap (option_map listed_shape) segment.listed in
+        let told : option_map listed_shape (listing_at packets pair) ≡ Some (listed_shape segment.listing) =
+        ap (λ (q : Pair). option_map listed_shape (listing_at packets q)) (sym here)
+        ∙ ap (option_map listed_shape) segment.listed in
         let same : Some (listed_shape segment.listing) ≡ Some n = sym told ∙ whole.told in
         let long : listed_shape segment.listing ≡ n = cc in
         omega (arith, segment.counted, long)
 
   pub whole_known : knows p pair ≡ true
-  whole_known = (and_parts (knows p pair) (can_be_asked p.held (shape_of p pair) (part_of pair 0)) (s.held (part_of pair 0) (held_each 0 (omega arith))).asked).0
+  whole_known =
+      (and_parts (knows p pair) (can_be_asked p.held (shape_of p pair) (part_of pair 0))
+      (s.held (part_of pair 0) (held_each 0 (omega arith))).asked).0
 
   -- no fetcher claims a part of it
   pub whole_unclaimed : claims_part_in p pair ≡ false
@@ -120,7 +140,9 @@ module _ (p : Holdings) (packets : List Packet) (pair : Pair) (n : ℕ) (s : Pla
     head None h = refl
     head (Some t) h = h t refl
 
-    none : (claims : List (Option Part)) → ((f : ℕ) (t : Part) → slice_index_or claims f None ≡ Some t → is_in pair t ≡ false) → list_any (is_claim_in pair) claims ≡ false
+    none : (claims : List (Option Part))
+        → ((f : ℕ) (t : Part) → slice_index_or claims f None ≡ Some t → is_in pair t ≡ false)
+        → list_any (is_claim_in pair) claims ≡ false
     none [] h = refl
     none (c ∷ claims) h = rw (head c (h 0)) (none claims (λ f t e. h (suc f) t e))
 
@@ -133,13 +155,16 @@ module _ (p : Holdings) (packets : List Packet) (pair : Pair) (n : ℕ) (s : Pla
   from_inside q i =
       let both = from_filter (is_in pair) (keys packets) q i in
       let here : pair ≡ pair_of q = eq_same exact_pairs pair (pair_of q) both.1 in
-      let held : holds p q ≡ true = ap (λ (ts : List Part). contains part_cmp ts q) tied.held ∙ contains_in exact_parts (keys packets) q both.0 in
-      subst (λ (k : Pair). In q (parts_of k n)) (sym here) (in_parts_of n q (counted q (s.held q held).asked (sym here)))
+      let held : holds p q ≡ true =
+      ap (λ (ts : List Part). contains part_cmp ts q) tied.held ∙ contains_in exact_parts (keys packets) q both.0 in
+      subst (λ (k : Pair). In q (parts_of k n)) (sym here)
+      (in_parts_of n q (counted q (s.held q held).asked (sym here)))
 
   to_inside : (q : Part) → In q (parts_of pair n) → In q (filter (is_in pair) (keys packets))
   to_inside q i =
       let both = from_parts_of pair n q i in
-      let there : contains part_cmp (keys packets) (part_of pair q.part) ≡ true = contains-value packets (part_of pair q.part) ∙ whole.each q.part both.1 in
+      let there : contains part_cmp (keys packets) (part_of pair q.part) ≡ true =
+      contains-value packets (part_of pair q.part) ∙ whole.each q.part both.1 in
       let same : part_of pair q.part ≡ q = ap (λ (k : Pair). part_of k q.part) (sym both.0) in
       in_filter (is_in pair) (keys packets) q
       (in_contains exact_parts (keys packets) q (ap (contains part_cmp (keys packets)) (sym same) ∙ there))
@@ -147,7 +172,8 @@ module _ (p : Holdings) (packets : List Packet) (pair : Pair) (n : ℕ) (s : Pla
 
   inside_is : filter (is_in pair) (keys packets) ≡ parts_of pair n
   inside_is = same_set exact_parts (filter (is_in pair) (keys packets)) (parts_of pair n)
-      (rises_filter exact_parts.total (is_in pair) (keys packets) tied.in_order) (rises_numbers (opening 0) pair 0 (n + 1)) from_inside to_inside
+      (rises_filter exact_parts.total (is_in pair) (keys packets) tied.in_order)
+      (rises_numbers (opening 0) pair 0 (n + 1)) from_inside to_inside
 
   pub packets_counted : length (packets_in pair packets) ≡ n + 1
   packets_counted =
@@ -157,26 +183,32 @@ module _ (p : Holdings) (packets : List Packet) (pair : Pair) (n : ℕ) (s : Pla
 
 -- ---- one publication after another
 
-pub outside_append : (pairs : List Pair) (q : Pair) (packets : List Packet) → outside_all (pairs ++ q ∷ []) packets ≡ packets_outside q (outside_all pairs packets)
+pub outside_append : (pairs : List Pair) (q : Pair) (packets : List Packet)
+    → outside_all (pairs ++ q ∷ []) packets ≡ packets_outside q (outside_all pairs packets)
 outside_append [] q packets = refl
 outside_append (k ∷ pairs) q packets = outside_append pairs q (packets_outside k packets)
 
-inside_outside : (pair q : Pair) (packets : List Packet) → eq_by_cmp pair_cmp q pair ≡ false → packets_in pair (packets_outside q packets) ≡ packets_in pair packets
+inside_outside : (pair q : Pair) (packets : List Packet) → eq_by_cmp pair_cmp q pair ≡ false
+    → packets_in pair (packets_outside q packets) ≡ packets_in pair packets
 inside_outside pair q [] other = refl
-inside_outside pair q (e ∷ es) other = go (is_in q e.0) refl (is_in pair e.0) refl (inside_outside pair q es other) where
-  both : is_in q e.0 ≡ true → is_in pair e.0 ≡ true → ⊥
-  both a b =
-      let same : q ≡ pair = eq_same exact_pairs q (pair_of e.0) a ∙ sym (eq_same exact_pairs pair (pair_of e.0) b) in
-      true≢false (sym (eq_itself exact_pairs q) ∙ ap (eq_by_cmp pair_cmp q) same ∙ other)
+inside_outside pair q (e ∷ es) other =
+    go (is_in q e.0) refl (is_in pair e.0) refl (inside_outside pair q es other) where
+      both : is_in q e.0 ≡ true → is_in pair e.0 ≡ true → ⊥
+      both a b =
+          let same : q ≡ pair =
+          eq_same exact_pairs q (pair_of e.0) a ∙ sym (eq_same exact_pairs pair (pair_of e.0) b) in
+          true≢false (sym (eq_itself exact_pairs q) ∙ ap (eq_by_cmp pair_cmp q) same ∙ other)
 
-  go : (b : Bool) → is_in q e.0 ≡ b → (c : Bool) → is_in pair e.0 ≡ c → packets_in pair (packets_outside q es) ≡ packets_in pair es
-      → packets_in pair (packets_outside q (e ∷ es)) ≡ packets_in pair (e ∷ es)
-  go true a true c h = absurd (both a c)
-  go true a false c h = rw (a, c) h
-  go false a true c h = rw (a, c) (ap (λ (rest : List Packet). e ∷ rest) h)
-  go false a false c h = rw (a, c) h
+      go : (b : Bool) → is_in q e.0 ≡ b → (c : Bool) → is_in pair e.0 ≡ c
+          → packets_in pair (packets_outside q es) ≡ packets_in pair es
+          → packets_in pair (packets_outside q (e ∷ es)) ≡ packets_in pair (e ∷ es)
+      go true a true c h = absurd (both a c)
+      go true a false c h = rw (a, c) h
+      go false a true c h = rw (a, c) (ap (λ (rest : List Packet). e ∷ rest) h)
+      go false a false c h = rw (a, c) h
 
-inside_all : (pair : Pair) (pairs : List Pair) (packets : List Packet) → ((q : Pair) → In q pairs → eq_by_cmp pair_cmp q pair ≡ false)
+inside_all : (pair : Pair) (pairs : List Pair) (packets : List Packet)
+    → ((q : Pair) → In q pairs → eq_by_cmp pair_cmp q pair ≡ false)
     → packets_in pair (outside_all pairs packets) ≡ packets_in pair packets
 inside_all pair [] packets others = refl
 inside_all pair (k ∷ pairs) packets others =
@@ -186,44 +218,57 @@ inside_all pair (k ∷ pairs) packets others =
 -- ---- the entries of a name
 
 pub named_append : (name : List Component) (es : List Entry) (e : Entry)
-    → publications_named name (es ++ e ∷ []) ≡ publications_named name es ++ cond (entry_has_name name e) (publication_of e ∷ []) []
+    → publications_named name (es ++ e ∷ [])
+    ≡ publications_named name es ++ cond (entry_has_name name e) (publication_of e ∷ []) []
 named_append name [] e = go (entry_has_name name e) where
   go : (b : Bool) → map publication_of (cond b (e ∷ []) []) ≡ cond b (publication_of e ∷ []) []
   go true = refl
   go false = refl
 named_append name (x ∷ es) e = go (entry_has_name name x) (named_append name es e) where
-  go : (b : Bool) → publications_named name (es ++ e ∷ []) ≡ publications_named name es ++ cond (entry_has_name name e) (publication_of e ∷ []) []
-      → map publication_of (cond b (x ∷ filter (entry_has_name name) (es ++ e ∷ [])) (filter (entry_has_name name) (es ++ e ∷ [])))
-      ≡ map publication_of (cond b (x ∷ filter (entry_has_name name) es) (filter (entry_has_name name) es)) ++ cond (entry_has_name name e) (publication_of e ∷ []) []
+  go : (b : Bool)
+      → publications_named name (es ++ e ∷ [])
+      ≡ publications_named name es ++ cond (entry_has_name name e) (publication_of e ∷ []) []
+      → map publication_of
+      (cond b (x ∷ filter (entry_has_name name) (es ++ e ∷ [])) (filter (entry_has_name name) (es ++ e ∷ [])))
+      ≡ map publication_of (cond b (x ∷ filter (entry_has_name name) es) (filter (entry_has_name name) es))
+      ++ cond (entry_has_name name e) (publication_of e ∷ []) []
   go true h = ap (λ (rest : List Pair). publication_of x ∷ rest) h
   go false h = h
 
 -- each entry before one in the catalogue is of another publication
-entries_before : (es : List Entry) (i : ℕ) (d e : Entry) → IsCatalogue es → i < length es → In e (take i es) → pair_cmp (publication_of e) (publication_of (get_or es i d)) ≡ Less
+entries_before : (es : List Entry) (i : ℕ) (d e : Entry) → IsCatalogue es → i < length es → In e (take i es)
+    → pair_cmp (publication_of e) (publication_of (get_or es i d)) ≡ Less
 entries_before [] i d e r l j = absurd (omega (arith, l))
 entries_before (x ∷ es) zero d e r l j = absurd j
 entries_before (x ∷ es) (suc i) d e r l (inl same) =
     ap (λ (y : Entry). pair_cmp (publication_of y) (publication_of (get_or es i d))) same
-    ∙ each_before exact_pairs.total (publication_of x) (map publication_of es) r.0 (publication_of (get_or es i d)) (in_map publication_of es (get_or es i d) (in_at es i d (omega (arith, l))))
+    ∙ each_before exact_pairs.total (publication_of x) (map publication_of es) r.0 (publication_of (get_or es i d))
+    (in_map publication_of es (get_or es i d) (in_at es i d (omega (arith, l))))
 entries_before (x ∷ es) (suc i) d e r l (inr j) = entries_before es i d e r.1 (omega (arith, l)) j
 
 pub others_before : (name : List Component) (es : List Entry) (i : ℕ) (d : Entry) → IsCatalogue es → i < length es
-    → (q : Pair) → In q (publications_named name (take i es)) → eq_by_cmp pair_cmp q (publication_of (get_or es i d)) ≡ false
+    → (q : Pair) → In q (publications_named name (take i es))
+    → eq_by_cmp pair_cmp q (publication_of (get_or es i d)) ≡ false
 others_before name es i d r l q j =
-    let x : (e : Entry) × (In e (filter (entry_has_name name) (take i es))) × (q ≡ publication_of e) = from_map publication_of (filter (entry_has_name name) (take i es)) q j in
+    let x : (e : Entry) × (In e (filter (entry_has_name name) (take i es))) × (q ≡ publication_of e) =
+    from_map publication_of (filter (entry_has_name name) (take i es)) q j in
     let there = from_filter (entry_has_name name) (take i es) x.0 x.1 in
-    let less : pair_cmp (publication_of x.0) (publication_of (get_or es i d)) ≡ Less = entries_before es i d x.0 r l there.0 in
+    let less : pair_cmp (publication_of x.0) (publication_of (get_or es i d)) ≡ Less =
+    entries_before es i d x.0 r l there.0 in
     ap (λ (k : Pair). eq_by_cmp pair_cmp k (publication_of (get_or es i d))) x.2 ∙ ap is_eq less
 
 -- one publication more has so many packets
-pub one_more_dropped : (p : Holdings) (packets : List Packet) (pair : Pair) (n : ℕ) (pairs : List Pair) → PlanIsSound p → AreTied p packets → IsWhole packets pair n
+pub one_more_dropped : (p : Holdings) (packets : List Packet) (pair : Pair) (n : ℕ) (pairs : List Pair) → PlanIsSound p
+    → AreTied p packets → IsWhole packets pair n
     → ((q : Pair) → In q pairs → eq_by_cmp pair_cmp q pair ≡ false)
     → length (outside_all (pairs ++ pair ∷ []) packets) + (n + 1) ≡ length (outside_all pairs packets)
 one_more_dropped p packets pair n pairs s tied whole others =
     let front = outside_all pairs packets in
     let split = lengths_inside pair front in
-    let inside : length (packets_in pair front) ≡ n + 1 = ap length (inside_all pair pairs packets others) ∙ packets_counted p packets pair n s tied whole in
-    let more : length (outside_all (pairs ++ pair ∷ []) packets) ≡ length (packets_outside pair front) = ap length (outside_append pairs pair packets) in
+    let inside : length (packets_in pair front) ≡ n + 1 =
+    ap length (inside_all pair pairs packets others) ∙ packets_counted p packets pair n s tied whole in
+    let more : length (outside_all (pairs ++ pair ∷ []) packets) ≡ length (packets_outside pair front) =
+    ap length (outside_append pairs pair packets) in
     omega (arith, split, inside, more)
 
 -- no packet comes by this
@@ -237,24 +282,33 @@ outside_shorter (pair ∷ pairs) packets =
 -- ---- the entry at a place of the catalogue
 
 -- what a loop over the entries learns of one
-pub record IsEntryAt (p : Holdings) (packets : List Packet) (name : List Component) (entries : List Entry) (i : ℕ) (e : Entry) : Type 0 where
+pub record IsEntryAt (p : Holdings) (packets : List Packet) (name : List Component) (entries : List Entry) (i : ℕ)
+    (e : Entry) : Type 0 where
   pub held : holds p (part_of (publication_of e) 0) ≡ true
   pub known : knows p (publication_of e) ≡ true
   pub unclaimed : claims_part_in p (publication_of e) ≡ false
-  pub fewer : length (outside_all (publications_named name (take i entries) ++ publication_of e ∷ []) packets) + (e.segments + 1)
+  pub fewer : length (outside_all (publications_named name (take i entries) ++ publication_of e ∷ []) packets)
+      + (e.segments + 1)
       ≡ length (outside_all (publications_named name (take i entries)) packets)
 
-pub entry_is_at : (p : Holdings) (packets : List Packet) (name : List Component) (entries : List Entry) (i : ℕ) (d e : Entry)
-    → PlanIsSound p → AreTied p packets → entries ≡ alone_catalogue packets → IsCatalogue entries → i < length entries → e ≡ get_or entries i d
+pub entry_is_at :
+    (p : Holdings) (packets : List Packet) (name : List Component) (entries : List Entry) (i : ℕ) (d e : Entry)
+    → PlanIsSound p → AreTied p packets → entries ≡ alone_catalogue packets → IsCatalogue entries → i < length entries
+    → e ≡ get_or entries i d
     → IsEntryAt p packets name entries i e
 entry_is_at p packets name entries i d e sound tied listed order low is =
-    let there : In e (alone_catalogue packets) = subst (In e) listed (subst (λ (x : Entry). In x entries) (sym is) (in_at entries i d low)) in
+    let there : In e (alone_catalogue packets) =
+    subst (In e) listed (subst (λ (x : Entry). In x entries) (sym is) (in_at entries i d low)) in
     let whole : IsWhole packets (publication_of e) e.segments = entry_listed_whole packets e tied.in_order there in
-    let others : (q : Pair) → In q (publications_named name (take i entries)) → eq_by_cmp pair_cmp q (publication_of e) ≡ false =
-    λ q j. ap (λ (x : Entry). eq_by_cmp pair_cmp q (publication_of x)) is ∙ others_before name entries i d order low q j in
+    let others : (q : Pair) → In q (publications_named name (take i entries))
+    → eq_by_cmp pair_cmp q (publication_of e) ≡ false =
+    λ q j.
+    ap (λ (x : Entry). eq_by_cmp pair_cmp q (publication_of x)) is ∙ others_before name entries i d order low q j in
     record {
       held = held_each p packets (publication_of e) e.segments sound tied whole 0 (omega arith);
       known = whole_known p packets (publication_of e) e.segments sound tied whole;
       unclaimed = whole_unclaimed p packets (publication_of e) e.segments sound tied whole;
-      fewer = one_more_dropped p packets (publication_of e) e.segments (publications_named name (take i entries)) sound tied whole others;
+      fewer =
+          one_more_dropped p packets (publication_of e) e.segments (publications_named name (take i entries)) sound tied
+          whole others;
     }

@@ -1,5 +1,6 @@
 -- The plan of a member by itself is its group's plan of it.
-use Rattle.std.proofs.Common.{◌≡◌, inl, inr, ℕ, Bool, true, false, cond, ◌==◌, List, [], ◌∷◌, map, Option, Some, option_map, refl, sym, ap, ◌∙◌, subst, arith}
+use Rattle.std.proofs.Common.{◌≡◌, inl, inr, ℕ, Bool, true, false, cond, ◌==◌, List, [], ◌∷◌, map, Option, Some}
+use Rattle.std.proofs.Common.{option_map, refl, sym, ap, ◌∙◌, subst, arith}
 use Rattle.std.specs.Prelude.{filter, ◌↔◌}
 use Rattle.std.proofs.lemmas.Bool.{eqb-true}
 use Rattle.repo_plan.specs.declared.part.Part.{Part}
@@ -19,8 +20,10 @@ use Rattle.repo_member.specs.Records.{Packet, records_in}
 use Rattle.repo_member.specs.Listed.{listed_shape, shapes_in}
 use Rattle.repo_member.specs.Groups.{GroupKeys, publisher_at}
 use Rattle.repo_member.specs.Alone.{Alone, alone_plan}
-use Rattle.repo_member.specs.InGroup.{AreLogs, StoresTruly, true_packet, in_group, SoundStoresTruly, PlansAlike, WantsAlike}
-use Rattle.repo_member.proofs.TruePackets.{value_in, record_lists, listing_counts, published_object, published_by, published_low}
+use Rattle.repo_member.specs.InGroup.{AreLogs, StoresTruly, true_packet, in_group, SoundStoresTruly, PlansAlike}
+use Rattle.repo_member.specs.InGroup.{WantsAlike}
+use Rattle.repo_member.proofs.TruePackets.{value_in, record_lists, listing_counts, published_object, published_by}
+use Rattle.repo_member.proofs.TruePackets.{published_low}
 
 pub sound_stores_truly : SoundStoresTruly
 sound_stores_truly g logs a s packets = record {
@@ -34,13 +37,17 @@ sound_stores_truly g logs a s packets = record {
 -- ---- the plan
 
 -- records that list as many segments as were published
-shapes_alike : (logs : Logs) (es : List Packet) → ((e : Packet) → In e es → e.0.part ≡ 0 → option_map listed_shape (listing_in e.1) ≡ Some (count logs (pair_of e.0)))
+shapes_alike : (logs : Logs) (es : List Packet)
+    → ((e : Packet) → In e es → e.0.part ≡ 0
+    → option_map listed_shape (listing_in e.1) ≡ Some (count logs (pair_of e.0)))
     → shapes_in es ≡ told_by logs (keys es)
 shapes_alike logs [] h = refl
 shapes_alike logs (e ∷ es) h = go (e.0.part == 0) refl (shapes_alike logs es (λ x i. h x (inr i))) where
   go : (b : Bool) → (e.0.part == 0) ≡ b → shapes_in es ≡ told_by logs (keys es)
-      → kept_values (λ pair octets. option_map listed_shape (listing_in octets)) (cond b ((pair_of e.0, e.1) ∷ records_in es) (records_in es))
-      ≡ map (λ (t : Part). (pair_of t, count logs (pair_of t))) (cond b (e.0 ∷ filter (λ t. t.part == 0) (keys es)) (filter (λ t. t.part == 0) (keys es)))
+      → kept_values (λ pair octets. option_map listed_shape (listing_in octets))
+      (cond b ((pair_of e.0, e.1) ∷ records_in es) (records_in es))
+      ≡ map (λ (t : Part). (pair_of t, count logs (pair_of t)))
+      (cond b (e.0 ∷ filter (λ t. t.part == 0) (keys es)) (filter (λ t. t.part == 0) (keys es)))
   go true p rest =
       ap (λ (o : Option Shape). with_kept (pair_of e.0) o (shapes_in es)) (h e (inl refl) (eqb-true e.0.part 0 p))
       ∙ ap (λ (shapes : List (Pair × Shape)). (pair_of e.0, count logs (pair_of e.0)) ∷ shapes) rest
@@ -48,21 +55,28 @@ shapes_alike logs (e ∷ es) h = go (e.0.part == 0) refl (shapes_alike logs es (
 
 module _ (g : GroupKeys) (logs : Logs) (a : Alone) (are : AreLogs g logs) (truly : StoresTruly g logs a) where
   pub stored_published : (e : Packet) → In e a.store → IsPublished logs (pair_of e.0)
-  stored_published e i = truly.published e.0 (contains_in exact_parts (keys a.store) e.0 (in_map (λ (x : Packet). x.0) a.store e i))
+  stored_published e i =
+      truly.published e.0 (contains_in exact_parts (keys a.store) e.0 (in_map (λ (x : Packet). x.0) a.store e i))
 
   shapes_told : shapes_in a.store ≡ told_by logs (keys a.store)
   shapes_told = shapes_alike logs a.store (λ e i first.
       let there = stored_published e i in
       let publisher = publisher_at g e.0.publisher in
       let object = object_at logs (pair_of e.0) in
-      let made : true_packet g logs e.0 ≡ Some e.1 = truly.packets e.0 e.1 (value_in exact_parts a.store e truly.in_order i) in
+      let made : true_packet g logs e.0 ≡ Some e.1 =
+      truly.packets e.0 e.1 (value_in exact_parts a.store e truly.in_order i) in
       let made_first = rw first at made in
-      ap (option_map listed_shape) (record_lists publisher e.0.seq object (published_by g logs are (pair_of e.0) there) (published_object g logs are (pair_of e.0) there) e.1 (published_low g logs are (pair_of e.0) there) made_first)
+      ap (option_map listed_shape)
+      (record_lists publisher e.0.seq object (published_by g logs are (pair_of e.0) there)
+      (published_object g logs are (pair_of e.0) there) e.1 (published_low g logs are (pair_of e.0) there) made_first)
       ∙ ap (λ (n : ℕ). Some n) (listing_counts publisher e.0.seq object))
 
 pub plans_alike : PlansAlike
-plans_alike g logs a are truly = ap (λ (shapes : List (Pair × Shape)). let p : Holdings = record (alone_plan a) { shapes = shapes } in p) (shapes_told g logs a are truly)
+plans_alike g logs a are truly =
+    ap (λ (shapes : List (Pair × Shape)). let p : Holdings = record (alone_plan a) { shapes = shapes } in p)
+    (shapes_told g logs a are truly)
 
 pub wants_alike : WantsAlike
 wants_alike g logs a t are truly =
-    subst (λ (p : Holdings). (contains part_cmp (wanted p) t ≡ true) ↔ IsWantedPart logs (in_group a) t) (sym (plans_alike g logs a are truly)) (wants_those logs (in_group a) t)
+    subst (λ (p : Holdings). (contains part_cmp (wanted p) t ≡ true) ↔ IsWantedPart logs (in_group a) t)
+    (sym (plans_alike g logs a are truly)) (wants_those logs (in_group a) t)

@@ -1,5 +1,6 @@
 -- What a deletion makes of a member that calls reach.
-use Rattle.std.proofs.Common.{◌≡◌, ◌≢◌, inl, inr, ℕ, Bool, true, false, cond, not, ◌==◌, List, [], ◌∷◌, Option, Some, None, refl, sym, ap, ◌∙◌, subst}
+use Rattle.std.proofs.Common.{◌≡◌, ◌≢◌, inl, inr, ℕ, Bool, true, false, cond, not, ◌==◌, List, [], ◌∷◌, Option, Some}
+use Rattle.std.proofs.Common.{None, refl, sym, ap, ◌∙◌, subst}
 use Rattle.std.specs.Prelude.{unwrap_or, IsOk, filter}
 use Rattle.std.specs.Option.{option_and_then}
 use Rattle.std.specs.Ordering.{eq_by_cmp}
@@ -25,7 +26,8 @@ use Rattle.repo_member.specs.Groups.{GroupKeys, node_at}
 use Rattle.repo_member.specs.Gaining.{AreTied}
 use Rattle.repo_member.specs.Alone.{Alone, alone_plan, want_of, nothing_listed}
 use Rattle.repo_member.specs.Deleting.{publications_named, catalogued_named, alone_hides, alone_deletes}
-use Rattle.repo_member.proofs.HidingLemmas.{other_way, value_outside, rises_outside, keys_outside, shapes_outside, others_stay}
+use Rattle.repo_member.proofs.HidingLemmas.{other_way, value_outside, rises_outside, keys_outside, shapes_outside}
+use Rattle.repo_member.proofs.HidingLemmas.{others_stay}
 use Rattle.repo_member.proofs.FoundLemmas.{entry_listed_whole, whole_known, whole_unclaimed}
 use Rattle.repo_member.proofs.PlanChanges.{tied_alone}
 use Rattle.repo_member.proofs.HeldParts.{IsReached, PassesNow}
@@ -40,7 +42,8 @@ pub record CanHide (p : Holdings) (pair : Pair) : Type 0 where
 pub named_can_hide : (p : Holdings) (packets : List Packet) (name : List Component) → PlanIsSound p → AreTied p packets
     → (pair : Pair) → In pair (publications_named name (alone_catalogue packets)) → CanHide p pair
 named_can_hide p packets name s tied pair i =
-    let e : (e : Entry) × (In e (filter (entry_has_name name) (alone_catalogue packets))) × (pair ≡ publication_of e) = from_map publication_of (filter (entry_has_name name) (alone_catalogue packets)) pair i in
+    let e : (e : Entry) × (In e (filter (entry_has_name name) (alone_catalogue packets))) × (pair ≡ publication_of e) =
+    from_map publication_of (filter (entry_has_name name) (alone_catalogue packets)) pair i in
     let there = from_filter (entry_has_name name) (alone_catalogue packets) e.0 e.1 in
     let whole = entry_listed_whole packets e.0 tied.in_order there.0 in
     subst (CanHide p) (sym e.2) (record {
@@ -54,25 +57,35 @@ named_can_hide p packets name s tied pair i =
 abbrev pub hidden_one : Pair → Alone → Alone
 hidden_one pair a = record a { store = packets_outside pair a.store; hidden = insert_key pair_cmp pair a.hidden }
 
-pub plan_hidden : (pair : Pair) (a : Alone) → Rises part_cmp (keys a.store) → hides_too pair (alone_plan a) ≡ alone_plan (hidden_one pair a)
+pub plan_hidden : (pair : Pair) (a : Alone) → Rises part_cmp (keys a.store)
+    → hides_too pair (alone_plan a) ≡ alone_plan (hidden_one pair a)
 plan_hidden pair a order =
-    same_holdings (hides_too pair (alone_plan a)) (alone_plan (hidden_one pair a)) refl (sym (keys_outside pair a.store)) (shapes_outside pair a.store order) refl refl refl refl
+    same_holdings (hides_too pair (alone_plan a)) (alone_plan (hidden_one pair a)) refl
+    (sym (keys_outside pair a.store)) (shapes_outside pair a.store order) refl refl refl refl
 
-shown_before : (pair : Pair) (a : Alone) (q : Pair) → hides (alone_plan (hidden_one pair a)) q ≡ false → (eq_by_cmp pair_cmp q pair ≡ false) × (hides (alone_plan a) q ≡ false)
-shown_before pair a q h = or_parts (eq_by_cmp pair_cmp q pair) (hides (alone_plan a) q) (sym (contains-insert_key exact_pairs pair a.hidden q) ∙ h)
+shown_before : (pair : Pair) (a : Alone) (q : Pair) → hides (alone_plan (hidden_one pair a)) q ≡ false
+    → (eq_by_cmp pair_cmp q pair ≡ false) × (hides (alone_plan a) q ≡ false)
+shown_before pair a q h =
+    or_parts (eq_by_cmp pair_cmp q pair) (hides (alone_plan a) q)
+    (sym (contains-insert_key exact_pairs pair a.hidden q) ∙ h)
 
-value_other : (pair : Pair) (packets : List Packet) (t : Part) → is_in pair t ≡ false → value_of part_cmp (packets_outside pair packets) t ≡ value_of part_cmp packets t
-value_other pair packets t other = value_outside pair packets t ∙ ap (λ (b : Bool). cond (not b) (value_of part_cmp packets t) None) other
+value_other : (pair : Pair) (packets : List Packet) (t : Part) → is_in pair t ≡ false
+    → value_of part_cmp (packets_outside pair packets) t ≡ value_of part_cmp packets t
+value_other pair packets t other =
+    value_outside pair packets t ∙ ap (λ (b : Bool). cond (not b) (value_of part_cmp packets t) None) other
 
-want_other : (g : GroupKeys) (pair : Pair) (packets : List Packet) (t : Part) → is_in pair t ≡ false → want_of g packets t ≡ want_of g (packets_outside pair packets) t
+want_other : (g : GroupKeys) (pair : Pair) (packets : List Packet) (t : Part) → is_in pair t ≡ false
+    → want_of g packets t ≡ want_of g (packets_outside pair packets) t
 want_other g pair packets t other =
-    ap (λ (o : Option (List ℕ)). cond (t.part == 0) (want_record t (node_at g t.publisher) g.name) (want_segment t (unwrap_or (option_and_then listing_in o) nothing_listed)))
+    ap (λ (o : Option (List ℕ)). cond (t.part == 0) (want_record t (node_at g t.publisher) g.name)
+    (want_segment t (unwrap_or (option_and_then listing_in o) nothing_listed)))
     (sym (others_stay pair packets (pair_of t) other 0))
 
 no_packet : (octets : List ℕ) → (let o : Option (List ℕ) = None in o) ≡ Some octets → ⊥
 no_packet octets h = cc
 
-pub reached_hides : (g : GroupKeys) (pair : Pair) (a : Alone) → CanHide (alone_plan a) pair → IsReached g a → IsReached g (hidden_one pair a)
+pub reached_hides : (g : GroupKeys) (pair : Pair) (a : Alone) → CanHide (alone_plan a) pair → IsReached g a
+    → IsReached g (hidden_one pair a)
 reached_hides g pair a can r = record {
   group = r.group;
   alone = record {
@@ -80,13 +93,16 @@ reached_hides g pair a can r = record {
     own = r.alone.own;
     width = r.alone.width;
     in_order = rises_outside pair a.store r.alone.in_order;
-    hidden = λ q h. elim (or_cases (eq_by_cmp pair_cmp q pair) (hides (alone_plan a) q) (sym (contains-insert_key exact_pairs pair a.hidden q) ∙ h)) [
-      | inl same ↦ ap (knows (alone_plan a)) (eq_same exact_pairs q pair same) ∙ can.known
-      | inr before ↦ r.alone.hidden q before
-    ];
+    hidden = λ q h. elim
+        (or_cases (eq_by_cmp pair_cmp q pair) (hides (alone_plan a) q)
+        (sym (contains-insert_key exact_pairs pair a.hidden q) ∙ h)) [
+          | inl same ↦ ap (knows (alone_plan a)) (eq_same exact_pairs q pair same) ∙ can.known
+          | inr before ↦ r.alone.hidden q before
+        ];
   };
   of = r.of;
-  sound = subst PlanIsSound (plan_hidden pair a r.alone.in_order) (sound_hides pair (alone_plan a) can.unclaimed r.sound);
+  sound =
+      subst PlanIsSound (plan_hidden pair a r.alone.in_order) (sound_hides pair (alone_plan a) can.unclaimed r.sound);
   few = r.few;
   objects = r.objects;
   own = λ t own shown.
@@ -95,19 +111,26 @@ reached_hides g pair a can r = record {
   others = λ t octets away h. others t octets away (is_in pair t) refl (sym (value_outside pair a.store t) ∙ h);
   insertions = r.insertions;
 } where
-  others : (t : Part) (octets : List ℕ) → t.publisher ≢ a.number → (b : Bool) → is_in pair t ≡ b → cond (not b) (value_of part_cmp a.store t) None ≡ Some octets → PassesNow g (packets_outside pair a.store) t octets
+  others : (t : Part) (octets : List ℕ) → t.publisher ≢ a.number → (b : Bool) → is_in pair t ≡ b
+      → cond (not b) (value_of part_cmp a.store t) None ≡ Some octets
+      → PassesNow g (packets_outside pair a.store) t octets
   others t octets away true p h = absurd (no_packet octets h)
-  others t octets away false p h = subst (λ (want : WantedPart). IsOk (ring_verdict want g.members.ring octets)) (want_other g pair a.store t p) (r.others t octets away h)
+  others t octets away false p h =
+      subst (λ (want : WantedPart). IsOk (ring_verdict want g.members.ring octets)) (want_other g pair a.store t p)
+      (r.others t octets away h)
 
 -- ---- one after another
 
-pub reached_hides_all : (g : GroupKeys) (pairs : List Pair) (a : Alone) → ((pair : Pair) → In pair pairs → CanHide (alone_plan a) pair) → IsReached g a → IsReached g (alone_hides pairs a)
+pub reached_hides_all : (g : GroupKeys) (pairs : List Pair) (a : Alone)
+    → ((pair : Pair) → In pair pairs → CanHide (alone_plan a) pair) → IsReached g a → IsReached g (alone_hides pairs a)
 reached_hides_all g [] a each r = r
 reached_hides_all g (pair ∷ pairs) a each r =
     reached_hides_all g pairs (hidden_one pair a)
     (λ q i. let can = each q (inr i) in record { known = can.known; unclaimed = can.unclaimed })
     (reached_hides g pair a (each pair (inl refl)) r)
 
-pub reached_deletes : (g : GroupKeys) (name : List Component) (a : Alone) → IsReached g a → IsReached g (alone_deletes name a)
+pub reached_deletes : (g : GroupKeys) (name : List Component) (a : Alone) → IsReached g a
+    → IsReached g (alone_deletes name a)
 reached_deletes g name a r =
-    reached_hides_all g (catalogued_named name a) a (named_can_hide (alone_plan a) a.store name r.sound (tied_alone a r.alone.in_order)) r
+    reached_hides_all g (catalogued_named name a) a
+    (named_can_hide (alone_plan a) a.store name r.sound (tied_alone a r.alone.in_order)) r

@@ -1,10 +1,13 @@
 -- Stored packets stay those of their parts.
-use Rattle.std.proofs.Common.{◌≡◌, inl, inr, ℕ, suc, ◌+◌, ◌-◌, ◌≤◌, ◌<◌, Bool, true, false, cond, List, [], ◌∷◌, ◌++◌, length, length-take, get_or, take, Option, Some, None, slice_get, refl, sym, ap, ◌∙◌, subst, arith}
+use Rattle.std.proofs.Common.{◌≡◌, inl, inr, ℕ, suc, ◌+◌, ◌-◌, ◌≤◌, ◌<◌, Bool, true, false, cond, List, [], ◌∷◌, ◌++◌}
+use Rattle.std.proofs.Common.{length, length-take, get_or, take, Option, Some, None, slice_get, refl, sym, ap, ◌∙◌}
+use Rattle.std.proofs.Common.{subst, arith}
 use Rattle.std.specs.Prelude.{is_some, slice_set, replicate}
 use Rattle.std.specs.List.{All}
 use Rattle.std.specs.Ordering.{eq_by_cmp}
 use Rattle.std.proofs.lemmas.Bool.{or_cases, cases_eq}
-use Rattle.std.proofs.lemmas.List.{get_or-take, get_or-set_same, get_or-set_other, get_or_push, length_push, take_at, take_all, length-set, length-replicate, get_or-replicate}
+use Rattle.std.proofs.lemmas.List.{get_or-take, get_or-set_same, get_or-set_other, get_or_push, length_push, take_at}
+use Rattle.std.proofs.lemmas.List.{take_all, length-set, length-replicate, get_or-replicate}
 use Rattle.std.proofs.lemmas.List.Elements.{All-nil, All-push, All-head, All-tail}
 use Rattle.repo_plan.specs.declared.part.Part.{Part}
 use Rattle.repo_plan.specs.SortedList.{keys, contains, value_of, with_value, insert_key}
@@ -19,8 +22,11 @@ use Rattle.group_model.specs.Sound.{IsPublished}
 use Rattle.repo_member.specs.Records.{Packet}
 use Rattle.repo_member.specs.Groups.{GroupKeys, publisher_at}
 use Rattle.group_model.specs.Member.{with_tries}
-use Rattle.repo_member.specs.Alone.{Alone, Fetched, alone_publishes, alone_accepts, as_parts, with_packets, next_seq, with_fetched}
-use Rattle.repo_member.specs.InGroup.{StoresTruly, IsItsPacket, CameTruly, true_packet, GrowInto, BeginsTruly, GrowsTruly, PublishesTruly, AcceptsTruly, TakesTruly, StaysTrue, LogsBegin, LogsGrow}
+use Rattle.repo_member.specs.Alone.{Alone, Fetched, alone_publishes, alone_accepts, as_parts, with_packets, next_seq}
+use Rattle.repo_member.specs.Alone.{with_fetched}
+use Rattle.repo_member.specs.InGroup.{StoresTruly, IsItsPacket, CameTruly, true_packet, GrowInto, BeginsTruly}
+use Rattle.repo_member.specs.InGroup.{GrowsTruly, PublishesTruly, AcceptsTruly, TakesTruly, StaysTrue, LogsBegin}
+use Rattle.repo_member.specs.InGroup.{LogsGrow}
 use Rattle.repo_member.proofs.GainingLemmas.{contains-value, value_of-put}
 use Rattle.repo_member.proofs.ChangeLemmas.{keys_put, rises_put}
 
@@ -28,13 +34,16 @@ same_some : (a b : List ℕ) → (let o : Option (List ℕ) = Some a in o) ≡ S
 same_some a b h = cc
 
 pub begins_truly : BeginsTruly
-begins_truly g logs members number moment draw = record { in_order = tt; published = λ t h. absurd cc; packets = λ t octets h. absurd cc }
+begins_truly g logs members number moment draw =
+    record { in_order = tt; published = λ t h. absurd cc; packets = λ t octets h. absurd cc }
 
 pub stays_true : StaysTrue
 stays_true g logs a b same s =
     let with_store : List Packet → Alone = λ stored. record a { store = stored } in
-    let as_before : StoresTruly g logs (with_store a.store) = record { in_order = s.in_order; published = s.published; packets = s.packets } in
-    let moved : StoresTruly g logs (with_store b.store) = subst (λ (stored : List Packet). StoresTruly g logs (with_store stored)) (sym same) as_before in
+    let as_before : StoresTruly g logs (with_store a.store) =
+    record { in_order = s.in_order; published = s.published; packets = s.packets } in
+    let moved : StoresTruly g logs (with_store b.store) =
+    subst (λ (stored : List Packet). StoresTruly g logs (with_store stored)) (sym same) as_before in
     record { in_order = moved.in_order; published = moved.published; packets = moved.packets }
 
 -- ---- packets that are put
@@ -42,52 +51,68 @@ stays_true g logs a b same s =
 abbrev with_store : Alone → List Packet → Alone
 with_store a stored = record a { store = stored }
 
-pub one_more : (g : GroupKeys) (logs : Logs) (t : Part) (octets : List ℕ) (a : Alone) → IsItsPacket g logs t octets → StoresTruly g logs a → StoresTruly g logs (with_store a (with_packet t octets a.store))
+pub one_more : (g : GroupKeys) (logs : Logs) (t : Part) (octets : List ℕ) (a : Alone) → IsItsPacket g logs t octets
+    → StoresTruly g logs a → StoresTruly g logs (with_store a (with_packet t octets a.store))
 one_more g logs t octets a its s = record {
   in_order = rises_put a.store t octets s.in_order;
   published = λ q h.
-      let put : contains part_cmp (keys (with_packet t octets a.store)) q ≡ contains part_cmp (insert_key part_cmp t (keys a.store)) q = ap (λ (ts : List Part). contains part_cmp ts q) (keys_put a.store t octets s.in_order) in
-      elim (or_cases (eq_by_cmp part_cmp q t) (contains part_cmp (keys a.store) q) (sym (put ∙ contains-insert_key exact_parts t (keys a.store) q) ∙ h)) [
-        | inl same ↦ subst (λ (u : Part). IsPublished logs (pair_of u)) (sym (eq_same exact_parts q t same)) its.published
+      let put : contains part_cmp (keys (with_packet t octets a.store)) q
+      ≡ contains part_cmp (insert_key part_cmp t (keys a.store)) q =
+      ap (λ (ts : List Part). contains part_cmp ts q) (keys_put a.store t octets s.in_order) in
+      elim (or_cases (eq_by_cmp part_cmp q t) (contains part_cmp (keys a.store) q)
+      (sym (put ∙ contains-insert_key exact_parts t (keys a.store) q) ∙ h)) [
+        | inl same ↦
+            subst (λ (u : Part). IsPublished logs (pair_of u)) (sym (eq_same exact_parts q t same)) its.published
         | inr before ↦ s.published q before
       ];
   packets = λ q found h. at q found (contains part_cmp (keys a.store) t) refl h;
 } where
-  new : (q : Part) (found : List ℕ) (b : Bool) → eq_by_cmp part_cmp q t ≡ b → cond b (Some octets) (value_of part_cmp a.store q) ≡ Some found → true_packet g logs q ≡ Some found
+  new : (q : Part) (found : List ℕ) (b : Bool) → eq_by_cmp part_cmp q t ≡ b
+      → cond b (Some octets) (value_of part_cmp a.store q) ≡ Some found → true_packet g logs q ≡ Some found
   new q found true p h =
       ap (true_packet g logs) (eq_same exact_parts q t p) ∙ its.packet ∙ h
   new q found false p h = s.packets q found h
 
-  at : (q : Part) (found : List ℕ) (b : Bool) → contains part_cmp (keys a.store) t ≡ b → value_of part_cmp (with_packet t octets a.store) q ≡ Some found → true_packet g logs q ≡ Some found
-  at q found true p h = s.packets q found (sym (ap (λ (c : Bool). value_of part_cmp (cond c a.store (with_value part_cmp t octets a.store)) q) p) ∙ h)
+  at : (q : Part) (found : List ℕ) (b : Bool) → contains part_cmp (keys a.store) t ≡ b
+      → value_of part_cmp (with_packet t octets a.store) q ≡ Some found → true_packet g logs q ≡ Some found
+  at q found true p h =
+      s.packets q found
+      (sym (ap (λ (c : Bool). value_of part_cmp (cond c a.store (with_value part_cmp t octets a.store)) q) p) ∙ h)
   at q found false p h = new q found (eq_by_cmp part_cmp q t) refl (sym (value_of-put a.store t octets p q) ∙ h)
 
 pub accepts_truly : AcceptsTruly
 accepts_truly g logs f t octets a its s =
-    stays_true g logs (with_store a (with_packet t octets a.store)) (alone_accepts f t octets a) refl (one_more g logs t octets a its s)
+    stays_true g logs (with_store a (with_packet t octets a.store)) (alone_accepts f t octets a) refl
+    (one_more g logs t octets a its s)
 
-fetched_truly : (g : GroupKeys) (logs : Logs) (t : Part) (o : Option (List ℕ)) (a : Alone) → CameTruly g logs t o → StoresTruly g logs a → StoresTruly g logs (with_store a (with_fetched t o a.store))
+fetched_truly : (g : GroupKeys) (logs : Logs) (t : Part) (o : Option (List ℕ)) (a : Alone) → CameTruly g logs t o
+    → StoresTruly g logs a → StoresTruly g logs (with_store a (with_fetched t o a.store))
 fetched_truly g logs t None a came s = stays_true g logs a (with_store a a.store) refl s
 fetched_truly g logs t (Some octets) a came s = one_more g logs t octets a came s
 
 pub takes_truly : TakesTruly
 takes_truly g logs [] a came s = s
 takes_truly g logs (x ∷ xs) a came s =
-    let next : Alone = record a { store = with_fetched x.part x.packet a.store; attempts = with_tries x.part x.attempts a.attempts } in
+    let next : Alone =
+    record a { store = with_fetched x.part x.packet a.store; attempts = with_tries x.part x.attempts a.attempts } in
     let P : Fetched → Type 0 = λ y. CameTruly g logs y.part y.packet in
     takes_truly g logs xs next (All-tail P x xs came)
-    (stays_true g logs (with_store a (with_fetched x.part x.packet a.store)) next refl (fetched_truly g logs x.part x.packet a (All-head P x xs came) s))
+    (stays_true g logs (with_store a (with_fetched x.part x.packet a.store)) next refl
+    (fetched_truly g logs x.part x.packet a (All-head P x xs came) s))
 
 -- ---- what is published
 
 pub grown_last : (logs later : Logs) (p : ℕ) → GrowInto logs later → last_of logs p ≤ last_of later p
 grown_last logs later p grows =
-    let same : length (take (last_of logs p) (get_or later p [])) ≡ last_of logs p = ap (λ (log : List NamedContents). length log) (grows p) in
+    let same : length (take (last_of logs p) (get_or later p [])) ≡ last_of logs p =
+    ap (λ (log : List NamedContents). length log) (grows p) in
     omega (arith, same, length-take (last_of logs p) (get_or later p []))
 
-pub grown_object : (logs later : Logs) (pair : Pair) → GrowInto logs later → IsPublished logs pair → object_at later pair ≡ object_at logs pair
+pub grown_object : (logs later : Logs) (pair : Pair) → GrowInto logs later → IsPublished logs pair
+    → object_at later pair ≡ object_at logs pair
 grown_object logs later pair grows there =
-    sym (get_or-take (last_of logs pair.0) (get_or later pair.0 []) (pair.1 - 1) no_object (omega (arith, there.from_one, there.to_last)))
+    sym (get_or-take (last_of logs pair.0) (get_or later pair.0 []) (pair.1 - 1) no_object
+    (omega (arith, there.from_one, there.to_last)))
     ∙ ap (λ (log : List NamedContents). get_or log (pair.1 - 1) no_object) (grows pair.0)
 
 pub grows_truly : GrowsTruly
@@ -95,10 +120,15 @@ grows_truly g logs later a grows s = record {
   in_order = s.in_order;
   published = λ t h.
       let there = s.published t h in
-      record { from_one = there.from_one; to_last = omega (arith, there.to_last, grown_last logs later t.publisher grows) };
+      record {
+        from_one = there.from_one;
+        to_last = omega (arith, there.to_last, grown_last logs later t.publisher grows);
+      };
   packets = λ t octets h.
       let held : contains part_cmp (keys a.store) t ≡ true = contains-value a.store t ∙ ap is_some h in
-      ap (λ (object : NamedContents). packet_at (publisher_at g t.publisher) t.seq object t.part) (grown_object logs later (pair_of t) grows (s.published t held)) ∙ s.packets t octets h;
+      ap (λ (object : NamedContents). packet_at (publisher_at g t.publisher) t.seq object t.part)
+      (grown_object logs later (pair_of t) grows (s.published t held))
+      ∙ s.packets t octets h;
 }
 
 -- the packets of a publication, from part `x` on
@@ -108,15 +138,19 @@ puts_truly : (g : GroupKeys) (logs : Logs) (pair : Pair) (x : ℕ) (made : List 
 puts_truly g logs pair x [] a its s = stays_true g logs a (with_store a a.store) refl s
 puts_truly g logs pair x (octets ∷ made) a its s =
     let here : x + 0 ≡ x = omega arith in
-    let first : IsItsPacket g logs (part_of pair x) octets = subst (λ (n : ℕ). IsItsPacket g logs (part_of pair n) octets) here (its 0 octets refl) in
+    let first : IsItsPacket g logs (part_of pair x) octets =
+    subst (λ (n : ℕ). IsItsPacket g logs (part_of pair n) octets) here (its 0 octets refl) in
     let next : Alone = with_store a (with_packet (part_of pair x) octets a.store) in
-    stays_true g logs (with_store next (with_packets (as_parts pair (x + 1) made) next.store)) (with_store a (with_packets (as_parts pair x (octets ∷ made)) a.store)) refl
+    stays_true g logs (with_store next (with_packets (as_parts pair (x + 1) made) next.store))
+    (with_store a (with_packets (as_parts pair x (octets ∷ made)) a.store)) refl
     (puts_truly g logs pair (x + 1) made next (λ k found h.
     let there : x + suc k ≡ (x + 1) + k = omega arith in
-    subst (λ (n : ℕ). IsItsPacket g logs (part_of pair n) found) there (its (suc k) found h)) (one_more g logs (part_of pair x) octets a first s))
+    subst (λ (n : ℕ). IsItsPacket g logs (part_of pair n) found) there (its (suc k) found h))
+    (one_more g logs (part_of pair x) octets a first s))
 
 -- the logs of a group in which a member published one more object
-module _ (logs : Logs) (number : ℕ) (log : List NamedContents) (object : NamedContents) (inside : number < length logs) (own : get_or logs number [] ≡ log) where
+module _ (logs : Logs) (number : ℕ) (log : List NamedContents) (object : NamedContents) (inside : number < length logs)
+    (own : get_or logs number [] ≡ log) where
   abbrev later : Logs
   later = slice_set logs number (log ++ object ∷ [])
 
@@ -126,34 +160,46 @@ module _ (logs : Logs) (number : ℕ) (log : List NamedContents) (object : Named
   pub published_grows : GrowInto logs later
   published_grows p = elim (cases_eq p number) [
     | inl same ↦ subst (λ (q : ℕ). take (last_of logs q) (get_or later q []) ≡ get_or logs q []) (sym same)
-        (ap (take (last_of logs number)) at_own ∙ take_at log (object ∷ []) (last_of logs number) (sym (ap (λ (l : List NamedContents). length l) own)) ∙ sym own)
-    | inr other ↦ ap (take (last_of logs p)) (get_or-set_other logs number p (log ++ object ∷ []) [] other) ∙ take_all (last_of logs p) (get_or logs p []) (omega arith)
+        (ap (take (last_of logs number)) at_own
+        ∙ take_at log (object ∷ []) (last_of logs number) (sym (ap (λ (l : List NamedContents). length l) own))
+        ∙ sym own)
+    | inr other ↦
+        ap (take (last_of logs p)) (get_or-set_other logs number p (log ++ object ∷ []) [] other)
+        ∙ take_all (last_of logs p) (get_or logs p []) (omega arith)
   ]
 
   pub published_next : IsPublished later (number, length log + 1)
   published_next =
-      let long : last_of later number ≡ length (log ++ object ∷ []) = ap (λ (l : List NamedContents). length l) at_own in
+      let long : last_of later number ≡ length (log ++ object ∷ []) =
+      ap (λ (l : List NamedContents). length l) at_own in
       record { from_one = omega arith; to_last = omega (arith, long, length_push log object) }
 
   pub object_next : object_at later (number, length log + 1) ≡ object
   object_next =
-      ap (λ (l : List NamedContents). get_or l (length log + 1 - 1) no_object) at_own ∙ get_or_push log object no_object (length log + 1 - 1) (omega arith)
+      ap (λ (l : List NamedContents). get_or l (length log + 1 - 1) no_object) at_own
+      ∙ get_or_push log object no_object (length log + 1 - 1) (omega arith)
 
 pub publishes_truly : PublishesTruly
 publishes_truly g object moment draw logs a inside own s =
     let later_logs : Logs = slice_set logs a.number (a.log ++ object ∷ []) in
     let pair : Pair = (a.number, next_seq a) in
     let made : List (List ℕ) = packets (publisher_at g a.number) (next_seq a) object in
-    let its : (k : ℕ) (octets : List ℕ) → slice_get made k ≡ Some octets → IsItsPacket g later_logs (part_of pair (0 + k)) octets = λ k octets h.
+    let its : (k : ℕ) (octets : List ℕ) → slice_get made k ≡ Some octets
+    → IsItsPacket g later_logs (part_of pair (0 + k)) octets =
+    λ k octets h.
     let same : 0 + k ≡ k = omega arith in
     record {
       published = published_next logs a.number a.log object inside own;
       packet =
           ap (λ (n : ℕ). true_packet g later_logs (part_of pair n)) same
-          ∙ ap (λ (o : NamedContents). packet_at (publisher_at g a.number) (next_seq a) o k) (object_next logs a.number a.log object inside own) ∙ h;
+          ∙ ap (λ (o : NamedContents). packet_at (publisher_at g a.number) (next_seq a) o k)
+          (object_next logs a.number a.log object inside own)
+          ∙ h;
     } in
-    stays_true g later_logs (with_store a (with_packets (as_parts pair 0 made) a.store)) (alone_publishes g object moment draw a) refl
-    (puts_truly g later_logs pair 0 made a its (grows_truly g logs later_logs a (published_grows logs a.number a.log object inside own) s))
+    stays_true g later_logs (with_store a (with_packets (as_parts pair 0 made) a.store))
+    (alone_publishes g object moment draw a) refl
+    (puts_truly g later_logs pair 0 made a its
+    (grows_truly g logs later_logs a (published_grows logs a.number a.log object inside own) s))
 
 -- ---- what can have been published
 
@@ -161,7 +207,8 @@ pub logs_begin : LogsBegin
 logs_begin g is =
     let nothing : Logs = replicate (length g.members.names) [] in
     let each : (P : List NamedContents → Type 0) → P [] → All P nothing = λ P none k d inside.
-    subst P (sym (get_or-replicate (length g.members.names) k [] d (subst (λ (n : ℕ). k < n) (length-replicate (length g.members.names) []) inside))) none in
+    subst P (sym (get_or-replicate (length g.members.names) k [] d
+    (subst (λ (n : ℕ). k < n) (length-replicate (length g.members.names) []) inside))) none in
     record {
       group = is;
       width = length-replicate (length g.members.names) [];
@@ -173,10 +220,15 @@ pub logs_grow : LogsGrow
 logs_grow g logs j object are inside is room =
     let log : List NamedContents = get_or logs j [] in
     let grown : List NamedContents = log ++ object ∷ [] in
-    let each : (P : List NamedContents → Type 0) → All P logs → P grown → All P (slice_set logs j grown) = λ P all new k d within.
+    let each : (P : List NamedContents → Type 0) → All P logs → P grown → All P (slice_set logs j grown) =
+    λ P all new k d within.
     elim (cases_eq k j) [
-      | inl same ↦ subst P (sym (ap (λ (i : ℕ). get_or (slice_set logs j grown) i d) same ∙ get_or-set_same logs j grown d inside)) new
-      | inr other ↦ subst P (sym (get_or-set_other logs j k grown d other)) (all k d (subst (λ (n : ℕ). k < n) (length-set logs j grown) within))
+      | inl same ↦
+          subst P
+          (sym (ap (λ (i : ℕ). get_or (slice_set logs j grown) i d) same ∙ get_or-set_same logs j grown d inside)) new
+      | inr other ↦
+          subst P (sym (get_or-set_other logs j k grown d other))
+          (all k d (subst (λ (n : ℕ). k < n) (length-set logs j grown) within))
     ] in
     record {
       group = are.group;

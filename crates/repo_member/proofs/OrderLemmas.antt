@@ -1,5 +1,6 @@
 -- Commands that clients of the group make for its members.
-use Rattle.std.proofs.Common.{◌≡◌, ℕ, ◌-◌, ◌<◌, ◌≤◌, true, ◌&&◌, List, [], length, get_or, Some, sym, ap, ◌∙◌, subst, arith}
+use Rattle.std.proofs.Common.{◌≡◌, ℕ, ◌-◌, ◌<◌, ◌≤◌, true, ◌&&◌, List, [], length, get_or, Some, sym, ap, ◌∙◌, subst}
+use Rattle.std.proofs.Common.{arith}
 use Rattle.std.specs.Prelude.{slice_get, nat_le, nat_lt, Result, Ok, Err}
 use Rattle.std.proofs.lemmas.Bool.{and_parts}
 use Rattle.std.proofs.lemmas.Option.{slice_get-get_or, unwrap_or-slice_get}
@@ -24,11 +25,13 @@ use Rattle.repo_member.proofs.TrueSyncs.{number_at, ring_at}
 
 -- a command within the limits has a short name
 within_short : (command : Command) → is_command command ≡ true → named_length command ≤ 400
-within_short (Insert name first last) is = named_short name (and_parts (is_object_name name) (nat_le first last && nat_lt (last - first) 200) is).0
+within_short (Insert name first last) is =
+    named_short name (and_parts (is_object_name name) (nat_le first last && nat_lt (last - first) 200) is).0
 within_short (Check process) is = omega arith
 within_short (Delete name) is = named_short name is
 
-module _ (g : GroupKeys) (number client : ℕ) (group : IsGroup g) (there : number < length g.members.names) (known : client < length g.clients.names) where
+module _ (g : GroupKeys) (number client : ℕ) (group : IsGroup g) (there : number < length g.members.names)
+    (known : client < length g.clients.names) where
   node_is : node_at g number ≡ get_or g.members.names number []
   node_is = unwrap_or-slice_get g.members.names number []
 
@@ -42,26 +45,38 @@ module _ (g : GroupKeys) (number client : ℕ) (group : IsGroup g) (there : numb
   client_same = client_is g group.clients client known
 
   client_found : key_number (encoding (key_name (client_at g client))) g.clients.ring ≡ Some client
-  client_found = subst (λ (n : List Component). key_number (encoding (key_name n)) g.clients.ring ≡ Some client) (sym client_same) (number_at g.clients group.clients client known)
+  client_found =
+      subst (λ (n : List Component). key_number (encoding (key_name n)) g.clients.ring ≡ Some client) (sym client_same)
+      (number_at g.clients group.clients client known)
 
-  key_is : slice_get g.clients.ring client ≡ Some (pair (encoding (key_name (client_at g client))) (client_key_at g client))
-  key_is = slice_get-get_or g.clients.ring client (pair [] []) (omega (arith, known, ring_length g.clients group.clients)) ∙ ap (λ (q : Ring.NamedKey). Some q) made where
-    made : get_or g.clients.ring client (pair [] []) ≡ pair (encoding (key_name (client_at g client))) (client_key_at g client)
-    made =
-        let n : (get_or g.clients.ring client (pair [] [])).name ≡ encoding (key_name (client_at g client)) =
-        ring_at g.clients group.clients client known client known ∙ ap (λ (node : List Component). encoding (key_name node)) (sym client_same) in
-        let k : (get_or g.clients.ring client (pair [] [])).key ≡ client_key_at g client = sym (ap (λ (q : Ring.NamedKey). q.key) (unwrap_or-slice_get g.clients.ring client (pair [] []))) in
-        λ i. record { name = n i; key = k i }
+  key_is : slice_get g.clients.ring client
+      ≡ Some (pair (encoding (key_name (client_at g client))) (client_key_at g client))
+  key_is =
+      slice_get-get_or g.clients.ring client (pair [] []) (omega (arith, known, ring_length g.clients group.clients))
+      ∙ ap (λ (q : Ring.NamedKey). Some q) made where
+        made : get_or g.clients.ring client (pair [] [])
+            ≡ pair (encoding (key_name (client_at g client))) (client_key_at g client)
+        made =
+            let n : (get_or g.clients.ring client (pair [] [])).name ≡ encoding (key_name (client_at g client)) =
+            ring_at g.clients group.clients client known client known
+            ∙ ap (λ (node : List Component). encoding (key_name node)) (sym client_same) in
+            let k : (get_or g.clients.ring client (pair [] [])).key ≡ client_key_at g client =
+            sym (ap (λ (q : Ring.NamedKey). q.key) (unwrap_or-slice_get g.clients.ring client (pair [] []))) in
+            λ i. record { name = n i; key = k i }
 
   pub verdict : (command : Command) → CommandIsSpelled command → named_length command ≤ 400
-      → command_verdict (node_at g number) g.clients.ring (order_made g number client command) ≡ or_bad client command (is_command command)
+      → command_verdict (node_at g number) g.clients.ring (order_made g number client command)
+      ≡ or_bad client command (is_command command)
   verdict command spelled short =
-      made_commands (node_at g number) (key_name (client_at g client)) command (client_key_at g client) g.clients.ring client
-      node_name.valid node_name.short spelled short (IsName-key (client_at g client) client_name.valid) (key_name-size (client_at g client) client_name.short) client_found key_is
+      made_commands (node_at g number) (key_name (client_at g client)) command (client_key_at g client) g.clients.ring
+      client
+      node_name.valid node_name.short spelled short (IsName-key (client_at g client) client_name.valid)
+      (key_name-size (client_at g client) client_name.short) client_found key_is
 
 pub made_orders_are_taken : MadeOrdersAreTaken
 made_orders_are_taken g number client command group there known spelled is =
-    ap coded (verdict g number client group there known command spelled (within_short command is) ∙ ap (or_bad client command) is)
+    ap coded (verdict g number client group there known command spelled (within_short command is)
+    ∙ ap (or_bad client command) is)
 
 pub orders_beyond : OrdersBeyondAreMalformed
 orders_beyond g number client command group there known spelled short is =

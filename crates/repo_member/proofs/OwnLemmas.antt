@@ -1,8 +1,11 @@
 -- What a member publishes: its number is new, its packets are read, and the member afterwards.
-use Rattle.std.proofs.Common.{◌≡◌, inl, inr, ℕ, ◌+◌, ◌≤◌, ◌<◌, ◌^◌, max, suc, Bool, true, false, cond, ◌&&◌, List, [], ◌∷◌, ◌++◌, length, length-append, refl, sym, ap, ◌∙◌, subst, Option, Some, None, option_map, arith}
+use Rattle.std.proofs.Common.{◌≡◌, inl, inr, ℕ, ◌+◌, ◌≤◌, ◌<◌, ◌^◌, max, suc, Bool, true, false, cond, ◌&&◌, List, []}
+use Rattle.std.proofs.Common.{◌∷◌, ◌++◌, length, length-append, refl, sym, ap, ◌∙◌, subst, Option, Some, None}
+use Rattle.std.proofs.Common.{option_map, arith}
 use Rattle.std.specs.Prelude.{nat_le, slice_index, slice_set, slice_index_or, Result, Ok, Err, IsOk}
 use Rattle.std.specs.List.{list_any, slice_get}
-use Rattle.std.proofs.lemmas.Bool.{true≢false, and_parts, and_from, or_cases, leb-true, le-leb, false_from_ne_true, cases_eq}
+use Rattle.std.proofs.lemmas.Bool.{true≢false, and_parts, and_from, or_cases, leb-true, le-leb, false_from_ne_true}
+use Rattle.std.proofs.lemmas.Bool.{cases_eq}
 use Rattle.std.proofs.lemmas.List.{length-map, get_or-set_same, get_or-set_other, length-set}
 use Rattle.std.proofs.lemmas.Option.{slice_get-get_or, unwrap_or-slice_get}
 use Rattle.std.specs.Ordering.{eq_by_cmp}
@@ -15,7 +18,8 @@ use Rattle.svs_sync.specs.KeptVector.{Keeper}
 use Rattle.repo_plan.specs.declared.part.Part.{Part}
 use Rattle.repo_plan.specs.SortedList.{contains, keys, Rises}
 use Rattle.repo_plan.specs.Parts.{Pair, part_cmp, pair_of, part_of}
-use Rattle.repo_plan.specs.Plan.{Holdings, knows, holds, hides, is_asked, is_claimed, is_claim_of, can_be_asked, shape_of, raises}
+use Rattle.repo_plan.specs.Plan.{Holdings, knows, holds, hides, is_asked, is_claimed, is_claim_of, can_be_asked}
+use Rattle.repo_plan.specs.Plan.{shape_of, raises}
 use Rattle.repo_plan.specs.Sound.{PlanIsSound}
 use Rattle.repo_plan.proofs.Orders.{exact_parts}
 use Rattle.repo_plan.proofs.Sets.{eq_same}
@@ -41,41 +45,59 @@ use Rattle.repo_member.proofs.PublishLemmas.{record_stored, relisted_publication
 
 -- ---- who publishes
 
-pub is_publisher : (g : GroupKeys) (number : ℕ) → IsGroup g → number < length g.members.names → IsPublisher (publisher_at g number)
+pub is_publisher : (g : GroupKeys) (number : ℕ) → IsGroup g → number < length g.members.names
+    → IsPublisher (publisher_at g number)
 is_publisher g number is inside =
     let at = is.members.node_names number [] inside in
-    let node : IsPlainNodeName (node_at g number) = subst IsPlainNodeName (sym (unwrap_or-slice_get g.members.names number [])) at in
+    let node : IsPlainNodeName (node_at g number) =
+    subst IsPlainNodeName (sym (unwrap_or-slice_get g.members.names number [])) at in
     record { node = (node.valid, node.short); group = (is.name.valid, is.name.short) }
 
 -- ---- its packets
 
-verdict_reads : (want : WantedPart) (name key octets : List ℕ) → IsOk (part_verdict want name key octets) → IsOk (data_of octets)
+verdict_reads : (want : WantedPart) (name key octets : List ℕ) → IsOk (part_verdict want name key octets)
+    → IsOk (data_of octets)
 verdict_reads want name key octets h = go (data_of octets) h where
   go : (r : Result Data PacketFault) → IsOk (read_packet r >>= packet_verdict want name key octets) → IsOk r
   go (Ok d) p = refl
   go (Err f) p = absurd (true≢false (sym p))
 
-module _ (publisher : Publisher) (object : NamedContents) (seq : ℕ) (is_publisher : IsPublisher publisher) (is_object : IsObject object) (low : seq < 2 ^ 16) where
-  packet_read : (k : ℕ) (octets : List ℕ) → slice_get (packets publisher seq object) k ≡ Some octets → IsOk (data_of octets)
+module _ (publisher : Publisher) (object : NamedContents) (seq : ℕ) (is_publisher : IsPublisher publisher)
+    (is_object : IsObject object) (low : seq < 2 ^ 16) where
+  packet_read : (k : ℕ) (octets : List ℕ) → slice_get (packets publisher seq object) k ≡ Some octets
+      → IsOk (data_of octets)
   packet_read k octets there =
       let part : Part = record { publisher = 0; seq = seq; part = k } in
       elim (cases_eq k 0) [
-        | inl first ↦ verdict_reads (want_record part publisher.node publisher.group) (encoding (key_name publisher.node)) publisher.key octets
-            (record_passes publisher object is_publisher is_object part octets low (subst (λ (n : ℕ). slice_get (packets publisher seq object) n ≡ Some octets) first there))
-        | inr later ↦ verdict_reads (want_segment part (published_listing publisher object)) (encoding (key_name publisher.node)) publisher.key octets
+        | inl first ↦
+            verdict_reads (want_record part publisher.node publisher.group) (encoding (key_name publisher.node))
+            publisher.key octets
+            (record_passes publisher object is_publisher is_object part octets low
+            (subst (λ (n : ℕ). slice_get (packets publisher seq object) n ≡ Some octets) first there))
+        | inr later ↦
+            verdict_reads (want_segment part (published_listing publisher object)) (encoding (key_name publisher.node))
+            publisher.key octets
             (segment_passes publisher object is_publisher is_object part octets (omega arith) there)
       ]
 
   pub packets_are : (made : List (List ℕ)) → made ≡ packets publisher seq object → ArePackets made
   packets_are made is = subst ArePackets (sym is) (record {
-    few = omega (arith, (listing_within_limits publisher object is_object).few, length-map (published_segments publisher object) sha256);
+    few =
+        omega (
+          arith,
+          (listing_within_limits publisher object is_object).few,
+          length-map (published_segments publisher object) sha256,
+        );
     read = λ k d inside. packet_read k _ (slice_get-get_or (packets publisher seq object) k d inside);
-    lists = ap (option_map listed_shape) (record_listed publisher object is_publisher is_object seq low) ∙ ap (λ (n : ℕ). Some n) (length-map (published_segments publisher object) sha256);
+    lists =
+        ap (option_map listed_shape) (record_listed publisher object is_publisher is_object seq low)
+        ∙ ap (λ (n : ℕ). Some n) (length-map (published_segments publisher object) sha256);
   })
 
 -- ---- its number
 
-any_claim : (t : Part) (claims : List (Option Part)) → list_any (is_claim_of t) claims ≡ true → (f : ℕ) × (slice_index_or claims f None ≡ Some t)
+any_claim : (t : Part) (claims : List (Option Part)) → list_any (is_claim_of t) claims ≡ true
+    → (f : ℕ) × (slice_index_or claims f None ≡ Some t)
 any_claim t [] h = absurd (true≢false (sym h))
 any_claim t (None ∷ claims) h = let later = any_claim t claims h in (suc later.0, later.1)
 any_claim t (Some u ∷ claims) h = elim (or_cases (eq_by_cmp part_cmp t u) (list_any (is_claim_of t) claims) h) [
@@ -84,33 +106,46 @@ any_claim t (Some u ∷ claims) h = elim (or_cases (eq_by_cmp part_cmp t u) (lis
 ]
 
 known_up_to : (p : Holdings) (pair : Pair) → knows p pair ≡ true → pair.1 ≤ slice_index p.known pair.0
-known_up_to p pair h = leb-true pair.1 (slice_index p.known pair.0) (and_parts (nat_le 1 pair.1) (nat_le pair.1 (slice_index p.known pair.0)) h).1
+known_up_to p pair h =
+    leb-true pair.1 (slice_index p.known pair.0)
+    (and_parts (nat_le 1 pair.1) (nat_le pair.1 (slice_index p.known pair.0)) h).1
 
 asked_known_up_to : (p : Holdings) (t : Part) → is_asked p t ≡ true → t.seq ≤ slice_index p.known t.publisher
-asked_known_up_to p t h = known_up_to p (pair_of t) (and_parts (knows p (pair_of t)) (can_be_asked p.held (shape_of p (pair_of t)) t) h).0
+asked_known_up_to p t h =
+    known_up_to p (pair_of t) (and_parts (knows p (pair_of t)) (can_be_asked p.held (shape_of p (pair_of t)) t) h).0
 
 -- nothing is held, hidden or claimed of the publication behind the last one that is known
-pub next_to_last : (p : Holdings) (number last : ℕ) → PlanIsSound p → number < length p.known → slice_index p.known number ≡ last
-    → (hides p (number, last + 1) ≡ true → knows p (number, last + 1) ≡ true) → IsNew (raises number (last + 1) p) (number, last + 1)
+pub next_to_last : (p : Holdings) (number last : ℕ) → PlanIsSound p → number < length p.known
+    → slice_index p.known number ≡ last
+    → (hides p (number, last + 1) ≡ true → knows p (number, last + 1) ≡ true)
+    → IsNew (raises number (last + 1) p) (number, last + 1)
 next_to_last p number last sound inside own hidden = record {
-  known = and_from (nat_le 1 seq) (nat_le seq (slice_index (slice_set p.known number (max (slice_index p.known number) seq)) number)) (le-leb 1 seq (omega arith)) (le-leb seq _ (omega (arith, at)));
-  not_held = λ x. false_from_ne_true (holds p (part_of (number, seq) x)) (λ h. past (asked_known_up_to p (part_of (number, seq) x) (sound.held (part_of (number, seq) x) h).asked));
+  known =
+      and_from (nat_le 1 seq)
+      (nat_le seq (slice_index (slice_set p.known number (max (slice_index p.known number) seq)) number))
+      (le-leb 1 seq (omega arith)) (le-leb seq _ (omega (arith, at)));
+  not_held =
+      λ x. false_from_ne_true (holds p (part_of (number, seq) x))
+      (λ h. past (asked_known_up_to p (part_of (number, seq) x) (sound.held (part_of (number, seq) x) h).asked));
   not_hidden = false_from_ne_true (hides p (number, seq)) (λ h. past (known_up_to p (number, seq) (hidden h)));
   not_claimed = λ x. false_from_ne_true (is_claimed p (part_of (number, seq) x)) (λ h.
       let claim = any_claim (part_of (number, seq) x) p.claims h in
-      past (asked_known_up_to p (part_of (number, seq) x) (wanted_is_asked p (part_of (number, seq) x) (sound.claimed claim.0 (part_of (number, seq) x) claim.1))));
+      past (asked_known_up_to p (part_of (number, seq) x)
+      (wanted_is_asked p (part_of (number, seq) x) (sound.claimed claim.0 (part_of (number, seq) x) claim.1))));
 } where
   seq : ℕ
   seq = last + 1
 
-  at : slice_index (slice_set p.known number (max (slice_index p.known number) seq)) number ≡ max (slice_index p.known number) seq
+  at : slice_index (slice_set p.known number (max (slice_index p.known number) seq)) number
+      ≡ max (slice_index p.known number) seq
   at = get_or-set_same p.known number (max (slice_index p.known number) seq) 0 inside
 
   past : seq ≤ slice_index p.known number → ⊥
   past h = omega (arith, own, h)
 
 -- such is a member's next publication
-pub next_is_new : (m : Inside) (plan after : Holdings) → IsMember m → PlanIsSound m.plan → plan ≡ record m.plan { spare = plan.spare }
+pub next_is_new : (m : Inside) (plan after : Holdings) → IsMember m → PlanIsSound m.plan
+    → plan ≡ record m.plan { spare = plan.spare }
     → after ≡ raises m.number (length m.log.items + 1) plan → IsNew after (m.number, length m.log.items + 1)
 next_is_new m plan after is sound same raised =
     let seq = length m.log.items + 1 in
@@ -120,7 +155,8 @@ next_is_new m plan after is sound same raised =
     (next_to_last p m.number (length m.log.items) (sound_room plan.spare m.plan sound)
     (omega (arith, is.alone.member, ap (λ (known : List ℕ). length known) is.known))
     (ap (λ (known : List ℕ). slice_index known m.number) is.known ∙ is.alone.own)
-    (λ h. ap (λ (known : List ℕ). nat_le 1 seq && nat_le seq (slice_index known m.number)) is.known ∙ is.alone.hidden pair h))
+    (λ h.
+    ap (λ (known : List ℕ). nat_le 1 seq && nat_le seq (slice_index known m.number)) is.known ∙ is.alone.hidden pair h))
 
 -- ---- the member afterwards
 
@@ -130,22 +166,37 @@ module _ (m : Inside) (is : IsMember m) where
 
   raised_at : (p : ℕ) → slice_index m.vector p ≤ slice_index (greater m.vector) p
   raised_at p = elim (cases_eq p m.number) [
-    | inl here ↦ subst (λ (q : ℕ). slice_index m.vector q ≤ slice_index (greater m.vector) q) (sym here) (omega (arith, get_or-set_same m.vector m.number (max (slice_index m.vector m.number) (length m.log.items + 1)) 0 is.alone.member))
-    | inr other ↦ omega (arith, get_or-set_other m.vector m.number p (max (slice_index m.vector m.number) (length m.log.items + 1)) 0 other)
+    | inl here ↦
+        subst (λ (q : ℕ). slice_index m.vector q ≤ slice_index (greater m.vector) q) (sym here)
+        (omega (
+          arith,
+          get_or-set_same m.vector m.number (max (slice_index m.vector m.number) (length m.log.items + 1)) 0
+              is.alone.member,
+        ))
+    | inr other ↦
+        omega (
+          arith,
+          get_or-set_other m.vector m.number p (max (slice_index m.vector m.number) (length m.log.items + 1)) 0 other,
+        )
   ]
 
   -- one publication more
   pub published_is : (next : Inside) → next.number ≡ m.number → length next.log.items ≡ length m.log.items + 1
       → next.vector ≡ slice_set m.vector m.number (max (slice_index m.vector m.number) (length m.log.items + 1))
       → next.machine.members ≡ m.machine.members
-      → next.plan.known ≡ slice_set m.plan.known m.number (max (slice_index m.plan.known m.number) (length m.log.items + 1))
-      → next.plan.hidden ≡ m.plan.hidden → AreKept next.plan next.store.packets next.catalogue.entries → AreWaiting next.processes.processes → IsMember next
+      → next.plan.known
+      ≡ slice_set m.plan.known m.number (max (slice_index m.plan.known m.number) (length m.log.items + 1))
+      → next.plan.hidden ≡ m.plan.hidden → AreKept next.plan next.store.packets next.catalogue.entries
+      → AreWaiting next.processes.processes → IsMember next
   published_is next number more vector members known hidden kept waiting =
       let long = length-set m.vector m.number (max (slice_index m.vector m.number) (length m.log.items + 1)) in
       let wide : length next.vector ≡ length m.vector = ap (λ (v : List ℕ). length v) vector ∙ long in
       let own = is.alone.own in
-      let at = get_or-set_same m.vector m.number (max (slice_index m.vector m.number) (length m.log.items + 1)) 0 is.alone.member in
-      let here : slice_index next.vector next.number ≡ slice_index (greater m.vector) m.number = ap (λ (v : List ℕ). slice_index v next.number) vector ∙ ap (slice_index (greater m.vector)) number in
+      let at =
+      get_or-set_same m.vector m.number (max (slice_index m.vector m.number) (length m.log.items + 1)) 0
+      is.alone.member in
+      let here : slice_index next.vector next.number ≡ slice_index (greater m.vector) m.number =
+      ap (λ (v : List ℕ). slice_index v next.number) vector ∙ ap (slice_index (greater m.vector)) number in
       record {
         alone = record {
           member = omega (arith, number, wide, is.alone.member);
@@ -154,7 +205,8 @@ module _ (m : Inside) (is : IsMember m) where
           in_order = kept.tied.in_order;
           hidden = λ pair h. knows_more (alone_plan (alone m)) (alone_plan (alone next)) pair
               (λ p. subst (λ (v : List ℕ). slice_index m.vector p ≤ slice_index v p) (sym vector) (raised_at p))
-              (is.alone.hidden pair (ap (λ (pairs : List Pair). hides (record m.plan { hidden = pairs }) pair) (sym hidden) ∙ h));
+              (is.alone.hidden pair
+              (ap (λ (pairs : List Pair). hides (record m.plan { hidden = pairs }) pair) (sym hidden) ∙ h));
         };
         known = known ∙ ap greater is.known ∙ sym vector;
         kept = kept;
@@ -162,16 +214,24 @@ module _ (m : Inside) (is : IsMember m) where
       }
 
   -- a part more, or none
-  pub gained_is : (next : Inside) → next.number ≡ m.number → next.log.items ≡ m.log.items → next.vector ≡ m.vector → next.machine ≡ m.machine
-      → next.plan.known ≡ m.plan.known → next.plan.hidden ≡ m.plan.hidden → AreKept next.plan next.store.packets next.catalogue.entries → AreWaiting next.processes.processes → IsMember next
+  pub gained_is : (next : Inside) → next.number ≡ m.number → next.log.items ≡ m.log.items → next.vector ≡ m.vector
+      → next.machine ≡ m.machine
+      → next.plan.known ≡ m.plan.known → next.plan.hidden ≡ m.plan.hidden
+      → AreKept next.plan next.store.packets next.catalogue.entries → AreWaiting next.processes.processes
+      → IsMember next
   gained_is next number log vector machine known hidden kept waiting = record {
     alone = record {
       member = omega (arith, number, ap (λ (v : List ℕ). length v) vector, is.alone.member);
-      own = ap (λ (v : List ℕ). slice_index v next.number) vector ∙ ap (slice_index m.vector) number ∙ is.alone.own ∙ sym (ap (λ l. length l) log);
+      own =
+          ap (λ (v : List ℕ). slice_index v next.number) vector
+          ∙ ap (slice_index m.vector) number
+          ∙ is.alone.own
+          ∙ sym (ap (λ l. length l) log);
       width = ap (λ (k : Keeper). k.members) machine ∙ is.alone.width ∙ sym (ap (λ (v : List ℕ). length v) vector);
       in_order = kept.tied.in_order;
       hidden = λ pair h. ap (λ (v : List ℕ). nat_le 1 pair.1 && nat_le pair.1 (slice_index v pair.0)) vector
-          ∙ is.alone.hidden pair (ap (λ (pairs : List Pair). hides (record m.plan { hidden = pairs }) pair) (sym hidden) ∙ h);
+          ∙ is.alone.hidden pair
+          (ap (λ (pairs : List Pair). hides (record m.plan { hidden = pairs }) pair) (sym hidden) ∙ h);
     };
     known = known ∙ is.known ∙ sym vector;
     kept = kept;
@@ -180,34 +240,51 @@ module _ (m : Inside) (is : IsMember m) where
 
 -- ---- what is stored and listed of it
 
-pub next_is_new_at : (m : Inside) (plan after : Holdings) (log : ℕ) → IsMember m → PlanIsSound m.plan → plan ≡ record m.plan { spare = plan.spare } → log ≡ length m.log.items
+pub next_is_new_at : (m : Inside) (plan after : Holdings) (log : ℕ) → IsMember m → PlanIsSound m.plan
+    → plan ≡ record m.plan { spare = plan.spare } → log ≡ length m.log.items
     → after ≡ raises m.number (log + 1) plan → IsNew after (m.number, log + 1)
 next_is_new_at m plan after log is sound same long raised =
-    subst (λ (n : ℕ). IsNew after (m.number, n + 1)) (sym long) (next_is_new m plan after is sound same (raised ∙ ap (λ (n : ℕ). raises m.number (n + 1) plan) long))
+    subst (λ (n : ℕ). IsNew after (m.number, n + 1)) (sym long)
+    (next_is_new m plan after is sound same (raised ∙ ap (λ (n : ℕ). raises m.number (n + 1) plan) long))
 
-pub publication_named : (publisher : Publisher) (object : NamedContents) (seq : ℕ) (made : List (List ℕ)) (stored after : List Packet) (pair : Pair) (name : List Component)
-    → IsPublisher publisher → IsObject object → seq < 2 ^ 16 → made ≡ packets publisher seq object → contains part_cmp (keys stored) (part_of pair 0) ≡ false
+pub publication_named : (publisher : Publisher) (object : NamedContents) (seq : ℕ) (made : List (List ℕ))
+    (stored after : List Packet) (pair : Pair) (name : List Component)
+    → IsPublisher publisher → IsObject object → seq < 2 ^ 16 → made ≡ packets publisher seq object
+    → contains part_cmp (keys stored) (part_of pair 0) ≡ false
     → after ≡ with_packets (as_parts pair 0 made) stored → name ≡ object.name
     → option_map (λ (l : Listed). l.name) (listing_at after pair) ≡ Some name
 publication_named publisher object seq made stored after pair name is_publisher is_object low is absent puts named =
-    let record_packet_is = record_stored stored pair (record_packet publisher seq (published_listing publisher object)) (published_segments publisher object) absent in
-    let whole : after ≡ with_packets (as_parts pair 0 (packets publisher seq object)) stored = puts ∙ ap (λ (p : List (List ℕ)). with_packets (as_parts pair 0 p) stored) is in
+    let record_packet_is =
+    record_stored stored pair (record_packet publisher seq (published_listing publisher object))
+    (published_segments publisher object) absent in
+    let whole : after ≡ with_packets (as_parts pair 0 (packets publisher seq object)) stored =
+    puts ∙ ap (λ (p : List (List ℕ)). with_packets (as_parts pair 0 p) stored) is in
     ap (λ (p : List Packet). option_map (λ (l : Listed). l.name) (listing_at p pair)) whole
     ∙ ap (λ (o : Option (List ℕ)). option_map (λ (l : Listed). l.name) (option_and_then listing_in o)) record_packet_is
     ∙ ap (option_map (λ (l : Listed). l.name)) (record_listed publisher object is_publisher is_object seq low)
     ∙ ap (λ (n : List Component). Some n) (sym named)
 
-pub published_kept : (stored after : List Packet) (pair : Pair) (made : List (List ℕ)) (entries listed : List Entry) (plan : Holdings) → contains part_cmp (keys stored) (part_of pair 0) ≡ false
-    → Rises part_cmp (keys stored) → AreTied plan after → after ≡ with_packets (as_parts pair 0 made) stored → entries ≡ alone_catalogue stored → listed ≡ with_listed (entry_at after pair) entries
+pub published_kept : (stored after : List Packet) (pair : Pair) (made : List (List ℕ)) (entries listed : List Entry)
+    (plan : Holdings)
+    → contains part_cmp (keys stored) (part_of pair 0) ≡ false
+    → Rises part_cmp (keys stored) → AreTied plan after → after ≡ with_packets (as_parts pair 0 made) stored
+    → entries ≡ alone_catalogue stored → listed ≡ with_listed (entry_at after pair) entries
     → AreKept plan after listed
 published_kept stored after pair made entries listed plan absent order tied puts was is = record {
   tied = tied;
   listed =
-      let rises : Rises part_cmp (keys (with_packets (as_parts pair 0 made) stored)) = subst (λ (p : List Packet). Rises part_cmp (keys p)) puts tied.in_order in
-      is ∙ ap (with_listed (entry_at after pair)) was ∙ ap (λ (p : List Packet). with_listed (entry_at p pair) (alone_catalogue stored)) puts
+      let rises : Rises part_cmp (keys (with_packets (as_parts pair 0 made) stored)) =
+      subst (λ (p : List Packet). Rises part_cmp (keys p)) puts tied.in_order in
+      is
+      ∙ ap (with_listed (entry_at after pair)) was
+      ∙ ap (λ (p : List Packet). with_listed (entry_at p pair) (alone_catalogue stored)) puts
       ∙ sym (relisted_publication stored pair [] [] absent made order rises) ∙ ap alone_catalogue (sym puts);
 }
 
 -- one object more in a log
-pub log_longer : {A : Type 0} (was now : List A) (x : A) (added : Bool) → now ≡ cond added (was ++ x ∷ []) was → added ≡ true → length now ≡ length was + 1
-log_longer was now x added is was_added = ap (λ l. length l) is ∙ ap (λ (b : Bool). length (cond b (was ++ x ∷ []) was)) was_added ∙ omega (arith, length-append was (x ∷ []))
+pub log_longer : {A : Type 0} (was now : List A) (x : A) (added : Bool) → now ≡ cond added (was ++ x ∷ []) was
+    → added ≡ true → length now ≡ length was + 1
+log_longer was now x added is was_added =
+    ap (λ l. length l) is
+    ∙ ap (λ (b : Bool). length (cond b (was ++ x ∷ []) was)) was_added
+    ∙ omega (arith, length-append was (x ∷ []))

@@ -4,10 +4,12 @@ use Rattle.std.proofs.lemmas.Bool.{and_parts}
 use Rattle.std.specs.List.{All, filter}
 use Rattle.std.proofs.lemmas.List.Elements.{All-cons, All-nil, All-filter, All-take}
 use Rattle.repo_plan.specs.declared.part.Part.{Part}
-use Rattle.repo_plan.specs.Plan.{Holdings, is_asked, is_wanted, is_claimed, is_unclaimed, unclaimed, known_parts, is_after}
+use Rattle.repo_plan.specs.Plan.{Holdings, is_asked, is_wanted, is_claimed, is_unclaimed, unclaimed, known_parts}
+use Rattle.repo_plan.specs.Plan.{is_after}
 use Rattle.repo_plan.proofs.Known.{wanted_is_asked}
 
-all_that_pass : {A : Type 0} (p : A → Bool) (P : A → Type 0) → ((x : A) → p x ≡ true → P x) → (xs : List A) → All P (filter p xs)
+all_that_pass : {A : Type 0} (p : A → Bool) (P : A → Type 0) → ((x : A) → p x ≡ true → P x) → (xs : List A)
+    → All P (filter p xs)
 all_that_pass p P h [] = All-nil P
 all_that_pass {A = A} p P h (x ∷ xs) = go (p x) refl (all_that_pass p P h xs) where
   go : (b : Bool) → p x ≡ b → All P (filter p xs) → All P (cond b (x ∷ filter p xs) (filter p xs))
@@ -15,8 +17,10 @@ all_that_pass {A = A} p P h (x ∷ xs) = go (p x) refl (all_that_pass p P h xs) 
   go false e rest = rest
 
 -- each is asked for
-pub listed_are_asked : (p : Holdings) (after : Option Part) (most : ℕ) → All (λ t. is_asked p t ≡ true) (take most (filter (is_after after) (unclaimed p)))
+pub listed_are_asked : (p : Holdings) (after : Option Part) (most : ℕ)
+    → All (λ t. is_asked p t ≡ true) (take most (filter (is_after after) (unclaimed p)))
 listed_are_asked p after most =
     All-take (λ t. is_asked p t ≡ true) most (filter (is_after after) (unclaimed p))
     (All-filter (is_after after) (λ t. is_asked p t ≡ true) (unclaimed p)
-    (all_that_pass (is_unclaimed p) (λ t. is_asked p t ≡ true) (λ t h. wanted_is_asked p t (and_parts (is_wanted p t) (not (is_claimed p t)) h).0) (known_parts p)))
+    (all_that_pass (is_unclaimed p) (λ t. is_asked p t ≡ true)
+    (λ t h. wanted_is_asked p t (and_parts (is_wanted p t) (not (is_claimed p t)) h).0) (known_parts p)))

@@ -1,15 +1,25 @@
--- The laws that crates above may cite: each is what its public function states. The changes that are missing here are the
--- group's by computing.
+-- The laws that crates above may cite: each is what its public function states. The changes that are missing here are
+-- the group's by computing.
 pub use Rattle.repo_member.proofs.ChangeLemmas.{begins_alike, publishes_alike, accepts_alike, takes_alike}
 pub use Rattle.repo_member.proofs.GroupPlans.{sound_stores_truly, plans_alike, wants_alike}
 pub use Rattle.repo_member.proofs.GroupCatalogues.{lists_alike}
 pub use Rattle.repo_member.proofs.DeletionLemmas.{deletes_alike}
-pub use Rattle.repo_member.proofs.LastingPackets.{begins_truly, grows_truly, publishes_truly, accepts_truly, takes_truly, stays_true, logs_begin, logs_grow}
-pub use Rattle.repo_member.proofs.TrueMembers.{true_is_alone, true_is_of, true_stores, stores_those, logs_those, wants_published, wants_are_true, packets_are_there, packets_pass, packets_pass_for_members, accepts_the_claimed, takes_the_true}
-pub use Rattle.repo_member.proofs.TrueChanges.{begins_true, publishes_true, others_publish, logs_have_grown, learns_true, hears_true, inserts_true, blocks_true, deletes_true, obeys_true, fires_true, resets_true, restarts_true, ends_claims_true, claims_true, loses_true, accepts_true, takes_true}
+pub use Rattle.repo_member.proofs.LastingPackets.{begins_truly, grows_truly, publishes_truly, accepts_truly}
+pub use Rattle.repo_member.proofs.LastingPackets.{takes_truly, stays_true, logs_begin, logs_grow}
+pub use Rattle.repo_member.proofs.TrueMembers.{true_is_alone, true_is_of, true_stores, stores_those, logs_those}
+pub use Rattle.repo_member.proofs.TrueMembers.{wants_published, wants_are_true, packets_are_there, packets_pass}
+pub use Rattle.repo_member.proofs.TrueMembers.{packets_pass_for_members, accepts_the_claimed, takes_the_true}
+pub use Rattle.repo_member.proofs.TrueChanges.{begins_true, publishes_true, others_publish, logs_have_grown}
+pub use Rattle.repo_member.proofs.TrueChanges.{learns_true, hears_true, inserts_true, blocks_true, deletes_true}
+pub use Rattle.repo_member.proofs.TrueChanges.{obeys_true, fires_true, resets_true, restarts_true, ends_claims_true}
+pub use Rattle.repo_member.proofs.TrueChanges.{claims_true, loses_true, accepts_true, takes_true}
 pub use Rattle.repo_member.proofs.TrueSyncs.{keys_are_found, syncs_are_told, syncs_are_taken}
-pub use Rattle.repo_member.proofs.EventLemmas.{publish_is_event, deliver_is_event, hear_is_event, fire_is_event, restart_is_event, claim_is_event, lose_is_event, answer_is_event, feed_is_event, fetch_is_event, learns_at_once, learns_what_all_know, gathering_is_event, settle_is_event, open_parts_alike, catalogues_alike}
-pub use Rattle.repo_member.proofs.CommandEvents.{starts_alike, keeps_alike, order_is_event, order_is_answered, issue_is_event, issue_is_answered, block_is_event, block_states_alike}
+pub use Rattle.repo_member.proofs.EventLemmas.{publish_is_event, deliver_is_event, hear_is_event, fire_is_event}
+pub use Rattle.repo_member.proofs.EventLemmas.{restart_is_event, claim_is_event, lose_is_event, answer_is_event}
+pub use Rattle.repo_member.proofs.EventLemmas.{feed_is_event, fetch_is_event, learns_at_once, learns_what_all_know}
+pub use Rattle.repo_member.proofs.EventLemmas.{gathering_is_event, settle_is_event, open_parts_alike, catalogues_alike}
+pub use Rattle.repo_member.proofs.CommandEvents.{starts_alike, keeps_alike, order_is_event, order_is_answered}
+pub use Rattle.repo_member.proofs.CommandEvents.{issue_is_event, issue_is_answered, block_is_event, block_states_alike}
 pub use Rattle.repo_member.proofs.OrderLemmas.{made_orders_are_taken, orders_beyond}
 pub use Rattle.repo_member.proofs.OutcomeLemmas.{jobs_are_planned, planned_jobs_are_outcomes}
 pub use Rattle.repo_member.proofs.CallLogs.{logs_go_on, publications_stay, logged_packets_stay}

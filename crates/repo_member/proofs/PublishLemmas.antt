@@ -1,5 +1,6 @@
 -- The parts of a new publication, gained one after another.
-use Rattle.std.proofs.Common.{◌≡◌, ℕ, ◌+◌, ◌-◌, ◌≤◌, ◌<◌, Bool, true, false, cond, ◌&&◌, ◌==◌, List, [], ◌∷◌, refl, sym, ap, ◌∙◌, subst, Option, Some, None, option_map, is_some, zero, suc, arith}
+use Rattle.std.proofs.Common.{◌≡◌, ℕ, ◌+◌, ◌-◌, ◌≤◌, ◌<◌, Bool, true, false, cond, ◌&&◌, ◌==◌, List, [], ◌∷◌, refl, sym}
+use Rattle.std.proofs.Common.{ap, ◌∙◌, subst, Option, Some, None, option_map, is_some, zero, suc, arith}
 use Rattle.std.specs.Prelude.{nat_le, slice_index}
 use Rattle.std.specs.Option.{option_and_then}
 use Rattle.std.specs.Ordering.{eq_by_cmp}
@@ -7,7 +8,8 @@ use Rattle.std.proofs.lemmas.Bool.{true≢false, and_from, or_left, or_right, eq
 use Rattle.repo_plan.specs.declared.part.Part.{Part}
 use Rattle.repo_plan.specs.SortedList.{keys, Rises, contains, insert_key, value_of, with_value}
 use Rattle.repo_plan.specs.Parts.{Pair, Shape, pair_cmp, part_cmp, pair_of, part_of}
-use Rattle.repo_plan.specs.Plan.{Holdings, holds, hides, knows, is_asked, can_be_asked, is_claimed, shape_of, holds_too, uses_room, with_shape}
+use Rattle.repo_plan.specs.Plan.{Holdings, holds, hides, knows, is_asked, can_be_asked, is_claimed, shape_of, holds_too}
+use Rattle.repo_plan.specs.Plan.{uses_room, with_shape}
 use Rattle.repo_plan.proofs.Orders.{exact_pairs, exact_parts}
 use Rattle.repo_plan.proofs.Sets.{eq_same, eq_itself, contains-insert_key, value_of-with_value}
 use Rattle.repo_store.specs.StoreList.{with_packet}
@@ -22,13 +24,16 @@ use Rattle.repo_member.proofs.GainingLemmas.{contains-value, put_here, put_elsew
 
 -- ---- what stays where packets are put elsewhere
 
-put_aside : (packets : List Packet) (t q : Part) (octets : List ℕ) → eq_by_cmp part_cmp q t ≡ false → value_of part_cmp (with_packet t octets packets) q ≡ value_of part_cmp packets q
+put_aside : (packets : List Packet) (t q : Part) (octets : List ℕ) → eq_by_cmp part_cmp q t ≡ false
+    → value_of part_cmp (with_packet t octets packets) q ≡ value_of part_cmp packets q
 put_aside packets t q octets other = go (contains part_cmp (keys packets) t) refl where
-  go : (b : Bool) → contains part_cmp (keys packets) t ≡ b → value_of part_cmp (with_packet t octets packets) q ≡ value_of part_cmp packets q
+  go : (b : Bool) → contains part_cmp (keys packets) t ≡ b
+      → value_of part_cmp (with_packet t octets packets) q ≡ value_of part_cmp packets q
   go true p = ap (λ (b : Bool). value_of part_cmp (cond b packets (with_value part_cmp t octets packets)) q) p
   go false p = put_elsewhere packets t octets p q other
 
-pub puts_aside : (pair : Pair) (x : ℕ) (made : List (List ℕ)) (packets : List Packet) (q : Part) → ((y : ℕ) → x ≤ y → eq_by_cmp part_cmp q (part_of pair y) ≡ false)
+pub puts_aside : (pair : Pair) (x : ℕ) (made : List (List ℕ)) (packets : List Packet) (q : Part)
+    → ((y : ℕ) → x ≤ y → eq_by_cmp part_cmp q (part_of pair y) ≡ false)
     → value_of part_cmp (with_packets (as_parts pair x made) packets) q ≡ value_of part_cmp packets q
 puts_aside pair x [] packets q other = refl
 puts_aside pair x (octets ∷ made) packets q other =
@@ -36,7 +41,8 @@ puts_aside pair x (octets ∷ made) packets q other =
     ∙ put_aside packets (part_of pair x) q octets (other x (omega arith))
 
 -- parts of other publications
-pub other_part : (pair q : Pair) (x y : ℕ) → eq_by_cmp pair_cmp q pair ≡ false → eq_by_cmp part_cmp (part_of q x) (part_of pair y) ≡ false
+pub other_part : (pair q : Pair) (x y : ℕ) → eq_by_cmp pair_cmp q pair ≡ false
+    → eq_by_cmp part_cmp (part_of q x) (part_of pair y) ≡ false
 other_part pair q x y other = go (eq_by_cmp part_cmp (part_of q x) (part_of pair y)) refl where
   go : (b : Bool) → eq_by_cmp part_cmp (part_of q x) (part_of pair y) ≡ b → b ≡ false
   go true p =
@@ -48,7 +54,9 @@ other_part pair q x y other = go (eq_by_cmp part_cmp (part_of q x) (part_of pair
 pub later_part : (pair : Pair) (x y : ℕ) → x < y → eq_by_cmp part_cmp (part_of pair x) (part_of pair y) ≡ false
 later_part pair x y less = go (eq_by_cmp part_cmp (part_of pair x) (part_of pair y)) refl where
   go : (b : Bool) → eq_by_cmp part_cmp (part_of pair x) (part_of pair y) ≡ b → b ≡ false
-  go true p = let same : x ≡ y = ap (λ (t : Part). t.part) (eq_same exact_parts (part_of pair x) (part_of pair y) p) in absurd (omega arith)
+  go true p =
+      let same : x ≡ y = ap (λ (t : Part). t.part) (eq_same exact_parts (part_of pair x) (part_of pair y) p) in
+      absurd (omega arith)
   go false p = refl
 
 -- ---- the plan so far
@@ -58,10 +66,13 @@ abbrev pub told_first : ℕ → ℕ → Option Shape
 told_first segments x = cond (x == 0) (Some segments) None
 
 pub not_told : (segments x : ℕ) → (x ≡ 0 → ⊥) → told_first segments x ≡ None
-not_told segments x h = ap (λ (b : Bool). cond b (Some segments) None) (false_from_ne_true (x == 0) (λ e. h (eqb-true x 0 e)))
+not_told segments x h =
+    ap (λ (b : Bool). cond b (Some segments) None) (false_from_ne_true (x == 0) (λ e. h (eqb-true x 0 e)))
 
 pub told_later : (segments n : ℕ) → told_first segments (suc n) ≡ None
-told_later segments n = ap (λ (b : Bool). cond b (Some segments) None) (false_from_ne_true (suc n == 0) (λ e. absurd (omega (arith, eqb-true (suc n) 0 e))))
+told_later segments n =
+    ap (λ (b : Bool). cond b (Some segments) None)
+    (false_from_ne_true (suc n == 0) (λ e. absurd (omega (arith, eqb-true (suc n) 0 e))))
 
 -- a plan that has gained the first `x` parts of a new publication, whose record counts so many segments
 pub record HasGained (start plan : Holdings) (pair : Pair) (segments x : ℕ) : Type 0 where
@@ -70,7 +81,8 @@ pub record HasGained (start plan : Holdings) (pair : Pair) (segments x : ℕ) : 
   pub record_held : 0 < x → holds plan (part_of pair 0) ≡ true
   pub told : 0 < x → shape_of plan pair ≡ Some segments
 
-pub gained_none : (start : Holdings) (pair : Pair) (segments : ℕ) → IsNew start pair → HasGained start start pair segments 0
+pub gained_none : (start : Holdings) (pair : Pair) (segments : ℕ) → IsNew start pair
+    → HasGained start start pair segments 0
 gained_none start pair segments new = record {
   others = record { known = refl; claims = refl; hidden = refl; attempts = refl };
   fresh = λ y h. new.not_held y;
@@ -78,86 +90,121 @@ gained_none start pair segments new = record {
   told = λ h. absurd (omega (arith, h));
 }
 
-module _ (start plan : Holdings) (pair : Pair) (segments x : ℕ) (new : IsNew start pair) (so_far : HasGained start plan pair segments x) where
+module _ (start plan : Holdings) (pair : Pair) (segments x : ℕ) (new : IsNew start pair)
+    (so_far : HasGained start plan pair segments x) where
   known_still : knows plan pair ≡ true
-  known_still = ap (λ (known : List ℕ). nat_le 1 pair.1 && nat_le pair.1 (slice_index known pair.0)) so_far.others.known ∙ new.known
+  known_still =
+      ap (λ (known : List ℕ). nat_le 1 pair.1 && nat_le pair.1 (slice_index known pair.0)) so_far.others.known
+      ∙ new.known
 
   pub can_ask : x ≤ segments → is_asked plan (part_of pair x) ≡ true
-  can_ask counted = and_from (knows plan pair) (can_be_asked plan.held (shape_of plan pair) (part_of pair x)) known_still (go x refl) where
-    record_part : (s : Option Shape) → can_be_asked plan.held s (part_of pair 0) ≡ true
-    record_part None = refl
-    record_part (Some n) = refl
+  can_ask counted =
+      and_from (knows plan pair) (can_be_asked plan.held (shape_of plan pair) (part_of pair x)) known_still
+      (go x refl) where
+        record_part : (s : Option Shape) → can_be_asked plan.held s (part_of pair 0) ≡ true
+        record_part None = refl
+        record_part (Some n) = refl
 
-    go : (n : ℕ) → x ≡ n → can_be_asked plan.held (shape_of plan pair) (part_of pair n) ≡ true
-    go zero e = record_part (shape_of plan pair)
-    go (suc n) e =
-        let above : 0 < x = omega (arith, e) in
-        ap (λ (s : Option Shape). can_be_asked plan.held s (part_of pair (suc n))) (so_far.told above)
-        ∙ or_right (suc n == 0) (nat_le (suc n) segments && contains part_cmp plan.held (part_of pair 0))
-        (and_from (nat_le (suc n) segments) (contains part_cmp plan.held (part_of pair 0)) (le-leb (suc n) segments (omega (arith, e, counted))) (so_far.record_held above))
+        go : (n : ℕ) → x ≡ n → can_be_asked plan.held (shape_of plan pair) (part_of pair n) ≡ true
+        go zero e = record_part (shape_of plan pair)
+        go (suc n) e =
+            let above : 0 < x = omega (arith, e) in
+            ap (λ (s : Option Shape). can_be_asked plan.held s (part_of pair (suc n))) (so_far.told above)
+            ∙ or_right (suc n == 0) (nat_le (suc n) segments && contains part_cmp plan.held (part_of pair 0))
+            (and_from (nat_le (suc n) segments) (contains part_cmp plan.held (part_of pair 0))
+            (le-leb (suc n) segments (omega (arith, e, counted))) (so_far.record_held above))
 
   pub not_hidden : hides plan pair ≡ false
   not_hidden = ap (λ (hidden : List Pair). contains pair_cmp hidden pair) so_far.others.hidden ∙ new.not_hidden
 
   pub not_claimed : is_claimed plan (part_of pair x) ≡ false
-  not_claimed = ap (λ (claims : List (Option Part)). is_claimed (record start { claims = claims }) (part_of pair x)) so_far.others.claims ∙ new.not_claimed x
+  not_claimed =
+      ap (λ (claims : List (Option Part)). is_claimed (record start { claims = claims }) (part_of pair x))
+      so_far.others.claims
+      ∙ new.not_claimed x
 
   -- one part more
-  pub gained_more : (shape : Option Shape) (after : Holdings) → shape ≡ told_first segments x → after ≡ uses_room (holds_too (part_of pair x) shape plan) → HasGained start after pair segments (x + 1)
-  gained_more shape after is_shape is = subst (λ (p : Holdings). HasGained start p pair segments (x + 1)) (sym (is ∙ ap uses_room taken)) (record {
-    others = record { known = so_far.others.known; claims = so_far.others.claims; hidden = so_far.others.hidden; attempts = so_far.others.attempts };
-    fresh = λ y h. held_of (part_of pair y) (so_far.fresh y (omega (arith, h))) (later y (omega (arith, h)));
-    record_held = λ h. record_there x refl;
-    told = λ h. told_then x refl is_shape;
-  }) where
-    with_it : Holdings
-    with_it = record plan { held = insert_key part_cmp (part_of pair x) plan.held; shapes = with_shape pair shape plan.shapes }
+  pub gained_more : (shape : Option Shape) (after : Holdings) → shape ≡ told_first segments x
+      → after ≡ uses_room (holds_too (part_of pair x) shape plan) → HasGained start after pair segments (x + 1)
+  gained_more shape after is_shape is =
+      subst (λ (p : Holdings). HasGained start p pair segments (x + 1)) (sym (is ∙ ap uses_room taken)) (record {
+        others = record {
+          known = so_far.others.known;
+          claims = so_far.others.claims;
+          hidden = so_far.others.hidden;
+          attempts = so_far.others.attempts;
+        };
+        fresh = λ y h. held_of (part_of pair y) (so_far.fresh y (omega (arith, h))) (later y (omega (arith, h)));
+        record_held = λ h. record_there x refl;
+        told = λ h. told_then x refl is_shape;
+      }) where
+        with_it : Holdings
+        with_it = record plan {
+          held = insert_key part_cmp (part_of pair x) plan.held;
+          shapes = with_shape pair shape plan.shapes;
+        }
 
-    taken : holds_too (part_of pair x) shape plan ≡ with_it
-    taken = ap (λ (b : Bool). cond b plan with_it) (so_far.fresh x (omega arith))
+        taken : holds_too (part_of pair x) shape plan ≡ with_it
+        taken = ap (λ (b : Bool). cond b plan with_it) (so_far.fresh x (omega arith))
 
-    later : (y : ℕ) → x < y → eq_by_cmp part_cmp (part_of pair y) (part_of pair x) ≡ false
-    later y less = go (eq_by_cmp part_cmp (part_of pair y) (part_of pair x)) refl where
-      go : (b : Bool) → eq_by_cmp part_cmp (part_of pair y) (part_of pair x) ≡ b → b ≡ false
-      go true p = let same : y ≡ x = ap (λ (t : Part). t.part) (eq_same exact_parts (part_of pair y) (part_of pair x) p) in absurd (omega arith)
-      go false p = refl
+        later : (y : ℕ) → x < y → eq_by_cmp part_cmp (part_of pair y) (part_of pair x) ≡ false
+        later y less = go (eq_by_cmp part_cmp (part_of pair y) (part_of pair x)) refl where
+          go : (b : Bool) → eq_by_cmp part_cmp (part_of pair y) (part_of pair x) ≡ b → b ≡ false
+          go true p =
+              let same : y ≡ x = ap (λ (t : Part). t.part) (eq_same exact_parts (part_of pair y) (part_of pair x) p) in
+              absurd (omega arith)
+          go false p = refl
 
-    held_of : (t : Part) → holds plan t ≡ false → eq_by_cmp part_cmp t (part_of pair x) ≡ false → contains part_cmp (insert_key part_cmp (part_of pair x) plan.held) t ≡ false
-    held_of t a b = contains-insert_key exact_parts (part_of pair x) plan.held t ∙ rw (b, a) refl
+        held_of : (t : Part) → holds plan t ≡ false → eq_by_cmp part_cmp t (part_of pair x) ≡ false
+            → contains part_cmp (insert_key part_cmp (part_of pair x) plan.held) t ≡ false
+        held_of t a b = contains-insert_key exact_parts (part_of pair x) plan.held t ∙ rw (b, a) refl
 
-    record_there : (n : ℕ) → x ≡ n → contains part_cmp (insert_key part_cmp (part_of pair x) plan.held) (part_of pair 0) ≡ true
-    record_there zero e = contains-insert_key exact_parts (part_of pair x) plan.held (part_of pair 0)
-        ∙ or_left (eq_by_cmp part_cmp (part_of pair 0) (part_of pair x)) _ (ap (λ (n : ℕ). eq_by_cmp part_cmp (part_of pair 0) (part_of pair n)) e ∙ eq_itself exact_parts (part_of pair 0))
-    record_there (suc n) e = contains-insert_key exact_parts (part_of pair x) plan.held (part_of pair 0)
-        ∙ or_right (eq_by_cmp part_cmp (part_of pair 0) (part_of pair x)) _ (so_far.record_held (omega (arith, e)))
+        record_there : (n : ℕ) → x ≡ n
+            → contains part_cmp (insert_key part_cmp (part_of pair x) plan.held) (part_of pair 0) ≡ true
+        record_there zero e = contains-insert_key exact_parts (part_of pair x) plan.held (part_of pair 0)
+            ∙ or_left (eq_by_cmp part_cmp (part_of pair 0) (part_of pair x)) _
+            (ap (λ (n : ℕ). eq_by_cmp part_cmp (part_of pair 0) (part_of pair n)) e
+            ∙ eq_itself exact_parts (part_of pair 0))
+        record_there (suc n) e = contains-insert_key exact_parts (part_of pair x) plan.held (part_of pair 0)
+            ∙ or_right (eq_by_cmp part_cmp (part_of pair 0) (part_of pair x)) _ (so_far.record_held (omega (arith, e)))
 
-    told_then : (n : ℕ) → x ≡ n → shape ≡ told_first segments x → value_of pair_cmp (with_shape pair shape plan.shapes) pair ≡ Some segments
-    told_then zero e s =
-        let is_some_shape : shape ≡ Some segments = s ∙ ap (told_first segments) e in
-        ap (λ (o : Option Shape). value_of pair_cmp (with_shape pair o plan.shapes) pair) is_some_shape
-        ∙ value_of-with_value exact_pairs pair segments plan.shapes pair ∙ ap (λ (b : Bool). cond b (Some segments) (value_of pair_cmp plan.shapes pair)) (eq_itself exact_pairs pair)
-    told_then (suc n) e s =
-        let is_none : shape ≡ None = s ∙ ap (told_first segments) e ∙ told_later segments n in
-        ap (λ (o : Option Shape). value_of pair_cmp (with_shape pair o plan.shapes) pair) is_none ∙ so_far.told (omega (arith, e))
+        told_then : (n : ℕ) → x ≡ n → shape ≡ told_first segments x
+            → value_of pair_cmp (with_shape pair shape plan.shapes) pair ≡ Some segments
+        told_then zero e s =
+            let is_some_shape : shape ≡ Some segments = s ∙ ap (told_first segments) e in
+            ap (λ (o : Option Shape). value_of pair_cmp (with_shape pair o plan.shapes) pair) is_some_shape
+            ∙ value_of-with_value exact_pairs pair segments plan.shapes pair
+            ∙ ap (λ (b : Bool). cond b (Some segments) (value_of pair_cmp plan.shapes pair))
+            (eq_itself exact_pairs pair)
+        told_then (suc n) e s =
+            let is_none : shape ≡ None = s ∙ ap (told_first segments) e ∙ told_later segments n in
+            ap (λ (o : Option Shape). value_of pair_cmp (with_shape pair o plan.shapes) pair) is_none
+            ∙ so_far.told (omega (arith, e))
 
 -- ---- the packets of the whole publication
 
-module _ (packets : List Packet) (pair : Pair) (octets : List ℕ) (segments : List (List ℕ)) (absent : contains part_cmp (keys packets) (part_of pair 0) ≡ false) where
+module _ (packets : List Packet) (pair : Pair) (octets : List ℕ) (segments : List (List ℕ))
+    (absent : contains part_cmp (keys packets) (part_of pair 0) ≡ false) where
   -- its record is stored
   pub record_stored : stored_at (with_packets (as_parts pair 0 (octets ∷ segments)) packets) pair 0 ≡ Some octets
   record_stored =
-      puts_aside pair 1 segments (with_packet (part_of pair 0) octets packets) (part_of pair 0) (λ y h. later_part pair 0 y (omega (arith, h)))
+      puts_aside pair 1 segments (with_packet (part_of pair 0) octets packets) (part_of pair 0)
+      (λ y h. later_part pair 0 y (omega (arith, h)))
       ∙ put_here packets (part_of pair 0) octets absent
 
   nothing_before : entry_at packets pair ≡ None
-  nothing_before = ap (λ (o : Option (List ℕ)). option_and_then (entry_listed packets pair) (option_and_then listing_in o)) (none (stored_at packets pair 0) (sym (contains-value packets (part_of pair 0)) ∙ absent)) where
-    none : (o : Option (List ℕ)) → is_some o ≡ false → o ≡ None
-    none None h = refl
-    none (Some x) h = absurd (true≢false h)
+  nothing_before =
+      ap (λ (o : Option (List ℕ)). option_and_then (entry_listed packets pair) (option_and_then listing_in o))
+      (none (stored_at packets pair 0) (sym (contains-value packets (part_of pair 0)) ∙ absent)) where
+        none : (o : Option (List ℕ)) → is_some o ≡ false → o ≡ None
+        none None h = refl
+        none (Some x) h = absurd (true≢false h)
 
   -- its entry is all that comes to the catalogue
-  pub relisted_publication : (made : List (List ℕ)) → Rises part_cmp (keys packets) → Rises part_cmp (keys (with_packets (as_parts pair 0 made) packets))
-      → alone_catalogue (with_packets (as_parts pair 0 made) packets) ≡ with_listed (entry_at (with_packets (as_parts pair 0 made) packets) pair) (alone_catalogue packets)
+  pub relisted_publication : (made : List (List ℕ)) → Rises part_cmp (keys packets)
+      → Rises part_cmp (keys (with_packets (as_parts pair 0 made) packets))
+      → alone_catalogue (with_packets (as_parts pair 0 made) packets)
+      ≡ with_listed (entry_at (with_packets (as_parts pair 0 made) packets) pair) (alone_catalogue packets)
   relisted_publication made before after =
       relisted packets (with_packets (as_parts pair 0 made) packets) pair before after
       (λ q other x. puts_aside pair 0 made packets (part_of q x) (λ y h. other_part pair q x y other)) nothing_before
@@ -169,9 +216,15 @@ TellsTheRest segments x (octets ∷ rest) = x ≡ 0 → option_map listed_shape 
 
 -- ---- room
 
-pub room_kept : (t : Part) (shape : Option Shape) (plan : Holdings) → (uses_room (holds_too t shape plan)).spare ≡ plan.spare - 1
+pub room_kept : (t : Part) (shape : Option Shape) (plan : Holdings)
+    → (uses_room (holds_too t shape plan)).spare ≡ plan.spare - 1
 room_kept t shape plan = go (holds plan t) where
-  go : (b : Bool) → (uses_room (cond b plan (record plan { held = insert_key part_cmp t plan.held; shapes = with_shape (pair_of t) shape plan.shapes }))).spare ≡ plan.spare - 1
+  go : (b : Bool)
+      → (uses_room (cond b plan (record plan {
+        held = insert_key part_cmp t plan.held;
+        shapes = with_shape (pair_of t) shape plan.shapes;
+      }))).spare
+      ≡ plan.spare - 1
   go true = refl
   go false = refl
 

@@ -1,5 +1,6 @@
 -- What a new publication makes of a member that calls reach.
-use Rattle.std.proofs.Common.{◌≡◌, ◌≢◌, inl, inr, ℕ, zero, suc, ◌+◌, ◌-◌, ◌<◌, ◌≤◌, max, Bool, true, false, cond, ◌==◌, List, [], ◌∷◌, ◌++◌, length, Option, None, slice_get, refl, sym, ap, ◌∙◌, subst, arith}
+use Rattle.std.proofs.Common.{◌≡◌, ◌≢◌, inl, inr, ℕ, zero, suc, ◌+◌, ◌-◌, ◌<◌, ◌≤◌, max, Bool, true, false, cond, ◌==◌}
+use Rattle.std.proofs.Common.{List, [], ◌∷◌, ◌++◌, length, Option, None, slice_get, refl, sym, ap, ◌∙◌, subst, arith}
 use Rattle.std.specs.Prelude.{slice_index, slice_set, unwrap_or, IsOk}
 use Rattle.std.specs.Option.{option_and_then}
 use Rattle.std.specs.Ordering.{eq_by_cmp}
@@ -20,7 +21,8 @@ use Rattle.repo_object.specs.Verdict.{listing_in, ring_verdict}
 use Rattle.repo_store.specs.StoreList.{with_packet}
 use Rattle.repo_member.specs.Records.{Packet}
 use Rattle.repo_member.specs.Groups.{GroupKeys, node_at, publisher_at}
-use Rattle.repo_member.specs.Alone.{Alone, alone_plan, next_seq, as_parts, with_packets, alone_publishes, logged, packet_in, nothing_listed, want_of}
+use Rattle.repo_member.specs.Alone.{Alone, alone_plan, next_seq, as_parts, with_packets, alone_publishes, logged}
+use Rattle.repo_member.specs.Alone.{packet_in, nothing_listed, want_of}
 use Rattle.repo_member.specs.Publishing.{IsNew}
 use Rattle.repo_member.proofs.GainingLemmas.{put_here, put_elsewhere}
 use Rattle.repo_member.proofs.PublishLemmas.{puts_aside, later_part, gained_none}
@@ -39,7 +41,8 @@ not_at_end (y ∷ xs) x zero other = refl
 not_at_end (y ∷ xs) x (suc i) other = not_at_end xs x i (λ e. other (ap suc e))
 
 -- the packets of a publication of which nothing was stored are found in their places
-puts_value : (pair : Pair) (x : ℕ) (made : List (List ℕ)) (stored : List Packet) → ((y : ℕ) → x ≤ y → contains part_cmp (keys stored) (part_of pair y) ≡ false)
+puts_value : (pair : Pair) (x : ℕ) (made : List (List ℕ)) (stored : List Packet)
+    → ((y : ℕ) → x ≤ y → contains part_cmp (keys stored) (part_of pair y) ≡ false)
     → (k : ℕ) → value_of part_cmp (with_packets (as_parts pair x made) stored) (part_of pair (x + k)) ≡ slice_get made k
 puts_value pair x [] stored none k = missing_value stored (part_of pair (x + k)) (none (x + k) (omega arith))
 puts_value pair x (octets ∷ made) stored none zero =
@@ -53,15 +56,19 @@ puts_value pair x (octets ∷ made) stored none (suc k) =
     let with_first = with_packet (part_of pair x) octets stored in
     ap (λ (y : ℕ). value_of part_cmp (with_packets (as_parts pair (x + 1) made) with_first) (part_of pair y)) there
     ∙ puts_value pair (x + 1) made with_first (λ y h. not_there with_first (part_of pair y)
-    (put_elsewhere stored (part_of pair x) octets (none x (omega arith)) (part_of pair y) (earlier_part x y (omega (arith, h)))
+    (put_elsewhere stored (part_of pair x) octets (none x (omega arith)) (part_of pair y)
+    (earlier_part x y (omega (arith, h)))
     ∙ missing_value stored (part_of pair y) (none y (omega (arith, h))))) k where
       earlier_part : (x y : ℕ) → x < y → eq_by_cmp part_cmp (part_of pair y) (part_of pair x) ≡ false
       earlier_part x y less = go (eq_by_cmp part_cmp (part_of pair y) (part_of pair x)) refl where
         go : (b : Bool) → eq_by_cmp part_cmp (part_of pair y) (part_of pair x) ≡ b → b ≡ false
-        go true p = let same : y ≡ x = ap (λ (t : Part). t.part) (eq_same exact_parts (part_of pair y) (part_of pair x) p) in absurd (omega arith)
+        go true p =
+            let same : y ≡ x = ap (λ (t : Part). t.part) (eq_same exact_parts (part_of pair y) (part_of pair x) p) in
+            absurd (omega arith)
         go false p = refl
 
-module _ (g : GroupKeys) (object : NamedContents) (moment draw : ℕ) (a : Alone) (is_object : IsObject object) (room : length a.log < 65535) (r : IsReached g a) where
+module _ (g : GroupKeys) (object : NamedContents) (moment draw : ℕ) (a : Alone) (is_object : IsObject object)
+    (room : length a.log < 65535) (r : IsReached g a) where
   abbrev pair : Pair
   pair = (a.number, next_seq a)
 
@@ -108,12 +115,16 @@ module _ (g : GroupKeys) (object : NamedContents) (moment draw : ℕ) (a : Alone
 
   all_sound : PlanIsSound (alone_plan (record told { store = after }))
   all_sound =
-      let are = packets_are by object (next_seq a) (is_publisher g a.number r.group (omega (arith, r.alone.member, r.of))) is_object (omega (arith, room)) made refl in
-      sound_puts (alone_plan told) pair segments new 0 made told (omega arith) (λ e. are.lists) r.alone.in_order (gained_none (alone_plan told) pair segments new) told_sound
+      let are =
+      packets_are by object (next_seq a) (is_publisher g a.number r.group (omega (arith, r.alone.member, r.of)))
+      is_object (omega (arith, room)) made refl in
+      sound_puts (alone_plan told) pair segments new 0 made told (omega arith) (λ e. are.lists) r.alone.in_order
+      (gained_none (alone_plan told) pair segments new) told_sound
 
   -- ---- what is stored
 
-  aside : (q : Part) → ((y : ℕ) → eq_by_cmp part_cmp q (part_of pair y) ≡ false) → value_of part_cmp after q ≡ value_of part_cmp a.store q
+  aside : (q : Part) → ((y : ℕ) → eq_by_cmp part_cmp q (part_of pair y) ≡ false)
+      → value_of part_cmp after q ≡ value_of part_cmp a.store q
   aside q other = puts_aside pair 0 made a.store q (λ y h. other y)
 
   of_others : (q : Part) → q.publisher ≢ a.number → (y : ℕ) → eq_by_cmp part_cmp q (part_of pair y) ≡ false
@@ -136,25 +147,30 @@ module _ (g : GroupKeys) (object : NamedContents) (moment draw : ℕ) (a : Alone
     go false c p = refl
     go true true p = refl
     go true false p =
-        ap (option_and_then (packet_in by q)) (sym (not_at_end a.log object (q.seq - 1) (λ e. other (above e (eqb-false q.seq 0 p))))) where
+        ap (option_and_then (packet_in by q))
+        (sym (not_at_end a.log object (q.seq - 1) (λ e. other (above e (eqb-false q.seq 0 p))))) where
           above : q.seq - 1 ≡ length a.log → (q.seq ≡ 0 → ⊥) → q.seq ≡ next_seq a
           above e ne = elim (cases_eq q.seq 0) [ inl z ↦ absurd (ne z) | inr n ↦ omega (arith, e, n) ]
 
-  own_parts : (q : Part) → q.publisher ≡ a.number → hides (alone_plan a) (pair_of q) ≡ false → value_of part_cmp after q ≡ logged g (alone_publishes g object moment draw a) q
+  own_parts : (q : Part) → q.publisher ≡ a.number → hides (alone_plan a) (pair_of q) ≡ false
+      → value_of part_cmp after q ≡ logged g (alone_publishes g object moment draw a) q
   own_parts q own shown = elim (cases_eq q.seq (next_seq a)) [
     | inl same ↦
         let is : q ≡ part_of pair q.part = λ i. record { publisher = own i; seq = same i; part = q.part } in
         let last : q.seq - 1 ≡ length a.log = omega (arith, same) in
         let from_first : q.part ≡ 0 + q.part = omega arith in
-        ap (value_of part_cmp after) (is ∙ ap (part_of pair) from_first) ∙ puts_value pair 0 made a.store (λ y h. new.not_held y) q.part
+        ap (value_of part_cmp after) (is ∙ ap (part_of pair) from_first)
+        ∙ puts_value pair 0 made a.store (λ y h. new.not_held y) q.part
         ∙ ap (λ (n : ℕ). slice_get (packets by n object) q.part) (sym same)
-        ∙ sym (logged_own g (alone_publishes g object moment draw a) q object own (omega (arith, same)) (ap (slice_get (a.log ++ object ∷ [])) last ∙ at_end a.log object))
+        ∙ sym (logged_own g (alone_publishes g object moment draw a) q object own (omega (arith, same))
+        (ap (slice_get (a.log ++ object ∷ [])) last ∙ at_end a.log object))
     | inr other ↦ aside q (of_another q other) ∙ r.own q own shown ∙ logged_before q other
   ]
 
   same_want : (q : Part) → q.publisher ≢ a.number → want_of g a.store q ≡ want_of g after q
   same_want q away =
-      ap (λ (o : Option (List ℕ)). cond (q.part == 0) (want_record q (node_at g q.publisher) g.name) (want_segment q (unwrap_or (option_and_then listing_in o) nothing_listed)))
+      ap (λ (o : Option (List ℕ)). cond (q.part == 0) (want_record q (node_at g q.publisher) g.name)
+      (want_segment q (unwrap_or (option_and_then listing_in o) nothing_listed)))
       (sym (aside (part_of (pair_of q) 0) (of_others (part_of (pair_of q) 0) away)))
 
   pub reached_publishes : IsReached g (alone_publishes g object moment draw a)
@@ -173,6 +189,7 @@ module _ (g : GroupKeys) (object : NamedContents) (moment draw : ℕ) (a : Alone
     objects = All-push IsObject a.log object r.objects is_object;
     own = own_parts;
     others = λ q octets away h.
-        subst (λ (want : WantedPart). IsOk (ring_verdict want g.members.ring octets)) (same_want q away) (r.others q octets away (sym (aside q (of_others q away)) ∙ h));
+        subst (λ (want : WantedPart). IsOk (ring_verdict want g.members.ring octets)) (same_want q away)
+        (r.others q octets away (sym (aside q (of_others q away)) ∙ h));
     insertions = r.insertions;
   }

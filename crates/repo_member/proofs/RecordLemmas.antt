@@ -21,22 +21,26 @@ record_order t u a b = rw (a, b) (flat (nat_cmp t.publisher u.publisher) (nat_cm
   flat Equal Equal = refl
   flat Equal Greater = refl
 
-before_records : (t : Part) (es : List Packet) → t.part ≡ 0 → IsBefore part_cmp t (keys es) → IsBefore pair_cmp (pair_of t) (keys (records_in es))
+before_records : (t : Part) (es : List Packet) → t.part ≡ 0 → IsBefore part_cmp t (keys es)
+    → IsBefore pair_cmp (pair_of t) (keys (records_in es))
 before_records t [] is b = tt
 before_records t (e ∷ es) is b = go (e.0.part == 0) refl (before_records t es is b.1) where
-  go : (c : Bool) → (e.0.part == 0) ≡ c → IsBefore pair_cmp (pair_of t) (keys (records_in es)) → IsBefore pair_cmp (pair_of t) (keys (cond c ((pair_of e.0, e.1) ∷ records_in es) (records_in es)))
+  go : (c : Bool) → (e.0.part == 0) ≡ c → IsBefore pair_cmp (pair_of t) (keys (records_in es))
+      → IsBefore pair_cmp (pair_of t) (keys (cond c ((pair_of e.0, e.1) ∷ records_in es) (records_in es)))
   go true p h = (sym (record_order t e.0 is (eqb-true e.0.part 0 p)) ∙ b.0, h)
   go false p h = h
 
 pub rises_records : (es : List Packet) → Rises part_cmp (keys es) → Rises pair_cmp (keys (records_in es))
 rises_records [] r = tt
 rises_records (e ∷ es) r = go (e.0.part == 0) refl (rises_records es r.1) where
-  go : (c : Bool) → (e.0.part == 0) ≡ c → Rises pair_cmp (keys (records_in es)) → Rises pair_cmp (keys (cond c ((pair_of e.0, e.1) ∷ records_in es) (records_in es)))
+  go : (c : Bool) → (e.0.part == 0) ≡ c → Rises pair_cmp (keys (records_in es))
+      → Rises pair_cmp (keys (cond c ((pair_of e.0, e.1) ∷ records_in es) (records_in es)))
   go true p h = (before_records e.0 es (eqb-true e.0.part 0 p) r.0, h)
   go false p h = h
 
 -- the record of a publication
-pub value_of-records : (es : List Packet) (pair : Pair) → value_of pair_cmp (records_in es) pair ≡ value_of part_cmp es (part_of pair 0)
+pub value_of-records : (es : List Packet) (pair : Pair)
+    → value_of pair_cmp (records_in es) pair ≡ value_of part_cmp es (part_of pair 0)
 value_of-records [] pair = refl
 value_of-records (e ∷ es) pair = go (value_of-records es pair) (e.0.part == 0) refl where
   same : e.0.part ≡ 0 → eq_by_cmp pair_cmp pair (pair_of e.0) ≡ eq_by_cmp part_cmp (part_of pair 0) e.0
@@ -49,6 +53,10 @@ value_of-records (e ∷ es) pair = go (value_of-records es pair) (e.0.part == 0)
   other false h p = refl
 
   go : value_of pair_cmp (records_in es) pair ≡ value_of part_cmp es (part_of pair 0) → (c : Bool) → (e.0.part == 0) ≡ c
-      → value_of pair_cmp (cond c ((pair_of e.0, e.1) ∷ records_in es) (records_in es)) pair ≡ value_of part_cmp (e ∷ es) (part_of pair 0)
+      → value_of pair_cmp (cond c ((pair_of e.0, e.1) ∷ records_in es) (records_in es)) pair
+      ≡ value_of part_cmp (e ∷ es) (part_of pair 0)
   go h true p = rw (h, same (eqb-true e.0.part 0 p)) refl
-  go h false p = h ∙ ap (λ (c : Bool). cond c (Some e.1) (value_of part_cmp es (part_of pair 0))) (sym (other (eq_by_cmp part_cmp (part_of pair 0) e.0) refl p))
+  go h false p =
+      h
+      ∙ ap (λ (c : Bool). cond c (Some e.1) (value_of part_cmp es (part_of pair 0)))
+      (sym (other (eq_by_cmp part_cmp (part_of pair 0) e.0) refl p))

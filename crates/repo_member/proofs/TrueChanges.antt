@@ -1,5 +1,6 @@
 -- Which changes leave a member one whose stored packets are those of their parts.
-use Rattle.std.proofs.Common.{◌≡◌, inl, inr, ℕ, zero, suc, ◌+◌, ◌-◌, Bool, true, false, cond, not, List, [], ◌∷◌, ◌++◌, length, get_or, set, replicate, Option, Some, None, refl, sym, ap, ◌∙◌, subst, arith}
+use Rattle.std.proofs.Common.{◌≡◌, inl, inr, ℕ, zero, suc, ◌+◌, ◌-◌, Bool, true, false, cond, not, List, [], ◌∷◌, ◌++◌}
+use Rattle.std.proofs.Common.{length, get_or, set, replicate, Option, Some, None, refl, sym, ap, ◌∙◌, subst, arith}
 use Rattle.std.specs.Prelude.{nat_lt, is_some, filter, IfSome}
 use Rattle.std.specs.List.{All}
 use Rattle.std.proofs.lemmas.Bool.{true≢false, and_parts, not-true}
@@ -24,7 +25,8 @@ use Rattle.group_model.specs.Member.{plan_of, with_tries}
 use Rattle.group_model.specs.Changes as group
 use Rattle.group_model.specs.Sound.{IsSoundMember, HeardTruly}
 use Rattle.group_model.proofs.Members.{Grows, grown, with_machine, sound_learns, sound_claims, sound_loses}
-use Rattle.group_model.proofs.Gains.{Publishes, AreTried, sound_takes, sound_gains, sound_publishes, rises_tried, tried_once_more}
+use Rattle.group_model.proofs.Gains.{Publishes, AreTried, sound_takes, sound_gains, sound_publishes, rises_tried}
+use Rattle.group_model.proofs.Gains.{tried_once_more}
 use Rattle.group_model.proofs.Deletions.{sound_deletes}
 use Rattle.group_model.proofs.Settles.{no_claim}
 use Rattle.repo_member.specs.Records.{Packet}
@@ -32,17 +34,22 @@ use Rattle.repo_member.specs.Deleting.{catalogued_named, outside_all}
 use Rattle.repo_member.specs.Commanded.{alone_starts}
 use Rattle.repo_member.specs.Blocks.{alone_block, alone_keeps, after_block}
 use Rattle.repo_member.specs.Groups.{GroupKeys}
-use Rattle.repo_member.specs.Alone.{Alone, Fetched, alone_plan, alone_publishes, alone_claims, alone_takes, alone_ends_claims, alone_clears}
+use Rattle.repo_member.specs.Alone.{Alone, Fetched, alone_plan, alone_publishes, alone_claims, alone_takes}
+use Rattle.repo_member.specs.Alone.{alone_ends_claims, alone_clears}
 use Rattle.repo_member.specs.InGroup.{in_group, AreLogs, GrowInto, AreItsPackets, CameTruly, asked_for, that_came}
 use Rattle.repo_member.specs.Outcomes.{with_all_tries}
 use Rattle.repo_member.specs.TrueMembers.{IsTrueMember}
-use Rattle.repo_member.specs.TrueChanges.{BeginsTrue, PublishesTrue, OthersPublish, LogsHaveGrown, LearnsTrue, HearsTrue, InsertsTrue, BlocksTrue, DeletesTrue, ObeysTrue, FiresTrue, ResetsTrue, RestartsTrue, EndsClaimsTrue, ClaimsTrue, LosesTrue, AcceptsTrue, IsTrueArrival, TakesTrue}
+use Rattle.repo_member.specs.TrueChanges.{BeginsTrue, PublishesTrue, OthersPublish, LogsHaveGrown, LearnsTrue}
+use Rattle.repo_member.specs.TrueChanges.{HearsTrue, InsertsTrue, BlocksTrue, DeletesTrue, ObeysTrue, FiresTrue}
+use Rattle.repo_member.specs.TrueChanges.{ResetsTrue, RestartsTrue, EndsClaimsTrue, ClaimsTrue, LosesTrue, AcceptsTrue}
+use Rattle.repo_member.specs.TrueChanges.{IsTrueArrival, TakesTrue}
 use Rattle.repo_member.proofs.CallReach.{fired_wide}
 use Rattle.repo_member.proofs.ChangeLemmas.{publishes_alike, accepts_alike, takes_in_group}
 use Rattle.repo_member.proofs.DeletionLemmas.{deletes_alike}
 use Rattle.repo_member.proofs.GroupPlans.{plans_alike}
 use Rattle.repo_member.proofs.HidingLemmas.{value_outside}
-use Rattle.repo_member.proofs.LastingPackets.{begins_truly, grown_last, grown_object, grows_truly, publishes_truly, published_grows, object_next, accepts_truly, takes_truly}
+use Rattle.repo_member.proofs.LastingPackets.{begins_truly, grown_last, grown_object, grows_truly, publishes_truly}
+use Rattle.repo_member.proofs.LastingPackets.{published_grows, object_next, accepts_truly, takes_truly}
 use Rattle.repo_member.proofs.MemberLemmas.{still_wide}
 use Rattle.repo_member.proofs.OutcomeLemmas.{takes_all}
 use Rattle.repo_member.proofs.TrueMembers.{true_stores, wanted_published, claimed_wanted}
@@ -83,7 +90,9 @@ begins_true g n number moment draw inside =
         heard = tt;
         held = λ t h. absurd (true≢false (sym h));
         hidden = λ q h. absurd (true≢false (sym h));
-        own_held = λ s p. absurd (let z : last_of logs number ≡ 0 = nothing_in n number in omega (arith, z, p.from_one, p.to_last));
+        own_held =
+            λ s p.
+            absurd (let z : last_of logs number ≡ 0 = nothing_in n number in omega (arith, z, p.from_one, p.to_last));
         claimed = λ f t e. absurd (let c : get_or no_claims f None ≡ None = no_claim 16 f in cc);
         apart = λ f h t a b. absurd (let c : get_or no_claims f None ≡ None = no_claim 16 f in cc);
       };
@@ -108,14 +117,18 @@ publishes_true g object moment draw logs a t =
     let later : Logs = set logs a.number (a.log ++ object ∷ []) in
     let grows : GrowInto logs later = published_grows logs a.number a.log object t.there t.log in
     let wide : length later ≡ length logs = length-set logs a.number (a.log ++ object ∷ []) in
-    let own : get_or later a.number [] ≡ a.log ++ object ∷ [] = get_or-set_same logs a.number (a.log ++ object ∷ []) [] t.there in
+    let own : get_or later a.number [] ≡ a.log ++ object ∷ [] =
+    get_or-set_same logs a.number (a.log ++ object ∷ []) [] t.there in
     let last : last_of logs a.number ≡ length a.log = ap length t.log in
     let one : last_of later a.number ≡ length a.log + 1 = ap length own ∙ length_push a.log object in
     let next : last_of logs a.number + 1 ≡ length a.log + 1 = omega (arith, last) in
     let publishes : Publishes logs later a.number object = record {
       grows = grows_from logs later grows wide;
       one_more = omega (arith, one, last);
-      counts = ap (λ (s : ℕ). length (get_or (get_or later a.number []) (s - 1) (let o : NamedContents = record { name = []; contents = [] } in o)).contents) next
+      counts =
+          ap (λ (s : ℕ). length
+          (get_or (get_or later a.number []) (s - 1)
+          (let o : NamedContents = record { name = []; contents = [] } in o)).contents) next
           ∙ ap (λ (o : NamedContents). length o.contents) (object_next logs a.number a.log object t.there t.log);
     } in
     record {
@@ -131,7 +144,10 @@ pub others_publish : OthersPublish
 others_publish g logs later a grows wide last t =
     record {
       there = omega (arith, t.there, wide);
-      log = sym (take_all (last_of logs a.number) (get_or later a.number []) (omega (arith, last))) ∙ grows a.number ∙ t.log;
+      log =
+          sym (take_all (last_of logs a.number) (get_or later a.number []) (omega (arith, last)))
+          ∙ grows a.number
+          ∙ t.log;
       sound = grown logs later a.number (in_group a) (grows_from logs later grows wide) last t.sound;
       machine = t.machine ∙ sym wide;
       packets = (grows_truly g logs later a grows (true_stores g logs a t)).packets;
@@ -143,7 +159,9 @@ pub learns_true : LearnsTrue
 learns_true g logs told a v t = record {
   there = t.there;
   log = t.log;
-  sound = with_machine logs a.number (group.learns 0 0 told (in_group a)) a.machine a.insertions.processes a.insertions.next_process (sound_learns 0 0 logs a.number told (in_group a) v t.sound) t.sound.heard;
+  sound =
+      with_machine logs a.number (group.learns 0 0 told (in_group a)) a.machine a.insertions.processes
+      a.insertions.next_process (sound_learns 0 0 logs a.number told (in_group a) v t.sound) t.sound.heard;
   machine = t.machine;
   packets = t.packets;
 }
@@ -153,25 +171,31 @@ hears_true g logs told moment draw a v t = record {
   there = t.there;
   log = t.log;
   sound = sound_learns draw moment logs a.number told (in_group a) v t.sound;
-  machine = still_wide moment told a.known draw a.machine (hears_kept moment told a.known draw a.machine a.machine.heard) refl ∙ t.machine;
+  machine =
+      still_wide moment told a.known draw a.machine (hears_kept moment told a.known draw a.machine a.machine.heard) refl
+      ∙ t.machine;
   packets = t.packets;
 }
 
 -- only the machine changes
-machine_true : (g : GroupKeys) (logs : Logs) (a : Alone) (machine : Keeper) → machine.members ≡ a.machine.members → HeardTruly logs machine.heard → IsTrueMember g logs a → IsTrueMember g logs (record a { machine = machine })
+machine_true : (g : GroupKeys) (logs : Logs) (a : Alone) (machine : Keeper) → machine.members ≡ a.machine.members
+    → HeardTruly logs machine.heard → IsTrueMember g logs a → IsTrueMember g logs (record a { machine = machine })
 machine_true g logs a machine wide heard t = record {
   there = t.there;
   log = t.log;
-  sound = with_machine logs a.number (in_group a) machine a.insertions.processes a.insertions.next_process t.sound heard;
+  sound =
+      with_machine logs a.number (in_group a) machine a.insertions.processes a.insertions.next_process t.sound heard;
   machine = wide ∙ t.machine;
   packets = t.packets;
 }
 
 pub fires_true : FiresTrue
-fires_true g logs moment draw a t = machine_true g logs a (fired_kept moment draw a.machine) (fired_wide moment draw a.machine) (go (nat_lt moment a.machine.deadline)) t where
-  go : (b : Bool) → HeardTruly logs (cond b a.machine (steady_kept moment draw a.machine)).heard
-  go true = t.sound.heard
-  go false = tt
+fires_true g logs moment draw a t =
+    machine_true g logs a (fired_kept moment draw a.machine) (fired_wide moment draw a.machine)
+    (go (nat_lt moment a.machine.deadline)) t where
+      go : (b : Bool) → HeardTruly logs (cond b a.machine (steady_kept moment draw a.machine)).heard
+      go true = t.sound.heard
+      go false = tt
 
 pub resets_true : ResetsTrue
 resets_true g logs moment draw a t = machine_true g logs a (steady_kept moment draw a.machine) refl tt t
@@ -182,15 +206,19 @@ pub inserts_true : InsertsTrue
 inserts_true g logs insertions a t = record {
   there = t.there;
   log = t.log;
-  sound = with_machine logs a.number (in_group a) a.machine insertions.processes insertions.next_process t.sound t.sound.heard;
+  sound =
+      with_machine logs a.number (in_group a) a.machine insertions.processes insertions.next_process t.sound
+      t.sound.heard;
   machine = t.machine;
   packets = t.packets;
 }
 
 -- where a log stays as it is, so do all
-same_logs : (g : GroupKeys) (logs : Logs) (a b : Alone) → b.number ≡ a.number → b.log ≡ a.log → IsTrueMember g logs a → IsTrueMember g logs b → IsTrueMember g (set logs a.number b.log) b
+same_logs : (g : GroupKeys) (logs : Logs) (a b : Alone) → b.number ≡ a.number → b.log ≡ a.log → IsTrueMember g logs a
+    → IsTrueMember g logs b → IsTrueMember g (set logs a.number b.log) b
 same_logs g logs a b number log t u =
-    let same : logs ≡ set logs a.number b.log = sym (set-get_or logs a.number []) ∙ ap (set logs a.number) (t.log ∙ sym log) in
+    let same : logs ≡ set logs a.number b.log =
+    sym (set-get_or logs a.number []) ∙ ap (set logs a.number) (t.log ∙ sym log) in
     subst (λ (ls : Logs). IsTrueMember g ls b) same u
 
 pub blocks_true : BlocksTrue
@@ -198,29 +226,39 @@ blocks_true g process index content moment draw logs a t = go (alone_block a pro
   kept : (p : Process) → IsTrueMember g logs (alone_keeps process p a)
   kept p = inserts_true g logs (with_process process p a.insertions) a t
 
-  publishes : (p : Process) (b : Bool) → let later = cond b (alone_publishes g (object_of p) moment draw (alone_keeps process (closed p) a)) a in IsTrueMember g (set logs a.number later.log) later
-  publishes p true = publishes_true g (object_of p) moment draw logs (alone_keeps process (closed p) a) (kept (closed p))
+  publishes : (p : Process) (b : Bool)
+      → let later = cond b (alone_publishes g (object_of p) moment draw (alone_keeps process (closed p) a)) a in
+      IsTrueMember g (set logs a.number later.log) later
+  publishes p true =
+      publishes_true g (object_of p) moment draw logs (alone_keeps process (closed p) a) (kept (closed p))
   publishes p false = same_logs g logs a a refl refl t t
 
-  go : (state : BlockState) → let later = after_block g process moment draw a state in IsTrueMember g (set logs a.number later.log) later
+  go : (state : BlockState)
+      → let later = after_block g process moment draw a state in IsTrueMember g (set logs a.number later.log) later
   go Unknown = same_logs g logs a a refl refl t t
   go Already = same_logs g logs a a refl refl t t
   go (Waiting p) = same_logs g logs a (alone_keeps process p a) refl refl t (kept p)
   go (Whole p) = publishes p (nat_lt (length a.log) 65535)
 
 -- what is stored still was stored before
-stored_before : (pairs : List Pair) (packets : List Packet) (t : Part) (octets : List ℕ) → value_of part_cmp (outside_all pairs packets) t ≡ Some octets → value_of part_cmp packets t ≡ Some octets
+stored_before : (pairs : List Pair) (packets : List Packet) (t : Part) (octets : List ℕ)
+    → value_of part_cmp (outside_all pairs packets) t ≡ Some octets → value_of part_cmp packets t ≡ Some octets
 stored_before [] packets t octets h = h
-stored_before (pair ∷ pairs) packets t octets h = go (is_in pair t) (sym (value_outside pair packets t) ∙ stored_before pairs (packets_outside pair packets) t octets h) where
-  go : (b : Bool) → cond (not b) (value_of part_cmp packets t) None ≡ Some octets → value_of part_cmp packets t ≡ Some octets
-  go true k = absurd cc
-  go false k = k
+stored_before (pair ∷ pairs) packets t octets h =
+    go (is_in pair t)
+    (sym (value_outside pair packets t) ∙ stored_before pairs (packets_outside pair packets) t octets h) where
+      go : (b : Bool) → cond (not b) (value_of part_cmp packets t) None ≡ Some octets
+          → value_of part_cmp packets t ≡ Some octets
+      go true k = absurd cc
+      go false k = k
 
 pub deletes_true : DeletesTrue
 deletes_true g logs name a are t = record {
   there = t.there;
   log = t.log;
-  sound = subst (IsSoundMember logs a.number) (sym (deletes_alike g logs name a are (true_stores g logs a t))) (sound_deletes logs a.number name (in_group a) t.sound);
+  sound =
+      subst (IsSoundMember logs a.number) (sym (deletes_alike g logs name a are (true_stores g logs a t)))
+      (sound_deletes logs a.number name (in_group a) t.sound);
   machine = t.machine;
   packets = λ u octets h. t.packets u octets (stored_before (catalogued_named name a) a.store u octets h);
 }
@@ -242,7 +280,12 @@ ends_claims_true g logs a t = record {
   sound = record {
     width = t.sound.width;
     fetchers = refl;
-    in_order = record { held = t.sound.in_order.held; hidden = t.sound.in_order.hidden; attempts = t.sound.in_order.attempts; tried = t.sound.in_order.tried };
+    in_order = record {
+      held = t.sound.in_order.held;
+      hidden = t.sound.in_order.hidden;
+      attempts = t.sound.in_order.attempts;
+      tried = t.sound.in_order.tried;
+    };
     known = t.sound.known;
     own = t.sound.own;
     heard = t.sound.heard;
@@ -259,7 +302,8 @@ ends_claims_true g logs a t = record {
 pub restarts_true : RestartsTrue
 restarts_true g logs moment draw a t =
     let ended = alone_ends_claims a in
-    resets_true g logs moment draw (alone_clears ended) (inserts_true g logs (record a.insertions { processes = [] }) ended (ends_claims_true g logs a t))
+    resets_true g logs moment draw (alone_clears ended)
+    (inserts_true g logs (record a.insertions { processes = [] }) ended (ends_claims_true g logs a t))
 
 pub loses_true : LosesTrue
 loses_true g logs f a t = record {
@@ -280,7 +324,9 @@ claims_true g logs f a are t = go (first (unclaimed (alone_plan a))) refl where
   go : (claim : Option Part) → first (unclaimed (alone_plan a)) ≡ claim → IsTrueMember g logs (alone_claims f claim a)
   go None e = loses_true g logs f a t
   go (Some u) e =
-      let free : is_unclaimed (alone_plan a) u ≡ true = sym (contains-unclaimed (alone_plan a) u) ∙ contains_in exact_parts (unclaimed (alone_plan a)) u (first_in (unclaimed (alone_plan a)) u e) in
+      let free : is_unclaimed (alone_plan a) u ≡ true =
+      sym (contains-unclaimed (alone_plan a) u)
+      ∙ contains_in exact_parts (unclaimed (alone_plan a)) u (first_in (unclaimed (alone_plan a)) u e) in
       let both = and_parts (is_wanted (alone_plan a) u) (not (is_claimed (alone_plan a) u)) free in
       let plans = plans_alike g logs a are (true_stores g logs a t) in
       record {
@@ -288,7 +334,8 @@ claims_true g logs f a are t = go (first (unclaimed (alone_plan a))) refl where
         log = t.log;
         sound = sound_claims logs a.number f u (in_group a)
             (subst (λ (p : Holdings). is_wanted p u ≡ true) plans both.0)
-            (subst (λ (p : Holdings). is_claimed p u ≡ false) plans (not-true (is_claimed (alone_plan a) u) both.1)) t.sound;
+            (subst (λ (p : Holdings). is_claimed p u ≡ false) plans (not-true (is_claimed (alone_plan a) u) both.1))
+            t.sound;
         machine = t.machine;
         packets = t.packets;
       }
@@ -299,7 +346,9 @@ pub accepts_true : AcceptsTrue
 accepts_true g logs f t octets a are claim its truly = record {
   there = truly.there;
   log = truly.log;
-  sound = subst (IsSoundMember logs a.number) (sym (accepts_alike f t octets a truly.sound.in_order.held)) (sound_takes logs a.number f t (in_group a) claim truly.sound);
+  sound =
+      subst (IsSoundMember logs a.number) (sym (accepts_alike f t octets a truly.sound.in_order.held))
+      (sound_takes logs a.number f t (in_group a) claim truly.sound);
   machine = truly.machine;
   packets = (accepts_truly g logs f t octets a (record {
     published = (wanted_published g logs a are truly t (claimed_wanted g logs a are truly f t claim)).there;
@@ -307,43 +356,61 @@ accepts_true g logs f t octets a are claim its truly = record {
   }) (true_stores g logs a truly)).packets;
 }
 
-rises_all_tried : (xs : List Fetched) (tried : List (Part × ℕ)) → Rises part_cmp (keys tried) → Rises part_cmp (keys (with_all_tries xs tried))
+rises_all_tried : (xs : List Fetched) (tried : List (Part × ℕ)) → Rises part_cmp (keys tried)
+    → Rises part_cmp (keys (with_all_tries xs tried))
 rises_all_tried [] tried r = r
-rises_all_tried (x ∷ xs) tried r = rises_all_tried xs (with_tries x.part x.attempts tried) (rises_tried x.part x.attempts tried r)
+rises_all_tried (x ∷ xs) tried r =
+    rises_all_tried xs (with_tries x.part x.attempts tried) (rises_tried x.part x.attempts tried r)
 
 all_tried : (xs : List Fetched) (tried : List (Part × ℕ)) → AreTried tried → AreTried (with_all_tries xs tried)
 all_tried [] tried h = h
-all_tried (x ∷ xs) tried h = all_tried xs (with_tries x.part x.attempts tried) (tried_once_more x.part x.attempts tried h)
+all_tried (x ∷ xs) tried h =
+    all_tried xs (with_tries x.part x.attempts tried) (tried_once_more x.part x.attempts tried h)
 
 -- a part that came
-came_from : (xs : List Fetched) (P : Part → Type 0) → All (λ (x : Fetched). IfSome x.packet (λ octets. P x.part)) xs → (t : Part) → In t (that_came xs) → P t
+came_from : (xs : List Fetched) (P : Part → Type 0) → All (λ (x : Fetched). IfSome x.packet (λ octets. P x.part)) xs
+    → (t : Part) → In t (that_came xs) → P t
 came_from [] P all t i = absurd i
 came_from (x ∷ xs) P all t i =
-    go x.packet (All-head (λ (y : Fetched). IfSome y.packet (λ octets. P y.part)) x xs all) i (came_from xs P (All-tail (λ (y : Fetched). IfSome y.packet (λ octets. P y.part)) x xs all) t) where
-      go : (o : Option (List ℕ)) → IfSome o (λ octets. P x.part) → In t (asked_for (cond (is_some o) (x ∷ filter (λ (y : Fetched). is_some y.packet) xs) (filter (λ (y : Fetched). is_some y.packet) xs))) → (In t (that_came xs) → P t) → P t
+    go x.packet (All-head (λ (y : Fetched). IfSome y.packet (λ octets. P y.part)) x xs all) i
+    (came_from xs P (All-tail (λ (y : Fetched). IfSome y.packet (λ octets. P y.part)) x xs all) t) where
+      go : (o : Option (List ℕ)) → IfSome o (λ octets. P x.part)
+          → In t
+          (asked_for (cond (is_some o) (x ∷ filter (λ (y : Fetched). is_some y.packet) xs)
+          (filter (λ (y : Fetched). is_some y.packet) xs)))
+          → (In t (that_came xs) → P t) → P t
       go None h j rest = rest j
       go (Some octets) h (inl same) rest = subst P (sym same) h
       go (Some octets) h (inr j) rest = rest j
 
-module _ (g : GroupKeys) (logs : Logs) (xs : List Fetched) (a : Alone) (are : AreLogs g logs) (truly : IsTrueMember g logs a) (came : All (λ (x : Fetched). IfSome x.packet (IsTrueArrival g logs a x.part)) xs) where
+module _ (g : GroupKeys) (logs : Logs) (xs : List Fetched) (a : Alone) (are : AreLogs g logs)
+    (truly : IsTrueMember g logs a)
+    (came : All (λ (x : Fetched). IfSome x.packet (IsTrueArrival g logs a x.part)) xs) where
   plans : alone_plan a ≡ plan_of logs (in_group a)
   plans = plans_alike g logs a are (true_stores g logs a truly)
 
-  is_free : (o : Option (List ℕ)) (t : Part) → IfSome o (IsTrueArrival g logs a t) → IfSome o (λ octets. is_unclaimed (alone_plan a) t ≡ true)
+  is_free : (o : Option (List ℕ)) (t : Part) → IfSome o (IsTrueArrival g logs a t)
+      → IfSome o (λ octets. is_unclaimed (alone_plan a) t ≡ true)
   is_free None t h = h
   is_free (Some octets) t h = h.unclaimed
 
-  open_parts : (t : Part) → In t (that_came xs) → (is_wanted (alone_plan a) t ≡ true) × (is_claimed (alone_plan a) t ≡ false)
+  open_parts : (t : Part) → In t (that_came xs)
+      → (is_wanted (alone_plan a) t ≡ true) × (is_claimed (alone_plan a) t ≡ false)
   open_parts t i =
-      let free : is_unclaimed (alone_plan a) t ≡ true = came_from xs (λ (u : Part). is_unclaimed (alone_plan a) u ≡ true)
-      (All-weaker (λ (x : Fetched). IfSome x.packet (IsTrueArrival g logs a x.part)) (λ (x : Fetched). IfSome x.packet (λ octets. is_unclaimed (alone_plan a) x.part ≡ true)) (λ x h. is_free x.packet x.part h) xs came) t i in
+      let free : is_unclaimed (alone_plan a) t ≡ true =
+      came_from xs (λ (u : Part). is_unclaimed (alone_plan a) u ≡ true)
+      (All-weaker (λ (x : Fetched). IfSome x.packet (IsTrueArrival g logs a x.part))
+      (λ (x : Fetched). IfSome x.packet (λ octets. is_unclaimed (alone_plan a) x.part ≡ true))
+      (λ x h. is_free x.packet x.part h) xs came) t i in
       let both = and_parts (is_wanted (alone_plan a) t) (not (is_claimed (alone_plan a) t)) free in
       (both.0, not-true (is_claimed (alone_plan a) t) both.1)
 
   is_its : (o : Option (List ℕ)) (t : Part) → IfSome o (IsTrueArrival g logs a t) → CameTruly g logs t o
   is_its None t h = tt
   is_its (Some octets) t h = record {
-    published = (wanted_published g logs a are truly t (and_parts (is_wanted (alone_plan a) t) (not (is_claimed (alone_plan a) t)) h.unclaimed).0).there;
+    published =
+        (wanted_published g logs a are truly t
+        (and_parts (is_wanted (alone_plan a) t) (not (is_claimed (alone_plan a) t)) h.unclaimed).0).there;
     packet = h.packet;
   }
 
@@ -351,14 +418,19 @@ module _ (g : GroupKeys) (logs : Logs) (xs : List Fetched) (a : Alone) (are : Ar
   taken_true = subst (IsTrueMember g logs) (sym (takes_all xs a)) (record {
     there = truly.there;
     log = truly.log;
-    sound = subst (IsSoundMember logs a.number) (sym (sym (ap in_group (takes_all xs a)) ∙ takes_in_group xs a truly.sound.in_order.held))
+    sound =
+        subst (IsSoundMember logs a.number)
+        (sym (sym (ap in_group (takes_all xs a)) ∙ takes_in_group xs a truly.sound.in_order.held))
         (sound_gains logs a.number (that_came xs) (with_all_tries xs a.attempts) (in_group a)
         (λ t i. subst (λ (p : Holdings). is_wanted p t ≡ true) plans (open_parts t i).0)
         (λ t i. subst (λ (p : Holdings). is_claimed p t ≡ false) plans (open_parts t i).1)
-        (rises_all_tried xs a.attempts truly.sound.in_order.attempts) (all_tried xs a.attempts truly.sound.in_order.tried) truly.sound);
+        (rises_all_tried xs a.attempts truly.sound.in_order.attempts)
+        (all_tried xs a.attempts truly.sound.in_order.tried) truly.sound);
     machine = truly.machine;
     packets = subst (AreItsPackets g logs) (takes_all xs a) (takes_truly g logs xs a
-        (All-weaker (λ (x : Fetched). IfSome x.packet (IsTrueArrival g logs a x.part)) (λ (x : Fetched). CameTruly g logs x.part x.packet) (λ x h. is_its x.packet x.part h) xs came) (true_stores g logs a truly)).packets;
+        (All-weaker (λ (x : Fetched). IfSome x.packet (IsTrueArrival g logs a x.part))
+        (λ (x : Fetched). CameTruly g logs x.part x.packet) (λ x h. is_its x.packet x.part h) xs came)
+        (true_stores g logs a truly)).packets;
   })
 
 pub takes_true : TakesTrue

@@ -1,5 +1,6 @@
 -- What a group's publications say of a member whose stored packets are those of their parts.
-use Rattle.std.proofs.Common.{◌≡◌, inl, inr, ℕ, ◌+◌, ◌-◌, ◌<◌, ◌≤◌, Bool, true, false, cond, ◌==◌, List, [], ◌∷◌, length, get_or, Option, Some, None, Result, Ok, Err, refl, sym, ap, ◌∙◌, subst, arith}
+use Rattle.std.proofs.Common.{◌≡◌, inl, inr, ℕ, ◌+◌, ◌-◌, ◌<◌, ◌≤◌, Bool, true, false, cond, ◌==◌, List, [], ◌∷◌}
+use Rattle.std.proofs.Common.{length, get_or, Option, Some, None, Result, Ok, Err, refl, sym, ap, ◌∙◌, subst, arith}
 use Rattle.std.specs.Prelude.{nat_le, is_some, unwrap_or, slice_get, IsOk, IsSomeAnd}
 use Rattle.std.specs.List.{All}
 use Rattle.std.specs.Option.{option_and_then}
@@ -33,13 +34,16 @@ use Rattle.repo_member.specs.Listed.{listing_at}
 use Rattle.repo_member.specs.Alone.{Alone, alone_plan, want_of, nothing_listed}
 use Rattle.repo_member.specs.Verdicts.{passed, claim_verdict}
 use Rattle.repo_member.specs.InGroup.{in_group, AreLogs, true_packet}
-use Rattle.repo_member.specs.TrueMembers.{IsTrueMember, true_want, true_packets, TrueIsAlone, TrueIsOf, TrueStores, StoresThose, LogsThose, WantsPublished, WantsAreTrue, PacketsAreThere, PacketsPass, PacketsPassForMembers, AcceptsTheClaimed, TakesTheTrue}
+use Rattle.repo_member.specs.TrueMembers.{IsTrueMember, true_want, true_packets, TrueIsAlone, TrueIsOf, TrueStores}
+use Rattle.repo_member.specs.TrueMembers.{StoresThose, LogsThose, WantsPublished, WantsAreTrue, PacketsAreThere}
+use Rattle.repo_member.specs.TrueMembers.{PacketsPass, PacketsPassForMembers, AcceptsTheClaimed, TakesTheTrue}
 use Rattle.repo_member.proofs.CallReach.{accepted}
 use Rattle.repo_member.proofs.GainingLemmas.{contains-value}
 use Rattle.repo_member.proofs.GroupLemmas.{ring_length}
 use Rattle.repo_member.proofs.GroupPlans.{plans_alike, sound_stores_truly}
 use Rattle.repo_member.proofs.HeldParts.{logged_own}
-use Rattle.repo_member.proofs.TruePackets.{value_in, record_lists, published_object, published_by, published_low, log_there}
+use Rattle.repo_member.proofs.TruePackets.{value_in, record_lists, published_object, published_by, published_low}
+use Rattle.repo_member.proofs.TruePackets.{log_there}
 
 -- ---- what follows
 
@@ -51,7 +55,8 @@ true_is_alone g logs a t = record {
   in_order = t.sound.in_order.held;
   hidden = λ pair h.
       let known = (t.sound.hidden pair h).known in
-      and_from (nat_le 1 pair.1) (nat_le pair.1 (get_or a.known pair.0 0)) (le-leb 1 pair.1 known.from_one) (le-leb pair.1 (get_or a.known pair.0 0) known.to_known);
+      and_from (nat_le 1 pair.1) (nat_le pair.1 (get_or a.known pair.0 0)) (le-leb 1 pair.1 known.from_one)
+      (le-leb pair.1 (get_or a.known pair.0 0) known.to_known);
 }
 
 pub true_is_of : TrueIsOf
@@ -61,30 +66,36 @@ pub true_stores : TrueStores
 true_stores g logs a t = sound_stores_truly g logs a t.sound t.packets
 
 -- each entry of a list has its packet
-all_entries : (g : GroupKeys) (logs : Logs) (es : List Packet) → ((e : Packet) → In e es → true_packet g logs e.0 ≡ Some e.1) → es ≡ true_packets g logs (keys es)
+all_entries : (g : GroupKeys) (logs : Logs) (es : List Packet)
+    → ((e : Packet) → In e es → true_packet g logs e.0 ≡ Some e.1) → es ≡ true_packets g logs (keys es)
 all_entries g logs [] each = refl
 all_entries g logs (e ∷ es) each =
-    let one : e.1 ≡ unwrap_or (true_packet g logs e.0) [] = sym (ap (λ (o : Option (List ℕ)). unwrap_or o []) (each e (inl refl))) in
+    let one : e.1 ≡ unwrap_or (true_packet g logs e.0) [] =
+    sym (ap (λ (o : Option (List ℕ)). unwrap_or o []) (each e (inl refl))) in
     let rest : es ≡ true_packets g logs (keys es) = all_entries g logs es (λ x i. each x (inr i)) in
     λ i. (e.0, one i) ∷ rest i
 
 pub stores_those : StoresThose
-stores_those g logs a t = all_entries g logs a.store (λ e i. t.packets e.0 e.1 (value_in exact_parts a.store e t.sound.in_order.held i))
+stores_those g logs a t =
+    all_entries g logs a.store (λ e i. t.packets e.0 e.1 (value_in exact_parts a.store e t.sound.in_order.held i))
 
 pub logs_those : LogsThose
 logs_those g logs a t truly own there =
     let here : get_or logs t.publisher [] ≡ a.log = ap (λ (p : ℕ). get_or logs p []) own ∙ truly.log in
     let long : length (get_or logs t.publisher []) ≡ length a.log = ap length here in
     let object : NamedContents = get_or a.log (t.seq - 1) no_object in
-    let inside : slice_get a.log (t.seq - 1) ≡ Some object = slice_get-get_or a.log (t.seq - 1) no_object (omega (arith, there.from_one, there.to_last, long)) in
-    let same : object_at logs (pair_of t) ≡ object = ap (λ (log : List NamedContents). get_or log (t.seq - 1) no_object) here in
+    let inside : slice_get a.log (t.seq - 1) ≡ Some object =
+    slice_get-get_or a.log (t.seq - 1) no_object (omega (arith, there.from_one, there.to_last, long)) in
+    let same : object_at logs (pair_of t) ≡ object =
+    ap (λ (log : List NamedContents). get_or log (t.seq - 1) no_object) here in
     logged_own g a t object own (omega (arith, there.from_one)) inside
     ∙ (λ i. packet_at (publisher_at g (sym own i)) t.seq (sym same i) t.part)
 
 -- ---- the packets that there are
 
 -- the key under a member's number has its key's name
-pub ring_name : (g : GroupKeys) (p : ℕ) → IsGroup g → p < length g.members.names → (unwrap_or (slice_get g.members.ring p) (pair [] [])).name ≡ encoding (key_name (node_at g p))
+pub ring_name : (g : GroupKeys) (p : ℕ) → IsGroup g → p < length g.members.names
+    → (unwrap_or (slice_get g.members.ring p) (pair [] [])).name ≡ encoding (key_name (node_at g p))
 ring_name g p is inside =
     let long : length g.members.ring ≡ length g.members.names = ring_length g.members is.members in
     ap (λ (q : Ring.NamedKey). q.name) (unwrap_or-slice_get g.members.ring p (pair [] []))
@@ -103,28 +114,43 @@ module _ (g : GroupKeys) (logs : Logs) (t : Part) (are : AreLogs g logs) (is : I
       let many : length made ≡ length object.contents + 1 = packets-length (publisher_at g t.publisher) t.seq object in
       let inside : t.part < length made = omega (arith, many, is.counted) in
       let short : All (λ (x : List ℕ). length x ≤ 8800) made =
-      all_fit (publisher_at g t.publisher) object (published_by g logs are (pair_of t) is.there) (published_object g logs are (pair_of t) is.there) t.seq (published_low g logs are (pair_of t) is.there) in
-      subst (λ (o : Option (List ℕ)). IsSomeAnd o (λ octets. length octets ≤ 8800)) (sym (slice_get-get_or made t.part [] inside)) (short t.part [] inside)
+      all_fit (publisher_at g t.publisher) object (published_by g logs are (pair_of t) is.there)
+      (published_object g logs are (pair_of t) is.there) t.seq (published_low g logs are (pair_of t) is.there) in
+      subst (λ (o : Option (List ℕ)). IsSomeAnd o (λ octets. length octets ≤ 8800))
+      (sym (slice_get-get_or made t.part [] inside)) (short t.part [] inside)
 
   publisher_there : t.publisher < length g.members.names
   publisher_there = omega (arith, log_there g logs are (pair_of t) is.there, are.width)
 
-  named : (unwrap_or (slice_get g.members.ring t.publisher) (pair [] [])).name ≡ encoding (key_name (node_at g t.publisher))
+  named : (unwrap_or (slice_get g.members.ring t.publisher) (pair [] [])).name
+      ≡ encoding (key_name (node_at g t.publisher))
   named = ring_name g t.publisher are.group publisher_there
 
-  pub packet_passes : (octets : List ℕ) → true_packet g logs t ≡ Some octets → IsOk (ring_verdict (true_want g logs t) g.members.ring octets)
+  pub packet_passes : (octets : List ℕ) → true_packet g logs t ≡ Some octets
+      → IsOk (ring_verdict (true_want g logs t) g.members.ring octets)
   packet_passes octets its = go (t.part == 0) refl where
     go : (b : Bool) → (t.part == 0) ≡ b
-        → IsOk (ring_verdict (cond b (want_record t (node_at g t.publisher) g.name) (want_segment t (published_listing (publisher_at g t.publisher) object))) g.members.ring octets)
+        → IsOk (ring_verdict
+        (cond b (want_record t (node_at g t.publisher) g.name)
+        (want_segment t (published_listing (publisher_at g t.publisher) object))) g.members.ring octets)
     go true p =
         let zero : t.part ≡ 0 = eqb-true t.part 0 p in
-        subst (λ (name : List ℕ). IsOk (part_verdict (want_record t (node_at g t.publisher) g.name) name (member_key g t.publisher) octets)) (sym named)
-        (record_passes (publisher_at g t.publisher) object (published_by g logs are (pair_of t) is.there) (published_object g logs are (pair_of t) is.there) t octets (published_low g logs are (pair_of t) is.there)
+        subst (λ (name : List ℕ).
+        IsOk (part_verdict (want_record t (node_at g t.publisher) g.name) name (member_key g t.publisher) octets))
+        (sym named)
+        (record_passes (publisher_at g t.publisher) object (published_by g logs are (pair_of t) is.there)
+        (published_object g logs are (pair_of t) is.there) t octets (published_low g logs are (pair_of t) is.there)
         (subst (λ (n : ℕ). packet_at (publisher_at g t.publisher) t.seq object n ≡ Some octets) zero its))
     go false p =
-        let above : 0 < t.part = elim (cases_eq t.part 0) [ inl z ↦ absurd (true≢false (sym (eq-eqb t.part 0 z) ∙ p)) | inr n ↦ omega (arith, n) ] in
-        subst (λ (name : List ℕ). IsOk (part_verdict (want_segment t (published_listing (publisher_at g t.publisher) object)) name (member_key g t.publisher) octets)) (sym named)
-        (segment_passes (publisher_at g t.publisher) object (published_by g logs are (pair_of t) is.there) (published_object g logs are (pair_of t) is.there) t octets above its)
+        let above : 0 < t.part = elim (cases_eq t.part 0) [
+          | inl z ↦ absurd (true≢false (sym (eq-eqb t.part 0 z) ∙ p))
+          | inr n ↦ omega (arith, n)
+        ] in
+        subst (λ (name : List ℕ). IsOk
+        (part_verdict (want_segment t (published_listing (publisher_at g t.publisher) object)) name
+        (member_key g t.publisher) octets)) (sym named)
+        (segment_passes (publisher_at g t.publisher) object (published_by g logs are (pair_of t) is.there)
+        (published_object g logs are (pair_of t) is.there) t octets above its)
 
 pub packets_are_there : PacketsAreThere
 packets_are_there g logs t are is = packet_there g logs t are is
@@ -136,7 +162,9 @@ packets_pass g logs t octets are is its = packet_passes g logs t are is octets i
 
 module _ (g : GroupKeys) (logs : Logs) (a : Alone) (are : AreLogs g logs) (truly : IsTrueMember g logs a) where
   pub wanted_in_group : (t : Part) → is_wanted (alone_plan a) t ≡ true → IsWanted logs (in_group a) t
-  wanted_in_group t w = wanted_parts logs (in_group a) t (subst (λ (p : Holdings). is_wanted p t ≡ true) (plans_alike g logs a are (true_stores g logs a truly)) w)
+  wanted_in_group t w =
+      wanted_parts logs (in_group a) t
+      (subst (λ (p : Holdings). is_wanted p t ≡ true) (plans_alike g logs a are (true_stores g logs a truly)) w)
 
   pub wanted_published : (t : Part) → is_wanted (alone_plan a) t ≡ true → IsPublishedPart logs t
   wanted_published t w =
@@ -144,36 +172,52 @@ module _ (g : GroupKeys) (logs : Logs) (a : Alone) (are : AreLogs g logs) (truly
       record { there = known_published logs a.known (pair_of t) truly.sound.known is.known; counted = is.counted }
 
   -- what the stored record of a wanted segment lists
-  listed : (t : Part) → is_wanted (alone_plan a) t ≡ true → member_holds (in_group a) (record_of t) ≡ true → listing_at a.store (pair_of t) ≡ Some (published_listing (publisher_at g t.publisher) (object_at logs (pair_of t)))
-  listed t w h = go (value_of part_cmp a.store (record_of t)) refl (sym (contains-value a.store (record_of t)) ∙ h) where
-    there : IsPublished logs (pair_of t)
-    there = (wanted_published t w).there
+  listed : (t : Part) → is_wanted (alone_plan a) t ≡ true → member_holds (in_group a) (record_of t) ≡ true
+      → listing_at a.store (pair_of t)
+      ≡ Some (published_listing (publisher_at g t.publisher) (object_at logs (pair_of t)))
+  listed t w h =
+      go (value_of part_cmp a.store (record_of t)) refl (sym (contains-value a.store (record_of t)) ∙ h) where
+        there : IsPublished logs (pair_of t)
+        there = (wanted_published t w).there
 
-    go : (o : Option (List ℕ)) → value_of part_cmp a.store (record_of t) ≡ o → is_some o ≡ true → listing_at a.store (pair_of t) ≡ Some (published_listing (publisher_at g t.publisher) (object_at logs (pair_of t)))
-    go None p s = absurd (true≢false (sym s))
-    go (Some r) p s =
-        ap (option_and_then listing_in) p
-        ∙ record_lists (publisher_at g t.publisher) t.seq (object_at logs (pair_of t)) (published_by g logs are (pair_of t) there) (published_object g logs are (pair_of t) there) r (published_low g logs are (pair_of t) there) (truly.packets (record_of t) r p)
+        go : (o : Option (List ℕ)) → value_of part_cmp a.store (record_of t) ≡ o → is_some o ≡ true
+            → listing_at a.store (pair_of t)
+            ≡ Some (published_listing (publisher_at g t.publisher) (object_at logs (pair_of t)))
+        go None p s = absurd (true≢false (sym s))
+        go (Some r) p s =
+            ap (option_and_then listing_in) p
+            ∙ record_lists (publisher_at g t.publisher) t.seq (object_at logs (pair_of t))
+            (published_by g logs are (pair_of t) there) (published_object g logs are (pair_of t) there) r
+            (published_low g logs are (pair_of t) there) (truly.packets (record_of t) r p)
 
   pub wanted_so : (t : Part) → is_wanted (alone_plan a) t ≡ true → want_of g a.store t ≡ true_want g logs t
   wanted_so t w = go (t.part == 0) refl where
-    listing : (t.part == 0) ≡ false → listing_at a.store (pair_of t) ≡ Some (published_listing (publisher_at g t.publisher) (object_at logs (pair_of t)))
+    listing : (t.part == 0) ≡ false
+        → listing_at a.store (pair_of t)
+        ≡ Some (published_listing (publisher_at g t.publisher) (object_at logs (pair_of t)))
     listing p = elim (wanted_in_group t w).with_record [
       | inl z ↦ absurd (true≢false (sym (eq-eqb t.part 0 z) ∙ p))
       | inr h ↦ listed t w h
     ]
 
     go : (b : Bool) → (t.part == 0) ≡ b
-        → cond b (want_record t (node_at g t.publisher) g.name) (want_segment t (unwrap_or (listing_at a.store (pair_of t)) nothing_listed))
-        ≡ cond b (want_record t (node_at g t.publisher) g.name) (want_segment t (published_listing (publisher_at g t.publisher) (object_at logs (pair_of t))))
+        → cond b (want_record t (node_at g t.publisher) g.name)
+        (want_segment t (unwrap_or (listing_at a.store (pair_of t)) nothing_listed))
+        ≡ cond b (want_record t (node_at g t.publisher) g.name)
+        (want_segment t (published_listing (publisher_at g t.publisher) (object_at logs (pair_of t))))
     go true p = refl
     go false p = ap (λ (o : Option Listed). want_segment t (unwrap_or o nothing_listed)) (listing p)
 
-  pub passes_for_it : (t : Part) (octets : List ℕ) → is_wanted (alone_plan a) t ≡ true → true_packet g logs t ≡ Some octets → IsOk (ring_verdict (want_of g a.store t) g.members.ring octets)
-  passes_for_it t octets w its = subst (λ want. IsOk (ring_verdict want g.members.ring octets)) (sym (wanted_so t w)) (packet_passes g logs t are (wanted_published t w) octets its)
+  pub passes_for_it : (t : Part) (octets : List ℕ) → is_wanted (alone_plan a) t ≡ true
+      → true_packet g logs t ≡ Some octets → IsOk (ring_verdict (want_of g a.store t) g.members.ring octets)
+  passes_for_it t octets w its =
+      subst (λ want. IsOk (ring_verdict want g.members.ring octets)) (sym (wanted_so t w))
+      (packet_passes g logs t are (wanted_published t w) octets its)
 
   pub claimed_wanted : (f : ℕ) (t : Part) → claim_of (alone_plan a) f ≡ Some t → is_wanted (alone_plan a) t ≡ true
-  claimed_wanted f t claim = subst (λ (p : Holdings). is_wanted p t ≡ true) (sym (plans_alike g logs a are (true_stores g logs a truly))) (truly.sound.claimed (f - 1) t claim)
+  claimed_wanted f t claim =
+      subst (λ (p : Holdings). is_wanted p t ≡ true) (sym (plans_alike g logs a are (true_stores g logs a truly)))
+      (truly.sound.claimed (f - 1) t claim)
 
 pub wants_published : WantsPublished
 wants_published g logs a t are truly w = wanted_published g logs a are truly t w
@@ -191,7 +235,9 @@ accepts_the_claimed g a f octets t h = (accepted g a f t octets h).claimed
 
 pub takes_the_true : TakesTheTrue
 takes_the_true g logs a f t octets are truly claim its =
-    ap (claim_verdict g a octets) claim ∙ go (ring_verdict (want_of g a.store t) g.members.ring octets) (passes_for_it g logs a are truly t octets (claimed_wanted g logs a are truly f t claim) its) where
+    ap (claim_verdict g a octets) claim
+    ∙ go (ring_verdict (want_of g a.store t) g.members.ring octets)
+    (passes_for_it g logs a are truly t octets (claimed_wanted g logs a are truly f t claim) its) where
       go : (v : Result Data PartRefusal) → IsOk v → passed t v ≡ Ok t
       go (Ok d) ok = refl
       go (Err refusal) ok = absurd (true≢false (sym ok))

@@ -1,5 +1,6 @@
 -- The sync Interests of a group's members are told from whom they are, and are taken.
-use Rattle.std.proofs.Common.{◌≡◌, ℕ, suc, zero, ◌+◌, ◌≤◌, ◌<◌, ◌^◌, Bool, true, false, cond, not, List, [], ◌∷◌, ◌++◌, length, get_or, Some, None, position, refl, sym, ap, ◌∙◌, subst, arith}
+use Rattle.std.proofs.Common.{◌≡◌, ℕ, suc, zero, ◌+◌, ◌≤◌, ◌<◌, ◌^◌, Bool, true, false, cond, not, List, [], ◌∷◌, ◌++◌}
+use Rattle.std.proofs.Common.{length, get_or, Some, None, position, refl, sym, ap, ◌∙◌, subst, arith}
 use Rattle.std.specs.Prelude.{nat_lt, slice_get, slice_index, Ok, Err}
 use Rattle.std.specs.List.{All, position_or_len, prefix_len}
 use Rattle.std.specs.Str.{bytes_eq}
@@ -30,18 +31,23 @@ use Rattle.repo_member.proofs.GroupLemmas.{ring_length}
 
 -- ---- the first place
 
-first_place : {X : Type 0} (p : X → Bool) (xs : List X) (j : ℕ) (d : X) → j < length xs → p (get_or xs j d) ≡ true → ((k : ℕ) → k < j → p (get_or xs k d) ≡ false) → position_or_len p xs ≡ j
+first_place : {X : Type 0} (p : X → Bool) (xs : List X) (j : ℕ) (d : X) → j < length xs → p (get_or xs j d) ≡ true
+    → ((k : ℕ) → k < j → p (get_or xs k d) ≡ false) → position_or_len p xs ≡ j
 first_place p [] j d l here before = absurd (omega (arith, l))
-first_place p (x ∷ xs) zero d l here before = ap (λ (b : Bool). cond (not b) (1 + prefix_len (λ y. not (p y)) xs) 0) here
+first_place p (x ∷ xs) zero d l here before =
+    ap (λ (b : Bool). cond (not b) (1 + prefix_len (λ y. not (p y)) xs) 0) here
 first_place p (x ∷ xs) (suc j) d l here before =
     ap (λ (b : Bool). cond (not b) (1 + prefix_len (λ y. not (p y)) xs) 0) (before 0 (omega arith))
-    ∙ ap (λ (n : ℕ). 1 + n) (first_place p xs j d (omega (arith, l)) here (λ k m. before (suc k) (omega (arith, m)))) ∙ next j where
+    ∙ ap (λ (n : ℕ). 1 + n) (first_place p xs j d (omega (arith, l)) here (λ k m. before (suc k) (omega (arith, m))))
+    ∙ next j where
       next : (n : ℕ) → 1 + n ≡ suc n
       next n = omega arith
 
-first_position : {X : Type 0} (p : X → Bool) (xs : List X) (j : ℕ) (d : X) → j < length xs → p (get_or xs j d) ≡ true → ((k : ℕ) → k < j → p (get_or xs k d) ≡ false) → position p xs ≡ Some j
+first_position : {X : Type 0} (p : X → Bool) (xs : List X) (j : ℕ) (d : X) → j < length xs → p (get_or xs j d) ≡ true
+    → ((k : ℕ) → k < j → p (get_or xs k d) ≡ false) → position p xs ≡ Some j
 first_position p xs j d l here before =
-    ap (λ (n : ℕ). cond (nat_lt n (length xs)) (Some n) None) (first_place p xs j d l here before) ∙ ap (λ (b : Bool). cond b (Some j) None) (lt-ltb j (length xs) l)
+    ap (λ (n : ℕ). cond (nat_lt n (length xs)) (Some n) None) (first_place p xs j d l here before)
+    ∙ ap (λ (b : Bool). cond b (Some j) None) (lt-ltb j (length xs) l)
 
 same_octets : (a b : List ℕ) → a ≡ b → bytes_eq a b ≡ true
 same_octets a b h = (bytes_eq-Decides a b).1 h
@@ -58,46 +64,67 @@ module _ (nodes : NodeKeys) (have : HaveKeys nodes) (j : ℕ) (there : j < lengt
   long : length nodes.ring ≡ length nodes.names
   long = ring_length nodes have
 
-  pub ring_at : (k : ℕ) → k < length nodes.names → (get_or nodes.ring k (pair [] [])).name ≡ encoding (key_name (get_or nodes.names k []))
+  pub ring_at : (k : ℕ) → k < length nodes.names
+      → (get_or nodes.ring k (pair [] [])).name ≡ encoding (key_name (get_or nodes.names k []))
   ring_at k l =
       sym (get_or-map (λ (q : Ring.NamedKey). q.name) nodes.ring k (pair [] []) [] (omega (arith, long, l)))
       ∙ ap (λ (xs : List (List ℕ)). get_or xs k []) have.keys
       ∙ get_or-map (λ (node : List Component). encoding (key_name node)) nodes.names k [] [] l
 
-  same_key : (k : ℕ) → encoding (key_name (get_or nodes.names j [])) ≡ encoding (key_name (get_or nodes.names k [])) → encoding (get_or nodes.names k []) ≡ encoding (get_or nodes.names j [])
+  same_key : (k : ℕ) → encoding (key_name (get_or nodes.names j [])) ≡ encoding (key_name (get_or nodes.names k []))
+      → encoding (get_or nodes.names k []) ≡ encoding (get_or nodes.names j [])
   same_key k e =
-      let push : (n : List Component) → encoding (key_name n) ≡ encoding n ++ element 8 (75 ∷ 69 ∷ 89 ∷ []) = λ n. encoding-push n (8, 75 ∷ 69 ∷ 89 ∷ []) in
-      let both : encoding (get_or nodes.names j []) ++ element 8 (75 ∷ 69 ∷ 89 ∷ []) ≡ encoding (get_or nodes.names k []) ++ element 8 (75 ∷ 69 ∷ 89 ∷ []) = sym (push (get_or nodes.names j [])) ∙ e ∙ push (get_or nodes.names k []) in
-      sym (append_cancel_right (encoding (get_or nodes.names j [])) (encoding (get_or nodes.names k [])) (element 8 (75 ∷ 69 ∷ 89 ∷ [])) both)
+      let push : (n : List Component) → encoding (key_name n) ≡ encoding n ++ element 8 (75 ∷ 69 ∷ 89 ∷ []) =
+      λ n. encoding-push n (8, 75 ∷ 69 ∷ 89 ∷ []) in
+      let both : encoding (get_or nodes.names j []) ++ element 8 (75 ∷ 69 ∷ 89 ∷ [])
+      ≡ encoding (get_or nodes.names k []) ++ element 8 (75 ∷ 69 ∷ 89 ∷ []) =
+      sym (push (get_or nodes.names j [])) ∙ e ∙ push (get_or nodes.names k []) in
+      sym (append_cancel_right (encoding (get_or nodes.names j [])) (encoding (get_or nodes.names k []))
+      (element 8 (75 ∷ 69 ∷ 89 ∷ [])) both)
 
   pub number_at : key_number (encoding (key_name (get_or nodes.names j []))) nodes.ring ≡ Some j
-  number_at = first_position (λ (q : Ring.NamedKey). bytes_eq (encoding (key_name (get_or nodes.names j []))) q.name) nodes.ring j (pair [] []) (omega (arith, there, long))
-      (same_octets (encoding (key_name (get_or nodes.names j []))) (get_or nodes.ring j (pair [] [])).name (sym (ring_at j there)))
-      (λ k l. false_from_ne_true (bytes_eq (encoding (key_name (get_or nodes.names j []))) (get_or nodes.ring k (pair [] [])).name) (λ found.
-      let same : encoding (key_name (get_or nodes.names j [])) ≡ (get_or nodes.ring k (pair [] [])).name = (bytes_eq-Decides (encoding (key_name (get_or nodes.names j []))) (get_or nodes.ring k (pair [] [])).name).0 found in
-      let e : encoding (get_or nodes.names k []) ≡ encoding (get_or nodes.names j []) = same_key k (same ∙ ring_at k (omega (arith, l, there))) in
-      true≢false (sym (same_octets (encoding (get_or nodes.names k [])) (encoding (get_or nodes.names j [])) e) ∙ apart_from_distinct has_same_octets nodes.names k j [] have.roster.different l there)))
+  number_at =
+      first_position (λ (q : Ring.NamedKey). bytes_eq (encoding (key_name (get_or nodes.names j []))) q.name) nodes.ring
+      j (pair [] []) (omega (arith, there, long))
+      (same_octets (encoding (key_name (get_or nodes.names j []))) (get_or nodes.ring j (pair [] [])).name
+      (sym (ring_at j there)))
+      (λ k l. false_from_ne_true
+      (bytes_eq (encoding (key_name (get_or nodes.names j []))) (get_or nodes.ring k (pair [] [])).name) (λ found.
+      let same : encoding (key_name (get_or nodes.names j [])) ≡ (get_or nodes.ring k (pair [] [])).name =
+      (bytes_eq-Decides (encoding (key_name (get_or nodes.names j []))) (get_or nodes.ring k (pair [] [])).name).0
+      found in
+      let e : encoding (get_or nodes.names k []) ≡ encoding (get_or nodes.names j []) =
+      same_key k (same ∙ ring_at k (omega (arith, l, there))) in
+      true≢false (sym (same_octets (encoding (get_or nodes.names k [])) (encoding (get_or nodes.names j [])) e)
+      ∙ apart_from_distinct has_same_octets nodes.names k j [] have.roster.different l there)))
 
 pub keys_are_found : KeysAreFound
 keys_are_found nodes number node have is =
     let there : number < length nodes.names = slice_get_within nodes.names number node is in
-    subst (λ (n : List Component). key_number (encoding (key_name n)) nodes.ring ≡ Some number) (get_or_from_slice_get nodes.names number node [] is) (number_at nodes have number there)
+    subst (λ (n : List Component). key_number (encoding (key_name n)) nodes.ring ≡ Some number)
+    (get_or_from_slice_get nodes.names number node [] is) (number_at nodes have number there)
 
 module _ (g : GroupKeys) (have : HaveKeys g.members) (j : ℕ) (there : j < length g.members.names) where
   node_is : node_at g j ≡ get_or g.members.names j []
   node_is = unwrap_or-slice_get g.members.names j []
 
   member_found : key_number (encoding (key_name (node_at g j))) g.members.ring ≡ Some j
-  member_found = subst (λ (n : List Component). key_number (encoding (key_name n)) g.members.ring ≡ Some j) (sym node_is) (number_at g.members have j there)
+  member_found =
+      subst (λ (n : List Component). key_number (encoding (key_name n)) g.members.ring ≡ Some j) (sym node_is)
+      (number_at g.members have j there)
 
   key_is : slice_get g.members.ring j ≡ Some (pair (encoding (key_name (node_at g j))) (member_key g j))
-  key_is = slice_get-get_or g.members.ring j (pair [] []) (omega (arith, there, ring_length g.members have)) ∙ ap (λ (q : Ring.NamedKey). Some q) made where
-    made : get_or g.members.ring j (pair [] []) ≡ pair (encoding (key_name (node_at g j))) (member_key g j)
-    made =
-        let n : (get_or g.members.ring j (pair [] [])).name ≡ encoding (key_name (node_at g j)) =
-        ring_at g.members have j there j there ∙ ap (λ (node : List Component). encoding (key_name node)) (sym node_is) in
-        let k : (get_or g.members.ring j (pair [] [])).key ≡ member_key g j = sym (ap (λ (q : Ring.NamedKey). q.key) (unwrap_or-slice_get g.members.ring j (pair [] []))) in
-        λ i. record { name = n i; key = k i }
+  key_is =
+      slice_get-get_or g.members.ring j (pair [] []) (omega (arith, there, ring_length g.members have))
+      ∙ ap (λ (q : Ring.NamedKey). Some q) made where
+        made : get_or g.members.ring j (pair [] []) ≡ pair (encoding (key_name (node_at g j))) (member_key g j)
+        made =
+            let n : (get_or g.members.ring j (pair [] [])).name ≡ encoding (key_name (node_at g j)) =
+            ring_at g.members have j there j there
+            ∙ ap (λ (node : List Component). encoding (key_name node)) (sym node_is) in
+            let k : (get_or g.members.ring j (pair [] [])).key ≡ member_key g j =
+            sym (ap (λ (q : Ring.NamedKey). q.key) (unwrap_or-slice_get g.members.ring j (pair [] []))) in
+            λ i. record { name = n i; key = k i }
 
 -- ---- a sync Interest of the group
 
@@ -110,15 +137,20 @@ module _ (g : GroupKeys) (logs : Logs) (are : AreLogs g logs) where
       omega (arith, same, most, few)
 
   node_name : (k : ℕ) → k < length g.members.names → IsPlainNodeName (node_at g k)
-  node_name k l = subst IsPlainNodeName (sym (unwrap_or-slice_get g.members.names k [])) (are.group.members.node_names k [] l)
+  node_name k l =
+      subst IsPlainNodeName (sym (unwrap_or-slice_get g.members.names k [])) (are.group.members.node_names k [] l)
 
-  pub sync_told : (sender : ℕ) (v : List ℕ) → sender < length g.members.names → IsTrueVector logs v → sync_verdict g.name g.members.names g.members.ring (sync_of g sender v) ≡ Ok (sender, v)
+  pub sync_told : (sender : ℕ) (v : List ℕ) → sender < length g.members.names → IsTrueVector logs v
+      → sync_verdict g.name g.members.names g.members.ring (sync_of g sender v) ≡ Ok (sender, v)
   sync_told sender v there t =
       let node = node_name sender there in
       made_is_checked g.name g.members.names g.members.ring v (key_name (node_at g sender)) (member_key g sender) sender
-      (member_found g are.group.members sender there) (key_is g are.group.members sender there) (read_back g.members.names v are.group.members.roster (t.width ∙ are.width) (small v t))
-      are.group.name.valid (are.group.name.some, are.group.name.short) are.group.members.roster.few (λ k d l. let h = are.group.members.node_names k d l in (h.some, h.short))
-      (IsName-key (node_at g sender) node.valid) (record { node = node_at g sender; parts = refl; limits = (node.some, node.short) })
+      (member_found g are.group.members sender there) (key_is g are.group.members sender there)
+      (read_back g.members.names v are.group.members.roster (t.width ∙ are.width) (small v t))
+      are.group.name.valid (are.group.name.some, are.group.name.short) are.group.members.roster.few
+      (λ k d l. let h = are.group.members.node_names k d l in (h.some, h.short))
+      (IsName-key (node_at g sender) node.valid)
+      (record { node = node_at g sender; parts = refl; limits = (node.some, node.short) })
 
 pub syncs_are_told : SyncsAreTold
 syncs_are_told g logs sender vector are there t = sync_told g logs are sender vector there t

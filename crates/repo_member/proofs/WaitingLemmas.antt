@@ -1,5 +1,6 @@
 -- A member of which insertion processes or hidden publications change.
-use Rattle.std.proofs.Common.{◌≡◌, ◌⊎◌, inl, inr, ℕ, zero, suc, ◌+◌, ◌-◌, ◌<◌, ◌≤◌, Bool, true, false, cond, List, [], ◌∷◌, length, get_or, Some, refl, sym, ap, ◌∙◌, subst, arith}
+use Rattle.std.proofs.Common.{◌≡◌, ◌⊎◌, inl, inr, ℕ, zero, suc, ◌+◌, ◌-◌, ◌<◌, ◌≤◌, Bool, true, false, cond, List, []}
+use Rattle.std.proofs.Common.{◌∷◌, length, get_or, Some, refl, sym, ap, ◌∙◌, subst, arith}
 use Rattle.std.specs.List.{All, list_all}
 use Rattle.std.specs.Ordering.{nat_cmp, eq_by_cmp}
 use Rattle.std.proofs.lemmas.Bool.{or_cases}
@@ -24,10 +25,13 @@ use Rattle.repo_member.proofs.InsertionParts.{exact_numbers}
 -- one process more, or another under a number
 pub waiting_with : (insertions : Insertions) (number : ℕ) (p : Process) → (p.published ≡ false → is_whole p ≡ false)
     → AreWaiting insertions.processes → AreWaiting (with_process number p insertions).processes
-waiting_with insertions number p waits are n q found = go (eq_by_cmp nat_cmp n number) (sym (value_of-with_value exact_numbers number p insertions.processes n) ∙ found) where
-  go : (b : Bool) → cond b (Some p) (value_of nat_cmp insertions.processes n) ≡ Some q → q.published ≡ false → is_whole q ≡ false
-  go true h = let same : p ≡ q = cc in subst (λ (r : Process). r.published ≡ false → is_whole r ≡ false) same waits
-  go false h = are n q h
+waiting_with insertions number p waits are n q found =
+    go (eq_by_cmp nat_cmp n number)
+    (sym (value_of-with_value exact_numbers number p insertions.processes n) ∙ found) where
+      go : (b : Bool) → cond b (Some p) (value_of nat_cmp insertions.processes n) ≡ Some q → q.published ≡ false
+          → is_whole q ≡ false
+      go true h = let same : p ≡ q = cc in subst (λ (r : Process). r.published ≡ false → is_whole r ≡ false) same waits
+      go false h = are n q h
 
 -- a process that begins has no block
 begun_waits : (name : List Component) (first last : ℕ) → first ≤ last → is_whole (starting name first last) ≡ false
@@ -36,14 +40,23 @@ begun_waits name first last order = go (last + 1 - first) (omega (arith, order))
   go zero h = absurd (omega (arith, h))
   go (suc n) h = refl
 
-pub waiting_starts : (insertions : Insertions) (name : List Component) (first last : ℕ) → first ≤ last → AreWaiting insertions.processes → AreWaiting (starts name first last insertions).processes
+pub waiting_starts : (insertions : Insertions) (name : List Component) (first last : ℕ) → first ≤ last
+    → AreWaiting insertions.processes → AreWaiting (starts name first last insertions).processes
 waiting_starts insertions name first last order are =
-    waiting_with insertions insertions.next_process (starting name first last) (λ h. begun_waits name first last order) are
+    waiting_with insertions insertions.next_process (starting name first last) (λ h. begun_waits name first last order)
+    are
 
 -- other processes
-pub with_processes : (m : Inside) (processes : Insertions) → IsMember m → AreWaiting processes.processes → IsMember (record m { processes = processes })
+pub with_processes : (m : Inside) (processes : Insertions) → IsMember m → AreWaiting processes.processes
+    → IsMember (record m { processes = processes })
 with_processes m processes is waiting = record {
-  alone = record { member = is.alone.member; own = is.alone.own; width = is.alone.width; in_order = is.alone.in_order; hidden = is.alone.hidden };
+  alone = record {
+    member = is.alone.member;
+    own = is.alone.own;
+    width = is.alone.width;
+    in_order = is.alone.in_order;
+    hidden = is.alone.hidden;
+  };
   known = is.known;
   kept = is.kept;
   waiting = waiting;
@@ -51,14 +64,17 @@ with_processes m processes is waiting = record {
 
 -- ---- hidden publications
 
-hidden_cases : (pairs hidden : List Pair) (q : Pair) → contains pair_cmp (with_hidden pairs hidden) q ≡ true → (In q pairs) ⊎ (contains pair_cmp hidden q ≡ true)
+hidden_cases : (pairs hidden : List Pair) (q : Pair) → contains pair_cmp (with_hidden pairs hidden) q ≡ true
+    → (In q pairs) ⊎ (contains pair_cmp hidden q ≡ true)
 hidden_cases [] hidden q h = inr h
 hidden_cases (p ∷ pairs) hidden q h = elim (hidden_cases pairs (insert_key pair_cmp p hidden) q h) [
   | inl i ↦ inl (inr i)
-  | inr there ↦ elim (or_cases (eq_by_cmp pair_cmp q p) (contains pair_cmp hidden q) (sym (contains-insert_key exact_pairs p hidden q) ∙ there)) [
-    | inl same ↦ inl (inl (eq_same exact_pairs q p same))
-    | inr before ↦ inr before
-  ]
+  | inr there ↦
+      elim (or_cases (eq_by_cmp pair_cmp q p) (contains pair_cmp hidden q)
+      (sym (contains-insert_key exact_pairs p hidden q) ∙ there)) [
+        | inl same ↦ inl (inl (eq_same exact_pairs q p same))
+        | inr before ↦ inr before
+      ]
 ]
 
 all_in : (P : Pair → Type 0) (pairs : List Pair) (q : Pair) → All P pairs → In q pairs → P q
@@ -67,16 +83,26 @@ all_in P pairs q all i =
     subst P (sym at.2) (all at.0 q at.1)
 
 -- a member that has hidden known publications, with what it then stores and lists
-pub hidden_is : (m next : Inside) (plan : Holdings) (pairs : List Pair) → IsMember m → next.number ≡ m.number → next.log.items ≡ m.log.items → next.vector ≡ m.vector
-    → next.machine ≡ m.machine → next.processes ≡ m.processes → plan.known ≡ m.plan.known → plan.hidden ≡ m.plan.hidden → IsHiding pairs plan next.plan
-    → All (λ pair. knows (alone_plan (alone m)) pair ≡ true) pairs → AreKept next.plan next.store.packets next.catalogue.entries → IsMember next
+pub hidden_is : (m next : Inside) (plan : Holdings) (pairs : List Pair) → IsMember m → next.number ≡ m.number
+    → next.log.items ≡ m.log.items → next.vector ≡ m.vector
+    → next.machine ≡ m.machine → next.processes ≡ m.processes → plan.known ≡ m.plan.known → plan.hidden ≡ m.plan.hidden
+    → IsHiding pairs plan next.plan
+    → All (λ pair. knows (alone_plan (alone m)) pair ≡ true) pairs
+    → AreKept next.plan next.store.packets next.catalogue.entries → IsMember next
 hidden_is m next plan pairs is number log vector machine processes known hidden hiding each kept = record {
   alone = record {
     member = omega (arith, number, ap (λ (v : List ℕ). length v) vector, is.alone.member);
-    own = ap (λ (v : List ℕ). get_or v next.number 0) vector ∙ ap (λ (n : ℕ). get_or m.vector n 0) number ∙ is.alone.own ∙ sym (ap (λ l. length l) log);
+    own =
+        ap (λ (v : List ℕ). get_or v next.number 0) vector
+        ∙ ap (λ (n : ℕ). get_or m.vector n 0) number
+        ∙ is.alone.own
+        ∙ sym (ap (λ l. length l) log);
     width = ap (λ k. k.members) machine ∙ is.alone.width ∙ sym (ap (λ (v : List ℕ). length v) vector);
     in_order = kept.tied.in_order;
-    hidden = λ q h. ap (λ (v : List ℕ). knows (record (alone_plan (alone m)) { known = v }) q) vector ∙ at q (hidden_cases pairs m.plan.hidden q (ap (λ (hs : List Pair). contains pair_cmp hs q) (sym (hiding.hidden ∙ ap (with_hidden pairs) hidden)) ∙ h));
+    hidden =
+        λ q h. ap (λ (v : List ℕ). knows (record (alone_plan (alone m)) { known = v }) q) vector
+        ∙ at q (hidden_cases pairs m.plan.hidden q
+        (ap (λ (hs : List Pair). contains pair_cmp hs q) (sym (hiding.hidden ∙ ap (with_hidden pairs) hidden)) ∙ h));
   };
   known = hiding.known ∙ known ∙ is.known ∙ sym vector;
   kept = kept;

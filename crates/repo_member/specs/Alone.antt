@@ -1,5 +1,6 @@
 -- A member by itself: what it has, without what it can't know of others.
-use Rattle.std.specs.Prelude.{◌≡◌, ℕ, ◌+◌, ◌-◌, ◌<◌, true, List, [], ◌∷◌, ◌++◌, length, Option, Some, None, slice_get, slice_set, slice_index, unwrap_or, replicate, ◌==◌, if◌then◌else◌}
+use Rattle.std.specs.Prelude.{◌≡◌, ℕ, ◌+◌, ◌-◌, ◌<◌, true, List, [], ◌∷◌, ◌++◌, length, Option, Some, None, slice_get}
+use Rattle.std.specs.Prelude.{slice_set, slice_index, unwrap_or, replicate, ◌==◌, if◌then◌else◌}
 use Rattle.std.specs.Option.{option_and_then}
 use Rattle.svs_vector.specs.Vectors.{join}
 use Rattle.svs_sync.specs.KeptVector.{Keeper, steady_kept, hears_kept, fired_kept}
@@ -60,8 +61,8 @@ alone_plan a = record {
   spare = 0;
 }
 
--- what holds of every member: it is one of its group, it knows all that it published, it stores each part once, in order,
--- and what it hid is known
+-- what holds of every member: it is one of its group, it knows all that it published, it stores each part once, in
+-- order, and what it hid is known
 pub record IsAlone (a : Alone) : Type 0 where
   pub member : a.number < length a.known
   pub own : slice_index a.known a.number ≡ length a.log

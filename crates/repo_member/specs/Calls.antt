@@ -1,5 +1,7 @@
 -- Lists of calls of one member of a group, and what holds after them.
-use Rattle.std.specs.Prelude.{◌≡◌, ◌≢◌, ℕ, ◌<◌, ◌≤◌, true, false, List, [], ◌∷◌, ◌++◌, length, take, Option, Some, None, Result, Ok, Err, slice_index, slice_set, slice_get, nat_lt, if◌then◌else◌, IsOk, IfOk, IfSome}
+use Rattle.std.specs.Prelude.{◌≡◌, ◌≢◌, ℕ, ◌<◌, ◌≤◌, true, false, List, [], ◌∷◌, ◌++◌, length, take, Option, Some, None}
+use Rattle.std.specs.Prelude.{Result, Ok, Err, slice_index, slice_set, slice_get, nat_lt, if◌then◌else◌, IsOk, IfOk}
+use Rattle.std.specs.Prelude.{IfSome}
 use Rattle.std.specs.List.{All}
 use Rattle.svs_vector.specs.Vectors.{join_all}
 use Rattle.repo_plan.specs.declared.part.Part.{Part}
@@ -14,7 +16,9 @@ use Rattle.repo_command.specs.Commands.{CommandIsSpelled}
 use Rattle.repo_member.specs.declared.refusals.HearRefusal.{HearRefusal}
 use Rattle.repo_member.specs.declared.refusals.AcceptRefusal.{AcceptRefusal}
 use Rattle.repo_member.specs.Groups.{GroupKeys, IsGroup}
-use Rattle.repo_member.specs.Alone.{Alone, IsAlone, publication_limit, alone_plan, alone_opening, alone_publishes, logged, alone_learns, alone_hears, alone_fires, alone_claims, want_of, alone_accepts, alone_takes, alone_ends_claims, alone_resets, alone_restarts}
+use Rattle.repo_member.specs.Alone.{Alone, IsAlone, publication_limit, alone_plan, alone_opening, alone_publishes}
+use Rattle.repo_member.specs.Alone.{logged, alone_learns, alone_hears, alone_fires, alone_claims, want_of}
+use Rattle.repo_member.specs.Alone.{alone_accepts, alone_takes, alone_ends_claims, alone_resets, alone_restarts}
 use Rattle.repo_member.specs.Verdicts.{hear_verdict, accept_verdict}
 use Rattle.repo_member.specs.Outcomes.{outcome_of, IsOutcome}
 use Rattle.repo_member.specs.Commanded.{order_of, alone_after_order}
@@ -88,8 +92,8 @@ after_calls g (call ∷ calls) a = after_calls g calls (after_call g call a)
 
 -- ---- which calls can be made
 
--- The conditions of a call, but for those that keep moments and draws small. A checked part passed its checks by its type,
--- and so is the name in a command a name.
+-- The conditions of a call, but for those that keep moments and draws small. A checked part passed its checks by its
+-- type, and so is the name in a command a name.
 abbrev pub IsAllowedCall : GroupKeys → Alone → MemberCall → Type 0
 IsAllowedCall g a (Publish object moment draw) = IsObject object
 IsAllowedCall g a (Hear octets moment draw) = Unit {0}
@@ -128,7 +132,8 @@ pub record GoesOn (earlier log : List NamedContents) : Type 0 where
 abbrev pub LogsGoOn : Type 0
 LogsGoOn = (g : GroupKeys) (calls : List MemberCall) (a : Alone) → GoesOn a.log (after_calls g calls a).log
 
--- The publication that is made after `n` others has the number `n + 1`, and its object stands at place `n` from then on.
+-- The publication that is made after `n` others has the number `n + 1`, and its object stands at place `n` from then
+-- on.
 abbrev pub PublicationsStay : Type 0
 PublicationsStay = (g : GroupKeys) (object : NamedContents) (moment draw : ℕ) (calls : List MemberCall) (a : Alone)
     → length a.log < publication_limit

@@ -1,5 +1,6 @@
 -- The plan, the packets and the catalogue of a member, which belong together.
-use Rattle.std.specs.Prelude.{◌≡◌, ℕ, ◌+◌, ◌≤◌, List, Option, Some, None, option_map, is_some, IsOk, ◌==◌, if◌then◌else◌}
+use Rattle.std.specs.Prelude.{◌≡◌, ℕ, ◌+◌, ◌≤◌, List, Option, Some, None, option_map, is_some, IsOk, ◌==◌}
+use Rattle.std.specs.Prelude.{if◌then◌else◌}
 use Rattle.ndn_name.specs.Names.{Component}
 use Rattle.ndn_data.specs.Data.{data_of}
 use Rattle.repo_plan.specs.declared.part.Part.{Part}

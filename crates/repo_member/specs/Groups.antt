@@ -1,5 +1,6 @@
 -- Groups: a group's name, its members and its clients, each with a node name and a key.
-use Rattle.std.specs.Prelude.{◌≡◌, ℕ, ◌<◌, ◌≤◌, Bool, List, [], ◌∷◌, ◌++◌, map, length, None, is_some, ◌||◌, unwrap_or, slice_get}
+use Rattle.std.specs.Prelude.{◌≡◌, ℕ, ◌<◌, ◌≤◌, Bool, List, [], ◌∷◌, ◌++◌, map, length, None, is_some, ◌||◌, unwrap_or}
+use Rattle.std.specs.Prelude.{slice_get}
 use Rattle.std.specs.List.{All}
 use Rattle.ndn_name.specs.Names.{Component, IsName, encoding}
 use Rattle.ndn_sign.specs.Ring.{NamedKey, pair}

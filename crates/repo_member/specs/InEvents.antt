@@ -1,5 +1,6 @@
 -- Each change of a member by itself is what an event of its group makes of it.
-use Rattle.std.specs.Prelude.{◌≡◌, ℕ, ◌<◌, [], ◌∷◌, List, map, Some, None, Result, length, slice_index, nat_lt, if◌then◌else◌}
+use Rattle.std.specs.Prelude.{◌≡◌, ℕ, ◌<◌, [], ◌∷◌, List, map, Some, None, Result, length, slice_index, nat_lt}
+use Rattle.std.specs.Prelude.{if◌then◌else◌}
 use Rattle.svs_vector.specs.Vectors.{join_all, HaveSameVectors}
 use Rattle.repo_plan.specs.declared.part.Part.{Part}
 use Rattle.repo_plan.specs.Parts.{part_cmp}
@@ -10,12 +11,16 @@ use Rattle.repo_command.specs.declared.command.Command.{Command}
 use Rattle.group_model.specs.Publications.{Logs}
 use Rattle.group_model.specs.Events.{SyncInterest, Came, Event}
 use Rattle.group_model.specs.World.{Outside, World, member, logs, sent_at, catalogue_at}
-use Rattle.group_model.specs.Steps.{drawn, open_at, passes_checks, came_from, came_as, planned_parts, fetched_parts, attempts_for, settled_vector, new_parts, block_at, after_gathering, after_event, reply_to}
+use Rattle.group_model.specs.Steps.{drawn, open_at, passes_checks, came_from, came_as, planned_parts, fetched_parts}
+use Rattle.group_model.specs.Steps.{attempts_for, settled_vector, new_parts, block_at, after_gathering, after_event}
+use Rattle.group_model.specs.Steps.{reply_to}
 use Rattle.group_model.specs.Replies.{Reply}
 use Rattle.group_model.specs.Refusals.{refusal}
 use Rattle.repo_member.specs.Groups.{GroupKeys}
 use Rattle.repo_member.specs.Listed.{alone_catalogue}
-use Rattle.repo_member.specs.Alone.{Alone, Fetched, alone_plan, alone_publishes, alone_learns, alone_hears, alone_fires, alone_claims, alone_accepts, alone_takes, alone_ends_claims, alone_resets, alone_restarts}
+use Rattle.repo_member.specs.Alone.{Alone, Fetched, alone_plan, alone_publishes, alone_learns, alone_hears, alone_fires}
+use Rattle.repo_member.specs.Alone.{alone_claims, alone_accepts, alone_takes, alone_ends_claims, alone_resets}
+use Rattle.repo_member.specs.Alone.{alone_restarts}
 use Rattle.repo_member.specs.InGroup.{in_group, StoresInOrder, AreLogs, StoresTruly, asked_for, that_came, AreTries}
 use Rattle.repo_member.specs.Commanded.{alone_obeys, alone_after_order, answer_to, alone_order_answer}
 use Rattle.repo_member.specs.Blocks.{alone_block, alone_blocks}
@@ -36,7 +41,8 @@ pub record IsTrueIn (g : GroupKeys) (w : World) (a : Alone) : Type 0 where
 abbrev pub PublishIsEvent : Type 0
 PublishIsEvent = (out : Outside) (w : World) (j : ℕ) (g : GroupKeys) (object : NamedContents) (a : Alone)
     → IsMemberOf w j a → StoresInOrder a
-    → member (after_event out w (Event.Publish j object)) j ≡ in_group (alone_publishes g object w.moment (drawn out w j) a)
+    → member (after_event out w (Event.Publish j object)) j
+    ≡ in_group (alone_publishes g object w.moment (drawn out w j) a)
 
 abbrev pub DeliverIsEvent : Type 0
 DeliverIsEvent = (out : Outside) (w : World) (k j : ℕ) (a : Alone) → IsMemberOf w j a

@@ -1,5 +1,6 @@
 -- A member by itself and the same member as its group has it.
-use Rattle.std.specs.Prelude.{◌≡◌, ℕ, ◌<◌, ◌≤◌, ◌↔◌, true, List, [], ◌∷◌, ◌++◌, map, filter, length, take, replicate, Option, Some, None, is_some, slice_index_or, slice_set, if◌then◌else◌}
+use Rattle.std.specs.Prelude.{◌≡◌, ℕ, ◌<◌, ◌≤◌, ◌↔◌, true, List, [], ◌∷◌, ◌++◌, map, filter, length, take, replicate}
+use Rattle.std.specs.Prelude.{Option, Some, None, is_some, slice_index_or, slice_set, if◌then◌else◌}
 use Rattle.std.specs.List.{All}
 use Rattle.svs_vector.specs.Vectors.{join}
 use Rattle.svs_sync.specs.declared.fired.Fired.{Fired}
@@ -15,7 +16,8 @@ use Rattle.repo_process.specs.Processes.{Process}
 use Rattle.repo_process.specs.Insertions.{next_number}
 use Rattle.repo_object.specs.Publication.{packet_at}
 use Rattle.group_model.specs.Publications.{Logs, object_at, last_of}
-use Rattle.group_model.specs.Member.{Member, member_holds, catalogue, catalogued_under, gains, member_hides_all, with_each_tried, member_without_claims}
+use Rattle.group_model.specs.Member.{Member, member_holds, catalogue, catalogued_under, gains, member_hides_all}
+use Rattle.group_model.specs.Member.{with_each_tried, member_without_claims}
 use Rattle.group_model.specs.Member as group_member
 use Rattle.group_model.specs.Sound.{IsPublished, IsSoundMember}
 use Rattle.group_model.specs.Wanted.{IsWantedPart}
@@ -24,7 +26,9 @@ use Rattle.group_model.specs.World.{Outside, member, opening_world}
 use Rattle.group_model.specs.Steps.{can_start}
 use Rattle.repo_member.specs.Groups.{GroupKeys, IsGroup, publisher_at}
 use Rattle.repo_member.specs.Listed.{alone_catalogue}
-use Rattle.repo_member.specs.Alone.{Alone, Fetched, publication_limit, alone_plan, alone_opening, alone_publishes, alone_learns, alone_hears, alone_fires, alone_claims, alone_accepts, alone_takes, alone_ends_claims, alone_resets, alone_restarts}
+use Rattle.repo_member.specs.Alone.{Alone, Fetched, publication_limit, alone_plan, alone_opening, alone_publishes}
+use Rattle.repo_member.specs.Alone.{alone_learns, alone_hears, alone_fires, alone_claims, alone_accepts, alone_takes}
+use Rattle.repo_member.specs.Alone.{alone_ends_claims, alone_resets, alone_restarts}
 use Rattle.repo_member.specs.Deleting.{alone_deletes}
 use Rattle.repo_member.specs.Commanded.{alone_starts}
 use Rattle.repo_member.specs.Blocks.{alone_keeps}
@@ -51,7 +55,8 @@ StoresInOrder a = Rises part_cmp (keys a.store)
 
 -- A member begins as each does in a group in which nothing has happened.
 abbrev pub BeginsAlike : Type 0
-BeginsAlike = (out : Outside) (n j : ℕ) → j < n → in_group (alone_opening n j 0 (out.draw j 0)) ≡ member (opening_world out n) j
+BeginsAlike =
+    (out : Outside) (n j : ℕ) → j < n → in_group (alone_opening n j 0 (out.draw j 0)) ≡ member (opening_world out n) j
 
 -- It publishes an object, and stores all its packets.
 abbrev pub PublishesAlike : Type 0
@@ -159,7 +164,8 @@ pub record StoresTruly (g : GroupKeys) (logs : Logs) (a : Alone) : Type 0 where
   pub published : (t : Part) → member_holds (in_group a) t ≡ true → IsPublished logs (pair_of t)
   pub packets : AreItsPackets g logs a
 
--- A member that is as each is in a group that events can reach stores truly, where the packets are those of their parts.
+-- A member that is as each is in a group that events can reach stores truly, where the packets are those of their
+-- parts.
 abbrev pub SoundStoresTruly : Type 0
 SoundStoresTruly = (g : GroupKeys) (logs : Logs) (a : Alone) → IsSoundMember logs a.number (in_group a)
     → AreItsPackets g logs a → StoresTruly g logs a
@@ -169,8 +175,8 @@ abbrev pub PlansAlike : Type 0
 PlansAlike = (g : GroupKeys) (logs : Logs) (a : Alone) → AreLogs g logs → StoresTruly g logs a
     → alone_plan a ≡ group_member.plan_of logs (in_group a)
 
--- So it wants the records of the known publications, and the published segments of those whose records it holds, that it
--- neither holds nor hides.
+-- So it wants the records of the known publications, and the published segments of those whose records it holds, that
+-- it neither holds nor hides.
 abbrev pub WantsAlike : Type 0
 WantsAlike = (g : GroupKeys) (logs : Logs) (a : Alone) (t : Part) → AreLogs g logs → StoresTruly g logs a
     → (contains part_cmp (wanted (alone_plan a)) t ≡ true) ↔ IsWantedPart logs (in_group a) t
@@ -230,7 +236,8 @@ TakesTruly = (g : GroupKeys) (logs : Logs) (xs : List Fetched) (a : Alone)
 
 -- All other changes store nothing.
 abbrev pub StaysTrue : Type 0
-StaysTrue = (g : GroupKeys) (logs : Logs) (a b : Alone) → b.store ≡ a.store → StoresTruly g logs a → StoresTruly g logs b
+StaysTrue =
+    (g : GroupKeys) (logs : Logs) (a b : Alone) → b.store ≡ a.store → StoresTruly g logs a → StoresTruly g logs b
 
 -- A group begins with nothing published.
 abbrev pub LogsBegin : Type 0

@@ -1,5 +1,6 @@
 -- Which publications stored packets are: their records, what these list, and which are stored wholly.
-use Rattle.std.specs.Prelude.{ℕ, Bool, List, [], map, length, Option, Some, None, option_map, is_some, unwrap_or, Result, Ok, Err, if◌then◌else◌}
+use Rattle.std.specs.Prelude.{ℕ, Bool, List, [], map, length, Option, Some, None, option_map, is_some, unwrap_or}
+use Rattle.std.specs.Prelude.{Result, Ok, Err, if◌then◌else◌}
 use Rattle.std.specs.List.{flat_map, list_all}
 use Rattle.std.specs.Option.{option_and_then}
 use Rattle.sha2.specs.Sha256.{sha256}
@@ -66,7 +67,8 @@ entry_of_listing packets pair l = record {
 
 -- the same, where every segment is stored
 abbrev pub entry_listed : List Packet → Pair → Listed → Option Entry
-entry_listed packets pair l = if are_stored packets pair (listed_shape l) then Some (entry_of_listing packets pair l) else None
+entry_listed packets pair l =
+    if are_stored packets pair (listed_shape l) then Some (entry_of_listing packets pair l) else None
 
 -- the entry of a publication, where its record and every segment that it lists are stored
 abbrev pub entry_at : List Packet → Pair → Option Entry

@@ -1,10 +1,12 @@
 -- What came of a fetch, as a member takes it.
-use Rattle.std.specs.Prelude.{◌≡◌, ℕ, ◌+◌, ◌<◌, true, false, List, [], ◌∷◌, map, take, length, Option, option_map, unwrap_or, IfSome}
+use Rattle.std.specs.Prelude.{◌≡◌, ℕ, ◌+◌, ◌<◌, true, false, List, [], ◌∷◌, map, take, length, Option, option_map}
+use Rattle.std.specs.Prelude.{unwrap_or, IfSome}
 use Rattle.std.specs.List.{All, filter}
 use Rattle.repo_plan.specs.declared.part.Part.{Part}
 use Rattle.repo_plan.specs.Parts.{part_cmp, pair_of}
 use Rattle.repo_plan.specs.SortedList.{contains}
-use Rattle.repo_plan.specs.Plan.{Holdings, holds, hides, is_asked, is_claimed, is_unclaimed, unclaimed, is_after, attempts_of}
+use Rattle.repo_plan.specs.Plan.{Holdings, holds, hides, is_asked, is_claimed, is_unclaimed, unclaimed, is_after}
+use Rattle.repo_plan.specs.Plan.{attempts_of}
 use Rattle.repo_object.specs.declared.job.Job.{Job}
 use Rattle.repo_object.specs.Wants.{WantedPart}
 use Rattle.repo_object.specs.Verdict.{CheckedPart, publisher_key}
@@ -106,8 +108,8 @@ came x = record { part = x.part; packet = option_map (λ a. a.packet) x.arrival;
 abbrev pub arrival_octets : Tried → ℕ
 arrival_octets x = length (unwrap_or (came x).packet [])
 
--- what came of a tried part can be taken: the part is wanted and unclaimed, the packet is of it, and it was not tried too
--- often
+-- what came of a tried part can be taken: the part is wanted and unclaimed, the packet is of it, and it was not tried
+-- too often
 pub record CanBeTaken (plan : Holdings) (packets : List Packet) (x : Tried) : Type 0 where
   pub asked : is_asked plan x.part ≡ true
   pub not_held : holds plan x.part ≡ false

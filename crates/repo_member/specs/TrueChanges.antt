@@ -1,5 +1,6 @@
 -- Which changes leave a member one whose stored packets are those of their parts, as each is in a sound group.
-use Rattle.std.specs.Prelude.{◌≡◌, ℕ, ◌<◌, true, List, [], ◌∷◌, ◌++◌, length, replicate, Some, None, IfSome, slice_index_or, slice_set}
+use Rattle.std.specs.Prelude.{◌≡◌, ℕ, ◌<◌, true, List, [], ◌∷◌, ◌++◌, length, replicate, Some, None, IfSome}
+use Rattle.std.specs.Prelude.{slice_index_or, slice_set}
 use Rattle.std.specs.List.{All}
 use Rattle.repo_plan.specs.declared.part.Part.{Part}
 use Rattle.repo_plan.specs.Plan.{claim_of, unclaimed, is_unclaimed, first}
@@ -10,7 +11,9 @@ use Rattle.repo_process.specs.Insertions.{Insertions}
 use Rattle.group_model.specs.Publications.{Logs, last_of}
 use Rattle.group_model.specs.Sound.{IsTrueVector}
 use Rattle.repo_member.specs.Groups.{GroupKeys}
-use Rattle.repo_member.specs.Alone.{Alone, Fetched, alone_plan, alone_opening, alone_publishes, alone_learns, alone_hears, alone_fires, alone_claims, alone_accepts, alone_takes, alone_ends_claims, alone_resets, alone_restarts}
+use Rattle.repo_member.specs.Alone.{Alone, Fetched, alone_plan, alone_opening, alone_publishes, alone_learns}
+use Rattle.repo_member.specs.Alone.{alone_hears, alone_fires, alone_claims, alone_accepts, alone_takes}
+use Rattle.repo_member.specs.Alone.{alone_ends_claims, alone_resets, alone_restarts}
 use Rattle.repo_member.specs.Deleting.{alone_deletes}
 use Rattle.repo_member.specs.Commanded.{alone_obeys}
 use Rattle.repo_member.specs.Blocks.{alone_blocks}

@@ -1,6 +1,7 @@
 -- Members as each is in a sound group, whose stored packets are those of their parts: what the group's publications say
 -- of them.
-use Rattle.std.specs.Prelude.{◌≡◌, ℕ, ◌<◌, ◌≤◌, true, List, [], map, length, Some, unwrap_or, slice_index_or, IsOk, IsSomeAnd, Ok, ◌==◌, if◌then◌else◌}
+use Rattle.std.specs.Prelude.{◌≡◌, ℕ, ◌<◌, ◌≤◌, true, List, [], map, length, Some, unwrap_or, slice_index_or, IsOk}
+use Rattle.std.specs.Prelude.{IsSomeAnd, Ok, ◌==◌, if◌then◌else◌}
 use Rattle.repo_plan.specs.declared.part.Part.{Part}
 use Rattle.repo_plan.specs.Parts.{pair_of}
 use Rattle.repo_plan.specs.SortedList.{keys}
@@ -16,8 +17,8 @@ use Rattle.repo_member.specs.Alone.{Alone, IsAlone, IsOfGroup, alone_plan, want_
 use Rattle.repo_member.specs.Verdicts.{accept_verdict}
 use Rattle.repo_member.specs.InGroup.{in_group, AreLogs, true_packet, AreItsPackets, StoresTruly}
 
--- The member's log is the group's of its number, it is as each in a sound group, its machine has a place for each member,
--- and each stored packet is that of its part.
+-- The member's log is the group's of its number, it is as each in a sound group, its machine has a place for each
+-- member, and each stored packet is that of its part.
 pub record IsTrueMember (g : GroupKeys) (logs : Logs) (a : Alone) : Type 0 where
   pub there : a.number < length logs
   pub log : slice_index_or logs a.number [] ≡ a.log
@@ -49,7 +50,8 @@ TrueStores = (g : GroupKeys) (logs : Logs) (a : Alone) → IsTrueMember g logs a
 
 -- What it stores are the packets of the parts that it stores.
 abbrev pub StoresThose : Type 0
-StoresThose = (g : GroupKeys) (logs : Logs) (a : Alone) → IsTrueMember g logs a → a.store ≡ true_packets g logs (keys a.store)
+StoresThose =
+    (g : GroupKeys) (logs : Logs) (a : Alone) → IsTrueMember g logs a → a.store ≡ true_packets g logs (keys a.store)
 
 -- What its log gives of an own publication are the packets of its parts.
 abbrev pub LogsThose : Type 0
@@ -87,7 +89,8 @@ PacketsPassForMembers = (g : GroupKeys) (logs : Logs) (a : Alone) (t : Part) (oc
 
 -- Octets are taken for the part that the fetcher claims.
 abbrev pub AcceptsTheClaimed : Type 0
-AcceptsTheClaimed = (g : GroupKeys) (a : Alone) (f : ℕ) (octets : List ℕ) (t : Part) → accept_verdict g a f octets ≡ Ok t
+AcceptsTheClaimed =
+    (g : GroupKeys) (a : Alone) (f : ℕ) (octets : List ℕ) (t : Part) → accept_verdict g a f octets ≡ Ok t
     → claim_of (alone_plan a) f ≡ Some t
 
 -- A true member takes the packet of the part for a claim of it.

@@ -34,7 +34,8 @@ pub(crate) fn make_room(
     catalogue.reserve(n)
 }
 
-// A part that is asked for is held from now on, with its packet, where room was made. `segments` is what a record lists.
+// A part that is asked for is held from now on, with its packet, where room was made. `segments` is what a record
+// lists.
 pub(crate) fn gain(
     plan: &mut Plan,
     store: &mut Store,

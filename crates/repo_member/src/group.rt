@@ -1,5 +1,6 @@
 ghost use Rattle.std.specs.Prelude.{◌≡◌, ◌≤◌, ◌↔◌, ◌⊎◌, true, false, length, MatchResult, IfOk, OnOk, OnErr, Ok, Err};
-ghost use Rattle.repo_member.specs.Groups.{IsPlainNodeName, IsKey, IsGroup, HaveKeys, is_name_taken, node_limit, no_nodes, with_node};
+ghost use Rattle.repo_member.specs.Groups.{IsPlainNodeName, IsKey, IsGroup, HaveKeys, is_name_taken, node_limit};
+ghost use Rattle.repo_member.specs.Groups.{no_nodes, with_node};
 ghost use Rattle.repo_member.specs.Verdicts.{group_verdict};
 
 use crate::group_fault::GroupFault;

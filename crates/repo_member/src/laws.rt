@@ -2,14 +2,29 @@ ghost use Rattle.repo_plan.specs.Sound.{PlanIsSound};
 ghost use Rattle.repo_plan.specs.Calls.{ClaimsOnce};
 ghost use Rattle.repo_member.specs.Alone.{IsAlone, IsOfGroup, alone_plan};
 ghost use Rattle.repo_member.specs.Blocks.{AreWithinLimits};
-ghost use Rattle.repo_member.specs.InGroup.{BeginsAlike, PublishesAlike, HearsAlike, LearnsAlike, FiresAlike, ClaimsAlike, AcceptsAlike, TakesAlike, EndsClaimsAlike, ResetsAlike, RestartsAlike, StartsAlike, KeepsAlike, SoundStoresTruly, PlansAlike, WantsAlike, ListsAlike, DeletesAlike, BeginsTruly, GrowsTruly, PublishesTruly, AcceptsTruly, TakesTruly, StaysTrue, LogsBegin, LogsGrow};
-ghost use Rattle.repo_member.specs.InEvents.{PublishIsEvent, DeliverIsEvent, HearIsEvent, FireIsEvent, RestartIsEvent, ClaimIsEvent, LoseIsEvent, AnswerIsEvent, FeedIsEvent, FetchIsEvent, OrderIsEvent, OrderIsAnswered, IssueIsEvent, IssueIsAnswered, BlockIsEvent, BlockStatesAlike, LearnsAtOnce, LearnsWhatAllKnow, GatheringIsEvent, SettleIsEvent, OpenPartsAlike, CataloguesAlike};
+ghost use Rattle.repo_member.specs.InGroup.{BeginsAlike, PublishesAlike, HearsAlike, LearnsAlike, FiresAlike};
+ghost use Rattle.repo_member.specs.InGroup.{ClaimsAlike, AcceptsAlike, TakesAlike, EndsClaimsAlike, ResetsAlike};
+ghost use Rattle.repo_member.specs.InGroup.{RestartsAlike, StartsAlike, KeepsAlike, SoundStoresTruly, PlansAlike};
+ghost use Rattle.repo_member.specs.InGroup.{WantsAlike, ListsAlike, DeletesAlike, BeginsTruly, GrowsTruly};
+ghost use Rattle.repo_member.specs.InGroup.{PublishesTruly, AcceptsTruly, TakesTruly, StaysTrue, LogsBegin, LogsGrow};
+ghost use Rattle.repo_member.specs.InEvents.{PublishIsEvent, DeliverIsEvent, HearIsEvent, FireIsEvent, RestartIsEvent};
+ghost use Rattle.repo_member.specs.InEvents.{ClaimIsEvent, LoseIsEvent, AnswerIsEvent, FeedIsEvent, FetchIsEvent};
+ghost use Rattle.repo_member.specs.InEvents.{OrderIsEvent, OrderIsAnswered, IssueIsEvent, IssueIsAnswered};
+ghost use Rattle.repo_member.specs.InEvents.{BlockIsEvent, BlockStatesAlike, LearnsAtOnce, LearnsWhatAllKnow};
+ghost use Rattle.repo_member.specs.InEvents.{GatheringIsEvent, SettleIsEvent, OpenPartsAlike, CataloguesAlike};
 ghost use Rattle.repo_member.specs.Outcomes.{JobsArePlanned, PlannedJobsAreOutcomes};
-ghost use Rattle.repo_member.specs.TrueMembers.{TrueIsAlone, TrueIsOf, TrueStores, StoresThose, LogsThose, WantsPublished, WantsAreTrue, PacketsAreThere, PacketsPass, PacketsPassForMembers, AcceptsTheClaimed, TakesTheTrue};
-ghost use Rattle.repo_member.specs.TrueChanges.{BeginsTrue, PublishesTrue, OthersPublish, LogsHaveGrown, LearnsTrue, HearsTrue, InsertsTrue, BlocksTrue, DeletesTrue, ObeysTrue, FiresTrue, ResetsTrue, RestartsTrue, EndsClaimsTrue, ClaimsTrue, LosesTrue, AcceptsTrue, TakesTrue};
+ghost use Rattle.repo_member.specs.TrueMembers.{TrueIsAlone, TrueIsOf, TrueStores, StoresThose, LogsThose};
+ghost use Rattle.repo_member.specs.TrueMembers.{WantsPublished, WantsAreTrue, PacketsAreThere, PacketsPass};
+ghost use Rattle.repo_member.specs.TrueMembers.{PacketsPassForMembers, AcceptsTheClaimed, TakesTheTrue};
+ghost use Rattle.repo_member.specs.TrueChanges.{BeginsTrue, PublishesTrue, OthersPublish, LogsHaveGrown, LearnsTrue};
+ghost use Rattle.repo_member.specs.TrueChanges.{HearsTrue, InsertsTrue, BlocksTrue, DeletesTrue, ObeysTrue, FiresTrue};
+ghost use Rattle.repo_member.specs.TrueChanges.{ResetsTrue, RestartsTrue, EndsClaimsTrue, ClaimsTrue, LosesTrue};
+ghost use Rattle.repo_member.specs.TrueChanges.{AcceptsTrue, TakesTrue};
 ghost use Rattle.repo_member.specs.TrueSyncs.{KeysAreFound, SyncsAreTold, SyncsAreTaken};
 ghost use Rattle.repo_member.specs.Commanded.{MadeOrdersAreTaken, OrdersBeyondAreMalformed};
-ghost use Rattle.repo_member.specs.Calls.{LogsGoOn, PublicationsStay, LoggedPacketsStay, NumbersNeverFall, KnownIsTheJoin, InEveryMember, HeldPacketsStay, HiddenForGood, HiddenIsGone, OthersPassed, OwnStored};
+ghost use Rattle.repo_member.specs.Calls.{LogsGoOn, PublicationsStay, LoggedPacketsStay, NumbersNeverFall};
+ghost use Rattle.repo_member.specs.Calls.{KnownIsTheJoin, InEveryMember, HeldPacketsStay, HiddenForGood, HiddenIsGone};
+ghost use Rattle.repo_member.specs.Calls.{OthersPassed, OwnStored};
 
 /// A member by itself begins as its group has it, and each change of it is the group's change of that member.
 pub fn changes_are_the_groups()
@@ -36,8 +51,8 @@ pub fn members_want_what_the_group_says()
     ensures wants { WantsAlike }
 {}
 
-/// Where each stored packet is that of its part, a member's catalogue is its group's catalogue of it, and so it hides the
-/// same publications of a name.
+/// Where each stored packet is that of its part, a member's catalogue is its group's catalogue of it, and so it hides
+/// the same publications of a name.
 pub fn members_list_what_the_group_says()
     ensures lists { ListsAlike }
     ensures deletes { DeletesAlike }
@@ -83,8 +98,8 @@ pub fn calls_are_events()
     ensures catalogue { CataloguesAlike }
 {}
 
-/// A command that a client of the group makes for a member is taken by it as that client's and that command, where it is
-/// within the limits of commands.
+/// A command that a client of the group makes for a member is taken by it as that client's and that command, where it
+/// is within the limits of commands.
 pub fn made_orders_are_taken()
     ensures taken { MadeOrdersAreTaken }
     ensures beyond { OrdersBeyondAreMalformed }
@@ -110,17 +125,18 @@ pub fn claims_differ()
     ensures { InEveryMember (λ g a. ClaimsOnce (alone_plan a)) }
 {}
 
-/// In every member that calls reach, a stored packet of another publisher's part passes for the want that the member has of
-/// that part now, which for a segment is of what the stored record lists. Of its own parts it stores those that it
-/// published and did not hide, as they were published. What is stored stays, whatever is called, as long as its publication
-/// is not hidden.
+/// In every member that calls reach, a stored packet of another publisher's part passes for the want that the member
+/// has of that part now, which for a segment is of what the stored record lists. Of its own parts it stores those that
+/// it published and did not hide, as they were published. What is stored stays, whatever is called, as long as its
+/// publication is not hidden.
 pub fn held_parts_passed_their_checks()
     ensures others { InEveryMember OthersPassed }
     ensures own { InEveryMember OwnStored }
     ensures stay { HeldPacketsStay }
 {}
 
-/// What a member hid stays hidden, whatever is called, and no part of it is wanted or stored, and so none is claimed or served.
+/// What a member hid stays hidden, whatever is called, and no part of it is wanted or stored, and so none is claimed or
+/// served.
 pub fn hidden_publications_are_gone()
     ensures stay { HiddenForGood }
     ensures gone { InEveryMember HiddenIsGone }

@@ -26,8 +26,8 @@ pub(crate) fn owned_name(alloc: Global, view: &NameView<'_>) -> Result<Name, All
     }
 }
 
-// Catalogues a publication under its object's name, where its record and every segment are stored. There is room for the
-// entry.
+// Catalogues a publication under its object's name, where its record and every segment are stored. There is room for
+// the entry.
 pub(crate) fn list_if_whole(
     plan: &Plan,
     store: &Store,

@@ -1,5 +1,6 @@
 -- The digests of a record, one field after another.
-use Rattle.std.proofs.Common.{◌≡◌, ℕ, ◌+◌, eqb, List, [], ◌∷◌, length, Option, Some, None, option_map, refl, ap, sym, ◌∙◌, inl, inr, arith}
+use Rattle.std.proofs.Common.{◌≡◌, ℕ, ◌+◌, eqb, List, [], ◌∷◌, length, Option, Some, None, option_map, refl, ap, sym}
+use Rattle.std.proofs.Common.{◌∙◌, inl, inr, arith}
 use Rattle.std.proofs.lemmas.Bool.{eq-eqb, ne_eqb, cases_eq}
 use Rattle.ndn_tlv.specs.declared.order_table.FieldFault.{FieldFault}
 use Rattle.ndn_tlv.specs.Listing.{Listing, nothing, only_fault, ◌then◌}
@@ -16,7 +17,8 @@ counts n o = that_passes (λ digests. eqb (length digests) n) o
 abbrev pub with_digest : List ℕ → Option (List (List ℕ)) → Option (List (List ℕ))
 with_digest d o = option_map (λ digests. d ∷ digests) o
 
-counts-more : (d : List ℕ) (o : Option (List (List ℕ))) (m : ℕ) → counts (m + 1) (with_digest d o) ≡ with_digest d (counts m o)
+counts-more : (d : List ℕ) (o : Option (List (List ℕ))) (m : ℕ)
+    → counts (m + 1) (with_digest d o) ≡ with_digest d (counts m o)
 counts-more d None m = refl
 counts-more d (Some digests) m =
     elim (cases_eq (length digests) m) [
@@ -49,8 +51,10 @@ module _ (n : ℕ) (fields : Fields) where
     module _ (d : List ℕ) (good : digest_in first ≡ Some d) where
       pub counted-full : n ≡ 0 → counted_digests n fields ≡ None
       unfolding digests_among
-      counted-full zero = ap (counted_digests n) is ∙ rw (good, zero) (counts-full d (digests_among rest.items rest.fault))
+      counted-full zero =
+          ap (counted_digests n) is ∙ rw (good, zero) (counts-full d (digests_among rest.items rest.fault))
 
       pub counted-digest : (m : ℕ) → n ≡ m + 1 → counted_digests n fields ≡ with_digest d (counted_digests m rest)
       unfolding digests_among
-      counted-digest m more = ap (counted_digests n) is ∙ rw (good, more) (counts-more d (digests_among rest.items rest.fault) m)
+      counted-digest m more =
+          ap (counted_digests n) is ∙ rw (good, more) (counts-more d (digests_among rest.items rest.fault) m)

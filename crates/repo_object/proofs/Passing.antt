@@ -1,5 +1,7 @@
 -- Octets pass for a want exactly where they pass every check.
-use Rattle.std.proofs.Common.{◌≡◌, ℕ, Bool, true, false, not, cond, ◌||◌, is_some, eqb, zero, suc, ◌<◌, ◌↔◌, List, [], ◌∷◌, ◌++◌, length, slice_get, Option, Some, None, option_map, Result, Ok, Err, IsOk, refl, sym, ap, subst, ◌∙◌, inl, inr, arith}
+use Rattle.std.proofs.Common.{◌≡◌, ℕ, Bool, true, false, not, cond, ◌||◌, is_some, eqb, zero, suc, ◌<◌, ◌↔◌, List, []}
+use Rattle.std.proofs.Common.{◌∷◌, ◌++◌, length, slice_get, Option, Some, None, option_map, Result, Ok, Err, IsOk, refl}
+use Rattle.std.proofs.Common.{sym, ap, subst, ◌∙◌, inl, inr, arith}
 use Rattle.std.specs.Prelude.{IfSome}
 use Rattle.std.proofs.lemmas.Bool.{and_parts, and_from, eqb-true, eq-eqb, cases_eq, ne_eqb}
 use Rattle.std.proofs.lemmas.Bool.Decides.{same_from_decides}
@@ -17,10 +19,12 @@ use Rattle.ndn_sign.specs.Hmac.{hmac}
 use Rattle.ndn_sign.specs.Ring.{NamedKey}
 use Rattle.ndn_data.specs.Data.{Data, data_of}
 use Rattle.repo_object.specs.declared.part_refusal.PartRefusal.{PartRefusal}
-use Rattle.repo_object.specs.declared.part_refusal.PartRefusal.TheVariants.{UnsignedOctets, OtherName, OtherDigest, UnknownKey, BadSignature, BadRecord}
+use Rattle.repo_object.specs.declared.part_refusal.PartRefusal.TheVariants.{UnsignedOctets, OtherName, OtherDigest}
+use Rattle.repo_object.specs.declared.part_refusal.PartRefusal.TheVariants.{UnknownKey, BadSignature, BadRecord}
 use Rattle.repo_object.specs.Records.{listing_of}
 use Rattle.repo_object.specs.Wants.{WantedPart}
-use Rattle.repo_object.specs.Verdict.{is_all_signed, data_has_name, has_digest, locates, names_key, is_signed_by, lists_if_record, packet_verdict, read_packet, part_verdict, Passes, key_at}
+use Rattle.repo_object.specs.Verdict.{is_all_signed, data_has_name, has_digest, locates, names_key, is_signed_by}
+use Rattle.repo_object.specs.Verdict.{lists_if_record, packet_verdict, read_packet, part_verdict, Passes, key_at}
 
 abbrev passed : Data → Result Data PartRefusal
 passed d = Ok d
@@ -30,7 +34,10 @@ passed d = Ok d
 -- the chain of tests, whatever they are
 abbrev chain : Bool → Bool → Bool → Bool → Bool → Bool → Data → Result Data PartRefusal
 chain a b c e f g d =
-    cond (not a) (Err UnsignedOctets) (cond (not b) (Err OtherName) (cond (not c) (Err OtherDigest) (cond (not e) (Err UnknownKey) (cond (not f) (Err BadSignature) (cond (not g) (Err BadRecord) (passed d))))))
+    cond (not a) (Err UnsignedOctets)
+    (cond (not b) (Err OtherName)
+    (cond (not c) (Err OtherDigest)
+    (cond (not e) (Err UnknownKey) (cond (not f) (Err BadSignature) (cond (not g) (Err BadRecord) (passed d))))))
 
 record AllTrue (a b c e f g : Bool) : Type 0 where
   all_signed : a ≡ true
@@ -40,19 +47,33 @@ record AllTrue (a b c e f g : Bool) : Type 0 where
   signature : f ≡ true
   listing : g ≡ true
 
-guard : (b : Bool) (r : PartRefusal) (rest : Result Data PartRefusal) (d : Data) → cond (not b) (Err r) rest ≡ Ok d → (b ≡ true) × (rest ≡ Ok d)
+guard : (b : Bool) (r : PartRefusal) (rest : Result Data PartRefusal) (d : Data) → cond (not b) (Err r) rest ≡ Ok d
+    → (b ≡ true) × (rest ≡ Ok d)
 guard true r rest d e = (refl, e)
 guard false r rest d e = absurd cc
 
 chain_passes : (a b c e f g : Bool) (x d : Data) → chain a b c e f g x ≡ Ok d → AllTrue a b c e f g × (x ≡ d)
 chain_passes a b c e f g x d h =
-    let h1 = guard a UnsignedOctets (cond (not b) (Err OtherName) (cond (not c) (Err OtherDigest) (cond (not e) (Err UnknownKey) (cond (not f) (Err BadSignature) (cond (not g) (Err BadRecord) (passed x)))))) d h in
-    let h2 = guard b OtherName (cond (not c) (Err OtherDigest) (cond (not e) (Err UnknownKey) (cond (not f) (Err BadSignature) (cond (not g) (Err BadRecord) (passed x))))) d h1.1 in
-    let h3 = guard c OtherDigest (cond (not e) (Err UnknownKey) (cond (not f) (Err BadSignature) (cond (not g) (Err BadRecord) (passed x)))) d h2.1 in
+    let h1 =
+    guard a UnsignedOctets
+    (cond (not b) (Err OtherName)
+    (cond (not c) (Err OtherDigest)
+    (cond (not e) (Err UnknownKey) (cond (not f) (Err BadSignature) (cond (not g) (Err BadRecord) (passed x)))))) d h in
+    let h2 =
+    guard b OtherName
+    (cond (not c) (Err OtherDigest)
+    (cond (not e) (Err UnknownKey) (cond (not f) (Err BadSignature) (cond (not g) (Err BadRecord) (passed x))))) d
+    h1.1 in
+    let h3 =
+    guard c OtherDigest
+    (cond (not e) (Err UnknownKey) (cond (not f) (Err BadSignature) (cond (not g) (Err BadRecord) (passed x)))) d
+    h2.1 in
     let h4 = guard e UnknownKey (cond (not f) (Err BadSignature) (cond (not g) (Err BadRecord) (passed x))) d h3.1 in
     let h5 = guard f BadSignature (cond (not g) (Err BadRecord) (passed x)) d h4.1 in
-    let h6 = guard g BadRecord (passed x) d h5.1 in
-    (record { all_signed = h1.0; name = h2.0; digest = h3.0; key = h4.0; signature = h5.0; listing = h6.0 }, same x d h6.1)
+    let h6 = guard g BadRecord (passed x) d h5.1 in (
+      record { all_signed = h1.0; name = h2.0; digest = h3.0; key = h4.0; signature = h5.0; listing = h6.0 },
+      same x d h6.1,
+    )
   where
     same : (x d : Data) → passed x ≡ passed d → x ≡ d
     same x d e = cc
@@ -87,11 +108,13 @@ mac_is (p ∷ ps) zero signed mac b low is =
     some_octets octets = Some octets
 mac_is (p ∷ ps) (suc n) signed mac b low is = mac_is ps n signed mac b (omega arith) is
 
-digest_is : (digest : Option (List ℕ)) (octets : List ℕ) → has_digest digest octets ≡ true → IfSome digest (λ d. sha256 octets ≡ d)
+digest_is : (digest : Option (List ℕ)) (octets : List ℕ) → has_digest digest octets ≡ true
+    → IfSome digest (λ d. sha256 octets ≡ d)
 digest_is None octets h = tt
 digest_is (Some d) octets h = equal (sha256 octets) d h
 
-is_digest : (digest : Option (List ℕ)) (octets : List ℕ) → IfSome digest (λ d. sha256 octets ≡ d) → has_digest digest octets ≡ true
+is_digest : (digest : Option (List ℕ)) (octets : List ℕ) → IfSome digest (λ d. sha256 octets ≡ d)
+    → has_digest digest octets ≡ true
 is_digest None octets h = refl
 is_digest (Some d) octets h = same_bytes (sha256 octets) d h
 
@@ -114,11 +137,14 @@ read_ok : (r : Result Data PacketFault) (d : Data) → read_packet r ≡ Ok d �
 read_ok (Ok x) d e = cc
 read_ok (Err fault) d e = absurd cc
 
-pub passes : (want : WantedPart) (key_name key octets : List ℕ) (d : Data) → part_verdict want key_name key octets ≡ Ok d → Passes want key_name key octets d
+pub passes : (want : WantedPart) (key_name key octets : List ℕ) (d : Data)
+    → part_verdict want key_name key octets ≡ Ok d → Passes want key_name key octets d
 passes want key_name key octets d h =
     let b = bind_ok (read_packet (data_of octets)) (packet_verdict want key_name key octets) d h in
     let x = b.0 in
-    let all = chain_passes (is_all_signed x) (data_has_name want.name x) (has_digest want.digest octets) (names_key key_name x) (is_signed_by key x) (lists_if_record want.part.part x) x d b.2 in
+    let all =
+    chain_passes (is_all_signed x) (data_has_name want.name x) (has_digest want.digest octets) (names_key key_name x)
+    (is_signed_by key x) (lists_if_record want.part.part x) x d b.2 in
     let key_parts = and_parts (eqb x.signature_type 4) (locates key_name x.locator) all.0.key in
     let found = located_at key_name x.locator key_parts.1 in
     subst (Passes want key_name key octets) all.1 (record {
@@ -134,25 +160,33 @@ passes want key_name key octets d h =
       listing = record_lists want.part.part (is_some (listing_of x.content)) all.0.listing;
     })
 
-pub verdict_of : (want : WantedPart) (key_name key octets : List ℕ) (d : Data) → Passes want key_name key octets d → part_verdict want key_name key octets ≡ Ok d
+pub verdict_of : (want : WantedPart) (key_name key octets : List ℕ) (d : Data) → Passes want key_name key octets d
+    → part_verdict want key_name key octets ≡ Ok d
 verdict_of want key_name key octets d p =
-    let located : locates key_name d.locator ≡ true = ap (locates key_name) p.located ∙ same_bytes (encoding p.locator) key_name p.key_named in
+    let located : locates key_name d.locator ≡ true =
+    ap (locates key_name) p.located ∙ same_bytes (encoding p.locator) key_name p.key_named in
     ap (λ (r : Result Data PacketFault). read_packet r >>= packet_verdict want key_name key octets) p.read
-    ∙ all_pass (is_all_signed d) (data_has_name want.name d) (has_digest want.digest octets) (names_key key_name d) (is_signed_by key d) (lists_if_record want.part.part d) d (record {
+    ∙ all_pass (is_all_signed d) (data_has_name want.name d) (has_digest want.digest octets) (names_key key_name d)
+    (is_signed_by key d) (lists_if_record want.part.part d) d (record {
       all_signed = same_bytes d.value (d.signed ++ element 0x17 d.signature) p.all_signed;
       name = same_bytes (encoding d.name) (encoding want.name) p.name;
       digest = is_digest want.digest octets p.digest;
-      key = and_from (eqb d.signature_type 4) (locates key_name d.locator) (eq-eqb d.signature_type 4 p.signature_type) located;
+      key =
+          and_from (eqb d.signature_type 4) (locates key_name d.locator) (eq-eqb d.signature_type 4 p.signature_type)
+          located;
       signature = same_bytes (hmac key d.signed) d.signature (sym p.signature);
       listing = lists_record want.part.part (is_some (listing_of d.content)) p.listing;
     })
 
-pub passing_is_ok : (want : WantedPart) (key_name key octets : List ℕ) (d : Data) → Passes want key_name key octets d → IsOk (part_verdict want key_name key octets)
+pub passing_is_ok : (want : WantedPart) (key_name key octets : List ℕ) (d : Data) → Passes want key_name key octets d
+    → IsOk (part_verdict want key_name key octets)
 passing_is_ok want key_name key octets d p = rw (verdict_of want key_name key octets d p) refl
 
 -- the digest of octets that pass, where the want tells it
-pub passing_digest : (want : WantedPart) (key_name key octets : List ℕ) → IsOk (part_verdict want key_name key octets) → IfSome want.digest (λ digest. sha256 octets ≡ digest)
+pub passing_digest : (want : WantedPart) (key_name key octets : List ℕ) → IsOk (part_verdict want key_name key octets)
+    → IfSome want.digest (λ digest. sha256 octets ≡ digest)
 passing_digest want key_name key octets = go (part_verdict want key_name key octets) refl where
-  go : (r : Result Data PartRefusal) → part_verdict want key_name key octets ≡ r → IsOk r → IfSome want.digest (λ digest. sha256 octets ≡ digest)
+  go : (r : Result Data PartRefusal) → part_verdict want key_name key octets ≡ r → IsOk r
+      → IfSome want.digest (λ digest. sha256 octets ≡ digest)
   go (Ok d) e ok = (passes want key_name key octets d e).digest
   go (Err refusal) e ok = absurd cc

@@ -1,5 +1,6 @@
 -- The packets of a publication fit, are read back, and pass for their wants.
-use Rattle.std.proofs.Common.{◌≡◌, ℕ, zero, suc, ◌+◌, ◌-◌, ◌^◌, ◌<◌, ◌≤◌, List, [], ◌∷◌, ◌++◌, length, map, Option, Some, None, option_map, slice_get, Ok, IsOk, refl, sym, ap, subst, ◌∙◌, arith}
+use Rattle.std.proofs.Common.{◌≡◌, ℕ, zero, suc, ◌+◌, ◌-◌, ◌^◌, ◌<◌, ◌≤◌, List, [], ◌∷◌, ◌++◌, length, map, Option}
+use Rattle.std.proofs.Common.{Some, None, option_map, slice_get, Ok, IsOk, refl, sym, ap, subst, ◌∙◌, arith}
 use Rattle.std.specs.Prelude.{IfSome}
 use Rattle.std.specs.List.{All}
 use Rattle.std.proofs.lemmas.List.{length-map}
@@ -13,8 +14,10 @@ use Rattle.ndn_data.specs.Data.{Data, data_of}
 use Rattle.ndn_data.specs.WrittenData.{read_back}
 use Rattle.ndn_data.proofs.ReadBackLemmas.{data_again}
 use Rattle.repo_plan.specs.declared.part.Part.{Part}
-use Rattle.repo_object.specs.Objects.{NamedContents, IsContent, IsObject, Publisher, IsPublisher, key_name, record_name, segment_name}
-use Rattle.repo_object.specs.Publication.{record_content, segment_packet, segment_packets_from, published_segments, published_listing, record_packet, packets, packet_at}
+use Rattle.repo_object.specs.Objects.{NamedContents, IsContent, IsObject, Publisher, IsPublisher, key_name, record_name}
+use Rattle.repo_object.specs.Objects.{segment_name}
+use Rattle.repo_object.specs.Publication.{record_content, segment_packet, segment_packets_from, published_segments}
+use Rattle.repo_object.specs.Publication.{published_listing, record_packet, packets, packet_at}
 use Rattle.repo_object.specs.Records.{IsDigest, IsListing}
 use Rattle.repo_object.specs.Wants.{want_record, want_segment}
 use Rattle.repo_object.specs.Verdict.{part_verdict, listing_within, listing_in}
@@ -37,30 +40,42 @@ some_is a b e = cc
 -- ---- segments
 
 module _ (keyed : List Component) (key : List ℕ) (name : List Component) (last : ℕ) where
-  segments-length : (i : ℕ) (contents : List (List ℕ)) → length (segment_packets_from keyed key name last i contents) ≡ length contents
+  segments-length : (i : ℕ) (contents : List (List ℕ))
+      → length (segment_packets_from keyed key name last i contents) ≡ length contents
   unfolding segment_packets_from
   segments-length i [] = refl
   segments-length i (content ∷ contents) = ap suc (segments-length (i + 1) contents)
 
-  segments_fit : (i : ℕ) (contents : List (List ℕ)) → length (encoding keyed) ≤ 205 → length (encoding name) ≤ 400 → last < 256 → i + length contents ≤ 256 → All IsContent contents
+  segments_fit : (i : ℕ) (contents : List (List ℕ)) → length (encoding keyed) ≤ 205 → length (encoding name) ≤ 400
+      → last < 256 → i + length contents ≤ 256 → All IsContent contents
       → All Short (segment_packets_from keyed key name last i contents)
   unfolding segment_packets_from
   segments_fit i [] short_key short low_last low contents_short = All-nil Short
   segments_fit i (content ∷ contents) short_key short low_last low contents_short =
       let here = All-head IsContent content contents contents_short in
-      All-cons Short (segment_packet keyed key name last i content) (segment_packets_from keyed key name last (i + 1) contents) (segment-size keyed key name last i content short_key short low_last (omega arith) here.1)
-      (segments_fit (i + 1) contents short_key short low_last (omega arith) (All-tail IsContent content contents contents_short))
+      All-cons Short (segment_packet keyed key name last i content)
+      (segment_packets_from keyed key name last (i + 1) contents)
+      (segment-size keyed key name last i content short_key short low_last (omega arith) here.1)
+      (segments_fit (i + 1) contents short_key short low_last (omega arith)
+      (All-tail IsContent content contents contents_short))
 
 -- the record and the segments
-pub packets-length : (publisher : Publisher) (seq : ℕ) (object : NamedContents) → length (packets publisher seq object) ≡ length object.contents + 1
-packets-length publisher seq object = omega (arith, segments-length (key_name publisher.node) publisher.key object.name (length object.contents - 1) 0 object.contents)
+pub packets-length : (publisher : Publisher) (seq : ℕ) (object : NamedContents)
+    → length (packets publisher seq object) ≡ length object.contents + 1
+packets-length publisher seq object =
+    omega (
+      arith,
+      segments-length (key_name publisher.node) publisher.key object.name (length object.contents - 1) 0
+          object.contents,
+    )
 
 -- ---- what the packet of a segment is
 
 -- what it is read as
 abbrev pub segment_read : Publisher → NamedContents → ℕ → List ℕ → Data
 segment_read publisher object k content =
-    read_back (segment_name object.name k) (Some (length object.contents - 1)) content (key_name publisher.node) publisher.key
+    read_back (segment_name object.name k) (Some (length object.contents - 1)) content (key_name publisher.node)
+    publisher.key
 
 pub record SegmentPacket (publisher : Publisher) (object : NamedContents) (k : ℕ) (octets : List ℕ) : Type 0 where
   pub content : List ℕ
@@ -73,15 +88,24 @@ pub record SegmentPacket (publisher : Publisher) (object : NamedContents) (k : �
 
 -- ---- a publication within the limits
 
-pub listing_within_limits : (publisher : Publisher) (object : NamedContents) → IsObject object → IsListing (published_listing publisher object)
+pub listing_within_limits : (publisher : Publisher) (object : NamedContents) → IsObject object
+    → IsListing (published_listing publisher object)
 listing_within_limits publisher object is_object = record {
   name = is_object.name;
   named = is_object.named;
-  few = omega (arith, is_object.few, length-map (published_segments publisher object) sha256, segments-length (key_name publisher.node) publisher.key object.name (length object.contents - 1) 0 object.contents);
+  few =
+      omega (
+        arith,
+        is_object.few,
+        length-map (published_segments publisher object) sha256,
+        segments-length (key_name publisher.node) publisher.key object.name (length object.contents - 1) 0
+            object.contents,
+      );
   digests = All-map IsDigest sha256 (published_segments publisher object) (λ k d h. length-sha256 _);
 }
 
-module _ (publisher : Publisher) (object : NamedContents) (is_publisher : IsPublisher publisher) (is_object : IsObject object) where
+module _ (publisher : Publisher) (object : NamedContents) (is_publisher : IsPublisher publisher)
+    (is_object : IsObject object) where
   abbrev keyed : List Component
   keyed = key_name publisher.node
 
@@ -99,34 +123,50 @@ module _ (publisher : Publisher) (object : NamedContents) (is_publisher : IsPubl
 
   record_short : (seq : ℕ) → seq < 2 ^ 16 → Short (record_packet publisher seq (published_listing publisher object))
   record_short seq low =
-      record-size (record_name publisher.node publisher.group seq) (published_listing publisher object) keyed publisher.key
-      (record_name-size publisher.node publisher.group seq is_publisher.node.1 is_publisher.group.1 low) keyed-short name-short within.few within.digests
+      record-size (record_name publisher.node publisher.group seq) (published_listing publisher object) keyed
+      publisher.key
+      (record_name-size publisher.node publisher.group seq is_publisher.node.1 is_publisher.group.1 low) keyed-short
+      name-short within.few within.digests
 
   pub all_fit : (seq : ℕ) → seq < 2 ^ 16 → All Short (packets publisher seq object)
   all_fit seq low =
-      All-cons Short (record_packet publisher seq (published_listing publisher object)) (published_segments publisher object) (record_short seq low)
-      (segments_fit keyed publisher.key object.name last 0 object.contents keyed-short name-short (omega (arith, is_object.few)) (omega (arith, is_object.few)) is_object.contents)
+      All-cons Short (record_packet publisher seq (published_listing publisher object))
+      (published_segments publisher object) (record_short seq low)
+      (segments_fit keyed publisher.key object.name last 0 object.contents keyed-short name-short
+      (omega (arith, is_object.few)) (omega (arith, is_object.few)) is_object.contents)
 
   abbrev pub record_read : ℕ → Data
-  record_read seq = read_back (record_name publisher.node publisher.group seq) None (record_content (published_listing publisher object)) keyed publisher.key
+  record_read seq =
+      read_back (record_name publisher.node publisher.group seq) None
+      (record_content (published_listing publisher object)) keyed publisher.key
 
   pub record_named : (seq : ℕ) → seq < 2 ^ 16 → IsName (record_name publisher.node publisher.group seq)
-  record_named seq low = IsName-number (publisher.node ++ publisher.group) 0x3a seq (IsName-append publisher.node publisher.group is_publisher.node.0 is_publisher.group.0) (omega arith) (omega arith) low
+  record_named seq low =
+      IsName-number (publisher.node ++ publisher.group) 0x3a seq
+      (IsName-append publisher.node publisher.group is_publisher.node.0 is_publisher.group.0) (omega arith)
+      (omega arith) low
 
-  pub record_again : (seq : ℕ) → seq < 2 ^ 16 → data_of (record_packet publisher seq (published_listing publisher object)) ≡ Ok (record_read seq)
+  pub record_again : (seq : ℕ) → seq < 2 ^ 16
+      → data_of (record_packet publisher seq (published_listing publisher object)) ≡ Ok (record_read seq)
   record_again seq low =
-      data_again (record_name publisher.node publisher.group seq) keyed None (record_content (published_listing publisher object)) publisher.key (record_named seq low) (IsName-key publisher.node is_publisher.node.0) (record_short seq low)
+      data_again (record_name publisher.node publisher.group seq) keyed None
+      (record_content (published_listing publisher object)) publisher.key (record_named seq low)
+      (IsName-key publisher.node is_publisher.node.0) (record_short seq low)
 
-  pub record_listed : (seq : ℕ) → seq < 2 ^ 16 → listing_in (record_packet publisher seq (published_listing publisher object)) ≡ Some (published_listing publisher object)
+  pub record_listed : (seq : ℕ) → seq < 2 ^ 16
+      → listing_in (record_packet publisher seq (published_listing publisher object))
+      ≡ Some (published_listing publisher object)
   record_listed seq low =
       ap listing_within (record_again seq low) ∙ written_is_listed (published_listing publisher object) within
 
-  pub record_passes : (part : Part) (octets : List ℕ) → part.seq < 2 ^ 16 → packet_at publisher part.seq object 0 ≡ Some octets
+  pub record_passes : (part : Part) (octets : List ℕ) → part.seq < 2 ^ 16
+      → packet_at publisher part.seq object 0 ≡ Some octets
       → IsOk (part_verdict (want_record part publisher.node publisher.group) (encoding keyed) publisher.key octets)
   record_passes part octets low h =
       let is = some_is (record_packet publisher part.seq (published_listing publisher object)) octets h in
       let listed = written_is_listed (published_listing publisher object) within in
-      passing_is_ok (want_record part publisher.node publisher.group) (encoding keyed) publisher.key octets (record_read part.seq) (record {
+      passing_is_ok (want_record part publisher.node publisher.group) (encoding keyed) publisher.key octets
+      (record_read part.seq) (record {
         read = ap data_of (sym is) ∙ record_again part.seq low;
         all_signed = refl;
         name = refl;
@@ -139,26 +179,34 @@ module _ (publisher : Publisher) (object : NamedContents) (is_publisher : IsPubl
         listing = λ zero. rw listed refl;
       })
 
-  behind_first : (x : ℕ) (first octets : List ℕ) (others : List (List ℕ)) → 0 < x → slice_get (first ∷ others) x ≡ Some octets → slice_get others (x - 1) ≡ Some octets
+  behind_first : (x : ℕ) (first octets : List ℕ) (others : List (List ℕ)) → 0 < x
+      → slice_get (first ∷ others) x ≡ Some octets → slice_get others (x - 1) ≡ Some octets
   behind_first zero first octets others above h = absurd (omega arith)
-  behind_first (suc x) first octets others above h = let same : suc x - 1 ≡ x = omega arith in ap (slice_get others) same ∙ h
+  behind_first (suc x) first octets others above h =
+      let same : suc x - 1 ≡ x = omega arith in ap (slice_get others) same ∙ h
 
   -- what the packet of a part behind the record is
-  pub segment_is : (seq x : ℕ) (octets : List ℕ) → 0 < x → packet_at publisher seq object x ≡ Some octets → SegmentPacket publisher object (x - 1) octets
+  pub segment_is : (seq x : ℕ) (octets : List ℕ) → 0 < x → packet_at publisher seq object x ≡ Some octets
+      → SegmentPacket publisher object (x - 1) octets
   segment_is seq x octets above h =
       let k = x - 1 in
       let segments = published_segments publisher object in
-      let at = behind_first x (record_packet publisher seq (published_listing publisher object)) octets segments above h in
+      let at =
+      behind_first x (record_packet publisher seq (published_listing publisher object)) octets segments above h in
       let s = segment_from keyed publisher.key object.name last 0 object.contents k octets at in
       let content = s.0 in
       let from_first : k ≡ 0 + k = omega arith in
-      let is : segment_packet keyed publisher.key object.name last k content ≡ octets = ap (λ (n : ℕ). segment_packet keyed publisher.key object.name last n content) from_first ∙ s.2 in
+      let is : segment_packet keyed publisher.key object.name last k content ≡ octets =
+      ap (λ (n : ℕ). segment_packet keyed publisher.key object.name last n content) from_first ∙ s.2 in
       let in_range = slice_get_within object.contents k content s.1 in
       let low : k < 2 ^ 8 = omega (arith, in_range, is_object.few) in
       let low_last : last < 2 ^ 8 = omega (arith, is_object.few) in
       let short : length content ≤ 8000 = content_short k content s.1 in
       let named = IsName-number object.name 0x32 k is_object.name (omega arith) (omega arith) (omega (arith, low)) in
-      let read = data_again (segment_name object.name k) keyed (Some last) content publisher.key named (IsName-key publisher.node is_publisher.node.0) (segment-size keyed publisher.key object.name last k content keyed-short name-short low_last low short) in
+      let read =
+      data_again (segment_name object.name k) keyed (Some last) content publisher.key named
+      (IsName-key publisher.node is_publisher.node.0)
+      (segment-size keyed publisher.key object.name last k content keyed-short name-short low_last low short) in
       record {
         content = content;
         place = s.1;
@@ -171,18 +219,22 @@ module _ (publisher : Publisher) (object : NamedContents) (is_publisher : IsPubl
     where
       content_short : (k : ℕ) (content : List ℕ) → slice_get object.contents k ≡ Some content → length content ≤ 8000
       content_short k content h = (all_get object.contents k content is_object.contents h).1 where
-        all_get : (contents : List (List ℕ)) (k : ℕ) (content : List ℕ) → All IsContent contents → slice_get contents k ≡ Some content → IsContent content
+        all_get : (contents : List (List ℕ)) (k : ℕ) (content : List ℕ) → All IsContent contents
+            → slice_get contents k ≡ Some content → IsContent content
         all_get [] k content all h = absurd cc
         all_get (c ∷ cs) zero content all h = subst IsContent (some_is c content h) (All-head IsContent c cs all)
         all_get (c ∷ cs) (suc k) content all h = all_get cs k content (All-tail IsContent c cs all) h
 
-  pub segment_passes : (part : Part) (octets : List ℕ) → 0 < part.part → packet_at publisher part.seq object part.part ≡ Some octets
-      → IsOk (part_verdict (want_segment part (published_listing publisher object)) (encoding keyed) publisher.key octets)
+  pub segment_passes : (part : Part) (octets : List ℕ) → 0 < part.part
+      → packet_at publisher part.seq object part.part ≡ Some octets
+      → IsOk
+      (part_verdict (want_segment part (published_listing publisher object)) (encoding keyed) publisher.key octets)
   segment_passes part octets above h =
       let k = part.part - 1 in
       let s = segment_is part.seq part.part octets above h in
       let P : Option (List ℕ) → Type 0 = λ o. IfSome o (λ d. sha256 octets ≡ d) in
-      passing_is_ok (want_segment part (published_listing publisher object)) (encoding keyed) publisher.key octets (segment_read publisher object k s.content) (record {
+      passing_is_ok (want_segment part (published_listing publisher object)) (encoding keyed) publisher.key octets
+      (segment_read publisher object k s.content) (record {
         read = s.read;
         all_signed = refl;
         name = refl;

@@ -1,5 +1,7 @@
 -- Digests that fill all that follows the number of segments stand one after another.
-use Rattle.std.proofs.Common.{◌≡◌, ℕ, zero, suc, ◌+◌, ◌*◌, ◌^◌, ◌<◌, ◌≤◌, eqb, List, [], ◌∷◌, ◌++◌, length, length-append, append_assoc, length-drop, take, drop, drop_at, drop-drop, map, Option, Some, None, slice_get, refl, ap, sym, subst, ◌∙◌, inl, inr, arith}
+use Rattle.std.proofs.Common.{◌≡◌, ℕ, zero, suc, ◌+◌, ◌*◌, ◌^◌, ◌<◌, ◌≤◌, eqb, List, [], ◌∷◌, ◌++◌, length}
+use Rattle.std.proofs.Common.{length-append, append_assoc, length-drop, take, drop, drop_at, drop-drop, map, Option}
+use Rattle.std.proofs.Common.{Some, None, slice_get, refl, ap, sym, subst, ◌∙◌, inl, inr, arith}
 use Rattle.std.specs.Prelude.{IsSome, unwrap_or}
 use Rattle.std.specs.List.{All}
 use Rattle.std.proofs.lemmas.Bool.{cases_lt, eqb-true}
@@ -44,28 +46,47 @@ number_some n =
 
 element_headed : (typ : ℕ) (value : List ℕ) → length value + 2 ≤ length (element typ value)
 element_headed typ value =
-    omega (arith, length-element typ value, length-append (number typ) (number (length value)), number_some typ, number_some (length value))
+    omega (
+      arith,
+      length-element typ value,
+      length-append (number typ) (number (length value)),
+      number_some typ,
+      number_some (length value),
+    )
 
 module _ (content : List ℕ) (high : ℕ) where
   -- room for so many digests
-  digests_room : (low : ℕ) (items : List Item) → AreWithin low high items → Each (Stands content) items → All IsDigest (values items)
+  digests_room : (low : ℕ) (items : List Item) → AreWithin low high items → Each (Stands content) items
+      → All IsDigest (values items)
       → low + 34 * length items ≤ high
   digests_room low [] within stand long = omega (arith, within)
   digests_room low (e ∷ es) within stand long =
-      omega (arith, within.0, stand.0.ends, element_headed e.typ e.value, All-head IsDigest e.value (values es) long, digests_room e.end es within.3 stand.1 (All-tail IsDigest e.value (values es) long))
+      omega (
+        arith,
+        within.0,
+        stand.0.ends,
+        element_headed e.typ e.value,
+        All-head IsDigest e.value (values es) long,
+        digests_room e.end es within.3 stand.1 (All-tail IsDigest e.value (values es) long),
+      )
 
   -- a value behind a head of two octets
-  value_at : (low : ℕ) (e : Item) → Stands content e → e.start ≡ low → length e.value ≡ 32 → length (element e.typ e.value) ≡ 34
+  value_at : (low : ℕ) (e : Item) → Stands content e → e.start ≡ low → length e.value ≡ 32
+      → length (element e.typ e.value) ≡ 34
       → take 32 (drop (low + 2) content) ≡ e.value
   value_at low e stands at long whole =
       let front = head e.typ (length e.value) in
       let two : length front ≡ 2 = omega (arith, length-element e.typ e.value) in
-      let parts : drop low content ≡ front ++ (e.value ++ stands.behind) = ap (λ (n : ℕ). drop n content) (sym at) ∙ stands.parts ∙ simp append_assoc in
-      let behind : drop (low + 2) content ≡ e.value ++ stands.behind = sym (drop-drop 2 low content) ∙ ap (drop 2) parts ∙ drop_at front (e.value ++ stands.behind) 2 two in
+      let parts : drop low content ≡ front ++ (e.value ++ stands.behind) =
+      ap (λ (n : ℕ). drop n content) (sym at) ∙ stands.parts ∙ simp append_assoc in
+      let behind : drop (low + 2) content ≡ e.value ++ stands.behind =
+      sym (drop-drop 2 low content) ∙ ap (drop 2) parts ∙ drop_at front (e.value ++ stands.behind) 2 two in
       ap (take 32) behind ∙ take_at e.value stands.behind 32 long
 
-  in_row : (low : ℕ) (items : List Item) → AreWithin low high items → Each (Stands content) items → All IsDigest (values items)
-      → high ≡ low + 34 * length items → (i : ℕ) → i < length items → slice_get (values items) i ≡ Some (take 32 (drop (low + (34 * i + 2)) content))
+  in_row : (low : ℕ) (items : List Item) → AreWithin low high items → Each (Stands content) items
+      → All IsDigest (values items)
+      → high ≡ low + 34 * length items → (i : ℕ) → i < length items
+      → slice_get (values items) i ≡ Some (take 32 (drop (low + (34 * i + 2)) content))
   in_row low [] within stand long full i lt = absurd (omega (arith, lt))
   in_row low (e ∷ es) within stand long full i lt =
       let first = All-head IsDigest e.value (values es) long in
@@ -73,9 +94,11 @@ module _ (content : List ℕ) (high : ℕ) where
       let room = digests_room e.end es within.3 stand.1 others in
       let headed = element_headed e.typ e.value in
       let starts : e.start ≡ low = omega (arith, within.0, stand.0.ends, headed, first, room, full) in
-      let whole : length (element e.typ e.value) ≡ 34 = omega (arith, within.0, stand.0.ends, headed, first, room, full) in
+      let whole : length (element e.typ e.value) ≡ 34 =
+      omega (arith, within.0, stand.0.ends, headed, first, room, full) in
       let ends : e.end ≡ low + 34 = omega (arith, starts, whole, stand.0.ends) in
-      at i lt (value_at low e stand.0 starts first whole) (λ j below. in_row e.end es within.3 stand.1 others (omega (arith, full, ends)) j below) ends
+      at i lt (value_at low e stand.0 starts first whole)
+      (λ j below. in_row e.end es within.3 stand.1 others (omega (arith, full, ends)) j below) ends
     where
       place : ℕ → Option (List ℕ)
       place n = Some (take 32 (drop n content))
@@ -103,7 +126,8 @@ length-values [] = refl
 length-values (e ∷ es) = ap suc (length-values es)
 
 -- two fields that were read are the first ones
-pub fields_begin : (content : List ℕ) (read : Listing Item TlvFault) (whole behind rest : Fields) (one two : RecordField) (name count : Item)
+pub fields_begin : (content : List ℕ) (read : Listing Item TlvFault) (whole behind rest : Fields)
+    (one two : RecordField) (name count : Item)
     → read ≡ elements 0 content → whole ≡ fields record_table read
     → whole ≡ ((one, name) then behind) → one ≡ field.Name
     → behind ≡ ((two, count) then rest) → two ≡ field.SegmentCount
@@ -128,7 +152,8 @@ module _ (content : List ℕ) (fits : IsOctets content) (name count : Item) (rea
   stand =
       let E : Fields → Type 0 = λ f. Each (Stands content) (elements_of f) in
       let read = elements 0 content in
-      subst E are (each_of_fields (Stands content) record_table read.items read.fault (elements_stand content 0 content read.items read.fault refl (elements_are 0 content fits)))
+      subst E are (each_of_fields (Stands content) record_table read.items read.fault
+      (elements_stand content 0 content read.items read.fault refl (elements_are 0 content fits)))
 
   pub count_ends : count.end ≤ length content
   count_ends = AreWithin-ends count.end (length content) (field_items reader.fields.items) within.3.3
@@ -139,7 +164,9 @@ module _ (content : List ℕ) (fits : IsOctets content) (name count : Item) (rea
         → slice_get (unwrap_or o []) i ≡ Some (take 32 (drop (34 * i + 2) (drop count.end content)))
     go None p s = absurd cc
     go (Some digests) p s =
-        let counted = passes_some (λ (ds : List (List ℕ)). eqb (length ds) reader.left) (digests_among reader.fields.items reader.fields.fault) digests p in
+        let counted =
+        passes_some (λ (ds : List (List ℕ)). eqb (length ds) reader.left)
+        (digests_among reader.fields.items reader.fields.fault) digests p in
         let many : length digests ≡ reader.left = eqb-true (length digests) reader.left counted.1 in
         let ds = digest_fields reader.fields.items reader.fields.fault digests counted.0 in
         let same : field_items reader.fields.items ≡ ds.items = ap field_items ds.are ∙ items_of_digests ds.items in
@@ -147,6 +174,10 @@ module _ (content : List ℕ) (fits : IsOctets content) (name count : Item) (rea
         let at_places = subst (Each (Stands content)) same stand.1.1 in
         let long = subst (All IsDigest) (sym ds.values) ds.long in
         let size : length ds.items ≡ reader.left = sym (length-values ds.items) ∙ ap length ds.values ∙ many in
-        let exact : length content ≡ count.end + 34 * length ds.items = omega (arith, full, size, length-drop count.end content, count_ends) in
-        let found = in_row content (length content) count.end ds.items in_order at_places long exact i (omega (arith, lt, size)) in
-        ap (λ (xs : List (List ℕ)). slice_get xs i) (sym ds.values) ∙ found ∙ ap (λ (xs : List ℕ). Some (take 32 xs)) (sym (drop-drop (34 * i + 2) count.end content))
+        let exact : length content ≡ count.end + 34 * length ds.items =
+        omega (arith, full, size, length-drop count.end content, count_ends) in
+        let found =
+        in_row content (length content) count.end ds.items in_order at_places long exact i (omega (arith, lt, size)) in
+        ap (λ (xs : List (List ℕ)). slice_get xs i) (sym ds.values)
+        ∙ found
+        ∙ ap (λ (xs : List ℕ). Some (take 32 xs)) (sym (drop-drop (34 * i + 2) count.end content))

@@ -1,5 +1,6 @@
 -- Names and digests tell parts apart.
-use Rattle.std.proofs.Common.{◌≡◌, ℕ, zero, suc, ◌+◌, ◌-◌, ◌^◌, ◌<◌, ◌≤◌, List, [], ◌∷◌, ◌++◌, length, length-append, Option, Some, slice_get, Result, Ok, Err, refl, sym, ap, subst, ◌∙◌, arith}
+use Rattle.std.proofs.Common.{◌≡◌, ℕ, zero, suc, ◌+◌, ◌-◌, ◌^◌, ◌<◌, ◌≤◌, List, [], ◌∷◌, ◌++◌, length, length-append}
+use Rattle.std.proofs.Common.{Option, Some, slice_get, Result, Ok, Err, refl, sym, ap, subst, ◌∙◌, arith}
 use Rattle.std.specs.Prelude.{◌≢◌, IfSome, IsOk}
 use Rattle.std.proofs.lemmas.List.{append_cancel_right}
 use Rattle.std.proofs.lemmas.Option.{slice_get_within, get_or_from_slice_get}
@@ -18,7 +19,8 @@ use Rattle.repo_object.specs.Published.{AreClear}
 use Rattle.repo_object.specs.Wants.{WantedPart, want_record, want_segment}
 use Rattle.repo_object.specs.Verdict.{part_verdict, Passes, content_within, content_in}
 use Rattle.repo_object.proofs.Passing.{passes}
-use Rattle.repo_object.proofs.Publications.{some_is, SegmentPacket, record_named, record_read, record_again, segment_is, segment_read, all_fit}
+use Rattle.repo_object.proofs.Publications.{some_is, SegmentPacket, record_named, record_read, record_again, segment_is}
+use Rattle.repo_object.proofs.Publications.{segment_read, all_fit}
 
 -- ---- one component more
 

@@ -1,5 +1,6 @@
 -- The content of a record that was written lists what was given.
-use Rattle.std.proofs.Common.{◌≡◌, ℕ, ◌+◌, ◌≤◌, true, List, [], ◌∷◌, ◌++◌, length, append_assoc, map, Some, None, refl, ap, ◌∙◌, arith}
+use Rattle.std.proofs.Common.{◌≡◌, ℕ, ◌+◌, ◌≤◌, true, List, [], ◌∷◌, ◌++◌, length, append_assoc, map, Some, None, refl}
+use Rattle.std.proofs.Common.{ap, ◌∙◌, arith}
 use Rattle.std.specs.List.{All, flat_map}
 use Rattle.std.proofs.lemmas.List.Elements.{All-head, All-tail}
 use Rattle.ndn_tlv.specs.declared.order_table.FieldFault.{FieldFault}
@@ -36,20 +37,24 @@ digest_items o (d ∷ ds) = placed o 0x83 d ∷ digest_items (o + length (elemen
 abbrev only_items : List Item → Listing Item TlvFault
 only_items items = record { items = items; fault = None }
 
-digests_read : (o : ℕ) (ds : List (List ℕ)) → All IsDigest ds → elements o (flat_map (element 0x83) ds) ≡ only_items (digest_items o ds)
+digests_read : (o : ℕ) (ds : List (List ℕ)) → All IsDigest ds
+    → elements o (flat_map (element 0x83) ds) ≡ only_items (digest_items o ds)
 unfolding digest_items
 digests_read o [] long = elements-nil o [] refl
 digests_read o (d ∷ ds) long =
     let first : length d ≡ 32 = All-head IsDigest d ds long in
-    followed o 0x83 d (flat_map (element 0x83) ds) (only_items (digest_items (o + length (element 0x83 d)) ds)) (omega arith) (omega arith) (omega arith)
+    followed o 0x83 d (flat_map (element 0x83) ds) (only_items (digest_items (o + length (element 0x83 d)) ds))
+    (omega arith) (omega arith) (omega arith)
     (digests_read (o + length (element 0x83 d)) ds (All-tail IsDigest d ds long))
 
 digests_are_fields : (o : ℕ) (ds : List (List ℕ))
-    → fields_among (digest_place ∷ []) (digest_items o ds) None ≡ record { items = map (λ (d : Item). (field.Digest, d)) (digest_items o ds); fault = None }
+    → fields_among (digest_place ∷ []) (digest_items o ds) None
+    ≡ record { items = map (λ (d : Item). (field.Digest, d)) (digest_items o ds); fault = None }
 unfolding fields_among place_of digest_items
 digests_are_fields o [] = refl
 digests_are_fields o (d ∷ ds) =
-    ap (λ (l : Listing Field FieldFault). (field.Digest, placed o 0x83 d) then l) (digests_are_fields (o + length (element 0x83 d)) ds)
+    ap (λ (l : Listing Field FieldFault). (field.Digest, placed o 0x83 d) then l)
+    (digests_are_fields (o + length (element 0x83 d)) ds)
 
 digest_values : (o : ℕ) (ds : List (List ℕ)) → map (λ (d : Item). d.value) (digest_items o ds) ≡ ds
 unfolding digest_items
@@ -57,7 +62,8 @@ digest_values o [] = refl
 digest_values o (d ∷ ds) = ap (λ (xs : List (List ℕ)). d ∷ xs) (digest_values (o + length (element 0x83 d)) ds)
 
 table : (a b : Item) (rest : List Item) → a.typ ≡ 0x07 → b.typ ≡ 0x81
-    → fields record_table (a then (b then only_items rest)) ≡ ((field.Name, a) then ((field.SegmentCount, b) then fields_among (digest_place ∷ []) rest None))
+    → fields record_table (a then (b then only_items rest))
+    ≡ ((field.Name, a) then ((field.SegmentCount, b) then fields_among (digest_place ∷ []) rest None))
 unfolding fields_among place_of
 table a b rest h k = rw (h, k) refl
 
@@ -76,13 +82,19 @@ written_lists l within =
     let short : length name ≤ 400 = named_short l.name within.named in
     let read : elements 0 (record_content l) ≡ (a then (b then only_items (digest_items p l.digests))) =
     ap (elements 0) (append_assoc first second others)
-    ∙ followed 0 0x07 name (second ++ others) (b then only_items (digest_items p l.digests)) (omega arith) (omega arith) (omega arith)
-    (followed o 0x81 (number_field n) others (only_items (digest_items p l.digests)) (omega arith) (omega arith) (omega arith) (digests_read p l.digests within.digests)) in
+    ∙ followed 0 0x07 name (second ++ others) (b then only_items (digest_items p l.digests)) (omega arith) (omega arith)
+    (omega arith)
+    (followed o 0x81 (number_field n) others (only_items (digest_items p l.digests)) (omega arith) (omega arith)
+    (omega arith) (digests_read p l.digests within.digests)) in
     record {
       name = a;
       count = b;
       digests = digest_items p l.digests;
-      fields = ap (fields record_table) read ∙ table a b (digest_items p l.digests) refl refl ∙ ap (λ (f : Listing Field FieldFault). (field.Name, a) then ((field.SegmentCount, b) then f)) (digests_are_fields p l.digests);
+      fields =
+          ap (fields record_table) read
+          ∙ table a b (digest_items p l.digests) refl refl
+          ∙ ap (λ (f : Listing Field FieldFault). (field.Name, a) then ((field.SegmentCount, b) then f))
+          (digests_are_fields p l.digests);
       names = name_of-encoding a.value_start l.name within.name;
       named = within.named;
       counts = number_of-number_field n (omega (arith, within.few));

@@ -1,5 +1,7 @@
 -- What the content of a record is read as.
-use Rattle.std.specs.Prelude.{◌≡◌, ◌<◌, ◌≤◌, ℕ, ◌+◌, ◌*◌, Bool, IsTrue, IsSome, List, [], ◌∷◌, length, map, take, drop, slice_get, Option, Some, None, option_map, unwrap_or, Result, Ok, Err, nat_le, ◌==◌, if◌then◌else◌}
+use Rattle.std.specs.Prelude.{◌≡◌, ◌<◌, ◌≤◌, ℕ, ◌+◌, ◌*◌, Bool, IsTrue, IsSome, List, [], ◌∷◌, length, map, take, drop}
+use Rattle.std.specs.Prelude.{slice_get, Option, Some, None, option_map, unwrap_or, Result, Ok, Err, nat_le, ◌==◌}
+use Rattle.std.specs.Prelude.{if◌then◌else◌}
 use Rattle.std.specs.List.{All}
 use Rattle.std.specs.Option.{option_and_then}
 use Rattle.ndn_tlv.specs.Types as types

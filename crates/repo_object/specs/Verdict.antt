@@ -1,5 +1,6 @@
 -- Whether octets pass for a wanted part, and else the first reason why not.
-use Rattle.std.specs.Prelude.{◌≡◌, ℕ, ◌&&◌, ◌||◌, not, Bool, true, false, IsSome, IfSome, List, [], ◌++◌, Option, Some, None, is_some, unwrap_or, slice_get, Result, Ok, Err, IsOk, ◌==◌, if◌then◌else◌}
+use Rattle.std.specs.Prelude.{◌≡◌, ℕ, ◌&&◌, ◌||◌, not, Bool, true, false, IsSome, IfSome, List, [], ◌++◌, Option, Some}
+use Rattle.std.specs.Prelude.{None, is_some, unwrap_or, slice_get, Result, Ok, Err, IsOk, ◌==◌, if◌then◌else◌}
 use Rattle.std.specs.Str.{bytes_eq}
 use Rattle.sha2.specs.Sha256.{sha256}
 use Rattle.ndn_tlv.specs.Types as types
@@ -12,7 +13,9 @@ use Rattle.ndn_sign.specs.Ring.{NamedKey, pair}
 use Rattle.ndn_packet.specs.SignatureInfo.{SignatureHmacWithSha256}
 use Rattle.ndn_data.specs.Data.{Data, data_of, IsAllSigned}
 use Rattle.repo_object.specs.declared.part_refusal.PartRefusal.{PartRefusal}
-use Rattle.repo_object.specs.declared.part_refusal.PartRefusal.TheVariants.{Packet, UnsignedOctets, OtherName, OtherDigest, UnknownKey, BadSignature, BadRecord}
+use Rattle.repo_object.specs.declared.part_refusal.PartRefusal.TheVariants.{Packet, UnsignedOctets, OtherName}
+use Rattle.repo_object.specs.declared.part_refusal.PartRefusal.TheVariants.{OtherDigest, UnknownKey, BadSignature}
+use Rattle.repo_object.specs.declared.part_refusal.PartRefusal.TheVariants.{BadRecord}
 use Rattle.repo_object.specs.Publication.{Listed}
 use Rattle.repo_object.specs.Records.{listing_of}
 use Rattle.repo_object.specs.Wants.{WantedPart}

@@ -1,4 +1,5 @@
-ghost use Rattle.std.specs.Prelude.{◌≡◌, ◌≢◌, ◌+◌, ◌≤◌, ◌<◌, ◌^◌, ◌↔◌, ◌-◌, ℕ, false, List, Some, Ok, IsOk, length, slice_get};
+ghost use Rattle.std.specs.Prelude.{◌≡◌, ◌≢◌, ◌+◌, ◌≤◌, ◌<◌, ◌^◌, ◌↔◌, ◌-◌, ℕ, false, List, Some, Ok, IsOk, length};
+ghost use Rattle.std.specs.Prelude.{slice_get};
 ghost use Rattle.std.specs.List.{All};
 ghost use Rattle.sha2.specs.Sha256.{sha256};
 ghost use Rattle.ndn_tlv.specs.Elements.{IsOctets};
@@ -8,7 +9,8 @@ ghost use Rattle.ndn_data.specs.Data.{Data, Satisfies};
 ghost use Rattle.ndn_interest.specs.Interest.{interest_of};
 ghost use Rattle.ndn_interest.specs.WrittenInterest.{read_plain};
 ghost use Rattle.repo_plan.specs.declared.part.Part.{Part};
-ghost use Rattle.repo_object.specs.Objects.{NamedContents, IsObject, Publisher, IsPublisher, IsShortName, key_name, record_name, segment_name};
+ghost use Rattle.repo_object.specs.Objects.{NamedContents, IsObject, Publisher, IsPublisher, IsShortName, key_name};
+ghost use Rattle.repo_object.specs.Objects.{record_name, segment_name};
 ghost use Rattle.repo_object.specs.Publication.{Listed, packets, packet_at, published_listing, record_packet};
 ghost use Rattle.repo_object.specs.Limits.{node_name_limit, object_name_limit, segment_limit, content_limit};
 ghost use Rattle.repo_object.specs.Published.{AreClear};

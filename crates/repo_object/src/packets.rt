@@ -5,7 +5,8 @@ ghost use Rattle.ndn_packet.specs.Outer.{packet_limit};
 ghost use Rattle.ndn_data.specs.WrittenData.{written_data};
 ghost use Rattle.repo_object.specs.Limits.{node_name_limit, object_name_limit, segment_limit, content_limit};
 ghost use Rattle.repo_object.specs.Objects.{publisher};
-ghost use Rattle.repo_object.specs.Publication.{record_content, record_packet, packets, packet_at, segment_packet, segment_packets};
+ghost use Rattle.repo_object.specs.Publication.{record_content, record_packet, packets, packet_at, segment_packet};
+ghost use Rattle.repo_object.specs.Publication.{segment_packets};
 ghost use Rattle.repo_object.specs.Records.{listed_record};
 
 use crate::digested::Digested;

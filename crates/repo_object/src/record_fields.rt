@@ -1,8 +1,10 @@
-ghost use Rattle.std.specs.Prelude.{◌≡◌, ◌+◌, ◌^◌, ◌<◌, ◌≤◌, [], ◌∷◌, length, option_map, slice_get, IsSome, is_some, MatchOption, IfSome, IfOk, IfErr};
+ghost use Rattle.std.specs.Prelude.{◌≡◌, ◌+◌, ◌^◌, ◌<◌, ◌≤◌, [], ◌∷◌, length, option_map, slice_get, IsSome, is_some};
+ghost use Rattle.std.specs.Prelude.{MatchOption, IfSome, IfOk, IfErr};
 ghost use Rattle.ndn_tlv.specs.Elements.{item};
 ghost use Rattle.ndn_name.specs.Names.{encoding};
 ghost use Rattle.repo_object.specs.Limits.{object_name_limit, segment_limit};
-ghost use Rattle.repo_object.specs.Records.{listing_of, digest_in, object_name_in, segment_count_in, digests_to_come, digests_left, IsRow, listing_to_come};
+ghost use Rattle.repo_object.specs.Records.{listing_of, digest_in, object_name_in, segment_count_in, digests_to_come};
+ghost use Rattle.repo_object.specs.Records.{digests_left, IsRow, listing_to_come};
 
 use crate::object::{SEGMENT_LIMIT, is_object_name};
 use crate::record_fault::RecordFault;

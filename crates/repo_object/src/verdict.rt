@@ -1,6 +1,7 @@
 ghost use Rattle.std.specs.Prelude.{◌≡◌, ◌<◌, length, MatchResult, Ok, Err};
 ghost use Rattle.ndn_data.specs.Data.{data_seen};
-ghost use Rattle.repo_object.specs.Verdict.{is_all_signed, locates, names_key, is_signed_by, lists_if_record, packet_verdict, key_at};
+ghost use Rattle.repo_object.specs.Verdict.{is_all_signed, locates, names_key, is_signed_by, lists_if_record};
+ghost use Rattle.repo_object.specs.Verdict.{packet_verdict, key_at};
 
 use crate::expected::Expected;
 use crate::listing::is_record;

@@ -1,5 +1,6 @@
 -- Lists of wanted parts that nobody claims, in words of wanted parts.
-use Rattle.std.proofs.Common.{◌≡◌, ◌≢◌, ◌↔◌, ◌⊎◌, inl, inr, ℕ, zero, suc, ◌≤◌, ◌<◌, Bool, true, false, not, ◌&&◌, List, [], ◌∷◌, take, length, Option, Some, None, refl, sym, ap, ◌∙◌, subst, arith}
+use Rattle.std.proofs.Common.{◌≡◌, ◌≢◌, ◌↔◌, ◌⊎◌, inl, inr, ℕ, zero, suc, ◌≤◌, ◌<◌, Bool, true, false, not, ◌&&◌, List}
+use Rattle.std.proofs.Common.{[], ◌∷◌, take, length, Option, Some, None, refl, sym, ap, ◌∙◌, subst, arith}
 use Rattle.std.proofs.lemmas.Bool.{true≢false, and_parts, and_from, false_from_ne_true, cases_lt}
 use Rattle.std.proofs.lemmas.List.{take_all, length-take-le}
 use Rattle.std.specs.List.{filter}
@@ -26,7 +27,9 @@ record IsFree (p : Holdings) (t : Part) : Type 0 where
   pub unclaimed : is_claimed p t ≡ false
 
 free : (p : Holdings) (t : Part) → is_unclaimed p t ≡ true → IsFree p t
-free p t h = let b : (is_wanted p t ≡ true) × (not (is_claimed p t) ≡ true) = and_parts (is_wanted p t) _ h in record { wanted = b.0; unclaimed = not_true (is_claimed p t) b.1 }
+free p t h =
+    let b : (is_wanted p t ≡ true) × (not (is_claimed p t) ≡ true) = and_parts (is_wanted p t) _ h in
+    record { wanted = b.0; unclaimed = not_true (is_claimed p t) b.1 }
 
 is_free : (p : Holdings) (t : Part) → is_wanted p t ≡ true → is_claimed p t ≡ false → is_unclaimed p t ≡ true
 is_free p t w c = and_from (is_wanted p t) (not (is_claimed p t)) w (ap not c)
@@ -38,32 +41,42 @@ module _ (p : Holdings) where
   found [] e t h = absurd cc
   found (x ∷ xs) e t h =
       let same : x ≡ t = some_same x t h in
-      sym (contains-unclaimed p t) ∙ ap (λ (ys : List Part). contains part_cmp ys t) e ∙ contains_in exact_parts (x ∷ xs) t (inl (sym same)) where
+      sym (contains-unclaimed p t)
+      ∙ ap (λ (ys : List Part). contains part_cmp ys t) e
+      ∙ contains_in exact_parts (x ∷ xs) t (inl (sym same)) where
         some_same : (a b : Part) → Some a ≡ Some b → a ≡ b
         some_same a b g = cc
 
-  least_first : (xs : List Part) → unclaimed p ≡ xs → (t u : Part) → first xs ≡ Some t → is_unclaimed p u ≡ true → part_cmp u t ≢ Less
+  least_first : (xs : List Part) → unclaimed p ≡ xs → (t u : Part) → first xs ≡ Some t → is_unclaimed p u ≡ true
+      → part_cmp u t ≢ Less
   least_first [] e t u h g l = absurd cc
   least_first (x ∷ xs) e t u h g l =
       let same : x ≡ t = some_same x t h in
       let there = sym (ap (λ (ys : List Part). contains part_cmp ys u) e) ∙ contains-unclaimed p u ∙ g in
       elim (head_least exact_parts x xs u (subst (Rises part_cmp) e (unclaimed_rises p)) there) [
         | inl s ↦ lt_irrefl exact_parts u (subst (λ (w : Part). part_cmp u w ≡ Less) (sym same ∙ s) l)
-        | inr before ↦ lt_irrefl exact_parts u (lt_trans exact_parts u t u l (subst (λ (w : Part). part_cmp w u ≡ Less) same before))
+        | inr before ↦
+            lt_irrefl exact_parts u
+            (lt_trans exact_parts u t u l (subst (λ (w : Part). part_cmp w u ≡ Less) same before))
       ] where
         some_same : (a b : Part) → Some a ≡ Some b → a ≡ b
         some_same a b g = cc
 
-  all_claimed : (xs : List Part) → unclaimed p ≡ xs → first xs ≡ None → (t : Part) → is_wanted p t ≡ true → is_claimed p t ≡ true
+  all_claimed : (xs : List Part) → unclaimed p ≡ xs → first xs ≡ None → (t : Part) → is_wanted p t ≡ true
+      → is_claimed p t ≡ true
   all_claimed [] e h t w = claimed (is_claimed p t) refl where
     claimed : (b : Bool) → is_claimed p t ≡ b → b ≡ true
     claimed true c = refl
-    claimed false c = absurd (true≢false (sym (is_free p t w c) ∙ sym (contains-unclaimed p t) ∙ ap (λ (ys : List Part). contains part_cmp ys t) e))
+    claimed false c =
+        absurd (true≢false
+        (sym (is_free p t w c) ∙ sym (contains-unclaimed p t) ∙ ap (λ (ys : List Part). contains part_cmp ys t) e))
   all_claimed (x ∷ xs) e h t w = absurd cc
 
-  none_free : (xs : List Part) → unclaimed p ≡ xs → ((t : Part) → is_wanted p t ≡ true → is_claimed p t ≡ true) → first xs ≡ None
+  none_free : (xs : List Part) → unclaimed p ≡ xs → ((t : Part) → is_wanted p t ≡ true → is_claimed p t ≡ true)
+      → first xs ≡ None
   none_free [] e h = refl
-  none_free (x ∷ xs) e h = let f : IsFree p x = free p x (found (x ∷ xs) e x refl) in absurd (true≢false (sym (h x f.wanted) ∙ f.unclaimed))
+  none_free (x ∷ xs) e h =
+      let f : IsFree p x = free p x (found (x ∷ xs) e x refl) in absurd (true≢false (sym (h x f.wanted) ∙ f.unclaimed))
 
   pub first_is_least : IsLeastUnclaimed p (first (unclaimed p))
   first_is_least = record {
@@ -84,13 +97,22 @@ in_take (suc n) (x ∷ xs) t (inr i) = inr (in_take n xs t i)
 rises_take : (n : ℕ) (xs : List Part) → Rises part_cmp xs → Rises part_cmp (take n xs)
 rises_take zero xs r = tt
 rises_take (suc n) [] r = tt
-rises_take (suc n) (x ∷ xs) r = (before_each exact_parts.total x (take n xs) (λ y i. each_before exact_parts.total x xs r.0 y (in_take n xs y i)), rises_take n xs r.1)
+rises_take (suc n) (x ∷ xs) r = (
+  before_each exact_parts.total x (take n xs) (λ y i. each_before exact_parts.total x xs r.0 y (in_take n xs y i)),
+  rises_take n xs r.1,
+)
 
 module _ (p : Holdings) (after : Option Part) (most : ℕ) where
-  listed : (t : Part) → contains part_cmp (take most (filter (is_after after) (unclaimed p))) t ≡ true → (is_after after t ≡ true) × (is_unclaimed p t ≡ true)
+  listed : (t : Part) → contains part_cmp (take most (filter (is_after after) (unclaimed p))) t ≡ true
+      → (is_after after t ≡ true) × (is_unclaimed p t ≡ true)
   listed t h =
-      let there = contains_in exact_parts (filter (is_after after) (unclaimed p)) t (in_take most _ t (in_contains exact_parts (take most (filter (is_after after) (unclaimed p))) t h)) in
-      and_parts (is_after after t) (is_unclaimed p t) (sym (contains-filter exact_parts (is_after after) (unclaimed p) t ∙ ap (λ (b : Bool). is_after after t && b) (contains-unclaimed p t)) ∙ there)
+      let there =
+      contains_in exact_parts (filter (is_after after) (unclaimed p)) t
+      (in_take most _ t (in_contains exact_parts (take most (filter (is_after after) (unclaimed p))) t h)) in
+      and_parts (is_after after t) (is_unclaimed p t)
+      (sym (contains-filter exact_parts (is_after after) (unclaimed p) t
+      ∙ ap (λ (b : Bool). is_after after t && b) (contains-unclaimed p t))
+      ∙ there)
 
   pub list_is_behind : IsListBehind p after most (take most (filter (is_after after) (unclaimed p)))
   list_is_behind = record {

@@ -24,7 +24,8 @@ use std::marker::Model;
 #[derive(Debug, Drop)]
 pub struct Plan {
     known: Vec<u16>,
-    // By publisher, the numbers of the publications of which no part is wanted any more. A search passes them run by run.
+    // By publisher, the numbers of the publications of which no part is wanted any more. A search passes them run by
+    // run.
     done: Runs<u32>,
     // By publication, the numbers of the held parts of those that are not done.
     held: Runs<(u32, u16)>,
@@ -120,8 +121,8 @@ impl Plan {
         self.segments(publisher, seq).is_some() && self.done.contains((publisher, seq))
     }
 
-    /// How many runs there are, over all publishers, of numbers that follow one another and whose publications are hidden
-    /// or held whole, each run as long as can be.
+    /// How many runs there are, over all publishers, of numbers that follow one another and whose publications are
+    /// hidden or held whole, each run as long as can be.
     pub fn runs(&self) -> usize
         ensures { result ≡ length (run_ends self.now) }
     {

@@ -1,5 +1,7 @@
 -- The blocks of a process, as a map from their indexes.
-use Rattle.std.proofs.Common.{◌≡◌, ℕ, zero, suc, ◌+◌, ◌-◌, ◌<◌, ◌≤◌, Bool, true, false, not, eqb, cond, List, [], ◌∷◌, length, map, filter, get_or, replicate, Option, Some, None, refl, sym, ap, ◌∙◌, inl, inr, arith}
+use Rattle.std.proofs.Common.{◌≡◌, ℕ, zero, suc, ◌+◌, ◌-◌, ◌<◌, ◌≤◌, Bool, true, false, not, eqb, cond, List, [], ◌∷◌}
+use Rattle.std.proofs.Common.{length, map, filter, get_or, replicate, Option, Some, None, refl, sym, ap, ◌∙◌, inl, inr}
+use Rattle.std.proofs.Common.{arith}
 use Rattle.std.specs.Prelude.{slice_set, is_some, unwrap_or}
 use Rattle.std.specs.Vec.{vec_len}
 use Rattle.std.specs.Prelude.{Vec, count_by}
@@ -35,15 +37,18 @@ no_block n first [] below = refl
 no_block n first ([] ∷ cs) below = no_block n (first + 1) cs (omega arith)
 no_block n first ((x ∷ xs) ∷ cs) below = rw (key_below n first below) (no_block n (first + 1) cs (omega arith))
 
-pub block_at : (first j : ℕ) (cs : List (List ℕ)) → value_of nat_cmp (blocks_from first cs) (first + j) ≡ come (get_or cs j [])
+pub block_at : (first j : ℕ) (cs : List (List ℕ))
+    → value_of nat_cmp (blocks_from first cs) (first + j) ≡ come (get_or cs j [])
 block_at first j [] = refl
 block_at first zero ([] ∷ cs) = rw (here first) (no_block first (first + 1) cs (omega arith))
 block_at first zero ((x ∷ xs) ∷ cs) = rw (here first, same_key first) refl
 block_at first (suc j) ([] ∷ cs) = rw (next first j) (block_at (first + 1) j cs)
-block_at first (suc j) ((x ∷ xs) ∷ cs) = rw (key_above (first + suc j) first (omega arith), next first j) (block_at (first + 1) j cs)
+block_at first (suc j) ((x ∷ xs) ∷ cs) =
+    rw (key_above (first + suc j) first (omega arith), next first j) (block_at (first + 1) j cs)
 
 -- a block stands within the places
-pub block_within : (n first : ℕ) (cs : List (List ℕ)) → is_some (value_of nat_cmp (blocks_from first cs) n) ≡ true → (first ≤ n) × (n < first + length cs)
+pub block_within : (n first : ℕ) (cs : List (List ℕ)) → is_some (value_of nat_cmp (blocks_from first cs) n) ≡ true
+    → (first ≤ n) × (n < first + length cs)
 block_within n first cs there = elim (cases_lt n first) [
   | inl below ↦ absurd (none (no_block n first cs below))
   | inr above ↦ elim (cases_lt n (first + length cs)) [
@@ -55,7 +60,9 @@ block_within n first cs there = elim (cases_lt n first) [
   none e = let h : is_some {T = List ℕ} None ≡ true = ap is_some (sym e) ∙ there in absurd cc
 
   at_place : first ≤ n → value_of nat_cmp (blocks_from first cs) n ≡ come (get_or cs (n - first) [])
-  at_place above = let same : n ≡ first + (n - first) = omega arith in ap (value_of nat_cmp (blocks_from first cs)) same ∙ block_at first (n - first) cs
+  at_place above =
+      let same : n ≡ first + (n - first) = omega arith in
+      ap (value_of nat_cmp (blocks_from first cs)) same ∙ block_at first (n - first) cs
 
   past : (xs : List (List ℕ)) (j : ℕ) → length xs ≤ j → get_or xs j [] ≡ []
   past [] j h = refl
@@ -64,7 +71,8 @@ block_within n first cs there = elim (cases_lt n first) [
 
 -- ---- a block more
 
-put_first : (k first : ℕ) (v : List ℕ) (cs : List (List ℕ)) → k < first → with_value nat_cmp k v (blocks_from first cs) ≡ (k, v) ∷ blocks_from first cs
+put_first : (k first : ℕ) (v : List ℕ) (cs : List (List ℕ)) → k < first
+    → with_value nat_cmp k v (blocks_from first cs) ≡ (k, v) ∷ blocks_from first cs
 put_first k first v [] below = refl
 put_first k first v ([] ∷ cs) below = put_first k (first + 1) v cs (omega arith)
 put_first k first v ((x ∷ xs) ∷ cs) below = rw (nat_less k first below) refl
@@ -74,11 +82,14 @@ pub with_block_at : (first j y : ℕ) (ys : List ℕ) (cs : List (List ℕ)) →
 with_block_at first j y ys [] within = absurd (omega arith)
 with_block_at first zero y ys ([] ∷ cs) within = rw (here first) (put_first first (first + 1) (y ∷ ys) cs (omega arith))
 with_block_at first zero y ys ((x ∷ xs) ∷ cs) within = rw (here first, nat_itself first) refl
-with_block_at first (suc j) y ys ([] ∷ cs) within = rw (next first j) (with_block_at (first + 1) j y ys cs (omega arith))
+with_block_at first (suc j) y ys ([] ∷ cs) within =
+    rw (next first j) (with_block_at (first + 1) j y ys cs (omega arith))
 with_block_at first (suc j) y ys ((x ∷ xs) ∷ cs) within =
     let rest = blocks_from (first + 1) cs in
     later (first + suc j) first (y ∷ ys) (x ∷ xs) rest (omega arith)
-    ∙ ap (λ (bs : List (ℕ × List ℕ)). (first, x ∷ xs) ∷ bs) (ap (λ (n : ℕ). with_value nat_cmp n (y ∷ ys) rest) (next first j) ∙ with_block_at (first + 1) j y ys cs (omega arith))
+    ∙ ap (λ (bs : List (ℕ × List ℕ)). (first, x ∷ xs) ∷ bs)
+    (ap (λ (n : ℕ). with_value nat_cmp n (y ∷ ys) rest) (next first j)
+    ∙ with_block_at (first + 1) j y ys cs (omega arith))
 
 -- ---- a block less
 
@@ -88,16 +99,20 @@ but n block = not (eqb block.0 n)
 pub other : (a b : ℕ) → (a ≡ b → ⊥) → eqb a b ≡ false
 other a b apart = grind arith
 
-keeps_others : (n first : ℕ) (cs : List (List ℕ)) → n < first → filter (but n) (blocks_from first cs) ≡ blocks_from first cs
+keeps_others : (n first : ℕ) (cs : List (List ℕ)) → n < first
+    → filter (but n) (blocks_from first cs) ≡ blocks_from first cs
 keeps_others n first [] below = refl
 keeps_others n first ([] ∷ cs) below = keeps_others n (first + 1) cs (omega arith)
 keeps_others n first ((x ∷ xs) ∷ cs) below =
-    rw (other first n (λ e. omega arith)) (ap (λ (bs : List (ℕ × List ℕ)). (first, x ∷ xs) ∷ bs) (keeps_others n (first + 1) cs (omega arith)))
+    rw (other first n (λ e. omega arith))
+    (ap (λ (bs : List (ℕ × List ℕ)). (first, x ∷ xs) ∷ bs) (keeps_others n (first + 1) cs (omega arith)))
 
-drops : (n first : ℕ) (c : List ℕ) (rest : List (ℕ × List ℕ)) → first ≡ n → filter (but n) ((first, c) ∷ rest) ≡ filter (but n) rest
+drops : (n first : ℕ) (c : List ℕ) (rest : List (ℕ × List ℕ)) → first ≡ n
+    → filter (but n) ((first, c) ∷ rest) ≡ filter (but n) rest
 drops n first c rest same = rw (eq-eqb first n same) refl
 
-keeps : (n first : ℕ) (c : List ℕ) (rest : List (ℕ × List ℕ)) → first < n → filter (but n) ((first, c) ∷ rest) ≡ (first, c) ∷ filter (but n) rest
+keeps : (n first : ℕ) (c : List ℕ) (rest : List (ℕ × List ℕ)) → first < n
+    → filter (but n) ((first, c) ∷ rest) ≡ (first, c) ∷ filter (but n) rest
 keeps n first c rest below = rw (other first n (λ e. omega arith)) refl
 
 pub without_block_at : (first j : ℕ) (cs : List (List ℕ)) → j < length cs
@@ -105,12 +120,15 @@ pub without_block_at : (first j : ℕ) (cs : List (List ℕ)) → j < length cs
 without_block_at first j [] within = absurd (omega arith)
 without_block_at first zero ([] ∷ cs) within = sym (keeps_others (first + 0) (first + 1) cs (omega arith))
 without_block_at first zero ((x ∷ xs) ∷ cs) within =
-    sym (drops (first + 0) first (x ∷ xs) (blocks_from (first + 1) cs) (omega arith) ∙ keeps_others (first + 0) (first + 1) cs (omega arith))
+    sym (drops (first + 0) first (x ∷ xs) (blocks_from (first + 1) cs) (omega arith)
+    ∙ keeps_others (first + 0) (first + 1) cs (omega arith))
 without_block_at first (suc j) ([] ∷ cs) within =
-    without_block_at (first + 1) j cs (omega arith) ∙ ap (λ (n : ℕ). filter (but n) (blocks_from (first + 1) cs)) (sym (next first j))
+    without_block_at (first + 1) j cs (omega arith)
+    ∙ ap (λ (n : ℕ). filter (but n) (blocks_from (first + 1) cs)) (sym (next first j))
 without_block_at first (suc j) ((x ∷ xs) ∷ cs) within =
     let rest = blocks_from (first + 1) cs in
-    ap (λ (bs : List (ℕ × List ℕ)). (first, x ∷ xs) ∷ bs) (without_block_at (first + 1) j cs (omega arith) ∙ ap (λ (n : ℕ). filter (but n) rest) (sym (next first j)))
+    ap (λ (bs : List (ℕ × List ℕ)). (first, x ∷ xs) ∷ bs)
+    (without_block_at (first + 1) j cs (omega arith) ∙ ap (λ (n : ℕ). filter (but n) rest) (sym (next first j)))
     ∙ sym (keeps (first + suc j) first (x ∷ xs) rest (omega arith))
 
 -- ---- blocks that have come, counted
@@ -125,10 +143,12 @@ missing_in ((x ∷ xs) ∷ cs) = missing_in cs
 abbrev Tells : (ℕ → Bool) → ℕ → List (List ℕ) → Type 0
 Tells g first cs = (j : ℕ) → j < length cs → g (first + j) ≡ is_some (come (get_or cs j []))
 
-tells_rest : (g : ℕ → Bool) (first : ℕ) (c : List ℕ) (cs : List (List ℕ)) → Tells g first (c ∷ cs) → Tells g (first + 1) cs
+tells_rest : (g : ℕ → Bool) (first : ℕ) (c : List ℕ) (cs : List (List ℕ)) → Tells g first (c ∷ cs)
+    → Tells g (first + 1) cs
 tells_rest g first c cs tells j within = ap g (sym (next first j)) ∙ tells (suc j) (omega arith)
 
-tells_here : (g : ℕ → Bool) (first : ℕ) (c : List ℕ) (cs : List (List ℕ)) → Tells g first (c ∷ cs) → g first ≡ is_some (come c)
+tells_here : (g : ℕ → Bool) (first : ℕ) (c : List ℕ) (cs : List (List ℕ)) → Tells g first (c ∷ cs)
+    → g first ≡ is_some (come c)
 tells_here g first c cs tells = ap g (sym (here first)) ∙ tells zero (omega arith)
 
 pub come_or_missing : (g : ℕ → Bool) (first : ℕ) (cs : List (List ℕ)) → Tells g first cs
@@ -144,14 +164,17 @@ come_or_missing g first ((x ∷ xs) ∷ cs) tells =
 pub all_come : (g : ℕ → Bool) (first : ℕ) (cs : List (List ℕ)) → Tells g first cs
     → list_all g (numbers_from first (length cs)) ≡ eqb (missing_in cs) 0
 all_come g first [] tells = refl
-all_come g first ([] ∷ cs) tells = rw (tells_here g first [] cs tells) (sym (other (suc (missing_in cs)) 0 (λ e. omega arith)))
-all_come g first ((x ∷ xs) ∷ cs) tells = rw (tells_here g first (x ∷ xs) cs tells) (all_come g (first + 1) cs (tells_rest g first (x ∷ xs) cs tells))
+all_come g first ([] ∷ cs) tells =
+    rw (tells_here g first [] cs tells) (sym (other (suc (missing_in cs)) 0 (λ e. omega arith)))
+all_come g first ((x ∷ xs) ∷ cs) tells =
+    rw (tells_here g first (x ∷ xs) cs tells) (all_come g (first + 1) cs (tells_rest g first (x ∷ xs) cs tells))
 
 pub come_again : (c : List ℕ) → unwrap_or (come c) [] ≡ c
 come_again [] = refl
 come_again (x ∷ xs) = refl
 
-pub contents_again : (f : ℕ → List ℕ) (first : ℕ) (cs : List (List ℕ)) → ((j : ℕ) → j < length cs → f (first + j) ≡ get_or cs j [])
+pub contents_again : (f : ℕ → List ℕ) (first : ℕ) (cs : List (List ℕ))
+    → ((j : ℕ) → j < length cs → f (first + j) ≡ get_or cs j [])
     → map f (numbers_from first (length cs)) ≡ cs
 contents_again f first [] same = refl
 contents_again f first (c ∷ cs) same =
@@ -169,16 +192,23 @@ none_missing [] none short = All-nil IsContent
 none_missing ([] ∷ cs) none short = absurd (omega arith)
 none_missing ((x ∷ xs) ∷ cs) none short =
     let P : List ℕ → Type 0 = λ c. length c ≤ 8000 in
-    All-cons IsContent (x ∷ xs) cs (omega arith, All-head P (x ∷ xs) cs short) (none_missing cs none (All-tail P (x ∷ xs) cs short))
+    All-cons IsContent (x ∷ xs) cs (omega arith, All-head P (x ∷ xs) cs short)
+    (none_missing cs none (All-tail P (x ∷ xs) cs short))
 
 -- ---- contents that are kept
 
-pub missing-vecs : (vs : List (Vec ℕ Global)) → missing_in (map (λ (c : Vec ℕ Global). c.items) vs) ≡ count_by (λ (c : Vec ℕ Global). eqb (vec_len c) 0) vs
-missing-vecs = is_count_by (λ (vs : List (Vec ℕ Global)). missing_in (map (λ (c : Vec ℕ Global). c.items) vs)) (λ (c : Vec ℕ Global). eqb (vec_len c) 0) refl one where
-  by_length : (c : List ℕ) (n : ℕ) (cs : List (List ℕ)) → n ≡ length c → missing_in (c ∷ cs) ≡ cond (eqb n 0) (1 + missing_in cs) (missing_in cs)
-  by_length [] n cs same = rw same (omega arith)
-  by_length (x ∷ xs) n cs same = rw (other n 0 (λ e. omega arith)) refl
+pub missing-vecs : (vs : List (Vec ℕ Global))
+    → missing_in (map (λ (c : Vec ℕ Global). c.items) vs) ≡ count_by (λ (c : Vec ℕ Global). eqb (vec_len c) 0) vs
+missing-vecs =
+    is_count_by (λ (vs : List (Vec ℕ Global)). missing_in (map (λ (c : Vec ℕ Global). c.items) vs))
+    (λ (c : Vec ℕ Global). eqb (vec_len c) 0) refl one where
+      by_length : (c : List ℕ) (n : ℕ) (cs : List (List ℕ)) → n ≡ length c
+          → missing_in (c ∷ cs) ≡ cond (eqb n 0) (1 + missing_in cs) (missing_in cs)
+      by_length [] n cs same = rw same (omega arith)
+      by_length (x ∷ xs) n cs same = rw (other n 0 (λ e. omega arith)) refl
 
-  one : (v : Vec ℕ Global) (vs : List (Vec ℕ Global))
-      → missing_in (map (λ (c : Vec ℕ Global). c.items) (v ∷ vs)) ≡ cond (eqb (vec_len v) 0) (1 + missing_in (map (λ (c : Vec ℕ Global). c.items) vs)) (missing_in (map (λ (c : Vec ℕ Global). c.items) vs))
-  one v vs = by_length v.items v.len (map (λ (c : Vec ℕ Global). c.items) vs) v.ok.0
+      one : (v : Vec ℕ Global) (vs : List (Vec ℕ Global))
+          → missing_in (map (λ (c : Vec ℕ Global). c.items) (v ∷ vs))
+          ≡ cond (eqb (vec_len v) 0) (1 + missing_in (map (λ (c : Vec ℕ Global). c.items) vs))
+          (missing_in (map (λ (c : Vec ℕ Global). c.items) vs))
+      one v vs = by_length v.items v.len (map (λ (c : Vec ℕ Global). c.items) vs) v.ok.0

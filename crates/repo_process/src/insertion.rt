@@ -1,7 +1,10 @@
-ghost use Rattle.std.specs.Prelude.{◌≡◌, ◌==◌, ◌+◌, ◌-◌, ◌≤◌, ◌<◌, ◌↔◌, ℕ, List, [], true, false, length, map, count_by, replicate, vec_len, IfOk, OnOk, OnErr, IsTrue, MatchOption, IfSome, None, Some};
+ghost use Rattle.std.specs.Prelude.{◌≡◌, ◌==◌, ◌+◌, ◌-◌, ◌≤◌, ◌<◌, ◌↔◌, ℕ, List, [], true, false, length, map};
+ghost use Rattle.std.specs.Prelude.{count_by, replicate, vec_len, IfOk, OnOk, OnErr, IsTrue, MatchOption, IfSome, None};
+ghost use Rattle.std.specs.Prelude.{Some};
 ghost use Rattle.std.specs.List.{All};
 ghost use Rattle.repo_object.specs.Objects.{is_object_name, IsContent, IsObject};
-ghost use Rattle.repo_process.specs.Processes.{Process, starting, has_index, has_block, present, missing, is_whole, with_block, without_block, object_of, closed, block_in};
+ghost use Rattle.repo_process.specs.Processes.{Process, starting, has_index, has_block, present, missing, is_whole};
+ghost use Rattle.repo_process.specs.Processes.{with_block, without_block, object_of, closed, block_in};
 ghost use Rattle.repo_process.specs.Arrivals.{told_of_block, is_last, arrived, whole_object, lent_object, reopened};
 ghost use Rattle.repo_process.specs.Fields.{blocks_from};
 

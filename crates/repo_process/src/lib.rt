@@ -1,5 +1,5 @@
-//! Insertions of objects whose blocks come one by one (repo protocol): each is a process with a number, which is complete
-//! once all of its blocks are there.
+//! Insertions of objects whose blocks come one by one (repo protocol): each is a process with a number, which is
+//! complete once all of its blocks are there.
 #![tactic(auto)]
 
 mod block_state;

@@ -1,9 +1,12 @@
-ghost use Rattle.std.specs.Prelude.{◌≡◌, ◌+◌, ◌-◌, ◌≤◌, ◌<◌, ◌↔◌, ℕ, List, [], true, None, Some, Err, false, length, map, option_map, slice_get, IsSomeAnd, IfOk, OnOk, OnErr, IsTrue, IsSome, MatchOption, IfSome};
+ghost use Rattle.std.specs.Prelude.{◌≡◌, ◌+◌, ◌-◌, ◌≤◌, ◌<◌, ◌↔◌, ℕ, List, [], true, None, Some, Err, false, length};
+ghost use Rattle.std.specs.Prelude.{map, option_map, slice_get, IsSomeAnd, IfOk, OnOk, OnErr, IsTrue, IsSome};
+ghost use Rattle.std.specs.Prelude.{MatchOption, IfSome};
 ghost use Rattle.std.specs.List.{All};
 ghost use Rattle.std.specs.Ordering.{nat_cmp};
 ghost use Rattle.repo_plan.specs.SortedList.{Rises, keys, value_of};
 ghost use Rattle.repo_object.specs.Objects.{is_object_name, IsContent, IsObject};
-ghost use Rattle.repo_process.specs.Processes.{Process, has_block, present, object_of, closed, block_state, without_block};
+ghost use Rattle.repo_process.specs.Processes.{Process, has_block, present, object_of, closed, block_state};
+ghost use Rattle.repo_process.specs.Processes.{without_block};
 ghost use Rattle.repo_process.specs.Arrivals.{told_of_block, is_last, whole_object, lent_object, reopened};
 ghost use Rattle.repo_process.specs.Fields.{blocks_from};
 ghost use Rattle.repo_process.specs.Insertions.{next_number, starts, blocks_process, changes_process};
@@ -169,8 +172,8 @@ impl Processes {
         self.insertions[place].close()
     }
 
-    /// The object of a process counts as unpublished again, with these blocks in order of index: for blocks that were handed
-    /// over in vain. It takes no memory.
+    /// The object of a process counts as unpublished again, with these blocks in order of index: for blocks that were
+    /// handed over in vain. It takes no memory.
     pub fn reopen(&mut self, process: u32, contents: Vec<Vec<u8>>)
         requires closed { IsSomeAnd (value_of nat_cmp self.old.processes process)
             (λ p. (p.published ≡ true) × (length contents.items ≡ p.last + 1 - p.first)) }

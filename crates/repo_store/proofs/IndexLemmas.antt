@@ -1,5 +1,6 @@
 -- What searches of an index find, and that it stays in order.
-use Rattle.std.proofs.Common.{◌≡◌, ◌≢◌, ℕ, zero, suc, ◌<◌, ◌≤◌, Bool, true, false, ◌⊎◌, inl, inr, List, [], ◌∷◌, ◌++◌, map, length, get_or, take, drop, Some, None, refl, sym, ap, subst, ◌∙◌, arith}
+use Rattle.std.proofs.Common.{◌≡◌, ◌≢◌, ℕ, zero, suc, ◌<◌, ◌≤◌, Bool, true, false, ◌⊎◌, inl, inr, List, [], ◌∷◌, ◌++◌}
+use Rattle.std.proofs.Common.{map, length, get_or, take, drop, Some, None, refl, sym, ap, subst, ◌∙◌, arith}
 use Rattle.std.specs.Prelude.{slice_get}
 use Rattle.std.specs.List.{AllWithin, insert}
 use Rattle.std.specs.List.Sorted.{IsPartitionedBy, IsPartitionPoint}
@@ -18,10 +19,12 @@ use Rattle.repo_plan.specs.declared.part.Part.{Part}
 use Rattle.repo_plan.specs.SortedList.{IsBefore, Rises}
 use Rattle.repo_plan.specs.Parts.{part_cmp}
 use Rattle.repo_plan.proofs.Orders.{Exact, exact_parts, equal_from_is_eq, less_back, greater_back}
-use Rattle.repo_plan.proofs.Sets.{In, each_before, before_each, rises_append, in_append, append_left, append_right, in_map, from_map}
+use Rattle.repo_plan.proofs.Sets.{In, each_before, before_each, rises_append, in_append, append_left, append_right}
+use Rattle.repo_plan.proofs.Sets.{in_map, from_map}
 use Rattle.repo_store.specs.declared.index.Held.{Held}
 use Rattle.repo_store.specs.declared.index.Order.{Order}
-use Rattle.repo_store.specs.Indexes.{FullName, names_cmp, key_cmp, key_of, key_in, keys_in, has_key, first_part, IsPlace, IsFrom, IsFirstOf, IsLeastOf, LacksPart, GainsOne}
+use Rattle.repo_store.specs.Indexes.{FullName, names_cmp, key_cmp, key_of, key_in, keys_in, has_key, first_part}
+use Rattle.repo_store.specs.Indexes.{IsPlace, IsFrom, IsFirstOf, IsLeastOf, LacksPart, GainsOne}
 
 -- ---- orders
 
@@ -35,13 +38,17 @@ exact_octets = record { total = nat_list_cmp_total; same = exact_bytes; itself =
 
 pub exact_names : Exact names_cmp
 exact_names = record {
-  total = then_total (on_total (λ (p : FullName). p.0) nat_list_cmp_total) (on_total (λ (p : FullName). p.1) nat_list_cmp_total);
+  total =
+      then_total (on_total (λ (p : FullName). p.0) nat_list_cmp_total)
+      (on_total (λ (p : FullName). p.1) nat_list_cmp_total);
   same = λ a b e.
       let both : (slice_cmp nat_cmp a.0 b.0 ≡ Equal) × (slice_cmp nat_cmp a.1 b.1 ≡ Equal) = then_equal _ _ e in
       let p : a.0 ≡ b.0 = exact_octets.same a.0 b.0 both.0 in
       let q : a.1 ≡ b.1 = exact_octets.same a.1 b.1 both.1 in
       λ i. (p i, q i);
-  itself = tied_itself (then_total (on_total (λ (p : FullName). p.0) nat_list_cmp_total) (on_total (λ (p : FullName). p.1) nat_list_cmp_total));
+  itself =
+      tied_itself (then_total (on_total (λ (p : FullName). p.0) nat_list_cmp_total)
+      (on_total (λ (p : FullName). p.1) nat_list_cmp_total));
 }
 
 abbrev Key : Type 0
@@ -70,7 +77,9 @@ then_not_less Equal y n m h = m h
 then_not_less Greater y n m h = absurd cc
 
 pub first_part_least : (t : Part) → part_cmp t first_part ≢ Less
-first_part_least t = then_not_less (nat_cmp t.publisher 0) _ (nat_least t.publisher) (then_not_less (nat_cmp t.seq 0) (nat_cmp t.part 0) (nat_least t.seq) (nat_least t.part))
+first_part_least t =
+    then_not_less (nat_cmp t.publisher 0) _ (nat_least t.publisher)
+    (then_not_less (nat_cmp t.seq 0) (nat_cmp t.part 0) (nat_least t.seq) (nat_least t.part))
 
 -- ---- lists in order
 
@@ -127,11 +136,13 @@ module _ {A : Type 0} where
   some_first (y ∷ ys) x h = let same : y ≡ x = cc in ap (λ (z : A). z ∷ ys) same
 
   -- what holds at the places before or from one on holds of what is there
-  pub in_front : (P : A → Type 0) (xs : List A) (n : ℕ) → n ≤ length xs → AllWithin P xs 0 n → (x : A) → In x (take n xs) → P x
+  pub in_front : (P : A → Type 0) (xs : List A) (n : ℕ) → n ≤ length xs → AllWithin P xs 0 n → (x : A)
+      → In x (take n xs) → P x
   in_front P xs zero l h x i = absurd i
   in_front P [] (suc n) l h x i = absurd i
   in_front P (y ∷ ys) (suc n) l h x (inl e) = subst P (sym e) (h 0 y (omega arith) (omega arith))
-  in_front P (y ∷ ys) (suc n) l h x (inr i) = in_front P ys n (omega arith) (λ k d a b. h (suc k) d (omega arith) (omega arith)) x i
+  in_front P (y ∷ ys) (suc n) l h x (inr i) =
+      in_front P ys n (omega arith) (λ k d a b. h (suc k) d (omega arith) (omega arith)) x i
 
   pub in_back : (P : A → Type 0) (xs : List A) (n : ℕ) → AllWithin P xs n (length xs) → (x : A) → In x (drop n xs) → P x
   in_back P [] zero h x i = absurd i
@@ -143,10 +154,13 @@ module _ {A : Type 0} where
 -- ---- a place
 
 module _ {A : Type 0} (key : A → Key) where
-  pub pairs_rise : (xs : List A) → Rises key_cmp (map key xs) → (i j : ℕ) (d : A) → i < j → j < length xs → key_cmp (key (get_or xs i d)) (key (get_or xs j d)) ≡ Less
+  pub pairs_rise : (xs : List A) → Rises key_cmp (map key xs) → (i j : ℕ) (d : A) → i < j → j < length xs
+      → key_cmp (key (get_or xs i d)) (key (get_or xs j d)) ≡ Less
   pairs_rise [] r i j d l m = absurd (omega arith)
   pairs_rise (x ∷ xs) r i zero d l m = absurd (omega arith)
-  pairs_rise (x ∷ xs) r zero (suc j) d l m = each_before exact_keys.total (key x) (map key xs) r.0 (key (get_or xs j d)) (in_map key xs (get_or xs j d) (in_at xs j d (omega arith)))
+  pairs_rise (x ∷ xs) r zero (suc j) d l m =
+      each_before exact_keys.total (key x) (map key xs) r.0 (key (get_or xs j d))
+      (in_map key xs (get_or xs j d) (in_at xs j d (omega arith)))
   pairs_rise (x ∷ xs) r (suc i) (suc j) d l m = pairs_rise xs r.1 i j d (omega arith) (omega arith)
 
   less_where : (x : Ordering) → is_lt x ≡ true → x ≡ Less
@@ -158,34 +172,50 @@ module _ {A : Type 0} (key : A → Key) where
   not_less_where x h e = true≢false (sym (ap is_lt e) ∙ h)
 
   -- what comes before a key stands in front
-  pub parted : (xs : List A) (k : Key) → Rises key_cmp (map key xs) → IsPartitionedBy (λ x. is_lt (key_cmp (key x) k)) xs
+  pub parted : (xs : List A) (k : Key) → Rises key_cmp (map key xs)
+      → IsPartitionedBy (λ x. is_lt (key_cmp (key x) k)) xs
   parted xs k r i j d l m passes = elim (cases_lt i j) [
-    | inl less ↦ ap is_lt (exact_keys.total.trans (key (get_or xs i d)) (key (get_or xs j d)) k (pairs_rise xs r i j d less m) (less_where _ passes))
-    | inr more ↦ let same : j ≡ i = omega arith in ap (λ (n : ℕ). is_lt (key_cmp (key (get_or xs n d)) k)) (sym same) ∙ passes
+    | inl less ↦
+        ap is_lt (exact_keys.total.trans (key (get_or xs i d)) (key (get_or xs j d)) k (pairs_rise xs r i j d less m)
+        (less_where _ passes))
+    | inr more ↦
+        let same : j ≡ i = omega arith in ap (λ (n : ℕ). is_lt (key_cmp (key (get_or xs n d)) k)) (sym same) ∙ passes
   ]
 
-  pub placed : (xs : List A) (k : Key) (place : ℕ) → place ≤ length xs → IsPartitionPoint (λ x. is_lt (key_cmp (key x) k) ≡ true) (λ x. is_lt (key_cmp (key x) k) ≡ false) xs place → IsPlace (map key xs) k place
+  pub placed : (xs : List A) (k : Key) (place : ℕ) → place ≤ length xs
+      → IsPartitionPoint (λ x. is_lt (key_cmp (key x) k) ≡ true) (λ x. is_lt (key_cmp (key x) k) ≡ false) xs place
+      → IsPlace (map key xs) k place
   placed xs k place within point = record {
     within = omega (arith, within, length-map xs key);
     before = λ y i.
-        let from : (x : A) × (In x (take place xs)) × (y ≡ key x) = from_map key (take place xs) y (subst (In y) (take-map key place xs) i) in
-        ap (λ (z : Key). key_cmp z k) from.2 ∙ less_where _ (in_front (λ x. is_lt (key_cmp (key x) k) ≡ true) xs place within point.0 from.0 from.1);
+        let from : (x : A) × (In x (take place xs)) × (y ≡ key x) =
+        from_map key (take place xs) y (subst (In y) (take-map key place xs) i) in
+        ap (λ (z : Key). key_cmp z k) from.2
+        ∙ less_where _ (in_front (λ x. is_lt (key_cmp (key x) k) ≡ true) xs place within point.0 from.0 from.1);
     behind = λ y i less.
-        let from : (x : A) × (In x (drop place xs)) × (y ≡ key x) = from_map key (drop place xs) y (subst (In y) (drop-map key place xs) i) in
-        not_less_where _ (in_back (λ x. is_lt (key_cmp (key x) k) ≡ false) xs place point.1 from.0 from.1) (ap (λ (z : Key). key_cmp z k) (sym from.2) ∙ less);
+        let from : (x : A) × (In x (drop place xs)) × (y ≡ key x) =
+        from_map key (drop place xs) y (subst (In y) (drop-map key place xs) i) in
+        not_less_where _ (in_back (λ x. is_lt (key_cmp (key x) k) ≡ false) xs place point.1 from.0 from.1)
+        (ap (λ (z : Key). key_cmp z k) (sym from.2) ∙ less);
   }
 
 -- ---- from a key on
 
-pub from_place : (order : Order) (packets : Slab (List ℕ)) (held : List Held) (name : FullName) (place : ℕ) → Rises key_cmp (keys_in order packets held) → IsPlace (keys_in order packets held) (name, first_part) place → IsFrom order packets held name (drop place held)
+pub from_place : (order : Order) (packets : Slab (List ℕ)) (held : List Held) (name : FullName) (place : ℕ)
+    → Rises key_cmp (keys_in order packets held) → IsPlace (keys_in order packets held) (name, first_part) place
+    → IsFrom order packets held name (drop place held)
 from_place order packets held name place rises at =
     let key = key_in order packets in
     record {
       in_order = subst (Rises key_cmp) (drop-map key place held) (rises_drop key_cmp place (map key held) rises);
       held_only = in_drop place held;
-      behind = λ h i. at.behind (key h) (subst (In (key h)) (sym (drop-map key place held)) (in_map key (drop place held) h i));
+      behind =
+          λ h i.
+          at.behind (key h) (subst (In (key h)) (sym (drop-map key place held)) (in_map key (drop place held) h i));
       others = λ h i. elim (in_split place held h i) [
-        | inl a ↦ inr (at.before (key h) (subst (In (key h)) (sym (take-map key place held)) (in_map key (take place held) h a)))
+        | inl a ↦
+            inr
+            (at.before (key h) (subst (In (key h)) (sym (take-map key place held)) (in_map key (take place held) h a)))
         | inr b ↦ inl b
       ];
     }
@@ -201,39 +231,63 @@ module _ (order : Order) (packets : Slab (List ℕ)) (name : FullName) where
   false_where false h = refl
 
   -- what comes before a key lacks it
-  pub lacks_before : (h : Held) → key_cmp (key_in order packets h) (name, first_part) ≡ Less → has_key order packets name h ≡ false
-  lacks_before h less = false_where _ (λ has. first_part_least h.part (sym (ap (λ (x : Ordering). ordering_then x (part_cmp h.part first_part)) (equal_from_is_eq _ has)) ∙ less))
+  pub lacks_before : (h : Held) → key_cmp (key_in order packets h) (name, first_part) ≡ Less
+      → has_key order packets name h ≡ false
+  lacks_before h less =
+      false_where _
+      (λ has. first_part_least h.part
+      (sym (ap (λ (x : Ordering). ordering_then x (part_cmp h.part first_part)) (equal_from_is_eq _ has)) ∙ less))
 
   -- what has one key is in order of the parts
-  same_rise : (h o : Held) → key_cmp (key_in order packets h) (key_in order packets o) ≡ Less → has_key order packets name h ≡ true → has_key order packets name o ≡ true → part_cmp o.part h.part ≢ Less
+  same_rise : (h o : Held) → key_cmp (key_in order packets h) (key_in order packets o) ≡ Less
+      → has_key order packets name h ≡ true → has_key order packets name o ≡ true → part_cmp o.part h.part ≢ Less
   same_rise h o less a b l =
       let p : key_of order (get packets h.slot) ≡ name = exact_names.same _ name (equal_from_is_eq _ a) in
       let q : key_of order (get packets o.slot) ≡ name = exact_names.same _ name (equal_from_is_eq _ b) in
-      let tied : names_cmp (key_of order (get packets h.slot)) (key_of order (get packets o.slot)) ≡ Equal = ap (names_cmp (key_of order (get packets h.slot))) (q ∙ sym p) ∙ exact_names.itself (key_of order (get packets h.slot)) in
-      let parts : part_cmp h.part o.part ≡ Less = sym (ap (λ (x : Ordering). ordering_then x (part_cmp h.part o.part)) tied) ∙ less in
+      let tied : names_cmp (key_of order (get packets h.slot)) (key_of order (get packets o.slot)) ≡ Equal =
+      ap (names_cmp (key_of order (get packets h.slot))) (q ∙ sym p)
+      ∙ exact_names.itself (key_of order (get packets h.slot)) in
+      let parts : part_cmp h.part o.part ≡ Less =
+      sym (ap (λ (x : Ordering). ordering_then x (part_cmp h.part o.part)) tied) ∙ less in
       let back = less_back exact_parts.total h.part o.part parts in
       absurd cc
 
   -- where the first from a key on lacks it, all do
-  pub lack_behind : (h : Held) (rest : List Held) → Rises key_cmp (keys_in order packets (h ∷ rest)) → key_cmp (key_in order packets h) (name, first_part) ≢ Less → has_key order packets name h ≡ false → (o : Held) → In o (h ∷ rest) → has_key order packets name o ≡ false
-  lack_behind h rest rises behind lacks o (inl e) = subst (λ (x : Held). has_key order packets name x ≡ false) (sym e) lacks
+  pub lack_behind : (h : Held) (rest : List Held) → Rises key_cmp (keys_in order packets (h ∷ rest))
+      → key_cmp (key_in order packets h) (name, first_part) ≢ Less → has_key order packets name h ≡ false → (o : Held)
+      → In o (h ∷ rest) → has_key order packets name o ≡ false
+  lack_behind h rest rises behind lacks o (inl e) =
+      subst (λ (x : Held). has_key order packets name x ≡ false) (sym e) lacks
   lack_behind h rest rises behind lacks o (inr i) =
       let key = key_in order packets in
-      let less = each_before exact_keys.total (key h) (keys_in order packets rest) rises.0 (key o) (in_map key rest o i) in
+      let less =
+      each_before exact_keys.total (key h) (keys_in order packets rest) rises.0 (key o) (in_map key rest o i) in
       false_where _ (λ has.
       let q : key_of order (get packets o.slot) ≡ name = exact_names.same _ name (equal_from_is_eq _ has) in
-      not_both (names_cmp (key_of order (get packets h.slot)) name) (part_cmp h.part first_part) (part_cmp h.part o.part) behind lacks (sym (ap (λ (n : FullName). ordering_then (names_cmp (key_of order (get packets h.slot)) n) (part_cmp h.part o.part)) q) ∙ less))
+      not_both (names_cmp (key_of order (get packets h.slot)) name) (part_cmp h.part first_part)
+      (part_cmp h.part o.part) behind lacks
+      (sym (ap
+      (λ (n : FullName). ordering_then (names_cmp (key_of order (get packets h.slot)) n) (part_cmp h.part o.part)) q)
+      ∙ less))
 
-  pub first_none : (held rest : List Held) → IsFrom order packets held name rest → rest ≡ [] → IsFirstOf held (has_key order packets name) None
-  first_none held rest from none h i = elim (from.others h i) [ inl a ↦ absurd (subst (In h) none a) | inr b ↦ lacks_before h b ]
+  pub first_none : (held rest : List Held) → IsFrom order packets held name rest → rest ≡ []
+      → IsFirstOf held (has_key order packets name) None
+  first_none held rest from none h i =
+      elim (from.others h i) [ inl a ↦ absurd (subst (In h) none a) | inr b ↦ lacks_before h b ]
 
-  pub first_lacks : (held rest more : List Held) (first : Held) → IsFrom order packets held name rest → rest ≡ first ∷ more → has_key order packets name first ≡ false → IsFirstOf held (has_key order packets name) None
+  pub first_lacks : (held rest more : List Held) (first : Held) → IsFrom order packets held name rest
+      → rest ≡ first ∷ more → has_key order packets name first ≡ false
+      → IsFirstOf held (has_key order packets name) None
   first_lacks held rest more first from is lacks h i = elim (from.others h i) [
-    | inl a ↦ lack_behind first more (subst (λ (xs : List Held). Rises key_cmp (keys_in order packets xs)) is from.in_order) (from.behind first (subst (In first) (sym is) (inl refl))) lacks h (subst (In h) is a)
+    | inl a ↦
+        lack_behind first more (subst (λ (xs : List Held). Rises key_cmp (keys_in order packets xs)) is from.in_order)
+        (from.behind first (subst (In first) (sym is) (inl refl))) lacks h (subst (In h) is a)
     | inr b ↦ lacks_before h b
   ]
 
-  pub first_has : (held rest more : List Held) (first : Held) → IsFrom order packets held name rest → rest ≡ first ∷ more → has_key order packets name first ≡ true → IsLeastOf held (has_key order packets name) first
+  pub first_has : (held rest more : List Held) (first : Held) → IsFrom order packets held name rest
+      → rest ≡ first ∷ more → has_key order packets name first ≡ true
+      → IsLeastOf held (has_key order packets name) first
   first_has held rest more first from is has = record {
     there = from.held_only first (subst (In first) (sym is) (inl refl));
     passes = has;
@@ -244,11 +298,17 @@ module _ (order : Order) (packets : Slab (List ℕ)) (name : FullName) where
   }
     where
       later : (o : Held) → has_key order packets name o ≡ true → In o (first ∷ more) → part_cmp o.part first.part ≢ Less
-      later o also (inl e) less = let tied = exact_parts.itself first.part in let l : part_cmp first.part first.part ≡ Less = ap (λ (x : Held). part_cmp x.part first.part) (sym e) ∙ less in absurd cc
+      later o also (inl e) less =
+          let tied = exact_parts.itself first.part in
+          let l : part_cmp first.part first.part ≡ Less =
+          ap (λ (x : Held). part_cmp x.part first.part) (sym e) ∙ less in
+          absurd cc
       later o also (inr b) less =
           let key = key_in order packets in
           let rises = subst (λ (xs : List Held). Rises key_cmp (keys_in order packets xs)) is from.in_order in
-          same_rise first o (each_before exact_keys.total (key first) (keys_in order packets more) rises.0 (key o) (in_map key more o b)) has also less
+          same_rise first o
+          (each_before exact_keys.total (key first) (keys_in order packets more) rises.0 (key o) (in_map key more o b))
+          has also less
 
 -- ---- one more
 
@@ -257,12 +317,18 @@ greater_where Less n m = absurd (n refl)
 greater_where Equal n m = absurd (m refl)
 greater_where Greater n m = refl
 
-pub rises_added : (ks : List Key) (k : Key) (place : ℕ) → Rises key_cmp ks → IsPlace ks k place → ((x : Key) → In x ks → x ≢ k) → Rises key_cmp (insert ks place k)
+pub rises_added : (ks : List Key) (k : Key) (place : ℕ) → Rises key_cmp ks → IsPlace ks k place
+    → ((x : Key) → In x ks → x ≢ k) → Rises key_cmp (insert ks place k)
 rises_added ks k place rises at fresh =
-    rises_append exact_keys.total (take place ks) (k ∷ drop place ks) (rises_take key_cmp place ks rises) (before_each exact_keys.total k (drop place ks) above, rises_drop key_cmp place ks rises) (λ x y i j. below x (at.before x i) y j)
+    rises_append exact_keys.total (take place ks) (k ∷ drop place ks) (rises_take key_cmp place ks rises)
+    (before_each exact_keys.total k (drop place ks) above, rises_drop key_cmp place ks rises)
+    (λ x y i j. below x (at.before x i) y j)
   where
     above : (y : Key) → In y (drop place ks) → key_cmp k y ≡ Less
-    above y i = greater_back exact_keys.total y k (greater_where (key_cmp y k) (at.behind y i) (λ tied. fresh y (in_drop place ks y i) (exact_keys.same y k tied)))
+    above y i =
+        greater_back exact_keys.total y k
+        (greater_where (key_cmp y k) (at.behind y i)
+        (λ tied. fresh y (in_drop place ks y i) (exact_keys.same y k tied)))
 
     below : (x : Key) → key_cmp x k ≡ Less → (y : Key) → In y (k ∷ drop place ks) → key_cmp x y ≡ Less
     below x less y (inl e) = ap (key_cmp x) e ∙ less
@@ -281,12 +347,16 @@ gains_one held h place = record {
   ];
 }
 
-pub keys_added : (order : Order) (packets : Slab (List ℕ)) (held : List Held) (h : Held) (place : ℕ) → keys_in order packets (insert held place h) ≡ insert (keys_in order packets held) place (key_in order packets h)
+pub keys_added : (order : Order) (packets : Slab (List ℕ)) (held : List Held) (h : Held) (place : ℕ)
+    → keys_in order packets (insert held place h) ≡ insert (keys_in order packets held) place (key_in order packets h)
 keys_added order packets held h place =
     let f = key_in order packets in
-    map-append f (take place held) (h ∷ drop place held) ∙ ap (λ (xs : List Key). xs ++ (f h ∷ map f (drop place held))) (sym (take-map f place held)) ∙ ap (λ (xs : List Key). take place (map f held) ++ (f h ∷ xs)) (sym (drop-map f place held))
+    map-append f (take place held) (h ∷ drop place held)
+    ∙ ap (λ (xs : List Key). xs ++ (f h ∷ map f (drop place held))) (sym (take-map f place held))
+    ∙ ap (λ (xs : List Key). take place (map f held) ++ (f h ∷ xs)) (sym (drop-map f place held))
 
-pub fresh_key : (order : Order) (packets : Slab (List ℕ)) (held : List Held) (h : Held) → LacksPart h.part held → (x : Key) → In x (keys_in order packets held) → x ≢ key_in order packets h
+pub fresh_key : (order : Order) (packets : Slab (List ℕ)) (held : List Held) (h : Held) → LacksPart h.part held
+    → (x : Key) → In x (keys_in order packets held) → x ≢ key_in order packets h
 fresh_key order packets held h lacks x i e =
     let from : (o : Held) × (In o held) × (x ≡ key_in order packets o) = from_map (key_in order packets) held x i in
     lacks from.0 from.1 (ap (λ (k : Key). k.1) (sym from.2 ∙ e))

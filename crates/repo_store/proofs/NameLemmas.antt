@@ -1,5 +1,6 @@
 -- Which names a packet satisfies, by the octets of the names.
-use Rattle.std.proofs.Common.{◌≡◌, ℕ, Bool, true, false, ◌&&◌, ◌⊎◌, inl, inr, List, [], ◌∷◌, ◌++◌, length, take, drop, Ok, refl, sym, ap, ◌∙◌, arith}
+use Rattle.std.proofs.Common.{◌≡◌, ℕ, Bool, true, false, ◌&&◌, ◌⊎◌, inl, inr, List, [], ◌∷◌, ◌++◌, length, take, drop}
+use Rattle.std.proofs.Common.{Ok, refl, sym, ap, ◌∙◌, arith}
 use Rattle.std.specs.Prelude.{IsTrue}
 use Rattle.std.specs.Bool.{Decides}
 use Rattle.std.proofs.lemmas.Bool.{true≢false, or_left, or_right, or_cases}
@@ -29,7 +30,8 @@ same_name-Decides a b = (
 pub prefix-Decides : (a b : List Component) → Decides (is_prefix a b) (IsPrefix a b)
 prefix-Decides a b = same_name-Decides (take (length a) b) a
 
-pub asks_for-Decides : (name : List Component) (p : Bool) (digest : List ℕ) (d : Data) → Decides (asks_for name p digest d) (Satisfies name p digest d)
+pub asks_for-Decides : (name : List Component) (p : Bool) (digest : List ℕ) (d : Data)
+    → Decides (asks_for name p digest d) (Satisfies name p digest d)
 asks_for-Decides name p digest d =
     let full = full_name d.name digest in
     let same = same_name-Decides name d.name in
@@ -62,7 +64,8 @@ asks_for-Decides name p digest d =
 
 -- ---- a front of a full name
 
-prefix_of_full : (name own : List Component) (digest : List ℕ) → IsPrefix name (full_name own digest) → IsPrefix name own ⊎ (name ≡ full_name own digest)
+prefix_of_full : (name own : List Component) (digest : List ℕ) → IsPrefix name (full_name own digest)
+    → IsPrefix name own ⊎ (name ≡ full_name own digest)
 prefix_of_full [] own digest h = inl refl
 prefix_of_full (c ∷ []) [] digest h = inr (sym h)
 prefix_of_full (c ∷ d ∷ name) [] digest h = absurd cc
@@ -88,23 +91,29 @@ prefix_more (c ∷ name) (d ∷ own) digest h =
 abbrev pub Asked : List Component → Bool → List ℕ → Data → Type 0
 Asked name p digest d = (name ≡ d.name) ⊎ ((IsTrue p × IsPrefix name d.name) ⊎ (name ≡ full_name d.name digest))
 
-pub asked-satisfies : (name : List Component) (p : Bool) (digest : List ℕ) (d : Data) → Asked name p digest d → Satisfies name p digest d
+pub asked-satisfies : (name : List Component) (p : Bool) (digest : List ℕ) (d : Data) → Asked name p digest d
+    → Satisfies name p digest d
 asked-satisfies name p digest d (inl a) = inl a
 asked-satisfies name p digest d (inr (inl b)) = inr (inr (b.0, prefix_more name d.name digest b.1))
 asked-satisfies name p digest d (inr (inr e)) = inr (inl e)
 
-pub satisfies-asked : (name : List Component) (p : Bool) (digest : List ℕ) (d : Data) → Satisfies name p digest d → Asked name p digest d
+pub satisfies-asked : (name : List Component) (p : Bool) (digest : List ℕ) (d : Data) → Satisfies name p digest d
+    → Asked name p digest d
 satisfies-asked name p digest d (inl a) = inl a
 satisfies-asked name p digest d (inr (inl e)) = inr (inr e)
-satisfies-asked name p digest d (inr (inr b)) = elim (prefix_of_full name d.name digest b.1) [ inl f ↦ inr (inl (b.0, f)) | inr e ↦ inr (inr e) ]
+satisfies-asked name p digest d (inr (inr b)) =
+    elim (prefix_of_full name d.name digest b.1) [ inl f ↦ inr (inl (b.0, f)) | inr e ↦ inr (inr e) ]
 
 -- what a test says that decides it
-pub satisfied : (name : List Component) (p : Bool) (octets : List ℕ) (d : Data) (r : Bool) → data_of octets ≡ Ok d → Decides r (Asked name p (sha256 octets) d) → r ≡ satisfies name p octets
+pub satisfied : (name : List Component) (p : Bool) (octets : List ℕ) (d : Data) (r : Bool) → data_of octets ≡ Ok d
+    → Decides r (Asked name p (sha256 octets) d) → r ≡ satisfies name p octets
 unfolding satisfies
 satisfied name p octets d r read decides =
     let digest = sha256 octets in
     let asks = asks_for-Decides name p digest d in
-    let same = same_from_decides r (asks_for name p digest d) decides ((λ yes. satisfies-asked name p digest d (asks.0 yes)), λ asked. asks.1 (asked-satisfies name p digest d asked)) in
+    let same =
+    same_from_decides r (asks_for name p digest d) decides
+    ((λ yes. satisfies-asked name p digest d (asks.0 yes)), λ asked. asks.1 (asked-satisfies name p digest d asked)) in
     same ∙ ap (asks_for_read name p digest) (sym read)
 
 -- ---- full names as octets
@@ -114,32 +123,49 @@ unfolding number
 digest_head = refl
 
 pub digest_element : (digest : List ℕ) → length digest ≡ 32 → element 1 digest ≡ (1 ∷ 32 ∷ []) ++ digest
-digest_element digest long = ap (λ (n : ℕ). (number 1 ++ number n) ++ digest) long ∙ ap (λ (h : List ℕ). h ++ digest) digest_head
+digest_element digest long =
+    ap (λ (n : ℕ). (number 1 ++ number n) ++ digest) long ∙ ap (λ (h : List ℕ). h ++ digest) digest_head
 
 digest_component : (octets : List ℕ) → IsComponent (1, sha256 octets)
 digest_component octets =
-    record { above = omega arith; below = omega arith; digest = λ h. length-sha256 octets; long = omega (arith, length-sha256 octets); octets = IsOctets-sha256 octets }
+    record {
+      above = omega arith;
+      below = omega arith;
+      digest = λ h. length-sha256 octets;
+      long = omega (arith, length-sha256 octets);
+      octets = IsOctets-sha256 octets;
+    }
 
-pub full-octets : (name own : List Component) (octets : List ℕ) → IsName name → IsName own → encoding name ≡ encoding own ++ element 1 (sha256 octets) → name ≡ full_name own (sha256 octets)
+pub full-octets : (name own : List Component) (octets : List ℕ) → IsName name → IsName own
+    → encoding name ≡ encoding own ++ element 1 (sha256 octets) → name ≡ full_name own (sha256 octets)
 full-octets name own octets h k e =
-    encoding-same name (full_name own (sha256 octets)) h (IsName-append own ((1, sha256 octets) ∷ []) k (digest_component octets, tt)) (e ∙ sym (encoding-push own (1, sha256 octets)))
+    encoding-same name (full_name own (sha256 octets)) h
+    (IsName-append own ((1, sha256 octets) ∷ []) k (digest_component octets, tt))
+    (e ∙ sym (encoding-push own (1, sha256 octets)))
 
-pub octets-full : (name own : List Component) (octets : List ℕ) → name ≡ full_name own (sha256 octets) → encoding name ≡ encoding own ++ element 1 (sha256 octets)
+pub octets-full : (name own : List Component) (octets : List ℕ) → name ≡ full_name own (sha256 octets)
+    → encoding name ≡ encoding own ++ element 1 (sha256 octets)
 octets-full name own octets e = ap encoding e ∙ encoding-push own (1, sha256 octets)
 
 -- a name that goes on by a digest goes on by that digest
-pub goes_on : (asked own last claimed octets : List ℕ) → asked ≡ own ++ last → last ≡ (1 ∷ 32 ∷ []) ++ claimed → claimed ≡ sha256 octets → asked ≡ own ++ element 1 (sha256 octets)
+pub goes_on : (asked own last claimed octets : List ℕ) → asked ≡ own ++ last → last ≡ (1 ∷ 32 ∷ []) ++ claimed
+    → claimed ≡ sha256 octets → asked ≡ own ++ element 1 (sha256 octets)
 goes_on asked own last claimed octets e f g =
-    e ∙ ap (λ (x : List ℕ). own ++ x) (f ∙ ap (λ (x : List ℕ). (1 ∷ 32 ∷ []) ++ x) g ∙ sym (digest_element (sha256 octets) (length-sha256 octets)))
+    e
+    ∙ ap (λ (x : List ℕ). own ++ x)
+    (f ∙ ap (λ (x : List ℕ). (1 ∷ 32 ∷ []) ++ x) g ∙ sym (digest_element (sha256 octets) (length-sha256 octets)))
 
 pub append-same : (a b d : List ℕ) → a ++ b ≡ a ++ d → b ≡ d
 append-same [] b d e = e
 append-same (x ∷ a) b d e = append-same a b d (ap (λ (o : List ℕ). drop 1 o) e)
 
-pub behind_own : (asked own last octets : List ℕ) → asked ≡ own ++ last → asked ≡ own ++ element 1 (sha256 octets) → last ≡ (1 ∷ 32 ∷ []) ++ sha256 octets
-behind_own asked own last octets e f = append-same own last (element 1 (sha256 octets)) (sym e ∙ f) ∙ digest_element (sha256 octets) (length-sha256 octets)
+pub behind_own : (asked own last octets : List ℕ) → asked ≡ own ++ last → asked ≡ own ++ element 1 (sha256 octets)
+    → last ≡ (1 ∷ 32 ∷ []) ++ sha256 octets
+behind_own asked own last octets e f =
+    append-same own last (element 1 (sha256 octets)) (sym e ∙ f) ∙ digest_element (sha256 octets) (length-sha256 octets)
 
-pub claimed_is : (claimed last octets : List ℕ) → last ≡ (1 ∷ 32 ∷ []) ++ claimed → last ≡ (1 ∷ 32 ∷ []) ++ sha256 octets → claimed ≡ sha256 octets
+pub claimed_is : (claimed last octets : List ℕ) → last ≡ (1 ∷ 32 ∷ []) ++ claimed
+    → last ≡ (1 ∷ 32 ∷ []) ++ sha256 octets → claimed ≡ sha256 octets
 claimed_is claimed last octets e f = append-same (1 ∷ 32 ∷ []) claimed (sha256 octets) (sym e ∙ f)
 
 -- ---- what a packet answers, by octets
@@ -151,26 +177,42 @@ pub record AreNames (name : List Component) (d : Data) (asked own : List ℕ) : 
   pub spelled : asked ≡ encoding name
   pub spelled_own : own ≡ encoding d.name
 
-pub exact_satisfies : (name : List Component) (p : Bool) (octets : List ℕ) (d : Data) (asked own : List ℕ) → data_of octets ≡ Ok d → AreNames name d asked own → asked ≡ own → true ≡ satisfies name p octets
+pub exact_satisfies : (name : List Component) (p : Bool) (octets : List ℕ) (d : Data) (asked own : List ℕ)
+    → data_of octets ≡ Ok d → AreNames name d asked own → asked ≡ own → true ≡ satisfies name p octets
 exact_satisfies name p octets d asked own read names e =
-    let same : name ≡ d.name = encoding-same name d.name names.is_name names.is_own_name (sym names.spelled ∙ e ∙ names.spelled_own) in
+    let same : name ≡ d.name =
+    encoding-same name d.name names.is_name names.is_own_name (sym names.spelled ∙ e ∙ names.spelled_own) in
     satisfied name p octets d true read ((λ t. inl same), λ h. refl)
 
-pub front_satisfies : (name : List Component) (p : Bool) (octets : List ℕ) (d : Data) (asked own rest : List ℕ) → data_of octets ≡ Ok d → AreNames name d asked own → p ≡ true → own ≡ asked ++ rest → true ≡ satisfies name p octets
+pub front_satisfies : (name : List Component) (p : Bool) (octets : List ℕ) (d : Data) (asked own rest : List ℕ)
+    → data_of octets ≡ Ok d → AreNames name d asked own → p ≡ true → own ≡ asked ++ rest
+    → true ≡ satisfies name p octets
 front_satisfies name p octets d asked own rest read names allowed e =
-    let front = prefix-octets name d.name rest names.is_name names.is_own_name (sym names.spelled_own ∙ e ∙ ap (λ (x : List ℕ). x ++ rest) names.spelled) in
+    let front =
+    prefix-octets name d.name rest names.is_name names.is_own_name
+    (sym names.spelled_own ∙ e ∙ ap (λ (x : List ℕ). x ++ rest) names.spelled) in
     satisfied name p octets d true read ((λ t. inr (inl (allowed, front))), λ h. refl)
 
-pub full_satisfies : (name : List Component) (p : Bool) (octets : List ℕ) (d : Data) (asked own : List ℕ) (r : Bool) → data_of octets ≡ Ok d → AreNames name d asked own → (asked ≡ own → ⊥) → (p ≡ true → (rest : List ℕ) → own ≡ asked ++ rest → ⊥) → Decides r (asked ≡ own ++ element 1 (sha256 octets)) → r ≡ satisfies name p octets
+pub full_satisfies : (name : List Component) (p : Bool) (octets : List ℕ) (d : Data) (asked own : List ℕ) (r : Bool)
+    → data_of octets ≡ Ok d → AreNames name d asked own → (asked ≡ own → ⊥)
+    → (p ≡ true → (rest : List ℕ) → own ≡ asked ++ rest → ⊥) → Decides r (asked ≡ own ++ element 1 (sha256 octets))
+    → r ≡ satisfies name p octets
 full_satisfies name p octets d asked own r read names other none decides =
     satisfied name p octets d r read (
-      λ t. inr (inr (full-octets name d.name octets names.is_name names.is_own_name (sym names.spelled ∙ decides.0 t ∙ ap (λ (x : List ℕ). x ++ element 1 (sha256 octets)) names.spelled_own))),
+      λ t. inr
+          (inr (full-octets name d.name octets names.is_name names.is_own_name
+          (sym names.spelled ∙ decides.0 t ∙ ap (λ (x : List ℕ). x ++ element 1 (sha256 octets)) names.spelled_own))),
       λ h. elim h [
         | inl same ↦ absurd (other (names.spelled ∙ ap encoding same ∙ sym names.spelled_own))
         | inr b ↦
             elim b [
-              | inl front ↦ absurd (none front.0 (encoding (drop (length name) d.name)) (names.spelled_own ∙ prefix-encoding name d.name front.1 ∙ ap (λ (x : List ℕ). x ++ encoding (drop (length name) d.name)) (sym names.spelled)))
-              | inr full ↦ decides.1 (names.spelled ∙ octets-full name d.name octets full ∙ ap (λ (x : List ℕ). x ++ element 1 (sha256 octets)) (sym names.spelled_own))
+              | inl front ↦
+                  absurd (none front.0 (encoding (drop (length name) d.name))
+                  (names.spelled_own ∙ prefix-encoding name d.name front.1
+                  ∙ ap (λ (x : List ℕ). x ++ encoding (drop (length name) d.name)) (sym names.spelled)))
+              | inr full ↦
+                  decides.1 (names.spelled ∙ octets-full name d.name octets full
+                  ∙ ap (λ (x : List ℕ). x ++ element 1 (sha256 octets)) (sym names.spelled_own))
             ]
       ],
     )

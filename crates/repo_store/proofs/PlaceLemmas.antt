@@ -1,5 +1,6 @@
 -- Where octets stand in others.
-use Rattle.std.proofs.Common.{◌≡◌, ℕ, ◌+◌, ◌-◌, ◌<◌, ◌≤◌, Bool, true, false, List, [], ◌∷◌, ◌++◌, length, length-append, length-drop, take, drop, Ok, refl, sym, ap, subst, ◌∙◌, arith, take_at, append_assoc}
+use Rattle.std.proofs.Common.{◌≡◌, ℕ, ◌+◌, ◌-◌, ◌<◌, ◌≤◌, Bool, true, false, List, [], ◌∷◌, ◌++◌, length, length-append}
+use Rattle.std.proofs.Common.{length-drop, take, drop, Ok, refl, sym, ap, subst, ◌∙◌, arith, take_at, append_assoc}
 use Rattle.std.proofs.lemmas.List.{drop-drop}
 use Rattle.std.specs.Prelude.{slice_range}
 use Rattle.std.specs.Bool.{nat_eq}
@@ -21,7 +22,8 @@ pub record StandsBehind (part octets : List ℕ) : Type 0 where
   pub rest : StandsIn part (drop 1 octets)
 
 -- octets that are not at the front stand behind the first
-pub stands_behind : (part octets : List ℕ) (b : Bool) → b ≡ starts_with nat_eq octets part → b ≡ false → StandsIn part octets → StandsBehind part octets
+pub stands_behind : (part octets : List ℕ) (b : Bool) → b ≡ starts_with nat_eq octets part → b ≡ false
+    → StandsIn part octets → StandsBehind part octets
 stands_behind part octets b e off h = go h.before h.parts where
   go : (before : List ℕ) → octets ≡ before ++ (part ++ h.behind) → StandsBehind part octets
   go [] at = absurd (true≢false (sym ((starts_is unsigned_Decides octets part b e).1 h.behind at) ∙ off))
@@ -31,10 +33,13 @@ stands_behind part octets b e off h = go h.before h.parts where
   }
 
 -- octets that are not at this place stand behind it
-pub stands_later : (part octets : List ℕ) (place : ℕ) (b : Bool) → place ≤ length octets → b ≡ starts_with nat_eq (take (length octets - place) (drop place octets)) part → b ≡ false → StandsIn part (drop place octets) → (place + 1 ≤ length octets) × StandsIn part (drop (place + 1) octets)
+pub stands_later : (part octets : List ℕ) (place : ℕ) (b : Bool) → place ≤ length octets
+    → b ≡ starts_with nat_eq (take (length octets - place) (drop place octets)) part → b ≡ false
+    → StandsIn part (drop place octets) → (place + 1 ≤ length octets) × StandsIn part (drop (place + 1) octets)
 stands_later part octets place b low e off h =
     let next = stands_behind part (drop place octets) b (rw take_rest at e) off h in
-    let more : drop 1 (drop place octets) ≡ drop (place + 1) octets = drop-drop 1 place octets ∙ ap (λ (n : ℕ). drop n octets) (omega arith) in
+    let more : drop 1 (drop place octets) ≡ drop (place + 1) octets =
+    drop-drop 1 place octets ∙ ap (λ (n : ℕ). drop n octets) (omega arith) in
     (omega (arith, next.some, length-drop place octets), subst (StandsIn part) more next.rest)
 
 -- octets at the front
@@ -42,18 +47,24 @@ pub record IsThere (part octets : List ℕ) (place : ℕ) : Type 0 where
   pub within : place + length part ≤ length octets
   pub there : slice_range octets place (place + length part) ≡ part
 
-pub stands_here : (part octets : List ℕ) (place : ℕ) (b : Bool) → place ≤ length octets → b ≡ starts_with nat_eq (take (length octets - place) (drop place octets)) part → b ≡ true → IsThere part octets place
+pub stands_here : (part octets : List ℕ) (place : ℕ) (b : Bool) → place ≤ length octets
+    → b ≡ starts_with nat_eq (take (length octets - place) (drop place octets)) part → b ≡ true
+    → IsThere part octets place
 stands_here part octets place b low e on =
     let rest = drop place octets in
     let at = (starts_is unsigned_Decides rest part b (rw take_rest at e)).0 on in
     let long : place + length part - place ≡ length part = omega arith in
     record {
       within = omega (arith, ap length at, length-append part (drop (length part) rest), length-drop place octets);
-      there = ap (λ (n : ℕ). take n rest) long ∙ ap (λ (o : List ℕ). take (length part) o) at ∙ take_at part (drop (length part) rest) (length part) refl;
+      there =
+          ap (λ (n : ℕ). take n rest) long
+          ∙ ap (λ (o : List ℕ). take (length part) o) at
+          ∙ take_at part (drop (length part) rest) (length part) refl;
     }
 
 -- the name of a Data packet stands in its octets
-pub name_stands : (octets : List ℕ) (d : Data) (name : List ℕ) → IsOctets octets → data_of octets ≡ Ok d → name ≡ encoding d.name → StandsIn name octets
+pub name_stands : (octets : List ℕ) (d : Data) (name : List ℕ) → IsOctets octets → data_of octets ≡ Ok d
+    → name ≡ encoding d.name → StandsIn name octets
 name_stands octets d name fits read e =
     let s = data_spelled octets d fits read in
     let named_head = head 0x07 (length (encoding d.name)) in
@@ -62,7 +73,12 @@ name_stands octets d name fits read e =
     record {
       before = packet_head ++ (s.before ++ named_head);
       behind = tail;
-      parts = s.packet ∙ ap (λ (v : List ℕ). packet_head ++ v) (s.value ∙ ap (λ (x : List ℕ). s.before ++ (x ++ (element 0x17 d.signature ++ s.behind))) s.signed) ∙ regroup packet_head s.before named_head (encoding d.name) s.fields (element 0x17 d.signature ++ s.behind) ∙ ap (λ (x : List ℕ). (packet_head ++ (s.before ++ named_head)) ++ (x ++ tail)) (sym e);
+      parts =
+          s.packet
+          ∙ ap (λ (v : List ℕ). packet_head ++ v)
+          (s.value ∙ ap (λ (x : List ℕ). s.before ++ (x ++ (element 0x17 d.signature ++ s.behind))) s.signed)
+          ∙ regroup packet_head s.before named_head (encoding d.name) s.fields (element 0x17 d.signature ++ s.behind)
+          ∙ ap (λ (x : List ℕ). (packet_head ++ (s.before ++ named_head)) ++ (x ++ tail)) (sym e);
     }
   where
     regroup : (a b c d e f : List ℕ) → a ++ (b ++ (((c ++ d) ++ e) ++ f)) ≡ (a ++ (b ++ c)) ++ (d ++ (e ++ f))

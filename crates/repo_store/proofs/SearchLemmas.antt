@@ -1,5 +1,7 @@
 -- What walks along an index find: the slot of a packet, a full name, and the least part below a name.
-use Rattle.std.proofs.Common.{◌≡◌, ◌≢◌, ℕ, zero, suc, ◌+◌, ◌<◌, ◌≤◌, Bool, true, false, ◌⊎◌, inl, inr, List, [], ◌∷◌, ◌++◌, length, length-append, get_or, take, drop, Option, Some, None, refl, sym, ap, subst, ◌∙◌, arith}
+use Rattle.std.proofs.Common.{◌≡◌, ◌≢◌, ℕ, zero, suc, ◌+◌, ◌<◌, ◌≤◌, Bool, true, false, ◌⊎◌, inl, inr, List, [], ◌∷◌}
+use Rattle.std.proofs.Common.{◌++◌, length, length-append, get_or, take, drop, Option, Some, None, refl, sym, ap, subst}
+use Rattle.std.proofs.Common.{◌∙◌, arith}
 use Rattle.std.specs.Bool.{Decides}
 use Rattle.std.specs.Ordering.{is_eq}
 use Rattle.std.specs.Cmp.{unsigned_Decides}
@@ -18,13 +20,15 @@ use Rattle.repo_store.specs.declared.index.Held.{Held}
 use Rattle.repo_store.specs.declared.index.Order.{Order}
 use Rattle.repo_store.specs.declared.index.Order.TheVariants.{FullNames}
 use Rattle.repo_store.specs.Kept.{packet_name}
-use Rattle.repo_store.specs.Indexes.{FullName, digest_behind, names_cmp, key_cmp, key_of, key_in, keys_in, has_key, is_full_name, has_full_name, IsFrom, IsFirstOf, IsSlotOf}
+use Rattle.repo_store.specs.Indexes.{FullName, digest_behind, names_cmp, key_cmp, key_of, key_in, keys_in, has_key}
+use Rattle.repo_store.specs.Indexes.{is_full_name, has_full_name, IsFrom, IsFirstOf, IsSlotOf}
 use Rattle.repo_store.proofs.NameLemmas.{digest_element, append-same}
 use Rattle.repo_store.proofs.IndexLemmas.{exact_names, rises_drop, in_split, in_at, lacks_before, lack_behind}
 
 -- ---- the slot of a packet
 
-pub in_one_more : {A : Type 0} (xs : List A) (i : ℕ) (d : A) → i < length xs → (x : A) → In x (take (i + 1) xs) → In x (take i xs) ⊎ (x ≡ get_or xs i d)
+pub in_one_more : {A : Type 0} (xs : List A) (i : ℕ) (d : A) → i < length xs → (x : A) → In x (take (i + 1) xs)
+    → In x (take i xs) ⊎ (x ≡ get_or xs i d)
 in_one_more [] i d l x h = absurd (omega arith)
 in_one_more (y ∷ ys) zero d l x (inl e) = inr e
 in_one_more (y ∷ ys) zero d l x (inr h) = absurd h
@@ -51,27 +55,34 @@ drop_past (y ∷ ys) (suc i) l = drop_past ys i (omega arith)
 abbrev pub NoneHas : Slab (List ℕ) → List ℕ → List Held → Type 0
 NoneHas packets octets held = (h : Held) → In h held → get packets h.slot ≢ Some octets
 
-module _ (order : Order) (packets : Slab (List ℕ)) (octets name digest : List ℕ) (named : name ≡ packet_name octets) (digested : digest ≡ digest_behind order octets) where
+module _ (order : Order) (packets : Slab (List ℕ)) (octets name digest : List ℕ) (named : name ≡ packet_name octets)
+    (digested : digest ≡ digest_behind order octets) where
   key_there : (h : Held) → get packets h.slot ≡ Some octets → has_key order packets (name, digest) h ≡ true
   key_there h e =
       let key : FullName = (name, digest) in
       let own : FullName = (packet_name octets, digest_behind order octets) in
       let same : key ≡ own = λ i. (named i, digested i) in
-      ap is_eq (ap (λ (o : Option (List ℕ)). names_cmp (key_of order o) key) e ∙ ap (names_cmp own) same ∙ exact_names.itself own)
+      ap is_eq (ap (λ (o : Option (List ℕ)). names_cmp (key_of order o) key) e ∙ ap (names_cmp own) same
+      ∙ exact_names.itself own)
 
-  pub none_more : (rest : List Held) (i : ℕ) (d : Held) → i < length rest → (get packets (get_or rest i d).slot ≡ Some octets → ⊥) → NoneHas packets octets (take i rest) → NoneHas packets octets (take (i + 1) rest)
+  pub none_more : (rest : List Held) (i : ℕ) (d : Held) → i < length rest
+      → (get packets (get_or rest i d).slot ≡ Some octets → ⊥) → NoneHas packets octets (take i rest)
+      → NoneHas packets octets (take (i + 1) rest)
   none_more rest i d l lacks none h j e = elim (in_one_more rest i d l h j) [
     | inl a ↦ none h a e
     | inr b ↦ lacks (ap (λ (o : Held). get packets o.slot) (sym b) ∙ e)
   ]
 
-  others_lack : (held rest : List Held) → IsFrom order packets held (name, digest) rest → NoneHas packets octets rest → NoneHas packets octets held
+  others_lack : (held rest : List Held) → IsFrom order packets held (name, digest) rest → NoneHas packets octets rest
+      → NoneHas packets octets held
   others_lack held rest from none h i e = elim (from.others h i) [
     | inl a ↦ none h a e
     | inr b ↦ true≢false (sym (key_there h e) ∙ lacks_before order packets (name, digest) h b)
   ]
 
-  pub none_lacks : (held rest : List Held) (i : ℕ) (d : Held) → IsFrom order packets held (name, digest) rest → i < length rest → has_key order packets (name, digest) (get_or rest i d) ≡ false → NoneHas packets octets (take i rest) → NoneHas packets octets held
+  pub none_lacks : (held rest : List Held) (i : ℕ) (d : Held) → IsFrom order packets held (name, digest) rest
+      → i < length rest → has_key order packets (name, digest) (get_or rest i d) ≡ false
+      → NoneHas packets octets (take i rest) → NoneHas packets octets held
   none_lacks held rest i d from l lacks none = others_lack held rest from go where
     is : drop i rest ≡ get_or rest i d ∷ drop (suc i) rest
     is = drop_one rest i d l
@@ -80,20 +91,31 @@ module _ (order : Order) (packets : Slab (List ℕ)) (octets name digest : List 
     go h j e = elim (in_split i rest h j) [
       | inl a ↦ none h a e
       | inr b ↦
-          let rises = subst (λ (xs : List Held). Rises key_cmp (keys_in order packets xs)) is (subst (Rises key_cmp) (drop-map (key_in order packets) i rest) (rises_drop key_cmp i (keys_in order packets rest) from.in_order)) in
-          true≢false (sym (key_there h e) ∙ lack_behind order packets (name, digest) (get_or rest i d) (drop (suc i) rest) rises (from.behind (get_or rest i d) (in_at rest i d l)) lacks h (subst (In h) is b))
+          let rises =
+          subst (λ (xs : List Held). Rises key_cmp (keys_in order packets xs)) is
+          (subst (Rises key_cmp) (drop-map (key_in order packets) i rest)
+          (rises_drop key_cmp i (keys_in order packets rest) from.in_order)) in
+          true≢false (sym (key_there h e)
+          ∙ lack_behind order packets (name, digest) (get_or rest i d) (drop (suc i) rest) rises
+          (from.behind (get_or rest i d) (in_at rest i d l)) lacks h (subst (In h) is b))
     ]
 
-  pub none_all : (held rest : List Held) (i : ℕ) → IsFrom order packets held (name, digest) rest → length rest ≤ i → NoneHas packets octets (take i rest) → NoneHas packets octets held
-  none_all held rest i from l none = others_lack held rest from (λ h j e. elim (in_split i rest h j) [ inl a ↦ none h a e | inr b ↦ subst (In h) (drop_past rest i l) b ])
+  pub none_all : (held rest : List Held) (i : ℕ) → IsFrom order packets held (name, digest) rest → length rest ≤ i
+      → NoneHas packets octets (take i rest) → NoneHas packets octets held
+  none_all held rest i from l none =
+      others_lack held rest from
+      (λ h j e. elim (in_split i rest h j) [ inl a ↦ none h a e | inr b ↦ subst (In h) (drop_past rest i l) b ])
 
-  pub slot_found : (held rest : List Held) (i : ℕ) (d : Held) → IsFrom order packets held (name, digest) rest → i < length rest → get packets (get_or rest i d).slot ≡ Some octets → IsSlotOf held packets octets (Some (get_or rest i d).slot)
+  pub slot_found : (held rest : List Held) (i : ℕ) (d : Held) → IsFrom order packets held (name, digest) rest
+      → i < length rest → get packets (get_or rest i d).slot ≡ Some octets
+      → IsSlotOf held packets octets (Some (get_or rest i d).slot)
   slot_found held rest i d from l e = (get_or rest i d, from.held_only (get_or rest i d) (in_at rest i d l), refl, e)
 
 -- ---- full names
 
 -- tests that agree find the same
-pub first_of_test : (held : List Held) (p q : Held → Bool) → ((h : Held) → p h ≡ q h) → (r : Option Held) → IsFirstOf held p r → IsFirstOf held q r
+pub first_of_test : (held : List Held) (p q : Held → Bool) → ((h : Held) → p h ≡ q h) → (r : Option Held)
+    → IsFirstOf held p r → IsFirstOf held q r
 first_of_test held p q same None first = λ h i. sym (same h) ∙ first h i
 first_of_test held p q same (Some m) first = record {
   there = first.there;
@@ -112,42 +134,64 @@ append_both (x ∷ a) b (y ∷ c) d l e =
     ((ap (λ (n : List ℕ). x ∷ n) rest.0 ∙ ap (λ (z : ℕ). z ∷ c) one), rest.1)
 
 pub taken_and_rest : (n : ℕ) (xs front back : List ℕ) → front ≡ take n xs → back ≡ drop n xs → xs ≡ front ++ back
-taken_and_rest n xs front back p q = split n xs ∙ ap (λ (x : List ℕ). x ++ drop n xs) (sym p) ∙ ap (λ (x : List ℕ). front ++ x) (sym q) where
-  split : (n : ℕ) (xs : List ℕ) → xs ≡ take n xs ++ drop n xs
-  split zero xs = refl
-  split (suc n) [] = refl
-  split (suc n) (x ∷ xs) = ap (λ (ys : List ℕ). x ∷ ys) (split n xs)
+taken_and_rest n xs front back p q =
+    split n xs ∙ ap (λ (x : List ℕ). x ++ drop n xs) (sym p) ∙ ap (λ (x : List ℕ). front ++ x) (sym q) where
+      split : (n : ℕ) (xs : List ℕ) → xs ≡ take n xs ++ drop n xs
+      split zero xs = refl
+      split (suc n) [] = refl
+      split (suc n) (x ∷ xs) = ap (λ (ys : List ℕ). x ∷ ys) (split n xs)
 
 -- how long a full name is
-full_length : (octets : List ℕ) → length (packet_name octets ++ element 1 (sha256 octets)) ≡ length (packet_name octets) + 34
+full_length : (octets : List ℕ)
+    → length (packet_name octets ++ element 1 (sha256 octets)) ≡ length (packet_name octets) + 34
 full_length octets =
     let last = ap length (digest_element (sha256 octets) (length-sha256 octets)) in
-    omega (arith, last, length-append (packet_name octets) (element 1 (sha256 octets)), length-append (1 ∷ 32 ∷ []) (sha256 octets), length-sha256 octets)
+    omega (
+      arith,
+      last,
+      length-append (packet_name octets) (element 1 (sha256 octets)),
+      length-append (1 ∷ 32 ∷ []) (sha256 octets),
+      length-sha256 octets,
+    )
 
-is_full-Decides : (asked octets : List ℕ) → Decides (is_full_name asked (Some octets)) (asked ≡ packet_name octets ++ element 1 (sha256 octets))
-is_full-Decides asked octets = slice_eq-Decides unsigned_Decides asked (packet_name octets ++ element 1 (sha256 octets)) _ refl
+is_full-Decides : (asked octets : List ℕ)
+    → Decides (is_full_name asked (Some octets)) (asked ≡ packet_name octets ++ element 1 (sha256 octets))
+is_full-Decides asked octets =
+    slice_eq-Decides unsigned_Decides asked (packet_name octets ++ element 1 (sha256 octets)) _ refl
 
 false_where : (b : Bool) → (b ≡ true → ⊥) → b ≡ false
 false_where true h = absurd (h refl)
 false_where false h = refl
 
-no_full_name : (asked : List ℕ) → ((octets : List ℕ) → asked ≢ packet_name octets ++ element 1 (sha256 octets)) → (o : Option (List ℕ)) → is_full_name asked o ≡ false
+no_full_name : (asked : List ℕ) → ((octets : List ℕ) → asked ≢ packet_name octets ++ element 1 (sha256 octets))
+    → (o : Option (List ℕ)) → is_full_name asked o ≡ false
 no_full_name asked none None = refl
 no_full_name asked none (Some octets) = false_where _ (λ t. none octets ((is_full-Decides asked octets).0 t))
 
-pub short_lacks : (held : List Held) (packets : Slab (List ℕ)) (asked : List ℕ) → length asked < 34 → IsFirstOf held (has_full_name packets asked) None
-short_lacks held packets asked l h i = no_full_name asked (λ octets e. absurd (omega (arith, ap length e, full_length octets))) (get packets h.slot)
+pub short_lacks : (held : List Held) (packets : Slab (List ℕ)) (asked : List ℕ) → length asked < 34
+    → IsFirstOf held (has_full_name packets asked) None
+short_lacks held packets asked l h i =
+    no_full_name asked (λ octets e. absurd (omega (arith, ap length e, full_length octets))) (get packets h.slot)
 
 -- what ends in another component is no full name
-pub other_lacks : (held : List Held) (packets : Slab (List ℕ)) (asked name last : List ℕ) → asked ≡ name ++ last → length last ≡ 34 → ((rest : List ℕ) → last ≢ (1 ∷ 32 ∷ []) ++ rest) → IsFirstOf held (has_full_name packets asked) None
+pub other_lacks : (held : List Held) (packets : Slab (List ℕ)) (asked name last : List ℕ) → asked ≡ name ++ last
+    → length last ≡ 34 → ((rest : List ℕ) → last ≢ (1 ∷ 32 ∷ []) ++ rest)
+    → IsFirstOf held (has_full_name packets asked) None
 other_lacks held packets asked name last is l other h i =
     no_full_name asked (λ octets e.
-    let full = e ∙ ap (λ (x : List ℕ). packet_name octets ++ x) (digest_element (sha256 octets) (length-sha256 octets)) in
-    let both = append_both name last (packet_name octets) ((1 ∷ 32 ∷ []) ++ sha256 octets) (omega (arith, length-append (1 ∷ 32 ∷ []) (sha256 octets), length-sha256 octets)) (sym is ∙ full) in
+    let full =
+    e ∙ ap (λ (x : List ℕ). packet_name octets ++ x) (digest_element (sha256 octets) (length-sha256 octets)) in
+    let both =
+    append_both name last (packet_name octets) ((1 ∷ 32 ∷ []) ++ sha256 octets)
+    (omega (arith, length-append (1 ∷ 32 ∷ []) (sha256 octets), length-sha256 octets)) (sym is ∙ full) in
     other (sha256 octets) both.1) (get packets h.slot)
 
-full_key : (asked name digest : List ℕ) → asked ≡ name ++ ((1 ∷ 32 ∷ []) ++ digest) → length digest ≡ 32 → (o : Option (List ℕ)) → is_eq (names_cmp (key_of FullNames o) (name, digest)) ≡ is_full_name asked o
-full_key asked name digest is l None = false_where _ (λ t. absurd (omega (arith, l, ap (λ (k : FullName). length k.1) (exact_names.same ([], []) (name, digest) (equal_from_is_eq _ t)))))
+full_key : (asked name digest : List ℕ) → asked ≡ name ++ ((1 ∷ 32 ∷ []) ++ digest) → length digest ≡ 32
+    → (o : Option (List ℕ)) → is_eq (names_cmp (key_of FullNames o) (name, digest)) ≡ is_full_name asked o
+full_key asked name digest is l None =
+    false_where _
+    (λ t. absurd (omega
+    (arith, l, ap (λ (k : FullName). length k.1) (exact_names.same ([], []) (name, digest) (equal_from_is_eq _ t)))))
 full_key asked name digest is l (Some octets) =
     let own : FullName = (packet_name octets, sha256 octets) in
     let key : FullName = (name, digest) in
@@ -156,16 +200,29 @@ full_key asked name digest is l (Some octets) =
     same_from_decides (is_eq (names_cmp own key)) (is_full_name asked (Some octets)) (
       λ t.
           let same = exact_names.same own key (equal_from_is_eq _ t) in
-          is ∙ sym (ap (λ (k : FullName). k.0 ++ ((1 ∷ 32 ∷ []) ++ k.1)) same) ∙ ap (λ (x : List ℕ). packet_name octets ++ x) (sym spelled),
+          is
+          ∙ sym (ap (λ (k : FullName). k.0 ++ ((1 ∷ 32 ∷ []) ++ k.1)) same)
+          ∙ ap (λ (x : List ℕ). packet_name octets ++ x) (sym spelled),
       λ e.
           let full = sym is ∙ e ∙ ap (λ (x : List ℕ). packet_name octets ++ x) spelled in
-          let both = append_both name ((1 ∷ 32 ∷ []) ++ digest) (packet_name octets) ((1 ∷ 32 ∷ []) ++ sha256 octets) (omega (arith, length-append (1 ∷ 32 ∷ []) digest, length-append (1 ∷ 32 ∷ []) (sha256 octets), length-sha256 octets, l)) full in
+          let both =
+          append_both name ((1 ∷ 32 ∷ []) ++ digest) (packet_name octets) ((1 ∷ 32 ∷ []) ++ sha256 octets)
+          (omega (
+            arith,
+            length-append (1 ∷ 32 ∷ []) digest,
+            length-append (1 ∷ 32 ∷ []) (sha256 octets),
+            length-sha256 octets,
+            l,
+          )) full in
           let p : packet_name octets ≡ name = sym both.0 in
           let q : sha256 octets ≡ digest = sym (append-same (1 ∷ 32 ∷ []) digest (sha256 octets) both.1) in
           let same : own ≡ key = λ i. (p i, q i) in
           ap is_eq (ap (names_cmp own) (sym same) ∙ exact_names.itself own),
     ) decides
 
-pub full_found : (held : List Held) (packets : Slab (List ℕ)) (asked name digest : List ℕ) → asked ≡ name ++ ((1 ∷ 32 ∷ []) ++ digest) → length digest ≡ 32 → (r : Option Held) → IsFirstOf held (has_key FullNames packets (name, digest)) r → IsFirstOf held (has_full_name packets asked) r
+pub full_found : (held : List Held) (packets : Slab (List ℕ)) (asked name digest : List ℕ)
+    → asked ≡ name ++ ((1 ∷ 32 ∷ []) ++ digest) → length digest ≡ 32 → (r : Option Held)
+    → IsFirstOf held (has_key FullNames packets (name, digest)) r → IsFirstOf held (has_full_name packets asked) r
 full_found held packets asked name digest is l r first =
-    first_of_test held (has_key FullNames packets (name, digest)) (has_full_name packets asked) (λ h. full_key asked name digest is l (get packets h.slot)) r first
+    first_of_test held (has_key FullNames packets (name, digest)) (has_full_name packets asked)
+    (λ h. full_key asked name digest is l (get packets h.slot)) r first

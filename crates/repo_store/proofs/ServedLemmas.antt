@@ -15,17 +15,22 @@ answer e = Ok e
 
 -- ---- an entry
 
-pub entry_fault : (interest : List ℕ) (packets : Stores) (fault : PacketFault) → interest_of interest ≡ Err fault → served_entry interest packets ≡ Err fault
+pub entry_fault : (interest : List ℕ) (packets : Stores) (fault : PacketFault) → interest_of interest ≡ Err fault
+    → served_entry interest packets ≡ Err fault
 unfolding served_entry
-entry_fault interest packets fault e = ap (λ (r : Result Interest PacketFault). r >>= λ i. answer (first_served i packets)) e
+entry_fault interest packets fault e =
+    ap (λ (r : Result Interest PacketFault). r >>= λ i. answer (first_served i packets)) e
 
-pub entry_fresh : (interest : List ℕ) (packets : Stores) (i : Interest) → interest_of interest ≡ Ok i → i.must_be_fresh ≡ true → served_entry interest packets ≡ Ok None
+pub entry_fresh : (interest : List ℕ) (packets : Stores) (i : Interest) → interest_of interest ≡ Ok i
+    → i.must_be_fresh ≡ true → served_entry interest packets ≡ Ok None
 unfolding served_entry first_served
 entry_fresh interest packets i e fresh =
     ap (λ (r : Result Interest PacketFault). r >>= λ i. answer (first_served i packets)) e
     ∙ ap (λ (b : Bool). answer (cond b None (find (λ s. satisfies i.name i.can_be_prefix s.1) packets))) fresh
 
-pub entry_found : (interest : List ℕ) (packets : Stores) (i : Interest) → interest_of interest ≡ Ok i → i.must_be_fresh ≡ false → served_entry interest packets ≡ Ok (find (λ s. satisfies i.name i.can_be_prefix s.1) packets)
+pub entry_found : (interest : List ℕ) (packets : Stores) (i : Interest) → interest_of interest ≡ Ok i
+    → i.must_be_fresh ≡ false
+    → served_entry interest packets ≡ Ok (find (λ s. satisfies i.name i.can_be_prefix s.1) packets)
 unfolding served_entry first_served
 entry_found interest packets i e fresh =
     ap (λ (r : Result Interest PacketFault). r >>= λ i. answer (first_served i packets)) e
@@ -33,6 +38,10 @@ entry_found interest packets i e fresh =
 
 -- ---- the packet
 
-pub served_found : (interest : List ℕ) (packets : Stores) (i : Interest) → interest_of interest ≡ Ok i → i.must_be_fresh ≡ false → served interest packets ≡ Ok (option_map (λ s. s.1) (find (λ s. satisfies i.name i.can_be_prefix s.1) packets))
+pub served_found : (interest : List ℕ) (packets : Stores) (i : Interest) → interest_of interest ≡ Ok i
+    → i.must_be_fresh ≡ false
+    → served interest packets ≡ Ok (option_map (λ s. s.1) (find (λ s. satisfies i.name i.can_be_prefix s.1) packets))
 served_found interest packets i e fresh =
-    ap (λ (r : Result (Option (Part × List ℕ)) PacketFault). r >>= λ s. let x : Result (Option (List ℕ)) PacketFault = Ok (option_map (λ (t : Part × List ℕ). t.1) s) in x) (entry_found interest packets i e fresh)
+    ap (λ (r : Result (Option (Part × List ℕ)) PacketFault).
+    r >>= λ s. let x : Result (Option (List ℕ)) PacketFault = Ok (option_map (λ (t : Part × List ℕ). t.1) s) in x)
+    (entry_found interest packets i e fresh)

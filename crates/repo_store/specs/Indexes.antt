@@ -1,5 +1,6 @@
 -- Indexes of packets: what is held, in order of names or full names and then of parts.
-use Rattle.std.specs.Prelude.{◌≡◌, ◌≢◌, ℕ, ◌<◌, ◌≤◌, Bool, true, false, List, [], ◌++◌, ◌⊎◌, map, take, drop, length, Option, Some, None, if◌then◌else◌}
+use Rattle.std.specs.Prelude.{◌≡◌, ◌≢◌, ℕ, ◌<◌, ◌≤◌, Bool, true, false, List, [], ◌++◌, ◌⊎◌, map, take, drop, length}
+use Rattle.std.specs.Prelude.{Option, Some, None, if◌then◌else◌}
 use Rattle.std.specs.List.{starts_with}
 use Rattle.std.specs.Bool.{nat_eq}
 use Rattle.std.specs.Ordering.{nat_cmp, ordering_then, eq_by_cmp, is_gt}
@@ -78,7 +79,8 @@ abbrev pub first_part : Part
 first_part = record { publisher = 0; seq = 0; part = 0 }
 
 -- What is held from a full name on: the others come before it.
-pub record IsFrom (order : Order) (packets : Slab (List ℕ)) (held : List Held) (name : FullName) (rest : List Held) : Type 0 where
+pub record IsFrom (order : Order) (packets : Slab (List ℕ)) (held : List Held) (name : FullName) (rest : List Held)
+    : Type 0 where
   pub in_order : Rises key_cmp (keys_in order packets rest)
   pub held_only : (h : Held) → In h rest → In h held
   pub behind : (h : Held) → In h rest → key_cmp (key_in order packets h) (name, first_part) ≢ Less

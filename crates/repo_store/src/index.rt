@@ -1,9 +1,12 @@
-ghost use Rattle.std.specs.Prelude.{◌≡◌, ◌↔◌, ◌+◌, ◌<◌, ◌≤◌, [], Some, IsTrue, IfSome, slice_get, vec_len, vec_capacity};
+ghost use Rattle.std.specs.Prelude.{◌≡◌, ◌↔◌, ◌+◌, ◌<◌, ◌≤◌, [], Some, IsTrue, IfSome, slice_get, vec_len};
+ghost use Rattle.std.specs.Prelude.{vec_capacity};
 ghost use Rattle.repo_store.specs.declared.index.Order.TheVariants.{Names, FullNames};
 ghost use Rattle.slab.specs.Slab.{get};
 ghost use Rattle.repo_plan.specs.SortedList.{Rises};
 ghost use Rattle.repo_store.specs.Kept.{packet_name};
-ghost use Rattle.repo_store.specs.Indexes.{digest_behind, key_of, names_cmp, key_cmp, key_in, keys_in, keys_of, as_full_name, has_key, has_full_name, begins_with, lesser, IndexIsInOrder, IsPlace, IsFrom, IsBehind, IsFirstOf, IsSlotOf, GainsOne, LacksPart};
+ghost use Rattle.repo_store.specs.Indexes.{digest_behind, key_of, names_cmp, key_cmp, key_in, keys_in, keys_of};
+ghost use Rattle.repo_store.specs.Indexes.{as_full_name, has_key, has_full_name, begins_with, lesser, IndexIsInOrder};
+ghost use Rattle.repo_store.specs.Indexes.{IsPlace, IsFrom, IsBehind, IsFirstOf, IsSlotOf, GainsOne, LacksPart};
 
 use crate::packet::{Packet, Packets};
 use repo_plan::Part;

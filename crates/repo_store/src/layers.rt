@@ -4,7 +4,8 @@ ghost use Rattle.repo_plan.specs.SortedList.{Rises};
 ghost use Rattle.repo_plan.proofs.Sets.{In};
 ghost use Rattle.repo_store.specs.declared.index.Held as declared_held;
 ghost use Rattle.repo_store.specs.declared.index.Order.TheVariants.{Names, FullNames};
-ghost use Rattle.repo_store.specs.Indexes.{key_cmp, key_in, keys_in, has_key, has_full_name, begins_with, IsFirstOf, IsPlace, IsSlotOf, GainsOne, LacksPart};
+ghost use Rattle.repo_store.specs.Indexes.{key_cmp, key_in, keys_in, has_key, has_full_name, begins_with, IsFirstOf};
+ghost use Rattle.repo_store.specs.Indexes.{IsPlace, IsSlotOf, GainsOne, LacksPart};
 ghost use Rattle.repo_store.specs.Slots.{held_outside};
 ghost use Rattle.repo_store.specs.Layers.{all_of, AreInOrder, AreApart, HasRoom, HasSame, IsMerged};
 
@@ -105,8 +106,10 @@ impl Layers {
 
     // The index of what is settled, and that of what is recent.
     fn indexes<'i>(&'i self, order: Order, packets: &'i Packets) -> (Index<'i>, Index<'i>)
-        ensures settled { (result.0.order ≡ order) × (result.0.packets.now ≡ packets.now) × (result.0.held.now ≡ self.now.settled.items) }
-        ensures recent { (result.1.order ≡ order) × (result.1.packets.now ≡ packets.now) × (result.1.held.now ≡ self.now.recent.items) }
+        ensures settled { (result.0.order ≡ order) × (result.0.packets.now ≡ packets.now)
+            × (result.0.held.now ≡ self.now.settled.items) }
+        ensures recent { (result.1.order ≡ order) × (result.1.packets.now ≡ packets.now)
+            × (result.1.held.now ≡ self.now.recent.items) }
     {
         let settled = Index {
             order,

@@ -1,4 +1,5 @@
-ghost use Rattle.std.specs.Prelude.{◌≡◌, ◌↔◌, ℕ, ◌+◌, ◌-◌, ◌<◌, ◌≤◌, ◌^◌, [], length, max, not, option_map, Ok, Err, IsOk, IfOk, OnOk, OnErr, MatchResult};
+ghost use Rattle.std.specs.Prelude.{◌≡◌, ◌↔◌, ℕ, ◌+◌, ◌-◌, ◌<◌, ◌≤◌, ◌^◌, [], length, max, not, option_map, Ok, Err};
+ghost use Rattle.std.specs.Prelude.{IsOk, IfOk, OnOk, OnErr, MatchResult};
 ghost use Rattle.std.specs.List.{All};
 ghost use Rattle.std.specs.HashMap.{spare};
 ghost use Rattle.slab.specs.Slab.{get, ContainsKey, HasRoomFor};
@@ -280,7 +281,8 @@ fn drop_unused(
     requires small { All (λ h. h.part.part < 2 ^ 8) (held_of slots.now.entries) }
     requires index { IsIndexOf FullNames packets.old (held_outside pair (held_of slots.now.entries)) full_names.now }
     ensures slots { AreSlots packets.new (held_outside pair (held_of slots.now.entries)) }
-    ensures same { (h : declared_held.Held) → In h (held_outside pair (held_of slots.now.entries)) → get packets.new h.slot ≡ get packets.old h.slot }
+    ensures same { (h : declared_held.Held) → In h (held_outside pair (held_of slots.now.entries))
+        → get packets.new h.slot ≡ get packets.old h.slot }
     ensures room { (n : ℕ) → HasRoomFor packets.old n → HasRoomFor packets.new n }
 {
     for x in 0..256_u16 {

@@ -1,6 +1,8 @@
 -- What a line that is taken states can be carried out: an event names members and clients that are there and is within
 -- its limits, and what is declared has a name and a key that a group takes.
-use Rattle.std.proofs.Common.{◌≡◌, ℕ, zero, suc, ◌+◌, ◌-◌, ◌*◌, ◌<◌, ◌≤◌, Bool, true, false, not, ◌||◌, nat_lt, nat_le, List, [], ◌∷◌, length, Option, Some, None, unwrap_or, Ok, Err, refl, sym, ap, subst, arith, if◌then◌else◌}
+use Rattle.std.proofs.Common.{◌≡◌, ℕ, zero, suc, ◌+◌, ◌-◌, ◌*◌, ◌<◌, ◌≤◌, Bool, true, false, not, ◌||◌, nat_lt, nat_le}
+use Rattle.std.proofs.Common.{List, [], ◌∷◌, length, Option, Some, None, unwrap_or, Ok, Err, refl, sym, ap, subst}
+use Rattle.std.proofs.Common.{arith, if◌then◌else◌}
 use Rattle.std.specs.Prelude.{IsTrue}
 use Rattle.std.specs.Int.{div_ceil}
 use Rattle.std.specs.List.{All, list_all, list_any, prefix_len}
@@ -24,7 +26,8 @@ use Rattle.script_lang.specs.declared.verb.Verb.TheVariants as verb
 use Rattle.script_lang.specs.Kinds.{Kind, Value, Text, Number, Named, Octets}
 use Rattle.script_lang.specs.Forms.{Stated, form, said}
 use Rattle.script_lang.specs.Lines.{are_within, line_of}
-use Rattle.script_lang.specs.Checking.{Declared, Party, has_label, labels_in, are_known, are_known_by, are_within_limits, with_totals, adds, after_by, after_event, after_line}
+use Rattle.script_lang.specs.Checking.{Declared, Party, has_label, labels_in, are_known, are_known_by}
+use Rattle.script_lang.specs.Checking.{are_within_limits, with_totals, adds, after_by, after_event, after_line}
 use Rattle.script_lang.specs.Texts.{AreOf, AreWordTexts, IsLineText, IsWordText}
 use Rattle.script_lang.proofs.Conditions.{and_left, and_right, and_both, le_test, le_tested, lt_tested}
 use Rattle.script_lang.proofs.LineTexts.{line_texts}

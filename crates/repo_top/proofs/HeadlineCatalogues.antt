@@ -1,5 +1,7 @@
 -- What `catalogue` lines print.
-use Rattle.std.proofs.Common.{◌≡◌, ◌∙◌, ◌⊎◌, inl, inr, ℕ, suc, ◌+◌, ◌<◌, Bool, true, false, not, ◌||◌, nat_lt, List, [], ◌∷◌, length, get_or, map, Some, None, unwrap_or, refl, sym, ap, subst, arith, if◌then◌else◌}
+use Rattle.std.proofs.Common.{◌≡◌, ◌∙◌, ◌⊎◌, inl, inr, ℕ, suc, ◌+◌, ◌<◌, Bool, true, false, not, ◌||◌, nat_lt, List, []}
+use Rattle.std.proofs.Common.{◌∷◌, length, get_or, map, Some, None, unwrap_or, refl, sym, ap, subst, arith}
+use Rattle.std.proofs.Common.{if◌then◌else◌}
 use Rattle.std.specs.List.{prefix_len}
 use Rattle.std.specs.Str.{bytes_eq}
 use Rattle.std.proofs.lemmas.Bool.{true≢false, cases_Bool}
@@ -27,8 +29,10 @@ use Rattle.repo_top.specs.SaidEvents.{party_number}
 use Rattle.repo_top.specs.ToldTexts.{label_at}
 use Rattle.repo_top.specs.Judging.{Given, State, acted_by, found_world, outside_of}
 use Rattle.repo_top.specs.Story.{Reached}
-use Rattle.repo_top.specs.Headline.{HoldsAllOf, IsCatalogueLine, IsCatalogueOf, IsToBeListed, ListExactly, PrintsCatalogues, group_at, labels_at, printed_entries, publication_at}
-use Rattle.repo_top.proofs.HeadlineGroups.{IsActed, IsEventLine, IsSoundState, StatedTaken, acts_so, event_line, sound_from_start, stated_taken, taken_line}
+use Rattle.repo_top.specs.Headline.{HoldsAllOf, IsCatalogueLine, IsCatalogueOf, IsToBeListed, ListExactly}
+use Rattle.repo_top.specs.Headline.{PrintsCatalogues, group_at, labels_at, printed_entries, publication_at}
+use Rattle.repo_top.proofs.HeadlineGroups.{IsActed, IsEventLine, IsSoundState, StatedTaken, acts_so, event_line}
+use Rattle.repo_top.proofs.HeadlineGroups.{sound_from_start, stated_taken, taken_line}
 
 -- ---- a catalogue
 

@@ -1,5 +1,6 @@
 -- Only deletions hide publications.
-use Rattle.std.proofs.Common.{◌≡◌, ◌∙◌, ℕ, zero, suc, ◌<◌, Bool, true, false, cond, not, List, [], ◌∷◌, ◌++◌, length, get_or, set, map, Option, Some, None, Result, Ok, refl, sym, ap, subst, arith}
+use Rattle.std.proofs.Common.{◌≡◌, ◌∙◌, ℕ, zero, suc, ◌<◌, Bool, true, false, cond, not, List, [], ◌∷◌, ◌++◌, length}
+use Rattle.std.proofs.Common.{get_or, set, map, Option, Some, None, Result, Ok, refl, sym, ap, subst, arith}
 use Rattle.std.specs.List.{list_all}
 use Rattle.std.specs.Option.{IfSome}
 use Rattle.std.proofs.lemmas.List.{length-set}
@@ -16,7 +17,9 @@ use Rattle.group_model.specs.Events.{SyncInterest, Came, Event}
 use Rattle.group_model.specs.Events.Came.{Nothing, Its, Another}
 use Rattle.group_model.specs.World.{Outside, World, member, no_member, sent_at}
 use Rattle.group_model.specs.World.{with_member as world_with}
-use Rattle.group_model.specs.Steps.{after_block, after_came, after_claiming, after_command, after_deliver, after_event, after_fire, after_hear, after_publish, block_at, came_as, came_from, can_start, claim_at, tells_too_much, timer_at, to_claim, with_process_at}
+use Rattle.group_model.specs.Steps.{after_block, after_came, after_claiming, after_command, after_deliver, after_event}
+use Rattle.group_model.specs.Steps.{after_fire, after_hear, after_publish, block_at, came_as, came_from, can_start}
+use Rattle.group_model.specs.Steps.{claim_at, tells_too_much, timer_at, to_claim, with_process_at}
 use Rattle.group_model.specs.Laws.{NothingHidden}
 use Rattle.group_model.proofs.Settles.{member_settled}
 use Rattle.repo_plan.specs.Parts.{numbers_from}
@@ -32,10 +35,13 @@ use Rattle.script_lang.specs.Checking.{Declared, after_by, after_group, after_li
 use Rattle.script_lang.proofs.Conditions.{and_left, and_right}
 use Rattle.bench_world.specs.EventValues.{EventValue, group_event}
 use Rattle.repo_top.specs.SaidEvents.{said_by, said_event}
-use Rattle.repo_top.specs.Judging.{Given, State, acted_by, acted_if, found_world, outside_of, says, taken_by, with_client, with_group, declaring_member}
+use Rattle.repo_top.specs.Judging.{Given, State, acted_by, acted_if, found_world, outside_of, says, taken_by}
+use Rattle.repo_top.specs.Judging.{with_client, with_group, declaring_member}
 use Rattle.repo_top.specs.Story.{Reached, nothing_reached}
 use Rattle.repo_top.specs.Headline.{LinesAreTaken, HidesByDeletionAlone, deletes, deletes_nothing, group_at}
-use Rattle.repo_top.proofs.HeadlineGroups.{IsSoundState, LineTaken, acted_said, declares_group, event_line, may, nothing, opened, says_state, sound_beginning, sound_line, stating, taken_line}
+use Rattle.repo_top.proofs.HeadlineGroups.{IsSoundState, LineTaken, acted_said, declares_group, event_line, may}
+use Rattle.repo_top.proofs.HeadlineGroups.{nothing, opened, says_state, sound_beginning, sound_line, stating}
+use Rattle.repo_top.proofs.HeadlineGroups.{taken_line}
 
 -- ---- events
 

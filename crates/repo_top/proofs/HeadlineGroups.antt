@@ -1,6 +1,8 @@
 -- The group behind lines that are taken is sound: an event names members that are there, and members are declared only
 -- before the first event.
-use Rattle.std.proofs.Common.{◌≡◌, ◌∙◌, ℕ, ◌+◌, Bool, true, false, not, ◌||◌, nat_le, List, [], ◌∷◌, ◌++◌, length, length-append, map, Option, Some, None, unwrap_or, Result, Ok, Err, refl, sym, ap, subst, arith, if◌then◌else◌}
+use Rattle.std.proofs.Common.{◌≡◌, ◌∙◌, ℕ, ◌+◌, Bool, true, false, not, ◌||◌, nat_le, List, [], ◌∷◌, ◌++◌, length}
+use Rattle.std.proofs.Common.{length-append, map, Option, Some, None, unwrap_or, Result, Ok, Err, refl, sym, ap, subst}
+use Rattle.std.proofs.Common.{arith, if◌then◌else◌}
 use Rattle.std.specs.List.{IsDistinct, list_any}
 use Rattle.std.specs.Str.{bytes_eq}
 use Rattle.std.proofs.lemmas.Bool.{or_parts, true≢false}
@@ -33,10 +35,14 @@ use Rattle.script_lang.specs.Forms.{Stated}
 use Rattle.script_lang.specs.Lines.{line_of}
 use Rattle.script_lang.specs.Limits.{members_limit}
 use Rattle.script_lang.specs.Checking as checking
-use Rattle.script_lang.specs.Checking.{Declared, Party, LineTotals, adds, after_by, after_group, after_line, are_known, are_within_limits, declared_then, is_party_among, is_there, party_label, may_declare, party, with_totals}
+use Rattle.script_lang.specs.Checking.{Declared, Party, LineTotals, adds, after_by, after_group, after_line, are_known}
+use Rattle.script_lang.specs.Checking.{are_within_limits, declared_then, is_party_among, is_there, party_label}
+use Rattle.script_lang.specs.Checking.{may_declare, party, with_totals}
 use Rattle.repo_top.specs.SaidEvents.{said_event}
 use Rattle.repo_top.specs.ToldTexts.{told_text}
-use Rattle.repo_top.specs.Judging.{Given, State, acted, acted_by, acted_if, check_refused, checked, event_refused, found_world, judged, judged_line, line_taken, opening_state, outside_of, read, says, stepped, taken_by, with_client, with_group, declaring_member}
+use Rattle.repo_top.specs.Judging.{Given, State, acted, acted_by, acted_if, check_refused, checked, event_refused}
+use Rattle.repo_top.specs.Judging.{found_world, judged, judged_line, line_taken, opening_state, outside_of, read, says}
+use Rattle.repo_top.specs.Judging.{stepped, taken_by, with_client, with_group, declaring_member}
 use Rattle.repo_top.specs.Story.{Reached, nothing_reached}
 use Rattle.repo_top.specs.Headline.{LinesAreTaken, AreTakenFirst, LineIsTaken, ReachSoundGroups}
 use Rattle.repo_top.proofs.Fitting.{event_fits}

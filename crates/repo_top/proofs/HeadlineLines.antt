@@ -1,5 +1,6 @@
 -- The lines that a story is told by.
-use Rattle.std.proofs.Common.{◌≡◌, ◌∙◌, ℕ, ◌+◌, Bool, nat_le, true, false, List, [], ◌∷◌, ◌++◌, length, append_assoc, refl, sym, ap, subst, arith, if◌then◌else◌}
+use Rattle.std.proofs.Common.{◌≡◌, ◌∙◌, ℕ, ◌+◌, Bool, nat_le, true, false, List, [], ◌∷◌, ◌++◌, length, append_assoc}
+use Rattle.std.proofs.Common.{refl, sym, ap, subst, arith, if◌then◌else◌}
 use Rattle.std.specs.List.{concat}
 use Rattle.script_report.specs.Limits.{report_octets}
 use Rattle.script_report.specs.Texts.{foreign_text}
@@ -8,7 +9,8 @@ use Rattle.repo_top.specs.declared.refusal.Refusal.TheVariants.{Limit, TooLarge}
 use Rattle.repo_top.specs.Refusals.{refusal_number, refusal_text}
 use Rattle.repo_top.specs.Judging.{Given, State, Verdict, says, foreign, judged}
 use Rattle.repo_top.specs.Judging as verdict
-use Rattle.repo_top.specs.Story.{Reached, Story, reached_behind, behind_text, is_within_script, judged_next, nothing_reached, story_from, story_of_line, within_report}
+use Rattle.repo_top.specs.Story.{Reached, Story, reached_behind, behind_text, is_within_script, judged_next}
+use Rattle.repo_top.specs.Story.{nothing_reached, story_from, story_of_line, within_report}
 use Rattle.repo_top.specs.Headline.{LinesAreTaken, BeginsWithReports, EachIsTaken, EndsBy, LineIsTaken, IsToldBy}
 
 -- ---- one line

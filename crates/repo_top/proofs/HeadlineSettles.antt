@@ -1,5 +1,6 @@
 -- Catalogues right after a settle.
-use Rattle.std.proofs.Common.{◌≡◌, ◌∙◌, ℕ, ◌<◌, true, List, [], ◌∷◌, length, map, Option, Some, Result, Ok, refl, sym, ap, subst}
+use Rattle.std.proofs.Common.{◌≡◌, ◌∙◌, ℕ, ◌<◌, true, List, [], ◌∷◌, length, map, Option, Some, Result, Ok, refl, sym}
+use Rattle.std.proofs.Common.{ap, subst}
 use Rattle.std.specs.List.{list_all}
 use Rattle.group_model.specs.Publications.{join_of}
 use Rattle.group_model.specs.World.{Outside, World, catalogue_at, logs}
@@ -21,8 +22,11 @@ use Rattle.bench_world.specs.EventValues.{EventValue, group_event}
 use Rattle.repo_top.specs.SaidEvents.{party_number, said_by, said_event}
 use Rattle.repo_top.specs.Judging.{Given, State, acted_by, acted_if, found_world, outside_of, says, taken_by}
 use Rattle.repo_top.specs.Story.{Reached}
-use Rattle.repo_top.specs.Headline.{LinesAreTaken, IsCatalogueOf, IsSameGroup, IsSettleLine, SettlesJoin, TellingChangesNothing, changes_nothing, group_at, labels_at, only_tells, printed_entries}
-use Rattle.repo_top.proofs.HeadlineGroups.{IsActed, IsSoundState, LineTaken, acts_so, acted_said, event_line, nothing, sound_from_start, sound_lines, stated_taken, stating, taken_line}
+use Rattle.repo_top.specs.Headline.{LinesAreTaken, IsCatalogueOf, IsSameGroup, IsSettleLine, SettlesJoin}
+use Rattle.repo_top.specs.Headline.{TellingChangesNothing, changes_nothing, group_at, labels_at, only_tells}
+use Rattle.repo_top.specs.Headline.{printed_entries}
+use Rattle.repo_top.proofs.HeadlineGroups.{IsActed, IsSoundState, LineTaken, acts_so, acted_said, event_line, nothing}
+use Rattle.repo_top.proofs.HeadlineGroups.{sound_from_start, sound_lines, stated_taken, stating, taken_line}
 use Rattle.repo_top.proofs.HeadlineCatalogues.{catalogue_line}
 
 -- ---- the settle

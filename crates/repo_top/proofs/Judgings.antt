@@ -1,5 +1,7 @@
 -- What lines come to, case by case.
-use Rattle.std.proofs.Common.{◌≡◌, ◌∙◌, ℕ, ◌<◌, Bool, true, false, not, ◌||◌, List, [], ◌∷◌, ◌++◌, length, map, Option, Some, None, Ok, Err, ◌⊎◌, inl, inr, nat_le, ◌+◌, refl, sym, ap, subst, arith, if◌then◌else◌}
+use Rattle.std.proofs.Common.{◌≡◌, ◌∙◌, ℕ, ◌<◌, Bool, true, false, not, ◌||◌, List, [], ◌∷◌, ◌++◌, length, map, Option}
+use Rattle.std.proofs.Common.{Some, None, Ok, Err, ◌⊎◌, inl, inr, nat_le, ◌+◌, refl, sym, ap, subst, arith}
+use Rattle.std.proofs.Common.{if◌then◌else◌}
 use Rattle.std.specs.List.{list_any}
 use Rattle.std.specs.Option.{option_map}
 use Rattle.std.specs.Str.{bytes_eq}
@@ -18,7 +20,9 @@ use Rattle.script_lang.specs.Kinds.{Text, Named, Octets}
 use Rattle.script_lang.specs.Forms.{Stated, said, stated}
 use Rattle.script_lang.specs.Lines.{line_of}
 use Rattle.script_lang.specs.Reading.{FaultTells}
-use Rattle.script_lang.specs.Checking.{Declared, Party, after_line, after_event, are_known, are_within_limits, with_totals, adds, declared_then, is_party_among, is_there, party_label, may_declare, party}
+use Rattle.script_lang.specs.Checking.{Declared, Party, after_line, after_event, are_known, are_within_limits}
+use Rattle.script_lang.specs.Checking.{with_totals, adds, declared_then, is_party_among, is_there, party_label}
+use Rattle.script_lang.specs.Checking.{may_declare, party}
 use Rattle.svs_vector.specs.Rosters.{has_same_octets, member_of}
 use Rattle.group_model.specs.World.{Outside, World}
 use Rattle.group_model.specs.Steps.{after_event as after_group_event}
@@ -29,7 +33,8 @@ use Rattle.bench_world.specs.EventValues.{EventValue, group_event, telling}
 use Rattle.repo_top.specs.declared.refusal.Refusal.TheVariants as refusal
 use Rattle.repo_top.specs.SaidEvents.{said_event}
 use Rattle.repo_top.specs.ToldTexts.{told_text}
-use Rattle.repo_top.specs.Judging.{Given, State, says, refused, acted, acted_by, found_world, group_named, judged, judged_line, line_taken, outside_of, read, stepped, with_client_too, with_member_too}
+use Rattle.repo_top.specs.Judging.{Given, State, says, refused, acted, acted_by, found_world, group_named, judged}
+use Rattle.repo_top.specs.Judging.{judged_line, line_taken, outside_of, read, stepped, with_client_too, with_member_too}
 use Rattle.repo_top.specs.declared.stop.Stop.{Stop}
 use Rattle.repo_top.specs.declared.stop.Stop.TheVariants as stop
 use Rattle.repo_top.specs.Progressing.{IsStop, IsStopOf, node_of}

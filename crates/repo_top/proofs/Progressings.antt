@@ -1,5 +1,6 @@
 -- What a line changes of what is kept, by what it states.
-use Rattle.std.proofs.Common.{◌≡◌, ◌∙◌, ℕ, ◌<◌, true, false, List, [], ◌∷◌, ◌++◌, length, map, Option, Some, None, Result, Ok, Err, String, Global, Vec, refl, sym, ap, subst}
+use Rattle.std.proofs.Common.{◌≡◌, ◌∙◌, ℕ, ◌<◌, true, false, List, [], ◌∷◌, ◌++◌, length, map, Option, Some, None}
+use Rattle.std.proofs.Common.{Result, Ok, Err, String, Global, Vec, refl, sym, ap, subst}
 use Rattle.std.specs.Prelude.{IfErr, OnOk}
 use Rattle.std.specs.Result.{IsErrAnd}
 use Rattle.std.proofs.lemmas.Bool.{true≢false}
@@ -20,13 +21,18 @@ use Rattle.group_model.specs.Refusals as group
 use Rattle.bench_world.specs.EventValues.{EventValue, group_event, telling}
 use Rattle.repo_top.specs.declared.progress.Standing.{Standing}
 use Rattle.repo_top.specs.declared.progress.Standing.TheVariants.{Opening, Declaring, Acting}
-use Rattle.repo_top.specs.Judging.{Given, State, Verdict, says, acted, acted_by, acted_if, found_world, group_named, outside_of, judged_line, line_taken, no_group, taken_by, with_client_too, with_member_too}
-use Rattle.repo_top.specs.Progressing.{NamesAreDeclared, LineIsChecked, IsStop, IsStopOf, StatesFit, has_group, has_world, standing_keys, node_of, state_of, world_in}
+use Rattle.repo_top.specs.Judging.{Given, State, Verdict, says, acted, acted_by, acted_if, found_world, group_named}
+use Rattle.repo_top.specs.Judging.{outside_of, judged_line, line_taken, no_group, taken_by, with_client_too}
+use Rattle.repo_top.specs.Judging.{with_member_too}
+use Rattle.repo_top.specs.Progressing.{NamesAreDeclared, LineIsChecked, IsStop, IsStopOf, StatesFit, has_group}
+use Rattle.repo_top.specs.Progressing.{has_world, standing_keys, node_of, state_of, world_in}
 use Rattle.repo_top.specs.declared.stop.Stop.{Stop}
 use Rattle.repo_top.specs.ToldTexts.{told_text}
 use Rattle.repo_top.specs.SaidEvents.{said_event}
 use Rattle.repo_top.proofs.Fitting.{client_fits, event_fits, group_fits, member_fits}
-use Rattle.repo_top.proofs.Judgings.{acted_says, acted_stops, IsEventLine, client_declares, client_says, event_declares, event_says, group_declares, group_says, is_free, member_declares, member_says, taken_line}
+use Rattle.repo_top.proofs.Judgings.{acted_says, acted_stops, IsEventLine, client_declares, client_says, event_declares}
+use Rattle.repo_top.proofs.Judgings.{event_says, group_declares, group_says, is_free, member_declares, member_says}
+use Rattle.repo_top.proofs.Judgings.{taken_line}
 
 -- Nothing but what a line declares matters where it is taken.
 same_acted : (given : Given) (standing : Standing) (d e : Declared) (o : Option EventValue)

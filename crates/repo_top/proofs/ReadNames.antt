@@ -1,5 +1,6 @@
 -- A name that a text is the URI of is valid, where no component is a digest and it is short.
-use Rattle.std.proofs.Common.{◌≡◌, ℕ, zero, suc, ◌+◌, ◌<◌, ◌≤◌, ◌^◌, Bool, true, false, nat_le, List, [], ◌∷◌, length, length-append, sym, subst, inl, inr, arith, if◌then◌else◌}
+use Rattle.std.proofs.Common.{◌≡◌, ℕ, zero, suc, ◌+◌, ◌<◌, ◌≤◌, ◌^◌, Bool, true, false, nat_le, List, [], ◌∷◌, length}
+use Rattle.std.proofs.Common.{length-append, sym, subst, inl, inr, arith, if◌then◌else◌}
 use Rattle.std.specs.List.{list_any}
 use Rattle.std.proofs.lemmas.Bool.{or_parts}
 use Rattle.std.proofs.lemmas.Bool.Decides.{nat_tests}
@@ -7,7 +8,9 @@ use Rattle.ndn_tlv.specs.Elements.{IsOctets}
 use Rattle.ndn_tlv.proofs.Octets.{IsOctets-number_field}
 use Rattle.ndn_tlv.specs.Spelling.{head, element}
 use Rattle.ndn_name.specs.Names.{Component, IsComponent, IsName, encoding}
-use Rattle.ndn_name.specs.Uri.{IsOctetText, plain, escape, IsEscaped, are_periods, guarded, IsValueText, IsNumberText, IsComponentText, generic, typed, implicit_digest, parameters_digest, segment, version, sequence, Part, IsPath, IsRooted, IsUri, name_of_parts}
+use Rattle.ndn_name.specs.Uri.{IsOctetText, plain, escape, IsEscaped, are_periods, guarded, IsValueText, IsNumberText}
+use Rattle.ndn_name.specs.Uri.{IsComponentText, generic, typed, implicit_digest, parameters_digest, segment, version}
+use Rattle.ndn_name.specs.Uri.{sequence, Part, IsPath, IsRooted, IsUri, name_of_parts}
 use Rattle.ndn_name.specs.UriText.{is_digest}
 use Rattle.ndn_name.specs.UriVerdict.{HasUri}
 

@@ -1,5 +1,7 @@
 -- A run: lines that were carried out, and how it may end.
-use Rattle.std.proofs.Common.{◌≡◌, ◌≢◌, ℕ, zero, suc, ◌+◌, ◌-◌, ◌<◌, ◌≤◌, true, false, eqb, ltb, List, [], ◌∷◌, ◌++◌, length, take, drop, Option, Some, None, IfSome, refl, sym, ap, subst, ◌∙◌, append_assoc, length-append, arith, ◌⊎◌, inl, inr}
+use Rattle.std.proofs.Common.{◌≡◌, ◌≢◌, ℕ, zero, suc, ◌+◌, ◌-◌, ◌<◌, ◌≤◌, true, false, eqb, ltb, List, [], ◌∷◌, ◌++◌}
+use Rattle.std.proofs.Common.{length, take, drop, Option, Some, None, IfSome, refl, sym, ap, subst, ◌∙◌, append_assoc}
+use Rattle.std.proofs.Common.{length-append, arith, ◌⊎◌, inl, inr}
 use Rattle.std.specs.List.{concat, filter}
 use Rattle.std.specs.Io.KnownBytes.{IsAtEnd, Keeps, prepend_known}
 use Rattle.std.proofs.KnownBytes.{Appends-trans}
@@ -18,8 +20,10 @@ use Rattle.repo_top.specs.Outside.{GainsText, GainsFront}
 use Rattle.repo_top.specs.Lines.{IsWhole, has_feed, lines}
 use Rattle.repo_top.specs.Judging.{Given, Verdict, foreign, refused, says}
 use Rattle.repo_top.specs.Reading.{HasLine, LineIsBegun, IsTooLong}
-use Rattle.repo_top.specs.Story.{Reached, Story, reached_behind, behind_text, ended, judged_next, nothing_reached, story_from, story_of}
-use Rattle.repo_top.specs.Taken.{FallsShortNear, IsTakenNear, LacksText, can_be_judged, end_of_line, lines_so_far, lines_taken, report_of, report_through, taken}
+use Rattle.repo_top.specs.Story.{Reached, Story, reached_behind, behind_text, ended, judged_next, nothing_reached}
+use Rattle.repo_top.specs.Story.{story_from, story_of}
+use Rattle.repo_top.specs.Taken.{FallsShortNear, IsTakenNear, LacksText, can_be_judged, end_of_line, lines_so_far}
+use Rattle.repo_top.specs.Taken.{lines_taken, report_of, report_through, taken}
 use Rattle.repo_top.specs.Carrying.{Carried, EndsIn, Finishes, IsStopping, Known, Ran, Stops, StatusTells, Took}
 use Rattle.repo_top.proofs.LineLaws.{open_line, whole_first}
 use Rattle.repo_top.proofs.Outputs.{front_behind, front_so_far, front_whole, nothing_gained}

@@ -1,5 +1,7 @@
 -- One line of a story at a time.
-use Rattle.std.proofs.Common.{◌≡◌, ◌≢◌, ℕ, ◌+◌, ◌-◌, ◌≤◌, true, false, not, eqb, leb, List, [], ◌∷◌, ◌++◌, length, take, drop, get_or, Option, Err, refl, sym, ap, ◌∙◌, append_assoc, length-append, arith, ◌⊎◌, inl, inr}
+use Rattle.std.proofs.Common.{◌≡◌, ◌≢◌, ℕ, ◌+◌, ◌-◌, ◌≤◌, true, false, not, eqb, leb, List, [], ◌∷◌, ◌++◌, length, take}
+use Rattle.std.proofs.Common.{drop, get_or, Option, Err, refl, sym, ap, ◌∙◌, append_assoc, length-append, arith, ◌⊎◌}
+use Rattle.std.proofs.Common.{inl, inr}
 use Rattle.std.proofs.lemmas.Bool.{and_right, both_ways, cases_Bool, lt-leb}
 use Rattle.std.proofs.lemmas.List.{append-nil, length-take, take-append-drop, take_all}
 use Rattle.std.proofs.lemmas.List.Folds.{list_any_at}
@@ -15,7 +17,8 @@ use Rattle.repo_top.specs.Refusals.{refusal_text}
 use Rattle.repo_top.specs.Answers.{status_of}
 use Rattle.repo_top.specs.Lines.{IsWhole, has_feed, lines}
 use Rattle.repo_top.specs.Reading.{HasLine, IsTooLong}
-use Rattle.repo_top.specs.Story.{Reached, Story, behind_text, ended, is_within_script, judged_next, story_from, story_of_line}
+use Rattle.repo_top.specs.Story.{Reached, Story, behind_text, ended, is_within_script, judged_next, story_from}
+use Rattle.repo_top.specs.Story.{story_of_line}
 use Rattle.repo_top.specs.Carrying.{Took, stop_status, stop_text}
 use Rattle.repo_top.proofs.LineLaws.{long_line, whole_first}
 

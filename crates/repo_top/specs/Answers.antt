@@ -3,7 +3,8 @@ use Rattle.std.specs.Prelude.{ℕ, ⊤}
 use Rattle.repo_top.specs.declared.ending.Ending.{Ending}
 use Rattle.repo_top.specs.declared.ending.Ending.TheVariants as ending
 use Rattle.repo_top.specs.declared.status.Status.{Status}
-use Rattle.repo_top.specs.declared.status.Status.TheVariants.{Done, Usage, Refused, ReadFault, WriteFault, NoMemory, Foreign}
+use Rattle.repo_top.specs.declared.status.Status.TheVariants.{Done, Usage, Refused, ReadFault, WriteFault, NoMemory}
+use Rattle.repo_top.specs.declared.status.Status.TheVariants.{Foreign}
 
 -- The status of a story that ends so.
 abbrev pub status_of : Ending → Status

@@ -1,7 +1,8 @@
 -- What the report of a script says of its group. A story is told by the lines that are taken, each with its own report.
 -- What stands in the report of a `catalogue` line is said in the words of the group that the lines before it reach: its
 -- members, what they published, hold and have deleted.
-use Rattle.std.specs.Prelude.{ℕ, ◌+◌, ◌≡◌, ◌≤◌, ◌<◌, ◌⊎◌, ◌↔◌, Bool, true, false, not, List, [], ◌∷◌, ◌++◌, map, length, Option, Some, None, Result, Ok, Err}
+use Rattle.std.specs.Prelude.{ℕ, ◌+◌, ◌≡◌, ◌≤◌, ◌<◌, ◌⊎◌, ◌↔◌, Bool, true, false, not, List, [], ◌∷◌, ◌++◌, map, length}
+use Rattle.std.specs.Prelude.{Option, Some, None, Result, Ok, Err}
 use Rattle.std.specs.List.{All, IsDistinct, concat, list_all}
 use Rattle.std.specs.Str.{bytes_eq}
 use Rattle.repo_plan.specs.Parts.{Pair, part_of}

@@ -1,5 +1,6 @@
 -- What comes of an input that is inspected: the text, and the end.
-use Rattle.std.specs.Prelude.{ℕ, Bool, not, ◌||◌, List, length, Option, Some, None, Result, Ok, Err, nat_lt, ◌==◌, if◌then◌else◌}
+use Rattle.std.specs.Prelude.{ℕ, Bool, not, ◌||◌, List, length, Option, Some, None, Result, Ok, Err, nat_lt, ◌==◌}
+use Rattle.std.specs.Prelude.{if◌then◌else◌}
 use Rattle.std.specs.List.{filter}
 use Rattle.hex.specs.Hex.{decode_of}
 use Rattle.hex.specs.declared.error.FromHexError.{FromHexError}

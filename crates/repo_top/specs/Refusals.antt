@@ -2,7 +2,9 @@
 use Rattle.std.specs.Prelude.{ℕ, List, codes}
 use Rattle.script_report.specs.Texts.{refused_text}
 use Rattle.repo_top.specs.declared.refusal.Refusal.{Refusal}
-use Rattle.repo_top.specs.declared.refusal.Refusal.TheVariants.{Syntax, UnknownLabel, Duplicate, Limit, NoSuchPacket, FetcherBusy, FetcherIdle, NumbersSpent, NoGroup, TooLarge, Late, BadPacket}
+use Rattle.repo_top.specs.declared.refusal.Refusal.TheVariants.{Syntax, UnknownLabel, Duplicate, Limit, NoSuchPacket}
+use Rattle.repo_top.specs.declared.refusal.Refusal.TheVariants.{FetcherBusy, FetcherIdle, NumbersSpent, NoGroup}
+use Rattle.repo_top.specs.declared.refusal.Refusal.TheVariants.{TooLarge, Late, BadPacket}
 
 abbrev pub refusal_number : Refusal → ℕ
 refusal_number Syntax = 1

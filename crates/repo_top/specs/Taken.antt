@@ -1,9 +1,11 @@
 -- What was taken of an input when a run ended, and what was written by then.
-use Rattle.std.specs.Prelude.{◌≡◌, ◌<◌, ◌≤◌, ℕ, ◌+◌, ◌-◌, Bool, ◌||◌, List, [], ◌∷◌, length, take, Option, Some, None, nat_lt}
+use Rattle.std.specs.Prelude.{◌≡◌, ◌<◌, ◌≤◌, ℕ, ◌+◌, ◌-◌, Bool, ◌||◌, List, [], ◌∷◌, length, take, Option, Some, None}
+use Rattle.std.specs.Prelude.{nat_lt}
 use Rattle.std.specs.List.{concat, filter}
 use Rattle.script_lang.specs.Limits.{line_octets}
 use Rattle.repo_top.specs.declared.status.Status.{Status}
-use Rattle.repo_top.specs.declared.status.Status.TheVariants.{Done, Usage, Refused, ReadFault, WriteFault, NoMemory, Foreign}
+use Rattle.repo_top.specs.declared.status.Status.TheVariants.{Done, Usage, Refused, ReadFault, WriteFault, NoMemory}
+use Rattle.repo_top.specs.declared.status.Status.TheVariants.{Foreign}
 use Rattle.repo_top.specs.Judging.{Given}
 use Rattle.repo_top.specs.Lines.{has_feed, lines}
 use Rattle.repo_top.specs.Story.{nothing_reached, story_from}

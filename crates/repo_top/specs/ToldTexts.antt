@@ -1,7 +1,14 @@
 -- The line of a report for what is told of an event, under the labels of the members.
 use Rattle.std.specs.Prelude.{ℕ, List, [], map, slice_index_or, codes}
 use Rattle.repo_catalog.specs.declared.entry.Entry.{Entry}
-use Rattle.script_report.specs.Texts.{publish_text, deliver_steady_text, deliver_suppressed_text, sync_text, advance_text, fire_early_text, fire_quiet_text, fire_sent_text, restart_text, part_text, claim_none_text, answer_kept_text, answer_none_text, fetch_text, settle_text, feed_kept_text, feed_refused_text, dump_hex_text, dump_none_text, hear_steady_text, hear_suppressed_text, hear_refused_text, ask_found_text, ask_none_text, ask_refused_text, command_text, block_300_text, block_404_text, block_200_text, block_published_text, vector_text, catalogue_text, summary_text, traffic_text}
+use Rattle.script_report.specs.Texts.{publish_text, deliver_steady_text, deliver_suppressed_text, sync_text}
+use Rattle.script_report.specs.Texts.{advance_text, fire_early_text, fire_quiet_text, fire_sent_text, restart_text}
+use Rattle.script_report.specs.Texts.{part_text, claim_none_text, answer_kept_text, answer_none_text, fetch_text}
+use Rattle.script_report.specs.Texts.{settle_text, feed_kept_text, feed_refused_text, dump_hex_text, dump_none_text}
+use Rattle.script_report.specs.Texts.{hear_steady_text, hear_suppressed_text, hear_refused_text, ask_found_text}
+use Rattle.script_report.specs.Texts.{ask_none_text, ask_refused_text, command_text, block_300_text, block_404_text}
+use Rattle.script_report.specs.Texts.{block_200_text, block_published_text, vector_text, catalogue_text, summary_text}
+use Rattle.script_report.specs.Texts.{traffic_text}
 use Rattle.bench_world.specs.EventValues.{Told}
 use Rattle.repo_top.specs.RefusalTexts.{hear_refusal_text, part_refusal_text, packet_fault_text}
 

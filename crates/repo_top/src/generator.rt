@@ -1,6 +1,7 @@
 ghost use Rattle.std.specs.Prelude.{◌≡◌, ◌<◌, ◌≤◌, ◌++◌, Err, OnOk, string_bytes};
 ghost use Rattle.repo_top.specs.declared.generator.Unwritten.TheVariants.{Failed, NoMemory};
-ghost use Rattle.repo_top.specs.Generator.{deliver_text, drawn, fetch_line, gen_text, member_text, next_state, object_text, octet_text, publish_line, texts, turn_text, turns_text};
+ghost use Rattle.repo_top.specs.Generator.{deliver_text, drawn, fetch_line, gen_text, member_text, next_state};
+ghost use Rattle.repo_top.specs.Generator.{object_text, octet_text, publish_line, texts, turn_text, turns_text};
 ghost use Rattle.repo_top.specs.Outside.{GainsText, GainsFront, HasRisen};
 
 use crate::sink::Sink;

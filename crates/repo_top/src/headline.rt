@@ -1,5 +1,6 @@
 ghost use Rattle.std.specs.Prelude.{ℕ, List};
-ghost use Rattle.repo_top.specs.Headline.{BeginsWithReports, EachIsTaken, HidesByDeletionAlone, IsToldBy, PrintsCatalogues, ReachSoundGroups, SettlesJoin, TellingChangesNothing};
+ghost use Rattle.repo_top.specs.Headline.{BeginsWithReports, EachIsTaken, HidesByDeletionAlone, IsToldBy};
+ghost use Rattle.repo_top.specs.Headline.{PrintsCatalogues, ReachSoundGroups, SettlesJoin, TellingChangesNothing};
 ghost use Rattle.repo_top.specs.Judging.{Given};
 ghost use Rattle.repo_top.specs.Lines.{lines};
 ghost use Rattle.repo_top.specs.Story.{nothing_reached, story_of};

@@ -26,7 +26,8 @@ pub fn small_stories()
         (codes "vector alice alice=0\nrefused 4 2 UnknownLabel\n") (Refused 4 2) }
     ensures published { (given : Given)
         → Reports given (codes "group /g\nmember alice /alice 6b31\nmember bob /bob 6b32\n"
-        ++ codes "publish alice /doc 1 text:abc\ndeliver 1 bob\nvector bob\nclaim bob 1\ncatalogue bob\ndeliver 2 bob\n")
+        ++ codes
+        "publish alice /doc 1 text:abc\ndeliver 1 bob\nvector bob\nclaim bob 1\ncatalogue bob\ndeliver 2 bob\n")
         (codes "publish alice 1 segments 3 sync 1\ndeliver 1 bob steady\nvector bob alice=1 bob=0\n"
         ++ codes "claim bob 1 part alice 1 0\ncatalogue bob 0\nrefused 9 5 NoSuchPacket\n") (Refused 9 5) }
 {}

@@ -1,4 +1,5 @@
-ghost use Rattle.std.specs.Prelude.{◌≡◌, ◌<◌, ◌≤◌, ◌+◌, ◌-◌, false, [], length, take, drop, slice_range, Ok, IfOk, IfSome, MatchOption, OnErr, ◌==◌, position};
+ghost use Rattle.std.specs.Prelude.{◌≡◌, ◌<◌, ◌≤◌, ◌+◌, ◌-◌, false, [], length, take, drop, slice_range, Ok, IfOk};
+ghost use Rattle.std.specs.Prelude.{IfSome, MatchOption, OnErr, ◌==◌, position};
 ghost use Rattle.std.specs.Io.KnownBytes.{IsAtEnd, Keeps, prepend_known};
 ghost use Rattle.repo_top.specs.Lines.{has_feed};
 ghost use Rattle.repo_top.specs.Outside.{HasRisen};

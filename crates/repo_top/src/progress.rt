@@ -1,4 +1,5 @@
-ghost use Rattle.std.specs.Prelude.{◌≡◌, ◌+◌, ◌<◌, ◌≤◌, ◌++◌, [], ◌∷◌, length, map, string_bytes, unwrap_or, true, false, None, IfOk, IfErr, IfSome, OnOk};
+ghost use Rattle.std.specs.Prelude.{◌≡◌, ◌+◌, ◌<◌, ◌≤◌, ◌++◌, [], ◌∷◌, length, map, string_bytes, unwrap_or, true};
+ghost use Rattle.std.specs.Prelude.{false, None, IfOk, IfErr, IfSome, OnOk};
 ghost use Rattle.std.specs.Option.{option_map};
 ghost use Rattle.script_lang.specs.Forms.{stated};
 ghost use Rattle.group_model.specs.World.{opening_world};
@@ -10,8 +11,11 @@ ghost use Rattle.bench_world.specs.Serving.{outside};
 ghost use Rattle.bench_world.specs.Steps.{IsReady, NamesClient};
 ghost use Rattle.bench_world.specs.Worlds.{drawing, world_of};
 ghost use Rattle.repo_top.specs.ToldTexts.{told_text};
-ghost use Rattle.repo_top.specs.Judging.{acted, acted_by, given_by, group_named, judged, judged_line, line_taken, opening_state, says, with_client_too, with_member_too};
-ghost use Rattle.repo_top.specs.Progressing.{NamesAreDeclared, LineIsChecked, IsLine, IsProgress, IsStop, IsStopOf, StatesFit, has_group, has_world, standing_keys, progress_state, steps, steps_in, world_in};
+ghost use Rattle.repo_top.specs.Judging.{acted, acted_by, given_by, group_named, judged, judged_line, line_taken};
+ghost use Rattle.repo_top.specs.Judging.{opening_state, says, with_client_too, with_member_too};
+ghost use Rattle.repo_top.specs.Progressing.{NamesAreDeclared, LineIsChecked, IsLine, IsProgress, IsStop, IsStopOf};
+ghost use Rattle.repo_top.specs.Progressing.{StatesFit, has_group, has_world, standing_keys, progress_state, steps};
+ghost use Rattle.repo_top.specs.Progressing.{steps_in, world_in};
 
 use crate::refusal::Refusal;
 use crate::said::said;

@@ -7,7 +7,8 @@ ghost use Rattle.repo_top.specs.Generator.{gen_text};
 ghost use Rattle.repo_top.specs.Inspection.{inspect_story};
 ghost use Rattle.repo_top.specs.Judging.{given_by};
 ghost use Rattle.repo_top.specs.Outside.{GainsText, GainsFront, HasRisen};
-ghost use Rattle.repo_top.specs.Taken.{FallsShortNear, IsStoppedAt, IsTakenNear, lines_so_far, lines_taken, report_of, taken};
+ghost use Rattle.repo_top.specs.Taken.{FallsShortNear, IsStoppedAt, IsTakenNear, lines_so_far, lines_taken, report_of};
+ghost use Rattle.repo_top.specs.Taken.{taken};
 
 use crate::asked::{Asked, asked_of};
 use crate::generator::{Measures, Unwritten, write_script};

@@ -1,9 +1,13 @@
 -- The first words of lines.
-use Rattle.std.proofs.Common.{◌≡◌, ℕ, Bool, true, false, List, [], ◌∷◌, ◌++◌, map, Some, if◌then◌else◌, refl, sym, ap, ◌∙◌, arith}
+use Rattle.std.proofs.Common.{◌≡◌, ℕ, Bool, true, false, List, [], ◌∷◌, ◌++◌, map, Some, if◌then◌else◌, refl, sym, ap}
+use Rattle.std.proofs.Common.{◌∙◌, arith}
 use Rattle.std.specs.Str.{bytes_eq}
 use Rattle.std.proofs.lemmas.Slice.Eq.{bytes_eq-Decides}
 use Rattle.script_lang.specs.declared.verb.Verb.{Verb}
-use Rattle.script_lang.specs.declared.verb.Verb.TheVariants.{Group, Member, Client, Publish, Deliver, Sync, Advance, Fire, Restart, Vector, Catalogue, Claim, Lose, Answer, Fetch, Settle, Dump, Hear, Order, Ask, Feed, Insert, Block, Status, Delete, Summary, Traffic}
+use Rattle.script_lang.specs.declared.verb.Verb.TheVariants.{Group, Member, Client, Publish, Deliver, Sync, Advance}
+use Rattle.script_lang.specs.declared.verb.Verb.TheVariants.{Fire, Restart, Vector, Catalogue, Claim, Lose, Answer}
+use Rattle.script_lang.specs.declared.verb.Verb.TheVariants.{Fetch, Settle, Dump, Hear, Order, Ask, Feed, Insert, Block}
+use Rattle.script_lang.specs.declared.verb.Verb.TheVariants.{Status, Delete, Summary, Traffic}
 use Rattle.script_lang.specs.Forms.{form}
 use Rattle.script_lang.specs.Lines.{verb_named, verb_of_word, verbs, says_nothing}
 use Rattle.script_lang.specs.Texts.{IsWord}

@@ -1,5 +1,7 @@
 -- Octets are read as a line just where they are a text of it.
-use Rattle.std.proofs.Common.{lit<, ◌≡◌, ◌+◌, ◌-◌, ◌<◌, ◌≤◌, ℕ, zero, suc, Bool, true, false, not, eqb, eq-eqb, List, [], ◌∷◌, ◌++◌, length, take, slice_index, nat_le, Option, Some, None, Result, Ok, Err, if◌then◌else◌, refl, sym, ap, subst, ◌∙◌, arith, length-append}
+use Rattle.std.proofs.Common.{lit<, ◌≡◌, ◌+◌, ◌-◌, ◌<◌, ◌≤◌, ℕ, zero, suc, Bool, true, false, not, eqb, eq-eqb, List}
+use Rattle.std.proofs.Common.{[], ◌∷◌, ◌++◌, length, take, slice_index, nat_le, Option, Some, None, Result, Ok, Err}
+use Rattle.std.proofs.Common.{if◌then◌else◌, refl, sym, ap, subst, ◌∙◌, arith, length-append}
 use Rattle.std.specs.Prelude.{◌↔◌, replicate}
 use Rattle.std.specs.List.{list_all}
 use Rattle.std.proofs.lemmas.Bool.Decides.{nat_tests}
@@ -10,9 +12,12 @@ use Rattle.script_lang.specs.declared.verb.Verb.{Verb}
 use Rattle.script_lang.specs.Limits.{line_octets}
 use Rattle.script_lang.specs.Kinds.{Kind, Value, word_of}
 use Rattle.script_lang.specs.Forms.{Stated, form, said}
-use Rattle.script_lang.specs.Lines.{word_then, values_of, are_within, stated_of, verb_of_word, line_by, line_in_words, spaced_words, says_nothing, is_printable, mapped_line, line_in, line_within, ends_with, without_last_octet, without_return, line_of}
+use Rattle.script_lang.specs.Lines.{word_then, values_of, are_within, stated_of, verb_of_word, line_by, line_in_words}
+use Rattle.script_lang.specs.Lines.{spaced_words, says_nothing, is_printable, mapped_line, line_in, line_within}
+use Rattle.script_lang.specs.Lines.{ends_with, without_last_octet, without_return, line_of}
 use Rattle.script_lang.specs.Texts.{AreOf, AreWordTexts, IsSpaced, IsEnded, by_input, by_feed, by_return, IsLineText}
-use Rattle.script_lang.proofs.Conditions.{and_both, chosen, never, same_ok, and_left, and_right, le_test, le_tested, same_tested, some_test}
+use Rattle.script_lang.proofs.Conditions.{and_both, chosen, never, same_ok, and_left, and_right, le_test, le_tested}
+use Rattle.script_lang.proofs.Conditions.{same_tested, some_test}
 use Rattle.script_lang.proofs.Spaces.{spaced_is, spaced_printable, is_spaced}
 use Rattle.script_lang.proofs.FirstWords.{verb_back, verb_word, speaks}
 use Rattle.script_lang.proofs.WordTexts.{word_is_text, text_is_word}
@@ -113,7 +118,8 @@ body_ok octets body s h =
     (λ fits q. chosen (says_nothing body) (Ok None)
     (if list_all is_printable body then mapped_line (line_in_words (spaced_words body)) else Err Syntax) (Some s) q
     (λ _ r. none_read s r)
-    (λ _ r. chosen (list_all is_printable body) (mapped_line (line_in_words (spaced_words body))) (Err Syntax) (Some s) r
+    (λ _ r.
+    chosen (list_all is_printable body) (mapped_line (line_in_words (spaced_words body))) (Err Syntax) (Some s) r
     (λ p x. record {
       fits = le_tested (length octets) line_octets fits;
       printable = p;
@@ -165,7 +171,8 @@ line_is_text s octets h =
         (without_last_octet octets) else without_last_octet octets) ≡ Ok (Some s) → IsLineText s octets
     with_feed feed false e q =
         let r = body_ok (without_last_octet octets) (without_last_octet octets) s q in
-        line_text s octets (without_last_octet octets) (without_last_octet octets) r (by_feed (ends_is 10 octets feed) r.fits)
+        line_text s octets (without_last_octet octets) (without_last_octet octets) r
+        (by_feed (ends_is 10 octets feed) r.fits)
     with_feed feed true e q =
         let r = body_ok (without_last_octet octets) (without_last_octet (without_last_octet octets)) s q in
         let is = ends_is 13 (without_last_octet octets) e in

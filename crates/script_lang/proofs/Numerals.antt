@@ -1,5 +1,6 @@
 -- Numerals are read as numbers.
-use Rattle.std.proofs.Common.{rules, ◌∙◌, suc, zero, not, ◌||◌, ◌%◌, get_or, ap, nat_le, ◌≡◌, ◌≢◌, ◌<◌, ◌≤◌, ◌^◌, ◌+◌, ℕ, Bool, true, false, List, [], ◌∷◌, length, arith, refl, eqb, inl, inr}
+use Rattle.std.proofs.Common.{rules, ◌∙◌, suc, zero, not, ◌||◌, ◌%◌, get_or, ap, nat_le, ◌≡◌, ◌≢◌, ◌<◌, ◌≤◌, ◌^◌, ◌+◌}
+use Rattle.std.proofs.Common.{ℕ, Bool, true, false, List, [], ◌∷◌, length, arith, refl, eqb, inl, inr}
 use Rattle.std.specs.Char.{is_ascii_digit, digit_value}
 use Rattle.std.specs.List.{list_all}
 use Rattle.std.specs.Str.Parse.{digits_value, AllDigits, IsNumeral, without_leading_plus}
@@ -9,7 +10,8 @@ use Rattle.std.proofs.lemmas.Bool.{false≢true}
 use Rattle.std.proofs.lemmas.Grind.{common_steps}
 use Rattle.std.proofs.Math.Nat.{pow-le-pow_right}
 use Rattle.std.specs.Fmt.{decimal}
-use Rattle.std.proofs.lemmas.Fmt.{decimal_by_steps, length-decimal-le, decimal_nonempty, first_decimal, decimal_digit, decimal_is_IsNumeral, decimal-digits_value}
+use Rattle.std.proofs.lemmas.Fmt.{decimal_by_steps, length-decimal-le, decimal_nonempty, first_decimal, decimal_digit}
+use Rattle.std.proofs.lemmas.Fmt.{decimal_is_IsNumeral, decimal-digits_value}
 use Rattle.std.proofs.lemmas.List.Folds.{list_all-append}
 use Rattle.std.proofs.lemmas.Str.Parse.{IsNumeralModel, numerals_by_value}
 use Rattle.script_lang.specs.Kinds.{is_numeral}

@@ -1,5 +1,6 @@
 -- A line that is printed from its values is read back.
-use Rattle.std.proofs.Common.{◌≡◌, ◌/◌, ◌%◌, ◌<◌, ◌≤◌, ◌^◌, ℕ, zero, suc, Bool, true, List, [], ◌∷◌, ◌++◌, length, slice_index, Some, Ok, refl, arith, inl, inr}
+use Rattle.std.proofs.Common.{◌≡◌, ◌/◌, ◌%◌, ◌<◌, ◌≤◌, ◌^◌, ℕ, zero, suc, Bool, true, List, [], ◌∷◌, ◌++◌, length}
+use Rattle.std.proofs.Common.{slice_index, Some, Ok, refl, arith, inl, inr}
 use Rattle.std.specs.Fmt.{decimal}
 use Rattle.std.specs.List.{list_all}
 use Rattle.std.specs.Char.{is_ascii_digit, is_ascii_lowercase, is_ascii_graphic}
@@ -13,10 +14,12 @@ use Rattle.ndn_name.specs.Uri.{uri}
 use Rattle.ndn_name.specs.UriVerdict.{HasUri}
 use Rattle.ndn_name.proofs.PrintedTexts.{parts_at, parts-name, uri-is}
 use Rattle.script_lang.specs.Limits.{line_octets}
-use Rattle.script_lang.specs.Kinds.{Kind, LABEL, N, URI, HEX, CONTENT, Value, Text, Number, Named, Octets, is_label, is_label_octet}
+use Rattle.script_lang.specs.Kinds.{Kind, LABEL, N, URI, HEX, CONTENT, Value, Text, Number, Named, Octets, is_label}
+use Rattle.script_lang.specs.Kinds.{is_label_octet}
 use Rattle.script_lang.specs.Forms.{Stated, form}
 use Rattle.script_lang.specs.Lines.{are_within, line_of}
-use Rattle.script_lang.specs.Texts.{IsOfKind, IsWordText, digits, AreOf, AreWordTexts, is_graphic, IsWord, IsSpaced, by_input, word_text, words_text, printed_line, IsPlainValue, ArePlainValues}
+use Rattle.script_lang.specs.Texts.{IsOfKind, IsWordText, digits, AreOf, AreWordTexts, is_graphic, IsWord, IsSpaced}
+use Rattle.script_lang.specs.Texts.{by_input, word_text, words_text, printed_line, IsPlainValue, ArePlainValues}
 use Rattle.script_lang.proofs.Conditions.{and_left, and_right, and_both, or_left, weaker}
 use Rattle.script_lang.proofs.Numerals.{decimal_digits}
 use Rattle.script_lang.proofs.HexTexts.{decoded_digits}

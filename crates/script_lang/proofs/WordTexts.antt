@@ -1,5 +1,7 @@
 -- A word is read as a value just where it is a text of the value.
-use Rattle.std.proofs.Common.{zero, suc, ◌≡◌, ◌≢◌, ◌<◌, ◌≤◌, ◌^◌, ℕ, Bool, true, false, ◌&&◌, List, [], ◌∷◌, ◌++◌, length, get_or, nat_le, Option, Some, None, Result, Ok, Err, codes, if◌then◌else◌, refl, sym, ap, subst, ◌∙◌, arith}
+use Rattle.std.proofs.Common.{zero, suc, ◌≡◌, ◌≢◌, ◌<◌, ◌≤◌, ◌^◌, ℕ, Bool, true, false, ◌&&◌, List, [], ◌∷◌, ◌++◌}
+use Rattle.std.proofs.Common.{length, get_or, nat_le, Option, Some, None, Result, Ok, Err, codes, if◌then◌else◌, refl}
+use Rattle.std.proofs.Common.{sym, ap, subst, ◌∙◌, arith}
 use Rattle.std.specs.Prelude.{◌↔◌, replicate, option_and_then}
 use Rattle.std.specs.Fmt.{decimal}
 use Rattle.std.specs.Char.{is_ascii_digit}
@@ -14,7 +16,9 @@ use Rattle.ndn_name.specs.UriText.{behind_word, cut_at, is_digest, name_of_text,
 use Rattle.ndn_name.specs.Uri.{IsDigits}
 use Rattle.script_lang.specs.declared.line_fault.LineFault.{LineFault}
 use Rattle.script_lang.specs.declared.line_fault.LineFault.TheVariants.{Syntax, Limit}
-use Rattle.script_lang.specs.Kinds.{Kind, LABEL, N, URI, HEX, CONTENT, Value, Text, Number, Named, Octets, word_of, mapped, is_label, label_of, is_numeral, numeral_of, octets_within, decoded_within, hex_of, filled, filled_of, content_by, content_of, name_within, uri_of}
+use Rattle.script_lang.specs.Kinds.{Kind, LABEL, N, URI, HEX, CONTENT, Value, Text, Number, Named, Octets, word_of}
+use Rattle.script_lang.specs.Kinds.{mapped, is_label, label_of, is_numeral, numeral_of, octets_within, decoded_within}
+use Rattle.script_lang.specs.Kinds.{hex_of, filled, filled_of, content_by, content_of, name_within, uri_of}
 use Rattle.script_lang.specs.Texts.{IsOfKind, IsWordText, IsContentText, plain, digits, filled as fills}
 use Rattle.script_lang.proofs.Conditions.{chosen, never, same_ok, and_left, and_right, le_test, le_tested}
 use Rattle.script_lang.proofs.Numerals.{decimal_digits, below_limit, printed_again, decimal_numeral, decimal_value}

@@ -1,5 +1,6 @@
 -- What lines declare, and which line is refused for what came before it.
-use Rattle.std.specs.Prelude.{ℕ, Option, position, ◌+◌, ◌-◌, ◌/◌, Bool, true, false, not, ◌&&◌, ◌||◌, List, [], ◌∷◌, ◌++◌, length, map, Result, Ok, Err, nat_le, if◌then◌else◌}
+use Rattle.std.specs.Prelude.{ℕ, Option, position, ◌+◌, ◌-◌, ◌/◌, Bool, true, false, not, ◌&&◌, ◌||◌, List, [], ◌∷◌}
+use Rattle.std.specs.Prelude.{◌++◌, length, map, Result, Ok, Err, nat_le, if◌then◌else◌}
 use Rattle.std.specs.List.{list_all, list_any}
 use Rattle.std.specs.Str.{bytes_eq}
 use Rattle.std.specs.String.{string_bytes}
@@ -7,9 +8,11 @@ use Rattle.script_lang.specs.declared.sums.Sums.{Sums}
 use Rattle.script_lang.specs.declared.declaration.Declaration.{Declaration}
 use Rattle.ndn_name.specs.Names.{Component, encoding}
 use Rattle.script_lang.specs.declared.check_fault.CheckFault.{CheckFault}
-use Rattle.script_lang.specs.declared.check_fault.CheckFault.TheVariants.{NoGroup, Late, UnknownLabel, Duplicate, Limit, TooLarge}
+use Rattle.script_lang.specs.declared.check_fault.CheckFault.TheVariants.{NoGroup, Late, UnknownLabel, Duplicate, Limit}
+use Rattle.script_lang.specs.declared.check_fault.CheckFault.TheVariants.{TooLarge}
 use Rattle.script_lang.specs.declared.verb.Verb.{Verb}
-use Rattle.script_lang.specs.declared.verb.Verb.TheVariants.{Group, Member, Client, Publish, Deliver, Sync, Claim, Lose, Answer, Feed, Order, Insert, Block, Status, Delete, Settle}
+use Rattle.script_lang.specs.declared.verb.Verb.TheVariants.{Group, Member, Client, Publish, Deliver, Sync, Claim, Lose}
+use Rattle.script_lang.specs.declared.verb.Verb.TheVariants.{Answer, Feed, Order, Insert, Block, Status, Delete, Settle}
 use Rattle.script_lang.specs.Kinds.{Value, Text, Number, Named, Octets}
 use Rattle.script_lang.specs.Forms.{Stated}
 use Rattle.script_lang.specs.Limits.{members_limit, contents_limit, parts_limit, settles_limit}

@@ -4,7 +4,10 @@ use Rattle.std.specs.String.{string_bytes}
 use Rattle.script_lang.specs.declared.line.Line.{Line}
 use Rattle.script_lang.specs.declared.line.Line.TheVariants as line
 use Rattle.script_lang.specs.declared.verb.Verb.{Verb}
-use Rattle.script_lang.specs.declared.verb.Verb.TheVariants.{Group, Member, Client, Publish, Deliver, Sync, Advance, Fire, Restart, Vector, Catalogue, Claim, Lose, Answer, Fetch, Settle, Dump, Hear, Order, Ask, Feed, Insert, Block, Status, Delete, Summary, Traffic}
+use Rattle.script_lang.specs.declared.verb.Verb.TheVariants.{Group, Member, Client, Publish, Deliver, Sync, Advance}
+use Rattle.script_lang.specs.declared.verb.Verb.TheVariants.{Fire, Restart, Vector, Catalogue, Claim, Lose, Answer}
+use Rattle.script_lang.specs.declared.verb.Verb.TheVariants.{Fetch, Settle, Dump, Hear, Order, Ask, Feed, Insert, Block}
+use Rattle.script_lang.specs.declared.verb.Verb.TheVariants.{Status, Delete, Summary, Traffic}
 use Rattle.script_lang.specs.Kinds.{Kind, LABEL, N, URI, HEX, CONTENT, Value, Text, Number, Named, Octets}
 
 -- A form of line: its first word, and the kinds of the others.

@@ -1,10 +1,14 @@
 -- What octets are as a line: its verb and the values of its words; nothing; or why they are no line. A line that is
 -- too long is told first, then what isn't in the grammar, then what leaves a range.
-use Rattle.std.specs.Prelude.{ℕ, ◌-◌, ◌*◌, Bool, true, not, ◌&&◌, List, [], ◌∷◌, length, take, map, Option, Some, None, Result, Ok, Err, nat_le, nat_lt, ◌==◌, if◌then◌else◌, filter, slice_index}
+use Rattle.std.specs.Prelude.{ℕ, ◌-◌, ◌*◌, Bool, true, not, ◌&&◌, List, [], ◌∷◌, length, take, map, Option, Some, None}
+use Rattle.std.specs.Prelude.{Result, Ok, Err, nat_le, nat_lt, ◌==◌, if◌then◌else◌, filter, slice_index}
 use Rattle.std.specs.List.{list_all, slice_split, find}
 use Rattle.std.specs.Str.{bytes_eq}
 use Rattle.script_lang.specs.declared.verb.Verb.{Verb}
-use Rattle.script_lang.specs.declared.verb.Verb.TheVariants.{Group, Member, Client, Publish, Deliver, Sync, Advance, Fire, Restart, Vector, Catalogue, Claim, Lose, Answer, Fetch, Settle, Dump, Hear, Order, Ask, Feed, Insert, Block, Status, Delete, Summary, Traffic}
+use Rattle.script_lang.specs.declared.verb.Verb.TheVariants.{Group, Member, Client, Publish, Deliver, Sync, Advance}
+use Rattle.script_lang.specs.declared.verb.Verb.TheVariants.{Fire, Restart, Vector, Catalogue, Claim, Lose, Answer}
+use Rattle.script_lang.specs.declared.verb.Verb.TheVariants.{Fetch, Settle, Dump, Hear, Order, Ask, Feed, Insert, Block}
+use Rattle.script_lang.specs.declared.verb.Verb.TheVariants.{Status, Delete, Summary, Traffic}
 use Rattle.script_lang.specs.declared.line_fault.LineFault.{LineFault}
 use Rattle.script_lang.specs.declared.line_fault.LineFault.TheVariants.{Syntax, Limit, NoMemory}
 use Rattle.script_lang.specs.Limits.{line_octets}

@@ -3,7 +3,8 @@ ghost use Rattle.script_lang.specs.declared.line_fault.LineFault.TheVariants.{Li
 ghost use Rattle.script_lang.specs.declared.check_fault.CheckFault.TheVariants.{TooLarge};
 ghost use Rattle.script_lang.specs.declared.verb.Verb.{Verb};
 ghost use Rattle.script_lang.specs.declared.verb.Verb.TheVariants.{Claim, Group, Publish};
-ghost use Rattle.script_lang.specs.Limits.{contents_limit, line_octets, members_limit, parts_limit, script_lines, script_octets, settles_limit};
+ghost use Rattle.script_lang.specs.Limits.{contents_limit, line_octets, members_limit, parts_limit, script_lines};
+ghost use Rattle.script_lang.specs.Limits.{script_octets, settles_limit};
 ghost use Rattle.script_lang.specs.Kinds.{Kind, Named, Number, Octets, Text, Value, word_of};
 ghost use Rattle.script_lang.specs.Forms.{Stated, form, said};
 ghost use Rattle.script_lang.specs.Lines.{are_within, line_of};

@@ -2,7 +2,8 @@ ghost use Rattle.std.specs.Prelude.{◌≡◌, not, ◌==◌, map, true, IfOk};
 ghost use Rattle.std.specs.List.{list_all, find};
 ghost use Rattle.std.specs.Option.{option_map, option_copied};
 ghost use Rattle.script_lang.specs.Forms.{stated};
-ghost use Rattle.script_lang.specs.Lines.{line_of, line_within, line_in, line_in_words, says_nothing, is_printable, spaced_words, without_return};
+ghost use Rattle.script_lang.specs.Lines.{line_of, line_within, line_in, line_in_words, says_nothing, is_printable};
+ghost use Rattle.script_lang.specs.Lines.{spaced_words, without_return};
 ghost use Rattle.script_lang.specs.Reading.{Gives};
 
 use crate::cursor::Cursor;

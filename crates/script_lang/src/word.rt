@@ -4,7 +4,8 @@ ghost use Rattle.std.specs.Option.{option_copied, option_map};
 ghost use Rattle.std.specs.Char.{is_ascii_digit};
 ghost use Rattle.std.specs.String.{string_bytes};
 ghost use Rattle.ndn_name.specs.UriText.{behind_word, cut_at};
-ghost use Rattle.script_lang.specs.Kinds.{CONTENT, LABEL, N, Named, Number, Octets, Text, URI, filled_of, hex_of, is_label, is_label_octet, is_numeral, mapped, octets_within, word_of};
+ghost use Rattle.script_lang.specs.Kinds.{CONTENT, LABEL, N, Named, Number, Octets, Text, URI, filled_of, hex_of};
+ghost use Rattle.script_lang.specs.Kinds.{is_label, is_label_octet, is_numeral, mapped, octets_within, word_of};
 ghost use Rattle.script_lang.specs.Reading.{Gives};
 
 use crate::line_fault::LineFault;

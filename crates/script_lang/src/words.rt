@@ -1,6 +1,7 @@
 ghost use Rattle.std.specs.Prelude.{◌≡◌, ◌<◌, ◌⊎◌, map, length, slice_get, IfErr, IfSome, OnOk, OnErr, Ok, Err, Some};
 ghost use Rattle.script_lang.specs.Forms.{stated};
-ghost use Rattle.script_lang.specs.Checking.{Declared, after_event, after_line, party_label, may_declare, nothing_declared, party, party_place};
+ghost use Rattle.script_lang.specs.Checking.{Declared, after_event, after_line, party_label, may_declare};
+ghost use Rattle.script_lang.specs.Checking.{nothing_declared, party, party_place};
 
 use crate::check_fault::CheckFault;
 use crate::declaration::{Declaration, is_among, place_of};

@@ -1,11 +1,13 @@
 -- Two lists that are gone through together.
-use Rattle.std.proofs.Common.{String, Global, string_bytes, ◌≡◌, ◌≤◌, ◌<◌, ◌+◌, ℕ, List, [], ◌∷◌, ◌++◌, length, drop, get_or, min, map, refl, sym, ap, ◌∙◌, arith, append_assoc, append-nil, inl, inr}
+use Rattle.std.proofs.Common.{String, Global, string_bytes, ◌≡◌, ◌≤◌, ◌<◌, ◌+◌, ℕ, List, [], ◌∷◌, ◌++◌, length, drop}
+use Rattle.std.proofs.Common.{get_or, min, map, refl, sym, ap, ◌∙◌, arith, append_assoc, append-nil, inl, inr}
 use Rattle.std.proofs.lemmas.Bool.{cases_lt}
 use Rattle.std.proofs.lemmas.List.{drop_more, drop_all}
 use Rattle.std.specs.Fmt.{decimal}
 use Rattle.repo_catalog.specs.declared.entry.Entry.{Entry}
 use Rattle.script_report.specs.Pieces.{KeepsFront}
-use Rattle.script_report.specs.Texts.{behind_spaces, labelled_numbers, entry_text, entries_text, totals_text, summary_text}
+use Rattle.script_report.specs.Texts.{behind_spaces, labelled_numbers, entry_text, entries_text, totals_text}
+use Rattle.script_report.specs.Texts.{summary_text}
 use Rattle.script_report.proofs.Fronts.{keeps_same, keeps_then}
 
 -- what is written of the first places of both lists is written, and what was there stands in front

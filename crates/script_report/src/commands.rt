@@ -1,5 +1,6 @@
 ghost use Rattle.std.specs.Prelude.{codes};
-ghost use Rattle.script_report.specs.Texts.{command_text, block_300_text, block_404_text, block_200_text, block_published_text};
+ghost use Rattle.script_report.specs.Texts.{command_text, block_300_text, block_404_text, block_200_text};
+ghost use Rattle.script_report.specs.Texts.{block_published_text};
 ghost use Rattle.script_report.specs.Pieces.{Appends};
 
 use crate::line::put_line;

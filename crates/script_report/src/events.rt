@@ -1,4 +1,6 @@
-ghost use Rattle.script_report.specs.Texts.{publish_text, deliver_steady_text, deliver_suppressed_text, sync_text, advance_text, fire_early_text, fire_quiet_text, fire_sent_text, restart_text};
+ghost use Rattle.script_report.specs.Texts.{publish_text, deliver_steady_text, deliver_suppressed_text, sync_text};
+ghost use Rattle.script_report.specs.Texts.{advance_text, fire_early_text, fire_quiet_text, fire_sent_text};
+ghost use Rattle.script_report.specs.Texts.{restart_text};
 ghost use Rattle.script_report.specs.Pieces.{Appends};
 
 use crate::line::put_line;

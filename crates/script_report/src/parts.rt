@@ -1,5 +1,6 @@
 ghost use Rattle.std.specs.Prelude.{codes};
-ghost use Rattle.script_report.specs.Texts.{part_text, claim_none_text, answer_kept_text, answer_none_text, fetch_text, settle_text, feed_kept_text, feed_refused_text};
+ghost use Rattle.script_report.specs.Texts.{part_text, claim_none_text, answer_kept_text, answer_none_text, fetch_text};
+ghost use Rattle.script_report.specs.Texts.{settle_text, feed_kept_text, feed_refused_text};
 ghost use Rattle.script_report.specs.Pieces.{Appends};
 
 use crate::line::put_line;

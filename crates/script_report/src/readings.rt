@@ -1,5 +1,6 @@
 ghost use Rattle.std.specs.Prelude.{◌≡◌, ◌++◌, map, length, string_bytes, OnOk};
-ghost use Rattle.script_report.specs.Texts.{catalogue_text, entries_text, entry_text, summary_text, totals_text, traffic_text, vector_text};
+ghost use Rattle.script_report.specs.Texts.{catalogue_text, entries_text, entry_text, summary_text, totals_text};
+ghost use Rattle.script_report.specs.Texts.{traffic_text, vector_text};
 ghost use Rattle.script_report.specs.Pieces.{Appends, KeepsFront};
 
 use crate::line::{put_line, whole, write_line};

@@ -1,4 +1,5 @@
-ghost use Rattle.script_report.specs.Texts.{dump_hex_text, dump_none_text, hear_steady_text, hear_suppressed_text, hear_refused_text, ask_found_text, ask_none_text, ask_refused_text};
+ghost use Rattle.script_report.specs.Texts.{dump_hex_text, dump_none_text, hear_steady_text, hear_suppressed_text};
+ghost use Rattle.script_report.specs.Texts.{hear_refused_text, ask_found_text, ask_none_text, ask_refused_text};
 ghost use Rattle.script_report.specs.Pieces.{Appends};
 
 use crate::line::put_line;

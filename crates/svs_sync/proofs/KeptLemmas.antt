@@ -1,13 +1,16 @@
 -- What is kept of a member is the join of the vectors that the table lists.
-use Rattle.std.proofs.Common.{◌≡◌, ℕ, ◌+◌, Bool, true, false, List, [], ◌∷◌, ◌++◌, Option, Some, None, ltb, refl, sym, ap, ◌∙◌, if◌then◌else◌}
+use Rattle.std.proofs.Common.{◌≡◌, ℕ, ◌+◌, Bool, true, false, List, [], ◌∷◌, ◌++◌, Option, Some, None, ltb, refl, sym}
+use Rattle.std.proofs.Common.{ap, ◌∙◌, if◌then◌else◌}
 use Rattle.std.specs.Option.{option_map}
 use Rattle.svs_vector.specs.Vectors.{join, covers, join_all}
 use Rattle.svs_vector.proofs.JoinLemmas.{join-[], join_assoc}
 use Rattle.svs_sync.specs.declared.fired.Fired.{Fired}
 use Rattle.svs_sync.specs.declared.fired.Fired.TheVariants.{Early}
-use Rattle.svs_sync.specs.Suppression.{SyncEvent, SyncMember, suppression, steady, hears, due, fires, after_sync_event, after_sync_events, mode_of}
+use Rattle.svs_sync.specs.Suppression.{SyncEvent, SyncMember, suppression, steady, hears, due, fires, after_sync_event}
+use Rattle.svs_sync.specs.Suppression.{after_sync_events, mode_of}
 use Rattle.svs_sync.specs.Suppression.SyncEvent.{published, heard, fired, reset}
-use Rattle.svs_sync.specs.KeptVector.{Keeper, kept, steady_kept, hears_kept, due_kept, fires_kept, after_kept, after_all_kept}
+use Rattle.svs_sync.specs.KeptVector.{Keeper, kept, steady_kept, hears_kept, due_kept, fires_kept, after_kept}
+use Rattle.svs_sync.specs.KeptVector.{after_all_kept}
 
 join_all-push : (vs : List (List ℕ)) (w : List ℕ) → join_all (vs ++ w ∷ []) ≡ join (join_all vs) w
 unfolding join_all join
@@ -25,12 +28,20 @@ kept_if n false x y = refl
 hears_same : (n now : ℕ) (told known : List ℕ) (draw : ℕ) (m : SyncMember) (h : Option (List (List ℕ)))
     → hears_kept now told known draw (kept n m) (option_map join_all h) ≡ kept n (hears now told known draw m h)
 hears_same n now told known draw m None =
-    let alone : SyncMember = record { heard = Some (told ∷ []); deadline = now + suppression draw; draws = m.draws + 1 } in
-    let one : Keeper = record { members = n; heard = Some told; deadline = now + suppression draw; draws = m.draws + 1 } in
-    let same : one ≡ kept n alone = ap (λ (v : List ℕ). let k : Keeper = record { members = n; heard = Some v; deadline = now + suppression draw; draws = m.draws + 1 } in k) (sym (join_all-one told)) in
-    ap (λ (k : Keeper). if covers told known then steady_kept now draw (kept n m) else k) same ∙ sym (kept_if n (covers told known) (steady now draw m) alone)
+    let alone : SyncMember =
+    record { heard = Some (told ∷ []); deadline = now + suppression draw; draws = m.draws + 1 } in
+    let one : Keeper =
+    record { members = n; heard = Some told; deadline = now + suppression draw; draws = m.draws + 1 } in
+    let same : one ≡ kept n alone =
+    ap (λ (v : List ℕ).
+    let k : Keeper = record { members = n; heard = Some v; deadline = now + suppression draw; draws = m.draws + 1 } in
+    k) (sym (join_all-one told)) in
+    ap (λ (k : Keeper). if covers told known then steady_kept now draw (kept n m) else k) same
+    ∙ sym (kept_if n (covers told known) (steady now draw m) alone)
 hears_same n now told known draw m (Some vectors) =
-    ap (λ (v : List ℕ). let k : Keeper = record { members = n; heard = Some v; deadline = m.deadline; draws = m.draws } in k) (sym (join_all-push vectors told))
+    ap (λ (v : List ℕ).
+    let k : Keeper = record { members = n; heard = Some v; deadline = m.deadline; draws = m.draws } in k)
+    (sym (join_all-push vectors told))
 
 after_same : (n : ℕ) (e : SyncEvent) (m : SyncMember) → after_kept e (kept n m) ≡ kept n (after_sync_event e m)
 unfolding after_kept after_sync_event
@@ -39,7 +50,8 @@ after_same n (heard now told known draw) m = hears_same n now told known draw m 
 after_same n (fired now known draw) m = sym (kept_if n (ltb now m.deadline) m (steady now draw m))
 after_same n (reset now draw) m = refl
 
-pub after_all_same : (n : ℕ) (events : List SyncEvent) (m : SyncMember) → after_all_kept events (kept n m) ≡ kept n (after_sync_events events m)
+pub after_all_same : (n : ℕ) (events : List SyncEvent) (m : SyncMember)
+    → after_all_kept events (kept n m) ≡ kept n (after_sync_events events m)
 unfolding after_all_kept after_sync_events
 after_all_same n [] m = refl
 after_all_same n (e ∷ es) m = ap (after_all_kept es) (after_same n e m) ∙ after_all_same n es (after_sync_event e m)

@@ -1,5 +1,7 @@
 -- The names of sync Interests, as octets.
-use Rattle.std.proofs.Common.{◌≡◌, ◌↔◌, ℕ, zero, suc, ◌-◌, Bool, true, false, eqb, List, [], ◌∷◌, ◌++◌, length, length-append, append_assoc, take, drop, take_at, drop_at, slice_get, Option, Some, refl, sym, ap, subst, ◌∙◌, arith}
+use Rattle.std.proofs.Common.{◌≡◌, ◌↔◌, ℕ, zero, suc, ◌-◌, Bool, true, false, eqb, List, [], ◌∷◌, ◌++◌, length}
+use Rattle.std.proofs.Common.{length-append, append_assoc, take, drop, take_at, drop_at, slice_get, Option, Some, refl}
+use Rattle.std.proofs.Common.{sym, ap, subst, ◌∙◌, arith}
 use Rattle.std.specs.Option.{option_map_or}
 use Rattle.std.proofs.lemmas.Bool.{and_parts, and_from, false≢true}
 use Rattle.std.proofs.lemmas.Slice.Eq.{bytes_eq-Decides}
@@ -34,32 +36,52 @@ pub spelled : (group : List Component) (digest : List ℕ) → length digest ≡
 spelled group digest long =
     encoding-push (sync_name group) (2, digest)
     ∙ ap (λ (o : List ℕ). o ++ element 2 digest) (encoding-push group (0x36, 2 ∷ []))
-    ∙ rw (version_spelled, digest_spelled digest long) (append_assoc (encoding group) (0x36 ∷ 1 ∷ 2 ∷ []) (2 ∷ 32 ∷ digest))
+    ∙ rw (version_spelled, digest_spelled digest long)
+    (append_assoc (encoding group) (0x36 ∷ 1 ∷ 2 ∷ []) (2 ∷ 32 ∷ digest))
 
 two : IsOctets (2 ∷ [])
 two zero = omega arith
 two (suc i) = omega arith
 
 pub version : IsComponent (0x36, 2 ∷ [])
-version = record { above = omega arith; below = omega arith; digest = λ h. absurd (omega (arith, h)); long = omega arith; octets = two }
+version = record {
+  above = omega arith;
+  below = omega arith;
+  digest = λ h. absurd (omega (arith, h));
+  long = omega arith;
+  octets = two;
+}
 
-pub is_sync_name-made : (group : List Component) (digest : List ℕ) → is_sync_name group (sync_name group ++ (2, digest) ∷ []) ≡ true
+pub is_sync_name-made : (group : List Component) (digest : List ℕ)
+    → is_sync_name group (sync_name group ++ (2, digest) ∷ []) ≡ true
 is_sync_name-made group digest =
     let front = sync_name group in
     let last : Component = (2, digest) in
     and_from (has_same_octets (without_last (front ++ last ∷ [])) front) (ends_in_digest (front ++ last ∷ []))
-    (rw (without-push front last) ((bytes_eq-Decides (encoding front) (encoding front)).1 refl)) (ends-push front digest)
+    (rw (without-push front last) ((bytes_eq-Decides (encoding front) (encoding front)).1 refl))
+    (ends-push front digest)
 
 -- ---- the test of the octets
 
 pub named : (group name : List Component) (digest : List ℕ) → IsName group → IsName name
-    → encoding name ≡ encoding group ++ (between ++ digest) → length digest ≡ 32 → name ≡ sync_name group ++ (2, digest) ∷ []
+    → encoding name ≡ encoding group ++ (between ++ digest) → length digest ≡ 32
+    → name ≡ sync_name group ++ (2, digest) ∷ []
 named group name digest valid_group valid same long =
     let front = sync_name group in
     let last : Component = (2, digest) in
-    let octets = IsOctets-behind between digest (IsOctets-behind (encoding group) (between ++ digest) (subst IsOctets same (IsOctets-encoding name valid))) in
-    let good : IsComponent last = record { above = omega arith; below = omega arith; digest = λ h. long; long = omega (arith, long); octets = octets } in
-    encoding-same name (front ++ last ∷ []) valid (IsName-append front (last ∷ []) (IsName-append group ((0x36, 2 ∷ []) ∷ []) valid_group (version, tt)) (good, tt)) (same ∙ sym (spelled group digest long))
+    let octets =
+    IsOctets-behind between digest
+    (IsOctets-behind (encoding group) (between ++ digest) (subst IsOctets same (IsOctets-encoding name valid))) in
+    let good : IsComponent last = record {
+      above = omega arith;
+      below = omega arith;
+      digest = λ h. long;
+      long = omega (arith, long);
+      octets = octets;
+    } in
+    encoding-same name (front ++ last ∷ []) valid
+    (IsName-append front (last ∷ []) (IsName-append group ((0x36, 2 ∷ []) ∷ []) valid_group (version, tt)) (good, tt))
+    (same ∙ sym (spelled group digest long))
 
 pub is_of_group : (group name : List Component) (digest : List ℕ) → IsName group → IsName name
     → encoding name ≡ encoding group ++ (between ++ digest) → length digest ≡ 32 → is_sync_name group name ≡ true
@@ -75,11 +97,16 @@ pub has_digest : (group name : List Component) → IsName name → is_sync_name 
 has_digest group name valid h =
     let tests = and_parts (has_same_octets (without_last name) (sync_name group)) (ends_in_digest name) h in
     let ends = digest_ends name valid tests.1 in
-    let front : encoding (without_last name) ≡ encoding (sync_name group) = (bytes_eq-Decides (encoding (without_last name)) (encoding (sync_name group))).0 tests.0 in
+    let front : encoding (without_last name) ≡ encoding (sync_name group) =
+    (bytes_eq-Decides (encoding (without_last name)) (encoding (sync_name group))).0 tests.0 in
     record {
       digest = ends.digest;
       long = ends.long;
-      octets = ends.spelled ∙ ap (λ (o : List ℕ). o ++ element 2 ends.digest) front ∙ sym (encoding-push (sync_name group) (2, ends.digest)) ∙ spelled group ends.digest ends.long;
+      octets =
+          ends.spelled
+          ∙ ap (λ (o : List ℕ). o ++ element 2 ends.digest) front
+          ∙ sym (encoding-push (sync_name group) (2, ends.digest))
+          ∙ spelled group ends.digest ends.long;
     }
 
 -- ---- answers of the test
@@ -93,18 +120,22 @@ agreed true b h k = sym (h refl)
 agreed false b h k = refused b (λ e. absurd (false≢true (k e)))
 
 pub behind_same : (front a b : List ℕ) → front ++ a ≡ front ++ b → a ≡ b
-behind_same front a b e = sym (drop_at front a (length front) refl) ∙ ap (drop (length front)) e ∙ drop_at front b (length front) refl
+behind_same front a b e =
+    sym (drop_at front a (length front) refl) ∙ ap (drop (length front)) e ∙ drop_at front b (length front) refl
 
 -- ---- the name that the test takes
 
 abbrev IsNamed : List Component → List Component → Type 0
 IsNamed group name = (digest : List ℕ) × (name ≡ group ++ (0x36, 2 ∷ []) ∷ (2, digest) ∷ [])
 
-regrouped : (group : List Component) (digest : List ℕ) → sync_name group ++ (2, digest) ∷ [] ≡ group ++ (0x36, 2 ∷ []) ∷ (2, digest) ∷ []
+regrouped : (group : List Component) (digest : List ℕ)
+    → sync_name group ++ (2, digest) ∷ [] ≡ group ++ (0x36, 2 ∷ []) ∷ (2, digest) ∷ []
 regrouped group digest = append_assoc group ((0x36, 2 ∷ []) ∷ []) ((2, digest) ∷ [])
 
-pub name_is_tested : (group name : List Component) → IsName group → IsName name → (is_sync_name group name ≡ true) ↔ IsNamed group name
+pub name_is_tested : (group name : List Component) → IsName group → IsName name
+    → (is_sync_name group name ≡ true) ↔ IsNamed group name
 name_is_tested group name valid_group valid = (
-  λ yes. (let d = has_digest group name valid yes in (d.digest, named group name d.digest valid_group valid d.octets d.long ∙ regrouped group d.digest)),
+  λ yes. (let d = has_digest group name valid yes in
+      (d.digest, named group name d.digest valid_group valid d.octets d.long ∙ regrouped group d.digest)),
   λ is. rw (is.1 ∙ sym (regrouped group is.0)) (is_sync_name-made group is.0),
 )

@@ -1,5 +1,6 @@
 -- A vector that octets tell has a number for each member.
-use Rattle.std.proofs.Common.{◌≡◌, ℕ, max, Bool, true, false, cond, List, [], ◌∷◌, length, Option, Some, None, Result, Ok, Err, slice_index, slice_set, sym, ap, ◌∙◌}
+use Rattle.std.proofs.Common.{◌≡◌, ℕ, max, Bool, true, false, cond, List, [], ◌∷◌, length, Option, Some, None, Result}
+use Rattle.std.proofs.Common.{Ok, Err, slice_index, slice_set, sym, ap, ◌∙◌}
 use Rattle.std.specs.Prelude.{nat_lt, replicate, unwrap_or}
 use Rattle.std.proofs.lemmas.List.{length-set, length-replicate}
 use Rattle.ndn_tlv.specs.Listing.{gather, ◌>>=◌}
@@ -12,15 +13,18 @@ use Rattle.ndn_interest.specs.Signer.{ensured, signer_of}
 use Rattle.svs_vector.specs.declared.vector_fault.VectorFault.{VectorFault}
 use Rattle.svs_vector.specs.declared.vector_fault.VectorFault.TheVariants.{NumberTooLarge}
 use Rattle.svs_vector.specs.Rosters.{member_of}
-use Rattle.svs_vector.specs.StateVector.{entry_in, counted, with_vector_entry, vector_in, vector_among, vector_of, fault_in}
+use Rattle.svs_vector.specs.StateVector.{entry_in, counted, with_vector_entry, vector_in, vector_among, vector_of}
+use Rattle.svs_vector.specs.StateVector.{fault_in}
 use Rattle.svs_sync.specs.declared.sync_refusal.SyncRefusal.{SyncRefusal}
 use Rattle.svs_sync.specs.declared.sync_refusal.SyncRefusal.TheVariants.{WrongGroup}
-use Rattle.svs_sync.specs.SyncInterest.{packet_or, signed_or, vector_or, is_sync_name, sync_interest_verdict, sync_verdict}
+use Rattle.svs_sync.specs.SyncInterest.{packet_or, signed_or, vector_or, is_sync_name, sync_interest_verdict}
+use Rattle.svs_sync.specs.SyncInterest.{sync_verdict}
 
 counted_wide : (v : List ℕ) (n : ℕ) (member : Option ℕ) (w : List ℕ) → counted v n member ≡ Ok w → length w ≡ length v
 counted_wide v n None w h = let same : v ≡ w = cc in ap (λ (u : List ℕ). length u) (sym same)
 counted_wide v n (Some m) w h = go (nat_lt 65535 n) h where
-  go : (b : Bool) → cond b (Err (NumberTooLarge m n)) (Ok (slice_set v m (max (slice_index v m) n))) ≡ Ok w → length w ≡ length v
+  go : (b : Bool) → cond b (Err (NumberTooLarge m n)) (Ok (slice_set v m (max (slice_index v m) n))) ≡ Ok w
+      → length w ≡ length v
   go true k = absurd cc
   go false k =
       let same : slice_set v m (max (slice_index v m) n) ≡ w = cc in
@@ -30,8 +34,10 @@ abbrev vector_in_it : Result (ℕ × List ℕ) SyncRefusal → List ℕ → List
 vector_in_it (Ok told) other = told.1
 vector_in_it (Err refusal) other = other
 
-gathered_wide : {A F : Type 0} (take : List ℕ → A → Result (List ℕ) VectorFault) (named : F → VectorFault) → ((v : List ℕ) (x : A) (w : List ℕ) → take v x ≡ Ok w → length w ≡ length v)
-    → (v : List ℕ) (xs : List A) (fault : Option F) (w : List ℕ) → gather take named v xs fault ≡ Ok w → length w ≡ length v
+gathered_wide : {A F : Type 0} (take : List ℕ → A → Result (List ℕ) VectorFault) (named : F → VectorFault)
+    → ((v : List ℕ) (x : A) (w : List ℕ) → take v x ≡ Ok w → length w ≡ length v)
+    → (v : List ℕ) (xs : List A) (fault : Option F) (w : List ℕ) → gather take named v xs fault ≡ Ok w
+    → length w ≡ length v
 unfolding gather
 gathered_wide take named wide v [] None w h = let same : v ≡ w = cc in ap (λ (u : List ℕ). length u) (sym same)
 gathered_wide take named wide v [] (Some f) w h = absurd cc
@@ -63,15 +69,21 @@ module _ (roster : List (List Component)) where
     vector_told signer told h =
         let vector = bind_ok read (λ v. Ok (signer, v)) told h in
         let same : vector.0 ≡ told.1 = ap (λ r. vector_in_it r vector.0) vector.2 in
-        ap (λ (u : List ℕ). length u) (sym same) ∙ vector_wide (unwrap_or i.parameters []) vector.0 (vector_or_ok (vector_of roster (unwrap_or i.parameters [])) vector.0 vector.1)
+        ap (λ (u : List ℕ). length u) (sym same)
+        ∙ vector_wide (unwrap_or i.parameters []) vector.0
+        (vector_or_ok (vector_of roster (unwrap_or i.parameters [])) vector.0 vector.1)
 
-    interest_wide : (told : ℕ × List ℕ) → sync_interest_verdict group roster ring i ≡ Ok told → length told.1 ≡ length roster
+    interest_wide : (told : ℕ × List ℕ) → sync_interest_verdict group roster ring i ≡ Ok told
+        → length told.1 ≡ length roster
     interest_wide told h =
-        let named = bind_ok (ensured (is_sync_name group i.name) WrongGroup) (λ u. signed_or (signer_of ring i) >>= with_signer) told h in
+        let named =
+        bind_ok (ensured (is_sync_name group i.name) WrongGroup) (λ u. signed_or (signer_of ring i) >>= with_signer)
+        told h in
         let signed = bind_ok (signed_or (signer_of ring i)) with_signer told named.2 in
         vector_told signed.0 told signed.2
 
-  pub told_wide : (group : List Component) (ring : List NamedKey) (octets : List ℕ) (told : ℕ × List ℕ) → sync_verdict group roster ring octets ≡ Ok told → length told.1 ≡ length roster
+  pub told_wide : (group : List Component) (ring : List NamedKey) (octets : List ℕ) (told : ℕ × List ℕ)
+      → sync_verdict group roster ring octets ≡ Ok told → length told.1 ≡ length roster
   told_wide group ring octets told h =
       let step = bind_ok (packet_or (interest_of octets)) (sync_interest_verdict group roster ring) told h in
       interest_wide group ring step.0 told step.2

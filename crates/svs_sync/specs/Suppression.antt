@@ -1,5 +1,5 @@
--- When a member sends its state vector, and when it holds back: the suppression of State Vector Sync, with the times and
--- the draws of this project. Moments and times are in milliseconds.
+-- When a member sends its state vector, and when it holds back: the suppression of State Vector Sync, with the times
+-- and the draws of this project. Moments and times are in milliseconds.
 use Rattle.std.specs.Prelude.{ℕ, ◌+◌, ◌%◌, List, [], ◌∷◌, ◌++◌, Option, Some, None, nat_lt, if◌then◌else◌}
 use Rattle.svs_vector.specs.Vectors.{covers, join_all}
 use Rattle.svs_sync.specs.declared.mode.Mode.{Mode}
@@ -41,8 +41,8 @@ hears now told known draw m None =
     else record { heard = Some (told ∷ []); deadline = now + suppression draw; draws = m.draws + 1 }
 hears now told known draw m (Some vectors) = record m { heard = Some (vectors ++ told ∷ []) }
 
--- What a member does that is due: it sends, but is quiet where it is Suppressed and those heard together cover the vector
--- that is known now.
+-- What a member does that is due: it sends, but is quiet where it is Suppressed and those heard together cover the
+-- vector that is known now.
 abbrev pub due : List ℕ → Option (List (List ℕ)) → Fired
 due known None = Send
 due known (Some vectors) = if covers (join_all vectors) known then Quiet else Send

@@ -16,7 +16,8 @@ use Rattle.svs_vector.specs.Rosters.{has_same_octets}
 use Rattle.svs_vector.specs.StateVector.{vector_of}
 use Rattle.svs_vector.specs.WrittenVector.{written_vector}
 use Rattle.svs_sync.specs.declared.sync_refusal.SyncRefusal.{SyncRefusal}
-use Rattle.svs_sync.specs.declared.sync_refusal.SyncRefusal.TheVariants.{Packet, WrongGroup, Unsigned, ParamsDigest, UnknownKey, BadSignature, Vector}
+use Rattle.svs_sync.specs.declared.sync_refusal.SyncRefusal.TheVariants.{Packet, WrongGroup, Unsigned, ParamsDigest}
+use Rattle.svs_sync.specs.declared.sync_refusal.SyncRefusal.TheVariants.{UnknownKey, BadSignature, Vector}
 
 -- ---- names
 

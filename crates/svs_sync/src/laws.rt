@@ -8,8 +8,8 @@ ghost use Rattle.ndn_tlv.specs.Types as types;
 ghost use Rattle.svs_sync.specs.SyncInterest.{sync_interest, sync_verdict, is_sync_name, IsNodeName, IsKeyName};
 ghost use Rattle.svs_sync.specs.KeptVector.{kept, after_all_kept, fires_kept};
 
-/// After any list of events, what is kept is what the table says over the list of vectors heard since the member was last
-/// Steady, with their join for the list.
+/// After any list of events, what is kept is what the table says over the list of vectors heard since the member was
+/// last Steady, with their join for the list.
 pub fn what_is_kept_is_the_join()
     ensures after { (members : ℕ) (events : List SyncEvent) (m : SyncMember)
         → after_all_kept events (kept members m) ≡ kept members (after_sync_events events m) }
@@ -37,7 +37,9 @@ pub fn made_sync_interests_are_checked()
 pub fn sync_interests_are_tested()
     ensures { (group name : List Component) → IsName group → IsName name
         → IsTrue (is_sync_name group name)
-        ↔ ((digest : List ℕ) × (name ≡ group ++ (types.VersionNameComponent, 2 ∷ []) ∷ (types.ParametersSha256DigestComponent, digest) ∷ [])) }
+        ↔ ((digest : List ℕ)
+        × (name
+        ≡ group ++ (types.VersionNameComponent, 2 ∷ []) ∷ (types.ParametersSha256DigestComponent, digest) ∷ [])) }
 {}
 
 /// The vector that a sync Interest tells has a number for each member.

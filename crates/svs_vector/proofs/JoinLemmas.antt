@@ -1,5 +1,6 @@
 -- Joins and covering, place by place.
-use Rattle.std.proofs.Common.{◌≡◌, ◌↔◌, ℕ, suc, zero, ◌≤◌, ◌<◌, max, Bool, true, false, not, List, [], ◌∷◌, map, length, replicate, get_or, refl, sym, ap, ◌∙◌, subst, arith, IsFalse}
+use Rattle.std.proofs.Common.{◌≡◌, ◌↔◌, ℕ, suc, zero, ◌≤◌, ◌<◌, max, Bool, true, false, not, List, [], ◌∷◌, map, length}
+use Rattle.std.proofs.Common.{replicate, get_or, refl, sym, ap, ◌∙◌, subst, arith, IsFalse}
 use Rattle.std.specs.Prelude.{nat_le, slice_index}
 use Rattle.std.specs.List.{fold, Contains}
 use Rattle.std.proofs.lemmas.Bool.{and_parts, and_from, leb-true, le-leb}
@@ -22,7 +23,9 @@ unfolding join
 join_assoc [] v w = refl
 join_assoc (k ∷ u) [] w = refl
 join_assoc (k ∷ u) (n ∷ v) [] = refl
-join_assoc (k ∷ u) (n ∷ v) (m ∷ w) = let e : max (max k n) m ≡ max k (max n m) = omega arith in let t : join (join u v) w ≡ join u (join v w) = join_assoc u v w in cc
+join_assoc (k ∷ u) (n ∷ v) (m ∷ w) =
+    let e : max (max k n) m ≡ max k (max n m) = omega arith in
+    let t : join (join u v) w ≡ join u (join v w) = join_assoc u v w in cc
 
 pub join_idem : (v : List ℕ) → join v v ≡ v
 unfolding join
@@ -48,16 +51,21 @@ join-at (n ∷ v) (m ∷ w) (suc p) = join-at v w p
 
 fold_max : (a b : ℕ) (ns : List ℕ) → fold max (max a b) ns ≡ max a (fold max b ns)
 fold_max a b [] = refl
-fold_max a b (n ∷ ns) = let e : max (max a b) n ≡ max a (max b n) = omega arith in ap (λ (x : ℕ). fold max x ns) e ∙ fold_max a (max b n) ns
+fold_max a b (n ∷ ns) =
+    let e : max (max a b) n ≡ max a (max b n) = omega arith in ap (λ (x : ℕ). fold max x ns) e ∙ fold_max a (max b n) ns
 
-pub join_all-at : (vs : List (List ℕ)) (p : ℕ) → slice_index (join_all vs) p ≡ fold max 0 (map (λ v. slice_index v p) vs)
+pub join_all-at : (vs : List (List ℕ)) (p : ℕ)
+    → slice_index (join_all vs) p ≡ fold max 0 (map (λ v. slice_index v p) vs)
 unfolding join_all
 join_all-at [] p = refl
 join_all-at (v ∷ vs) p =
-    let e : slice_index (join v (join_all vs)) p ≡ max (slice_index v p) (slice_index (join_all vs) p) = join-at v (join_all vs) p in
+    let e : slice_index (join v (join_all vs)) p ≡ max (slice_index v p) (slice_index (join_all vs) p) =
+    join-at v (join_all vs) p in
     let t : slice_index (join_all vs) p ≡ fold max 0 (map (λ v. slice_index v p) vs) = join_all-at vs p in
     let s : max 0 (slice_index v p) ≡ max (slice_index v p) 0 = omega arith in
-    let f : fold max (max (slice_index v p) 0) (map (λ v. slice_index v p) vs) ≡ max (slice_index v p) (fold max 0 (map (λ v. slice_index v p) vs)) = fold_max (slice_index v p) 0 (map (λ v. slice_index v p) vs) in
+    let f : fold max (max (slice_index v p) 0) (map (λ v. slice_index v p) vs)
+    ≡ max (slice_index v p) (fold max 0 (map (λ v. slice_index v p) vs)) =
+    fold_max (slice_index v p) 0 (map (λ v. slice_index v p) vs) in
     cc
 
 pub covers_Covers : (v w : List ℕ) → covers v w ≡ true → Covers v w
@@ -102,13 +110,17 @@ fold_is_join_all v ws = fold_join v ws
 pub covers_each : (ws : List (List ℕ)) (w : List ℕ) (k : ℕ) → k < length ws → get_or ws k w ≡ w → Covers (join_all ws) w
 unfolding join_all
 covers_each [] w k h e = absurd (omega arith)
-covers_each (v ∷ ws) w zero h e = subst (λ (x : List ℕ). Covers (join v (join_all ws)) x) e (covers_first v (join_all ws))
+covers_each (v ∷ ws) w zero h e =
+    subst (λ (x : List ℕ). Covers (join v (join_all ws)) x) e (covers_first v (join_all ws))
 covers_each (v ∷ ws) w (suc k) h e = join_assoc v (join_all ws) w ∙ ap (join v) (covers_each ws w k (omega arith) e)
 
-pub covers_all : (u : List ℕ) (ws : List (List ℕ)) → ((w : List ℕ) → Contains ws w → Covers u w) → Covers u (join_all ws)
+pub covers_all : (u : List ℕ) (ws : List (List ℕ)) → ((w : List ℕ) → Contains ws w → Covers u w)
+    → Covers u (join_all ws)
 unfolding join_all
 covers_all u [] each = join-[] u
-covers_all u (w ∷ ws) each = covers_least u w (join_all ws) (each w (0, omega arith, refl)) (covers_all u ws (λ x c. each x (suc c.0, (let l : c.0 < length ws = c.1 in omega arith), c.2)))
+covers_all u (w ∷ ws) each =
+    covers_least u w (join_all ws) (each w (0, omega arith, refl))
+    (covers_all u ws (λ x c. each x (suc c.0, (let l : c.0 < length ws = c.1 in omega arith), c.2)))
 
 pub join_all_same : (us ws : List (List ℕ)) → HaveSameVectors us ws → join_all us ≡ join_all ws
 join_all_same us ws same = covers_both_ways (join_all us) (join_all ws)
@@ -119,7 +131,8 @@ pub fold_join_same : (v : List ℕ) (us ws : List (List ℕ)) → HaveSameVector
 fold_join_same v us ws same = fold_join v us ∙ (ap (join v) (join_all_same us ws same) ∙ sym (fold_join v ws))
 
 -- a change is told of exactly where there is one
-pub told_of_changes : (changed : Bool) (v w new : List ℕ) → changed ≡ not (covers v w) → new ≡ join v w → IsFalse changed ↔ (new ≡ v)
+pub told_of_changes : (changed : Bool) (v w new : List ℕ) → changed ≡ not (covers v w) → new ≡ join v w
+    → IsFalse changed ↔ (new ≡ v)
 told_of_changes changed v w new told joined = (
   λ none. joined ∙ covers_Covers v w (covered (covers v w) (sym told ∙ none)),
   λ same. told ∙ ap not (Covers_covers v w (sym joined ∙ same)),
@@ -145,7 +158,8 @@ pub join_zeros : (n : ℕ) (w : List ℕ) → n ≤ length w → join (replicate
 unfolding join
 join_zeros zero w h = refl
 join_zeros (suc n) [] h = absurd (omega arith)
-join_zeros (suc n) (m ∷ w) h = let e : max 0 m ≡ m = omega arith in let t : join (replicate n 0) w ≡ w = join_zeros n w (omega arith) in cc
+join_zeros (suc n) (m ∷ w) h =
+    let e : max 0 m ≡ m = omega arith in let t : join (replicate n 0) w ≡ w = join_zeros n w (omega arith) in cc
 
 pub covers_rest : (n m : ℕ) (v w : List ℕ) → Covers (n ∷ v) (m ∷ w) → Covers v w
 unfolding join

@@ -54,22 +54,39 @@ pub value_short : (most : ℕ) (e : Entry) → IsWithin most e.0 → length (ent
 value_short most e h =
     let name = element 7 (encoding e.0) in
     let number = element 204 (number_field e.1) in
-    omega (arith, h, length-append name number, element_short 7 (encoding e.0), element_short 204 (number_field e.1), field_short e.1)
+    omega (
+      arith,
+      h,
+      length-append name number,
+      element_short 7 (encoding e.0),
+      element_short 204 (number_field e.1),
+      field_short e.1,
+    )
 
-pub entries_short : (most : ℕ) (es : List Entry) → All (IsWithin most) (keys_of es) → length (flat_map written_entry es) ≤ (most + 62) * length es
+pub entries_short : (most : ℕ) (es : List Entry) → All (IsWithin most) (keys_of es)
+    → length (flat_map written_entry es) ≤ (most + 62) * length es
 entries_short most [] h = omega arith
 entries_short most (e ∷ es) h =
     let here = value_short most e (All-head (IsWithin most) e.0 (keys_of es) h) in
     let rest = entries_short most es (All-tail (IsWithin most) e.0 (keys_of es) h) in
     let whole = element_short 202 (entry_value e) in
-    omega (arith, length-append (written_entry e) (flat_map written_entry es), here, rest, whole, mul-suc (most + 62) (length es))
+    omega (
+      arith,
+      length-append (written_entry e) (flat_map written_entry es),
+      here,
+      rest,
+      whole,
+      mul-suc (most + 62) (length es),
+    )
 
 -- what is in a written vector
-pub body_short : (most : ℕ) (names : List (List Component)) (vector : List ℕ) → length names ≤ 16 → All (IsWithin most) names
+pub body_short : (most : ℕ) (names : List (List Component)) (vector : List ℕ) → length names ≤ 16
+    → All (IsWithin most) names
     → length (flat_map written_entry (in_canonical_order (known_entries names vector))) ≤ (most + 62) * 16
 body_short most names vector few short =
     let known = known_entries names vector in
     let es = in_canonical_order known in
     let count : length es ≤ 16 = omega (arith, few, length-in_order known, length-known names vector) in
-    let all = entries_short most es (names_in_order (IsWithin most) known (names_known (IsWithin most) names vector short)) in
+    let all =
+    entries_short most es (names_in_order (IsWithin most) known (names_known (IsWithin most) names vector short)) in
     omega (arith, all, mul-le-mul_left (most + 62) count)

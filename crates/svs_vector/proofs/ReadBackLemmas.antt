@@ -1,5 +1,6 @@
 -- A state vector that was written is read back.
-use Rattle.std.proofs.Common.{◌≡◌, ℕ, zero, suc, ◌+◌, ◌^◌, ◌<◌, ◌≤◌, max, Bool, true, false, cond, not, eqb, List, [], ◌∷◌, length, replicate, get_or, Option, Some, None, Result, Ok, refl, sym, ap, ◌∙◌, arith}
+use Rattle.std.proofs.Common.{◌≡◌, ℕ, zero, suc, ◌+◌, ◌^◌, ◌<◌, ◌≤◌, max, Bool, true, false, cond, not, eqb, List, []}
+use Rattle.std.proofs.Common.{◌∷◌, length, replicate, get_or, Option, Some, None, Result, Ok, refl, sym, ap, ◌∙◌, arith}
 use Rattle.std.specs.Prelude.{slice_index, slice_set}
 use Rattle.std.specs.List.{All, AllByRecursion, Contains, IsDistinct, flat_map}
 use Rattle.std.specs.Map.{keys_of, values_of}
@@ -28,14 +29,18 @@ use Rattle.svs_vector.specs.declared.read.VectorField.TheVariants as vector_fiel
 use Rattle.svs_vector.specs.Format.{state_vector_table}
 use Rattle.svs_vector.specs.Vectors.{join}
 use Rattle.svs_vector.specs.Rosters.{has_same_octets, member_of, IsOwnName, IsRoster}
-use Rattle.svs_vector.specs.StateVector.{Entry, EntrySoFar, entry_name, good_number, with_entry_field, entry_fields, entry_in, both, fault_in, counted, with_vector_entry, vector_in, vector_among, vector_of}
+use Rattle.svs_vector.specs.StateVector.{Entry, EntrySoFar, entry_name, good_number, with_entry_field, entry_fields}
+use Rattle.svs_vector.specs.StateVector.{entry_in, both, fault_in, counted, with_vector_entry, vector_in, vector_among}
+use Rattle.svs_vector.specs.StateVector.{vector_of}
 use Rattle.svs_vector.specs.ToldVector.{number_told, greatest_told, vector_told, HaveSameEntries}
-use Rattle.svs_vector.specs.WrittenVector.{in_canonical_order, known_entries, entry_value, written_entry, written_vector}
+use Rattle.svs_vector.specs.WrittenVector.{in_canonical_order, known_entries, entry_value, written_entry}
+use Rattle.svs_vector.specs.WrittenVector.{written_vector}
 use Rattle.svs_vector.proofs.JoinLemmas.{join_assoc, join_zeros}
 use Rattle.svs_vector.proofs.OrderLemmas.{names_in_order, numbers_in_order, names_known, numbers_known}
 use Rattle.svs_vector.proofs.LengthLemmas.{field_short, value_short, body_short, IsWithin}
 use Rattle.svs_vector.proofs.SortedLemmas.{known_in_order, other_way}
-use Rattle.svs_vector.proofs.ToldLemmas.{told_by, told_more, told_none, Counts, stranger_counts, member_counts, join_zeros_behind}
+use Rattle.svs_vector.proofs.ToldLemmas.{told_by, told_more, told_none, Counts, stranger_counts, member_counts}
+use Rattle.svs_vector.proofs.ToldLemmas.{join_zeros_behind}
 
 -- ---- an entry
 
@@ -43,12 +48,15 @@ entry_place : place_of 202 state_vector_table ≡ Some (vector_field.Entry, stat
 unfolding place_of
 entry_place = refl
 
-entry_places : (a b : Item) → a.typ ≡ 7 → b.typ ≡ 204 → fields entry_table (a then (b then nothing)) ≡ ((entry_field.Name, a) then ((entry_field.SeqNo, b) then nothing))
+entry_places : (a b : Item) → a.typ ≡ 7 → b.typ ≡ 204
+    → fields entry_table (a then (b then nothing)) ≡ ((entry_field.Name, a) then ((entry_field.SeqNo, b) then nothing))
 unfolding fields_among place_of
 entry_places a b h k = rw (h, k) refl
 
-name_again : (e : Item) (name : List Component) → e.value ≡ encoding name → IsName name → entry_name e (name_of e.value_start e.value) ≡ Ok name
-name_again e name is valid = ap (entry_name e) (ap (name_of e.value_start) is ∙ name_of-encoding e.value_start name valid)
+name_again : (e : Item) (name : List Component) → e.value ≡ encoding name → IsName name
+    → entry_name e (name_of e.value_start e.value) ≡ Ok name
+name_again e name is valid =
+    ap (entry_name e) (ap (name_of e.value_start) is ∙ name_of-encoding e.value_start name valid)
 
 -- an entry that may be written
 pub record IsWritten (entry : Entry) : Type 0 where
@@ -66,16 +74,23 @@ module _ (o typ : ℕ) (entry : Entry) (is : IsWritten entry) where
       let a = placed v 7 (encoding entry.0) in
       let b = placed p 204 number in
       let read : elements v (entry_value entry) ≡ (a then (b then nothing)) =
-      followed v 7 (encoding entry.0) (element 204 number) (b then nothing) (omega arith) (omega arith) (omega (arith, is.name.1)) (alone p 204 number (omega arith) (omega arith) (omega (arith, field_short entry.1))) in
+      followed v 7 (encoding entry.0) (element 204 number) (b then nothing) (omega arith) (omega arith)
+      (omega (arith, is.name.1))
+      (alone p 204 number (omega arith) (omega arith) (omega (arith, field_short entry.1))) in
       let none : EntrySoFar = record { name = None; number = None } in
       let named : EntrySoFar = record { name = Some entry.0; number = None } in
       let whole : EntrySoFar = record { name = Some entry.0; number = Some entry.1 } in
-      let first : with_entry_field none (entry_field.Name, a) ≡ Ok named = ap (λ (r : Result (List Component) VectorFault). r >>= λ n. Ok (record none { name = Some n })) (name_again a entry.0 refl is.name.0) in
-      let second : with_entry_field named (entry_field.SeqNo, b) ≡ Ok whole = ap (λ (r : Option ℕ). good_number b r >>= λ n. Ok (record named { number = Some n })) (number_of-number_field entry.1 (omega (arith, is.small))) in
+      let first : with_entry_field none (entry_field.Name, a) ≡ Ok named =
+      ap (λ (r : Result (List Component) VectorFault). r >>= λ n. Ok (record none { name = Some n }))
+      (name_again a entry.0 refl is.name.0) in
+      let second : with_entry_field named (entry_field.SeqNo, b) ≡ Ok whole =
+      ap (λ (r : Option ℕ). good_number b r >>= λ n. Ok (record named { number = Some n }))
+      (number_of-number_field entry.1 (omega (arith, is.small))) in
       let all : entry_fields e ≡ Ok whole =
       ap (λ (l : Listing Item TlvFault). gathered with_entry_field (fault_in e) none (fields entry_table l)) read
       ∙ ap (gathered with_entry_field (fault_in e) none) (entry_places a b refl refl)
-      ∙ gathers with_entry_field (fault_in e) none named (entry_field.Name, a) ((entry_field.SeqNo, b) then nothing) first
+      ∙ gathers with_entry_field (fault_in e) none named (entry_field.Name, a) ((entry_field.SeqNo, b) then nothing)
+      first
       ∙ gathers with_entry_field (fault_in e) named whole (entry_field.SeqNo, b) nothing second
       ∙ gathered-nothing with_entry_field (fault_in e) whole in
       ap (λ (r : Result EntrySoFar VectorFault). r >>= λ s. both e s.name s.number) all
@@ -95,38 +110,51 @@ counted_small v n None h = refl
 counted_small v n (Some m) h = rw (le-ltb 65535 n (omega (arith, h))) refl
 
 module _ (roster : List (List Component)) (named : FieldFault → VectorFault) where
-  entries_again : (o : ℕ) (v : List ℕ) (es : List Entry) → All IsOwnName (keys_of es) → All (λ n. n < 2 ^ 16) (values_of es)
-      → gathered (with_vector_entry roster) named v (fields state_vector_table (elements o (flat_map written_entry es))) ≡ Ok (taken roster v es)
+  entries_again : (o : ℕ) (v : List ℕ) (es : List Entry) → All IsOwnName (keys_of es)
+      → All (λ n. n < 2 ^ 16) (values_of es)
+      → gathered (with_vector_entry roster) named v (fields state_vector_table (elements o (flat_map written_entry es)))
+      ≡ Ok (taken roster v es)
   entries_again o v [] names numbers =
-      ap (λ (l : Listing Item TlvFault). gathered (with_vector_entry roster) named v (fields state_vector_table l)) (elements-nil o [] refl)
+      ap (λ (l : Listing Item TlvFault). gathered (with_vector_entry roster) named v (fields state_vector_table l))
+      (elements-nil o [] refl)
       ∙ ap (gathered (with_vector_entry roster) named v) (fields-nothing state_vector_table)
       ∙ gathered-nothing (with_vector_entry roster) named v
   entries_again o v (e ∷ es) names numbers =
       let take = with_vector_entry roster in
-      let is : IsWritten e = record { name = All-head IsOwnName e.0 (keys_of es) names; small = All-head (λ n. n < 2 ^ 16) e.1 (values_of es) numbers } in
+      let is : IsWritten e = record {
+        name = All-head IsOwnName e.0 (keys_of es) names;
+        small = All-head (λ n. n < 2 ^ 16) e.1 (values_of es) numbers;
+      } in
       let item = placed o 202 (entry_value e) in
       let p = o + length (written_entry e) in
       let rest = elements p (flat_map written_entry es) in
       let next = raised v e.1 (member_of e.0 roster) in
       let read : elements o (flat_map written_entry (e ∷ es)) ≡ (item then rest) =
-      followed o 202 (entry_value e) (flat_map written_entry es) rest (omega arith) (omega arith) (omega (arith, value_short 1000 e is.name.1)) refl in
-      let field : fields state_vector_table (item then rest) ≡ ((vector_field.Entry, item) then fields state_vector_table rest) =
+      followed o 202 (entry_value e) (flat_map written_entry es) rest (omega arith) (omega arith)
+      (omega (arith, value_short 1000 e is.name.1)) refl in
+      let field : fields state_vector_table (item then rest)
+      ≡ ((vector_field.Entry, item) then fields state_vector_table rest) =
       fields-field state_vector_table item rest vector_field.Entry state_vector_table entry_place in
       let step : take v (vector_field.Entry, item) ≡ Ok next =
-      ap (λ (r : Result Entry VectorFault). r >>= λ entry. counted v entry.1 (member_of entry.0 roster)) (entry_again o 202 e is)
+      ap (λ (r : Result Entry VectorFault). r >>= λ entry. counted v entry.1 (member_of entry.0 roster))
+      (entry_again o 202 e is)
       ∙ counted_small v e.1 (member_of e.0 roster) is.small in
       ap (λ (l : Listing Item TlvFault). gathered take named v (fields state_vector_table l)) read
       ∙ ap (gathered take named v) field
       ∙ gathers take named v next (vector_field.Entry, item) (fields state_vector_table rest) step
-      ∙ entries_again p next es (All-tail IsOwnName e.0 (keys_of es) names) (All-tail (λ n. n < 2 ^ 16) e.1 (values_of es) numbers)
+      ∙ entries_again p next es (All-tail IsOwnName e.0 (keys_of es) names)
+      (All-tail (λ n. n < 2 ^ 16) e.1 (values_of es) numbers)
 
 module _ (roster : List (List Component)) (are : IsRoster roster) where
-  raised_counts : (v : List ℕ) (e : Entry) (m : Option ℕ) → length v ≡ length roster → member_of e.0 roster ≡ m → Counts roster are v e (raised v e.1 m)
+  raised_counts : (v : List ℕ) (e : Entry) (m : Option ℕ) → length v ≡ length roster → member_of e.0 roster ≡ m
+      → Counts roster are v e (raised v e.1 m)
   raised_counts v e None long found = stranger_counts roster are v e long found
   raised_counts v e (Some m) long found = member_counts roster are v e m long found
 
-  taken_told : (v : List ℕ) (es : List Entry) → length v ≡ length roster → taken roster v es ≡ join v (vector_told roster es)
-  taken_told v [] long = sym (ap (join v) (told_none roster) ∙ join_zeros_behind v (length roster) (omega (arith, long)))
+  taken_told : (v : List ℕ) (es : List Entry) → length v ≡ length roster
+      → taken roster v es ≡ join v (vector_told roster es)
+  taken_told v [] long =
+      sym (ap (join v) (told_none roster) ∙ join_zeros_behind v (length roster) (omega (arith, long)))
   taken_told v (e ∷ es) long =
       let here = raised_counts v e (member_of e.0 roster) long refl in
       taken_told (raised v e.1 (member_of e.0 roster)) es here.long
@@ -136,7 +164,8 @@ module _ (roster : List (List Component)) (are : IsRoster roster) where
 
 -- ---- what the known entries tell
 
-stranger_told : (name : List Component) (es : List Entry) → All (λ other. has_same_octets other name ≡ false) (keys_of es) → greatest_told name es ≡ 0
+stranger_told : (name : List Component) (es : List Entry)
+    → All (λ other. has_same_octets other name ≡ false) (keys_of es) → greatest_told name es ≡ 0
 stranger_told name [] h = refl
 stranger_told name (e ∷ es) h =
     let P : List Component → Type 0 = λ other. has_same_octets other name ≡ false in
@@ -152,16 +181,19 @@ first_told false name n es some none =
 
 other_told : (b : Bool) (other name : List Component) (n : ℕ) (es : List Entry) → has_same_octets name other ≡ false
     → greatest_told other (cond b ((name, n) ∷ es) es) ≡ greatest_told other es
-other_told true other name n es apart = let most : max 0 (greatest_told other es) ≡ greatest_told other es = omega arith in rw apart most
+other_told true other name n es apart =
+    let most : max 0 (greatest_told other es) ≡ greatest_told other es = omega arith in rw apart most
 other_told false other name n es apart = refl
 
 others_told : (b : Bool) (names : List (List Component)) (name : List Component) (n : ℕ) (es : List Entry)
     → AllByRecursion (λ other. has_same_octets name other ≡ false) names
     → vector_told names (cond b ((name, n) ∷ es) es) ≡ vector_told names es
 others_told b [] name n es apart = refl
-others_told b (other ∷ names) name n es apart = let h = other_told b other name n es apart.0 in let t = others_told b names name n es apart.1 in cc
+others_told b (other ∷ names) name n es apart =
+    let h = other_told b other name n es apart.0 in let t = others_told b names name n es apart.1 in cc
 
-names_apart : (name : List Component) (names : List (List Component)) → AllByRecursion (λ other. has_same_octets name other ≡ false) names
+names_apart : (name : List Component) (names : List (List Component))
+    → AllByRecursion (λ other. has_same_octets name other ≡ false) names
     → AllByRecursion (λ other. has_same_octets other name ≡ false) names
 names_apart name [] apart = apart
 names_apart name (other ∷ names) apart = (other_way name other apart.0, names_apart name names apart.1)
@@ -175,7 +207,8 @@ known_told (name ∷ names) [] apart long = absurd (omega arith)
 known_told (name ∷ names) (n ∷ ns) apart long =
     let P : List Component → Type 0 = λ other. has_same_octets other name ≡ false in
     let es = known_entries names ns in
-    let none = stranger_told name es (names_known P names ns (All-from_recursion P names (names_apart name names apart.0))) in
+    let none =
+    stranger_told name es (names_known P names ns (All-from_recursion P names (names_apart name names apart.0))) in
     let here = first_told (eqb n 0) name n es refl none in
     let others = others_told (not (eqb n 0)) names name n es apart.0 in
     let rest = known_told names ns apart.1 (omega (arith, long)) in
@@ -183,22 +216,27 @@ known_told (name ∷ names) (n ∷ ns) apart long =
 
 -- ---- entries in any order
 
-told_most : (name : List Component) (es : List Entry) (k : ℕ) (e : Entry) → k < length es → get_or es k e ≡ e → number_told name e ≤ greatest_told name es
+told_most : (name : List Component) (es : List Entry) (k : ℕ) (e : Entry) → k < length es → get_or es k e ≡ e
+    → number_told name e ≤ greatest_told name es
 told_most name [] k e h is = absurd (omega arith)
 told_most name (x ∷ es) zero e h is = rw (← is) (omega arith)
 told_most name (x ∷ es) (suc k) e h is = omega (arith, told_most name es k e (omega (arith, h)) is)
 
-told_least : (name : List Component) (es : List Entry) (n : ℕ) → ((e : Entry) → Contains es e → number_told name e ≤ n) → greatest_told name es ≤ n
+told_least : (name : List Component) (es : List Entry) (n : ℕ) → ((e : Entry) → Contains es e → number_told name e ≤ n)
+    → greatest_told name es ≤ n
 told_least name [] n each = omega arith
 told_least name (x ∷ es) n each =
     let here = each x (0, omega arith, refl) in
     let rest = told_least name es n (λ e c. each e (suc c.0, (let l : c.0 < length es = c.1 in omega arith), c.2)) in
     omega (arith, here, rest)
 
-told_below : (name : List Component) (a b : List Entry) → ((e : Entry) → Contains a e → Contains b e) → greatest_told name a ≤ greatest_told name b
-told_below name a b within = told_least name a (greatest_told name b) (λ e c. let d = within e c in told_most name b d.0 e d.1 d.2)
+told_below : (name : List Component) (a b : List Entry) → ((e : Entry) → Contains a e → Contains b e)
+    → greatest_told name a ≤ greatest_told name b
+told_below name a b within =
+    told_least name a (greatest_told name b) (λ e c. let d = within e c in told_most name b d.0 e d.1 d.2)
 
-pub told_same : (names : List (List Component)) (a b : List Entry) → HaveSameEntries a b → vector_told names a ≡ vector_told names b
+pub told_same : (names : List (List Component)) (a b : List Entry) → HaveSameEntries a b
+    → vector_told names a ≡ vector_told names b
 told_same [] a b same = refl
 told_same (name ∷ names) a b same =
     let up = told_below name a b (λ e c. (same e).0 c) in
@@ -215,7 +253,8 @@ vector_again roster vector are long =
     let known = known_entries roster vector in
     let es = in_canonical_order known in
     let moved = known_in_order roster vector are in
-    told_same roster es known (λ e. (Contains-permutation es known e (IsPermutation-sym known es moved), Contains-permutation known es e moved))
+    told_same roster es known
+    (λ e. (Contains-permutation es known e (IsPermutation-sym known es moved), Contains-permutation known es e moved))
     ∙ known_told roster vector are.different long
 
 pub read_back : (roster : List (List Component)) (vector : List ℕ) → IsRoster roster → length vector ≡ length roster
@@ -225,14 +264,17 @@ read_back roster vector are long small =
     let es = in_canonical_order known in
     let body = flat_map written_entry es in
     let e = placed 0 201 body in
-    let short = body_short 1000 roster vector are.few (All-weaker IsOwnName (IsWithin 1000) (λ name own. own.1) roster are.names) in
-    let read : elements 0 (element 201 body) ≡ (e then nothing) = alone 0 201 body (omega arith) (omega arith) (omega (arith, short)) in
+    let short =
+    body_short 1000 roster vector are.few (All-weaker IsOwnName (IsWithin 1000) (λ name own. own.1) roster are.names) in
+    let read : elements 0 (element 201 body) ≡ (e then nothing) =
+    alone 0 201 body (omega arith) (omega arith) (omega (arith, short)) in
     let names = names_in_order IsOwnName known (names_known IsOwnName roster vector are.names) in
     let numbers = numbers_in_order (λ n. n < 2 ^ 16) known (numbers_known (λ n. n < 2 ^ 16) roster vector small) in
     let zeros : List ℕ = replicate (length roster) 0 in
     let all : vector_in roster e ≡ Ok vector =
     entries_again roster (fault_in e) e.value_start zeros es names numbers
     ∙ ap (λ (v : List ℕ). Ok v) (taken_told roster are zeros es (length-replicate (length roster) 0)
-    ∙ join_zeros (length roster) (vector_told roster es) (omega (arith, length-map roster (λ name. greatest_told name es)))
+    ∙ join_zeros (length roster) (vector_told roster es)
+    (omega (arith, length-map roster (λ name. greatest_told name es)))
     ∙ vector_again roster vector are long) in
     ap (λ (l : Listing Item TlvFault). vector_among l.items >>= vector_in roster) read ∙ all

@@ -1,5 +1,6 @@
 -- The names of a roster among the entries of a map.
-use Rattle.std.proofs.Common.{◌≡◌, ℕ, ◌+◌, ◌≤◌, not, false, List, [], ◌∷◌, ◌++◌, map, length, length-append, position, None, Vec, refl, ap, ◌∙◌, arith}
+use Rattle.std.proofs.Common.{◌≡◌, ℕ, ◌+◌, ◌≤◌, not, false, List, [], ◌∷◌, ◌++◌, map, length, length-append, position}
+use Rattle.std.proofs.Common.{None, Vec, refl, ap, ◌∙◌, arith}
 use Rattle.std.specs.List.{prefix_len, All, AllByRecursion, IsDistinct}
 use Rattle.std.specs.Str.{bytes_eq}
 use Rattle.std.proofs.lemmas.List.{length-map, map-append}
@@ -16,7 +17,8 @@ abbrev StandsUnderIt : {A : Type 0} → Entry A → Type 0
 StandsUnderIt entry = entry.0.items ≡ encoding entry.1
 
 prefixes : {A : Type 0} (q : List ℕ) (es : List (Entry A)) → All StandsUnderIt es
-    → prefix_len (λ own. not (bytes_eq q (encoding own))) (map (λ e. e.1) es) ≡ prefix_len (λ key. not (bytes_eq q key.items)) (map (λ e. e.0) es)
+    → prefix_len (λ own. not (bytes_eq q (encoding own))) (map (λ e. e.1) es)
+    ≡ prefix_len (λ key. not (bytes_eq q key.items)) (map (λ e. e.0) es)
 prefixes q [] all = refl
 prefixes q (e ∷ es) all =
     let here : e.0.items ≡ encoding e.1 = All-head StandsUnderIt e es all in
@@ -24,13 +26,16 @@ prefixes q (e ∷ es) all =
     rw (here, rest) refl
 
 -- a member's number is the index of its octets
-pub member_found : {A : Type 0} (name : List Component) (q : List ℕ) (es : List (Entry A)) → q ≡ encoding name → All StandsUnderIt es
+pub member_found : {A : Type 0} (name : List Component) (q : List ℕ) (es : List (Entry A)) → q ≡ encoding name
+    → All StandsUnderIt es
     → position (λ key. bytes_eq q key.items) (map (λ e. e.0) es) ≡ member_of name (map (λ e. e.1) es)
 member_found name q es same all =
     rw (same, prefixes (encoding name) es all, length-map es (λ e. e.0), length-map es (λ e. e.1)) refl
 
 -- a member of a new name goes last
-module _ {A : Type 0} (k : Vec ℕ A) (name : List Component) (es more : List (Entry A)) (same : k.items ≡ encoding name) (own : IsOwnName name) (are : AreMembers es) (none : member_of name (map (λ e. e.1) es) ≡ None) (written : more ≡ insert_entry (λ x y. bytes_eq x.items y.items) es k name) where
+module _ {A : Type 0} (k : Vec ℕ A) (name : List Component) (es more : List (Entry A)) (same : k.items ≡ encoding name)
+    (own : IsOwnName name) (are : AreMembers es) (none : member_of name (map (λ e. e.1) es) ≡ None)
+    (written : more ≡ insert_entry (λ x y. bytes_eq x.items y.items) es k name) where
   last : more ≡ es ++ (k, name) ∷ []
   last =
       let t = λ (other : Vec ℕ A). bytes_eq k.items other.items in
@@ -49,7 +54,8 @@ module _ {A : Type 0} (k : Vec ℕ A) (name : List Component) (es more : List (E
 
 -- ---- what a roster's names are
 
-differ_from : {A : Type 0} (k : Vec ℕ A) (name : List Component) (es : List (Entry A)) → k.items ≡ encoding name → All StandsUnderIt es
+differ_from : {A : Type 0} (k : Vec ℕ A) (name : List Component) (es : List (Entry A)) → k.items ≡ encoding name
+    → All StandsUnderIt es
     → AllByRecursion (λ (y : Vec ℕ A). bytes_eq k.items y.items ≡ false) (map (λ e. e.0) es)
     → AllByRecursion (λ y. has_same_octets name y ≡ false) (map (λ e. e.1) es)
 differ_from k name [] same all apart = apart
@@ -59,7 +65,8 @@ differ_from k name (e ∷ es) same all apart =
     (first, differ_from k name es same (All-tail StandsUnderIt e es all) apart.1)
 
 pub names_differ : {A : Type 0} (es : List (Entry A)) → All StandsUnderIt es
-    → IsDistinct (λ (x y : Vec ℕ A). bytes_eq x.items y.items) (map (λ e. e.0) es) → IsDistinct has_same_octets (map (λ e. e.1) es)
+    → IsDistinct (λ (x y : Vec ℕ A). bytes_eq x.items y.items) (map (λ e. e.0) es)
+    → IsDistinct has_same_octets (map (λ e. e.1) es)
 unfolding IsDistinct
 names_differ [] all apart = apart
 names_differ (e ∷ es) all apart =

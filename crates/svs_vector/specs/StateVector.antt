@@ -1,6 +1,7 @@
 -- What octets are as a state vector of a group, or the first fault in reading order (State Vector Sync, with the
 -- element types of this project).
-use Rattle.std.specs.Prelude.{ℕ, max, List, [], ◌∷◌, Option, Some, None, Result, Ok, Err, length, replicate, slice_index, slice_set, nat_lt, ◌==◌, if◌then◌else◌}
+use Rattle.std.specs.Prelude.{ℕ, max, List, [], ◌∷◌, Option, Some, None, Result, Ok, Err, length, replicate}
+use Rattle.std.specs.Prelude.{slice_index, slice_set, nat_lt, ◌==◌, if◌then◌else◌}
 use Rattle.ndn_tlv.specs.declared.order_table.FieldFault.{FieldFault}
 use Rattle.ndn_tlv.specs.declared.order_table.FieldFault.TheVariants.{Tlv, Critical}
 use Rattle.ndn_tlv.specs.Listing.{gathered, ◌>>=◌}

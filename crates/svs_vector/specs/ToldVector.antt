@@ -1,5 +1,6 @@
 -- What the entries of a state vector tell of the members of a group (State Vector Sync).
-use Rattle.std.specs.Prelude.{◌≡◌, ℕ, ◌<◌, ◌≤◌, max, List, [], ◌∷◌, map, Some, IfSome, Result, Ok, Err, ◌↔◌, ◌⊎◌, if◌then◌else◌}
+use Rattle.std.specs.Prelude.{◌≡◌, ℕ, ◌<◌, ◌≤◌, max, List, [], ◌∷◌, map, Some, IfSome, Result, Ok, Err, ◌↔◌, ◌⊎◌}
+use Rattle.std.specs.Prelude.{if◌then◌else◌}
 use Rattle.std.specs.List.{Contains}
 use Rattle.ndn_tlv.specs.declared.order_table.FieldFault.{FieldFault}
 use Rattle.ndn_tlv.specs.Listing.{Listing, nothing, only_fault, ◌then◌}
@@ -36,7 +37,8 @@ abbrev pub IsCounted : List (List Component) → Entry → Type 0
 IsCounted roster entry = IfSome (member_of entry.0 roster) (λ member. entry.1 ≤ number_limit)
 
 -- What the fields of a state vector's element tell: the entries that they are, or the first fault in reading order.
--- That is an element that is no entry, a member's number above the greatest, or a fault of the fields behind the last of them.
+-- That is an element that is no entry, a member's number above the greatest, or a fault of the fields behind the last
+-- of them.
 pub data FieldsTell (roster : List (List Component)) (vector : Item) : Listing (VectorField × Item) FieldFault
     → Result (List Entry) VectorFault → Type 0 where
   ended : FieldsTell roster vector nothing (Ok [])

@@ -1,4 +1,5 @@
--- State vectors, as lists of numbers, one a member: the latest sequence number that is known of each (State Vector Sync).
+-- State vectors, as lists of numbers, one a member: the latest sequence number that is known of each (State Vector
+-- Sync).
 use Rattle.std.specs.Prelude.{◌≡◌, ◌<◌, ◌^◌, ℕ, max, Bool, true, false, List, [], ◌∷◌, nat_le, ◌&&◌, ◌↔◌}
 use Rattle.std.specs.List.{All, Contains}
 

@@ -28,7 +28,8 @@ written_entry entry = element format.StateVectorEntry (entry_value entry)
 
 -- StateVector: an entry for each member whose number is not 0, in canonical order of the node names.
 abbrev pub written_vector : List (List Component) → List ℕ → List ℕ
-written_vector roster vector = element format.StateVector (flat_map written_entry (in_canonical_order (known_entries roster vector)))
+written_vector roster vector =
+    element format.StateVector (flat_map written_entry (in_canonical_order (known_entries roster vector)))
 
 -- Entries whose names are lent, without where those lie in memory.
 abbrev pub lent_entries : BTreeMap (Bor (List Component)) ℕ → List Entry

@@ -1,6 +1,7 @@
 ghost use Rattle.std.specs.Prelude.{◌≡◌, ◌+◌, ◌^◌, ◌<◌, length, MatchResult, Ok, Err};
 ghost use Rattle.ndn_tlv.specs.Elements.{item, elements};
-ghost use Rattle.svs_vector.specs.StateVector.{end_of, fault_in, with_entry_field, entry_fields, entry_in, entry_so_far, both};
+ghost use Rattle.svs_vector.specs.StateVector.{end_of, fault_in, with_entry_field, entry_fields, entry_in};
+ghost use Rattle.svs_vector.specs.StateVector.{entry_so_far, both};
 
 use crate::types::SEQ_NO;
 use crate::vector_fault::VectorFault;

@@ -5,7 +5,8 @@ ghost use Rattle.svs_vector.specs.Vectors.{join, Covers, covers, join_all, HaveS
 /// A join has the greater number of each member, and a join of all the greatest.
 pub fn join_takes_the_greater()
     ensures two { (v w : List ℕ) (p : ℕ) → slice_index (join v w) p ≡ max (slice_index v p) (slice_index w p) }
-    ensures all { (vs : List (List ℕ)) (p : ℕ) → slice_index (join_all vs) p ≡ fold max 0 (map (λ v. slice_index v p) vs) }
+    ensures all { (vs : List (List ℕ)) (p : ℕ)
+        → slice_index (join_all vs) p ≡ fold max 0 (map (λ v. slice_index v p) vs) }
 {}
 
 /// Which of two vectors is told of first doesn't matter.
@@ -36,7 +37,8 @@ pub fn join_is_the_least_that_covers_both()
     ensures least { (u v w : List ℕ) → Covers u v → Covers u w → Covers u (join v w) }
 {}
 
-/// After joins with the vectors of a list, one after another, a vector is the join of all: the first value and the list.
+/// After joins with the vectors of a list, one after another, a vector is the join of all: the first value and the
+/// list.
 pub fn joins_are_the_join_of_all()
     ensures { (v : List ℕ) (ws : List (List ℕ)) → fold join v ws ≡ join_all (v ∷ ws) }
 {}

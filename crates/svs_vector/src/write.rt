@@ -1,7 +1,8 @@
 ghost use Rattle.std.specs.Prelude.{◌≡◌, ◌+◌, ◌*◌, ◌<◌, ◌≤◌, ◌++◌, length, map, IfOk, OnOk};
 ghost use Rattle.std.specs.List.{flat_map};
 ghost use Rattle.svs_vector.specs.Format.{member_limit};
-ghost use Rattle.svs_vector.specs.WrittenVector.{entry_value, in_canonical_order, known_entries, lent_entries, written_entry, written_vector};
+ghost use Rattle.svs_vector.specs.WrittenVector.{entry_value, in_canonical_order, known_entries, lent_entries};
+ghost use Rattle.svs_vector.specs.WrittenVector.{written_entry, written_vector};
 
 use crate::roster::Roster;
 use crate::types::{SEQ_NO, STATE_VECTOR, STATE_VECTOR_ENTRY};

@@ -1,5 +1,6 @@
 // Commands.
-ghost use Rattle.std.specs.Prelude.{◌≡◌, ◌⊎◌, ◌+◌, ◌<◌, ◌≤◌, true, false, None, IsTrue, length, map, IfOk, IfErr, OnOk, OnErr, option_map};
+ghost use Rattle.std.specs.Prelude.{◌≡◌, ◌⊎◌, ◌+◌, ◌<◌, ◌≤◌, true, false, None, IsTrue, length, map, IfOk, IfErr, OnOk};
+ghost use Rattle.std.specs.Prelude.{OnErr, option_map};
 ghost use Rattle.repo_object.specs.Objects.{key_name, is_object_name};
 ghost use Rattle.repo_command.specs.Commands.{is_command, CommandIsSpelled};
 ghost use Rattle.group_model.specs.Limits.{IsShortInsertion};
@@ -74,7 +75,8 @@ impl World {
         ensures world { OnOk result (world_of self.new ≡ after_event (keyed self.old.keys) (world_of self.old)
             (group_event self.old.keys (EventValue.Insert m client name.now first last))) }
         ensures told { IfOk result (λ happened. told_value happened
-            ≡ telling self.old.keys (keyed self.old.keys) (world_of self.old) (EventValue.Insert m client name.now first last)) }
+            ≡ telling self.old.keys (keyed self.old.keys) (world_of self.old)
+            (EventValue.Insert m client name.now first last)) }
         ensures steps { OnOk result (self.new.steps ≡ self.old.steps + 1) }
         ensures keys { self.new.keys ≡ self.old.keys }
         ensures refused { IfErr result (IsFaultOf (refusal (keyed self.old.keys) (world_of self.old)
@@ -242,8 +244,8 @@ fn made(
     Ok(octets)
 }
 
-// The verdict on octets that a member is given as a command. They are foreign where they pass, and the client whose command
-// they are made none of that kind for the member.
+// The verdict on octets that a member is given as a command. They are foreign where they pass, and the client whose
+// command they are made none of that kind for the member.
 fn order_verdict(
     alloc: Global,
     g: &Group,

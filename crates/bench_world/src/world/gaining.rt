@@ -18,8 +18,8 @@ use std::alloc::AllocError;
 use std::thread::Threads;
 
 impl World {
-    /// A member asks the others for the least 4,096 parts that it wants and that no fetcher of it claims, each so often at
-    /// most.
+    /// A member asks the others for the least 4,096 parts that it wants and that no fetcher of it claims, each so often
+    /// at most.
     pub(crate) fn fetch<N: Net + Sync, R: Threads + Sync>(
         &mut self,
         rt: &R,
@@ -73,8 +73,8 @@ impl World {
         })
     }
 
-    /// All claims end, each member learns what all know, and gains every part that some member holds with its record and
-    /// that it doesn't hide: how many parts came. The machines aren't reset, which the step of a settle does.
+    /// All claims end, each member learns what all know, and gains every part that some member holds with its record
+    /// and that it doesn't hide: how many parts came. The machines aren't reset, which the step of a settle does.
     ///
     /// The answers of the network aren't used. After want of memory each member has come a part of the way.
     pub fn settle<N: Net + Sync, R: Threads + Sync>(
@@ -118,7 +118,8 @@ impl World {
     ) -> Result<Happened, StepFault>
         requires workers { (1 ≤ workers) × (workers ≤ 16) }
         requires few { self.old.steps < 100000 }
-        ensures taken { OnOk result (refusal (outside self.old.keys (D.draw draws.now) (N.passes net.now)) (world_of self.old)
+        ensures taken { OnOk result
+            (refusal (outside self.old.keys (D.draw draws.now) (N.passes net.now)) (world_of self.old)
             (group_event self.old.keys (EventValue.Settle workers)) ≡ None) }
         ensures world { OnOk result (world_of self.new
             ≡ after_event (outside self.old.keys (D.draw draws.now) (N.passes net.now)) (world_of self.old)

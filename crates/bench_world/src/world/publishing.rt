@@ -62,8 +62,8 @@ impl World {
         }
     }
 
-    // A member publishes an object under its next number, and its sync Interest is sent: the number of the publication, and
-    // that of the sync Interest.
+    // A member publishes an object under its next number, and its sync Interest is sent: the number of the publication,
+    // and that of the sync Interest.
     fn publish_contents<D: Draws>(
         &mut self,
         m: u32,

@@ -8,7 +8,8 @@ ghost use Rattle.bench_world.specs.Serving.{keyed};
 ghost use Rattle.bench_world.specs.Worlds.{world_of, drawing};
 ghost use Rattle.bench_world.specs.Answering.{kept_of};
 ghost use Rattle.bench_world.specs.Replying.{fed_reply, parts_kept};
-ghost use Rattle.bench_world.specs.EventValues.{EventValue, group_event, told_value, telling, answer_told, ask_told, mode_told};
+ghost use Rattle.bench_world.specs.EventValues.{EventValue, group_event, told_value, telling, answer_told, ask_told};
+ghost use Rattle.bench_world.specs.EventValues.{mode_told};
 ghost use Rattle.bench_world.specs.Steps.{IsFaultOf};
 
 use super::World;

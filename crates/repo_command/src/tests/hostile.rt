@@ -2,8 +2,8 @@ use crate::CommandRefusal;
 use ndn_name::{Field, PacketFault};
 use ndn_tlv::TlvFault;
 
-// Octets that alice refuses as a command, each with the first of its faults. Those that are signed are so with the key "k4"
-// of carl, where nothing else is said.
+// Octets that alice refuses as a command, each with the first of its faults. Those that are signed are so with the key
+// "k4" of carl, where nothing else is said.
 pub(super) const HOSTILE: [(&[u8], CommandRefusal); 17] = [
     // No octets.
     (

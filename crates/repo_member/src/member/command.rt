@@ -10,7 +10,9 @@ ghost use Rattle.group_model.specs.Steps.{check_answer};
 ghost use Rattle.repo_member.specs.Gaining.{AreKept};
 ghost use Rattle.repo_member.specs.Alone.{IsOfGroup, alone_plan};
 ghost use Rattle.repo_member.specs.Deleting.{catalogued_named, alone_deletes, alone_drops, outside_all, IsHiding};
-ghost use Rattle.repo_member.specs.Commanded.{coded, order_of, alone_after_order, alone_order_answer, alone_obeys, alone_starts, answer_to, start_answer, delete_answer, reply_to_octets, reply_named};
+ghost use Rattle.repo_member.specs.Commanded.{coded, order_of, alone_after_order, alone_order_answer, alone_obeys};
+ghost use Rattle.repo_member.specs.Commanded.{alone_starts, answer_to, start_answer, delete_answer, reply_to_octets};
+ghost use Rattle.repo_member.specs.Commanded.{reply_named};
 
 use super::Member;
 use crate::group::Group;
@@ -33,8 +35,8 @@ const REPLY_NAME_LIMIT: usize = 1_000;
 #[derive(Debug, Drop)]
 pub struct Answered {
     pub answer: Answer,
-    /// The packet that says it; `None` where the octets are no Interest, or one whose name has more than 1,000 octets of
-    /// value.
+    /// The packet that says it; `None` where the octets are no Interest, or one whose name has more than 1,000 octets
+    /// of value.
     pub reply: Option<Vec<u8>>,
 }
 
@@ -46,8 +48,8 @@ struct Found {
 }
 
 impl Member {
-    /// Answers a command of the repo protocol, and does what it asks for, if it is one that a client of the group signed for
-    /// this member.
+    /// Answers a command of the repo protocol, and does what it asks for, if it is one that a client of the group
+    /// signed for this member.
     pub fn command(&mut self, g: &Group, octets: &[u8]) -> Result<Answered, AllocError>
         requires group { IsOfGroup g.now self.old }
         ensures answer { IfOk result (λ answered. answered.answer

@@ -1,4 +1,5 @@
-ghost use Rattle.std.specs.Prelude.{◌≡◌, ◌<◌, ◌≤◌, ◌⊎◌, ◌↔◌, Ok, Err, Some, None, IsSome, IsOk, IsErr, IsSomeAnd, IfSome, IfOk, IfErr, OnOk, OnErr, true, length, map, take};
+ghost use Rattle.std.specs.Prelude.{◌≡◌, ◌<◌, ◌≤◌, ◌⊎◌, ◌↔◌, Ok, Err, Some, None, IsSome, IsOk, IsErr, IsSomeAnd};
+ghost use Rattle.std.specs.Prelude.{IfSome, IfOk, IfErr, OnOk, OnErr, true, length, map, take};
 ghost use Rattle.std.specs.List.{All, filter};
 ghost use Rattle.repo_plan.specs.Plan.{claim_of, unclaimed, first, is_after, is_asked, is_wanted};
 ghost use Rattle.repo_plan.specs.Parts.{pair_of};
@@ -24,8 +25,8 @@ use repo_plan::{FetcherBusy, FetcherIdle, Part};
 use std::alloc::{AllocError, Global};
 
 impl Member {
-    /// The fetcher claims the least part that is wanted and that no fetcher claims, or none where there is none. It takes
-    /// no memory.
+    /// The fetcher claims the least part that is wanted and that no fetcher claims, or none where there is none. It
+    /// takes no memory.
     pub fn claim(&mut self, f: u8) -> Result<Option<Part>, FetcherBusy>
         requires { IsFetcher f }
         ensures idle { IsOk result ↔ (claim_of (alone_plan self.old) f ≡ None) }
@@ -62,8 +63,8 @@ impl Member {
         Ok(self.want_of(alloc, g, part)?)
     }
 
-    /// The octets are taken for the part that the fetcher claims, if they pass for it: the part is held from now on, the
-    /// claim is over, and an object of which no part is missing any more is catalogued.
+    /// The octets are taken for the part that the fetcher claims, if they pass for it: the part is held from now on,
+    /// the claim is over, and an object of which no part is missing any more is catalogued.
     pub fn accept(&mut self, g: &Group, f: u8, octets: &[u8]) -> Result<Part, AcceptRefusal>
         requires fetcher { IsFetcher f }
         requires group { IsOfGroup g.now self.old }
@@ -129,8 +130,8 @@ impl Member {
         Ok(())
     }
 
-    /// The least parts that are wanted, that no fetcher claims and that are greater than `after`, at most `most` of them,
-    /// as jobs whose attempts go on from those that were made.
+    /// The least parts that are wanted, that no fetcher claims and that are greater than `after`, at most `most` of
+    /// them, as jobs whose attempts go on from those that were made.
     pub fn plan(
         &self,
         alloc: Global,

@@ -1,8 +1,10 @@
-ghost use Rattle.std.specs.Prelude.{◌≡◌, ◌+◌, ◌<◌, ◌^◌, ℕ, count_by, sum_by, is_some, option_map, length, IfOk, OnOk, OnErr, map, vec_len};
+ghost use Rattle.std.specs.Prelude.{◌≡◌, ◌+◌, ◌<◌, ◌^◌, ℕ, count_by, sum_by, is_some, option_map, length, IfOk, OnOk};
+ghost use Rattle.std.specs.Prelude.{OnErr, map, vec_len};
 ghost use Rattle.group_model.specs.Member.{with_tries};
 ghost use Rattle.repo_member.specs.Alone.{IsOfGroup, alone_plan, alone_takes, with_fetched};
 ghost use Rattle.repo_member.specs.Gaining.{AreKept, HaveRoom};
-ghost use Rattle.repo_member.specs.Outcomes.{IsOutcome, outcome_of, came, octets_in, arrival_octets, CanBeTaken, AreTakable};
+ghost use Rattle.repo_member.specs.Outcomes.{IsOutcome, outcome_of, came, octets_in, arrival_octets, CanBeTaken};
+ghost use Rattle.repo_member.specs.Outcomes.{AreTakable};
 ghost use Rattle.repo_member.specs.Outcomes.{KeepsButTries, with_all_fetched, with_all_tries};
 
 use super::Member;
@@ -23,7 +25,8 @@ struct Tried {
     arrival: Option<Arrival>,
 }
 
-/// What a member took of a fetch: the parts that it holds from now on and did not hold, and the octets of their packets.
+/// What a member took of a fetch: the parts that it holds from now on and did not hold, and the octets of their
+/// packets.
 #[derive(Clone, Copy, Debug, PartialEq, Eq)]
 pub struct Kept {
     pub parts: u32,

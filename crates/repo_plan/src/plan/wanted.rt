@@ -2,14 +2,16 @@ ghost use Rattle.std.specs.Prelude.{ℕ, ◌≡◌, ◌<◌, ◌≤◌, true, fa
 ghost use Rattle.std.specs.List.{list_any, filter, flat_map};
 ghost use Rattle.repo_plan.specs.declared.part.Part.{Part};
 ghost use Rattle.repo_plan.specs.Parts.{pair_of, part_of};
-ghost use Rattle.repo_plan.specs.Plan.{knows, holds, hides, is_asked, is_claim_of, is_done, unclaimed, first, is_after, is_next, parts_known, pairs_of};
+ghost use Rattle.repo_plan.specs.Plan.{knows, holds, hides, is_asked, is_claim_of, is_done, unclaimed, first, is_after};
+ghost use Rattle.repo_plan.specs.Plan.{is_next, parts_known, pairs_of};
 
 use super::Plan;
 use crate::part::Part;
 use std::alloc::{AllocError, Global};
 
 impl Plan {
-    /// The least wanted parts that no fetcher claims and that are greater than `after`, in order, at most `most` of them.
+    /// The least wanted parts that no fetcher claims and that are greater than `after`, in order, at most `most` of
+    /// them.
     pub fn wanted_after(
         &self,
         alloc: Global,

@@ -18,7 +18,8 @@ pub(super) fn note_shape(
     segments: Option<u8>,
 )
     requires { 0 < spare shapes.old }
-    ensures entries { in_order pair_cmp shapes.new.entries ≡ with_shape publication segments (in_order pair_cmp shapes.old.entries) }
+    ensures entries { in_order pair_cmp shapes.new.entries
+        ≡ with_shape publication segments (in_order pair_cmp shapes.old.entries) }
     ensures room { spare shapes.old ≤ spare shapes.new + 1 }
 {
     if let Some(segments) = segments {
@@ -44,7 +45,8 @@ pub(super) fn note_held(
     ensures noted { (q : Number Pair) → (q.0 ≡ number.0 → q.1 ≤ told) → is_noted (runs_of done.new) (runs_of held.new) q
         ≡ (eq_by_cmp (number_cmp pair_cmp) q number || is_noted (runs_of done.old) (runs_of held.old) q) }
     ensures whole { (q : Pair) → has_number nat_cmp done.new q
-        ≡ ((eq_by_cmp pair_cmp q number.0 && are_noted (runs_of done.new) (runs_of held.new) number.0 told) || has_number nat_cmp done.old q) }
+        ≡ ((eq_by_cmp pair_cmp q number.0 && are_noted (runs_of done.new) (runs_of held.new) number.0 told)
+        || has_number nat_cmp done.old q) }
     ensures kept { (q : Number Pair) → has_number pair_cmp held.new q ≡ true
         → (eq_by_cmp (number_cmp pair_cmp) q number || has_number pair_cmp held.old q) ≡ true }
     ensures room_of_done { room_of done.old ≤ room_of done.new + 1 }

@@ -1,5 +1,6 @@
 ghost use Rattle.std.specs.Prelude.{◌≡◌, map, string_bytes, IfOk};
-ghost use Rattle.repo_top.specs.RefusalTexts.{field_word, hear_refusal_text, packet_fault_text, part_refusal_text, sync_refusal_text, tlv_fault_text, vector_fault_text};
+ghost use Rattle.repo_top.specs.RefusalTexts.{field_word, hear_refusal_text, packet_fault_text, part_refusal_text};
+ghost use Rattle.repo_top.specs.RefusalTexts.{sync_refusal_text, tlv_fault_text, vector_fault_text};
 
 use crate::telling::label;
 use ndn_name::{Field, PacketFault};

@@ -21,7 +21,9 @@ is_its_packet-requires g c =
         r.1.0,
         (
           r.1.1.0 ∙ ap (λ (t : Part). t.publisher) (sym c.part.ensures),
-          subst (IsPublishedPart g.logs) (sym c.part.ensures) (claim_published c.args.g.now g.logs c.args.asker.now r.0 r.1.1.1.0 c.args.f c.args.want.now.part r.1.1.1.1.1.0),
+          subst (IsPublishedPart g.logs) (sym c.part.ensures)
+              (claim_published c.args.g.now g.logs c.args.asker.now r.0 r.1.1.1.0 c.args.f c.args.want.now.part
+              r.1.1.1.1.1.0),
         ),
       ),
     )
@@ -29,21 +31,33 @@ is_its_packet-requires g c =
 pub accept_checked-requires-clause-checked : goal.accept_checked-requires-clause-checked
 accept_checked-requires-clause-checked g c =
     let r = c.requires in
-    checked_for_claim c.args.g.now g.logs c.args.asker.now r.0 r.1.1.1.0 c.args.f c.args.want.now.part r.1.1.1.1.1.0 c.args.octets.now c.in-Ok.checked c.args.want.now r.1.1.1.1.1.1 (c.in-Ok.ensures.checked ∙ ap (λ ring. checked_part c.args.want.now ring c.args.octets.now) c.members.ensures.ring)
+    checked_for_claim c.args.g.now g.logs c.args.asker.now r.0 r.1.1.1.0 c.args.f c.args.want.now.part r.1.1.1.1.1.0
+    c.args.octets.now c.in-Ok.checked c.args.want.now r.1.1.1.1.1.1
+    (c.in-Ok.ensures.checked ∙ ap (λ ring. checked_part c.args.want.now ring c.args.octets.now) c.members.ensures.ring)
 
 pub returns-in-Ok-accept_checked-clause-asker : goal.returns-in-Ok-accept_checked-clause-asker
 returns-in-Ok-accept_checked-clause-asker g c =
     let r = c.requires in
     let same : bytes_eq c.args.octets.now (unwrap_or (true_packet c.args.g.now g.logs c.args.want.now.part) []) ≡ true =
-    ap (λ (u : Part). bytes_eq c.args.octets.now (unwrap_or (true_packet c.args.g.now g.logs u) [])) (sym c.part.ensures) ∙ sym c.in_ok-is_its_packet.ensures ∙ c.if-not-branch.false in
-    let octets : c.in-Ok.checked.octets ≡ c.args.octets.now = ap (λ (x : CheckedPart). x.octets) c.in-Ok.ensures.checked in
-    let part : c.in-Ok-accept_checked.field-0 ≡ c.args.want.now.part = same_part (sym c.in-Ok-accept_checked.ensures.part ∙ r.1.1.1.1.1.0) in
+    ap (λ (u : Part). bytes_eq c.args.octets.now (unwrap_or (true_packet c.args.g.now g.logs u) []))
+    (sym c.part.ensures)
+    ∙ sym c.in_ok-is_its_packet.ensures
+    ∙ c.if-not-branch.false in
+    let octets : c.in-Ok.checked.octets ≡ c.args.octets.now =
+    ap (λ (x : CheckedPart). x.octets) c.in-Ok.ensures.checked in
+    let part : c.in-Ok-accept_checked.field-0 ≡ c.args.want.now.part =
+    same_part (sym c.in-Ok-accept_checked.ensures.part ∙ r.1.1.1.1.1.0) in
     c.in-Ok-accept_checked.ensures.ok ∙ (λ i. alone_accepts c.args.f (part i) (octets i) c.args.asker.now)
-    ∙ accepts_its c.args.g.now g.logs c.args.asker.now r.0 r.1.1.1.0 c.args.f c.args.want.now.part r.1.1.1.1.1.0 c.args.octets.now same
+    ∙ accepts_its c.args.g.now g.logs c.args.asker.now r.0 r.1.1.1.0 c.args.f c.args.want.now.part r.1.1.1.1.1.0
+    c.args.octets.now same
 
 pub returns-in-Ok-accept_checked-clause-kept : goal.returns-in-Ok-accept_checked-clause-kept
 returns-in-Ok-accept_checked-clause-kept g c =
     let r = c.requires in
     let same : bytes_eq c.args.octets.now (unwrap_or (true_packet c.args.g.now g.logs c.args.want.now.part) []) ≡ true =
-    ap (λ (u : Part). bytes_eq c.args.octets.now (unwrap_or (true_packet c.args.g.now g.logs u) [])) (sym c.part.ensures) ∙ sym c.in_ok-is_its_packet.ensures ∙ c.if-not-branch.false in
-    keeps_its c.args.g.now g.logs c.args.asker.now r.0 r.1.1.1.0 c.args.f c.args.want.now.part r.1.1.1.1.1.0 c.args.octets.now same
+    ap (λ (u : Part). bytes_eq c.args.octets.now (unwrap_or (true_packet c.args.g.now g.logs u) []))
+    (sym c.part.ensures)
+    ∙ sym c.in_ok-is_its_packet.ensures
+    ∙ c.if-not-branch.false in
+    keeps_its c.args.g.now g.logs c.args.asker.now r.0 r.1.1.1.0 c.args.f c.args.want.now.part r.1.1.1.1.1.0
+    c.args.octets.now same

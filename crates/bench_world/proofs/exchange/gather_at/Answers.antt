@@ -8,12 +8,15 @@ use Rattle.bench_world.proofs.exchange.gather_at.Goals as goal
 
 pub returns-clause-others : goal.returns-clause-others
 returns-clause-others g c =
-    put_changed c.args.members.now.items c.remove-member.new.self.items c.insert.new.self.items c.args.j c.gather-kept.new.member c.requires.1.1.1.1.1.0
+    put_changed c.args.members.now.items c.remove-member.new.self.items c.insert.new.self.items c.args.j
+    c.gather-kept.new.member c.requires.1.1.1.1.1.0
     c.remove-member.ensures.items c.in-Ok.ensures.items
 
 pub gather-kept-requires : goal.gather-kept-requires
 gather-kept-requires g c κs within =
-    let here = c.remove-member.ensures.value ∙ get_or_default c.args.members.now.items c.args.j c.remove-member.result nobody c.requires.1.1.1.1.1.0 in (
+    let here =
+    c.remove-member.ensures.value
+    ∙ get_or_default c.args.members.now.items c.args.j c.remove-member.result nobody c.requires.1.1.1.1.1.0 in (
       within.0,
       (
         within.1,
@@ -26,11 +29,14 @@ gather-kept-requires g c κs within =
               (
                 c.requires.1.1.1.1.1.1.0,
                 (
-                  subst (AreTrueMembers c.args.g.now g.logs) (sym c.as_slice.ensures.value) (others_true c.args.g.now g.logs c.args.members.now.items c.remove-member.new.self.items c.args.j c.requires.1.1.1.1.1.1.1.0 c.remove-member.ensures.items),
+                  subst (AreTrueMembers c.args.g.now g.logs) (sym c.as_slice.ensures.value)
+                      (others_true c.args.g.now g.logs c.args.members.now.items c.remove-member.new.self.items c.args.j
+                      c.requires.1.1.1.1.1.1.1.0 c.remove-member.ensures.items),
                   (
                     refl,
                     (
-                      subst (IsTrueMember c.args.g.now g.logs) (sym here) (c.requires.1.1.1.1.1.1.1.0 c.args.j c.requires.1.1.1.1.1.0),
+                      subst (IsTrueMember c.args.g.now g.logs) (sym here)
+                          (c.requires.1.1.1.1.1.1.1.0 c.args.j c.requires.1.1.1.1.1.0),
                       subst TriedFew (sym here) (c.requires.1.1.1.1.1.1.1.1 c.args.j c.requires.1.1.1.1.1.0),
                     ),
                   ),

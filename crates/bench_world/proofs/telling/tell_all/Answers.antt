@@ -11,11 +11,18 @@ loop-member-preserved g c =
     let item = c.member-item.result in
     let i = c.loop-member.member-index in
     let number : c.loop-member.sender ≡ c.member-item.result.number =
-    c.loop-member.invariant.sender ∙ sym (ap (λ (a : Alone). a.number) (c.member-item.is ∙ get_or_default c.args.members.now c.loop-member.member-index c.member-item.result nobody (omega arith)) ∙ c.requires.1.0 c.loop-member.member-index (omega arith)) in
+    c.loop-member.invariant.sender
+    ∙ sym (ap (λ (a : Alone). a.number)
+    (c.member-item.is
+    ∙ get_or_default c.args.members.now c.loop-member.member-index c.member-item.result nobody (omega arith))
+    ∙ c.requires.1.0 c.loop-member.member-index (omega arith)) in
     let vector = c.in_ok-vector.ensures ∙ c.vector.ensures.known in
     let octets = c.in_ok-octets.ensures in
     record {
-      told = told_pushed c.args.g.now c.loop-member.told.items c.push.new.self.items (record { sender = c.loop-member.sender; vector = c.in_ok-vector.vector; octets = c.in_ok-octets.octets }) c.args.members.now i item (omega arith) c.member-item.is c.in_ok-push.ensures.items
+      told =
+          told_pushed c.args.g.now c.loop-member.told.items c.push.new.self.items
+          (record { sender = c.loop-member.sender; vector = c.in_ok-vector.vector; octets = c.in_ok-octets.octets })
+          c.args.members.now i item (omega arith) c.member-item.is c.in_ok-push.ensures.items
           (λ k. sent_packet (number k) (vector k) (octets k)) c.loop-member.invariant.told;
       sender = omega (arith, c.loop-member.invariant.sender);
     }

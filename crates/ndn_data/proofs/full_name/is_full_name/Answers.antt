@@ -17,6 +17,10 @@ returns c =
     let one : length name - length of ≡ 1 = omega arith in
     let prefix = c.is_prefix_of.ensures.0 c.if-not-is_prefix_of.false in
     let same = slice_eq-Decides unsigned_Decides last.1 c.as_slice.result.now c.eq.result c.eq.ensures in (
-      λ yes. one_more name of (1, digest) prefix one (at ∙ pair_is last.0 last.1 digest last typ (same.0 yes ∙ c.as_slice.ensures) refl),
-      λ full. same.1 (same_value last.0 last.1 (1, digest) (sym at ∙ ap (λ (n : List Component). slice_get n (length of)) full ∙ slice_get-push of (1, digest)) ∙ sym c.as_slice.ensures),
+      λ yes. one_more name of (1, digest) prefix one
+          (at ∙ pair_is last.0 last.1 digest last typ (same.0 yes ∙ c.as_slice.ensures) refl),
+      λ full. same.1
+          (same_value last.0 last.1 (1, digest)
+          (sym at ∙ ap (λ (n : List Component). slice_get n (length of)) full ∙ slice_get-push of (1, digest))
+          ∙ sym c.as_slice.ensures),
     )

@@ -8,7 +8,13 @@ use Rattle.ndn_interest.proofs.parameters_digest.before_digest.Goals as goal
 pub overflow_sub-octets : goal.overflow_sub-octets
 overflow_sub-octets c =
     let ends = digest_ends c.args.name.now c.octets-octets.ensures.name c.requires in
-    omega (arith, ends.size, ap length c.octets-octets.ensures.spelled, ap length ends.spelled, length-append (encoding (without_last c.args.name.now)) (element 2 ends.digest))
+    omega (
+      arith,
+      ends.size,
+      ap length c.octets-octets.ensures.spelled,
+      ap length ends.spelled,
+      length-append (encoding (without_last c.args.name.now)) (element 2 ends.digest),
+    )
 
 pub returns : goal.returns
 returns c =
@@ -16,5 +22,8 @@ returns c =
     let front = encoding (without_last c.args.name.now) in
     let last = element 2 ends.digest in
     let whole = c.octets-octets.ensures.spelled ∙ ends.spelled in
-    let long : length front ≡ length c.octets-octets.result.now - 34 = omega (arith, ends.size, ap length whole, length-append front last) in
-    c.split_at.ensures.front ∙ ap (λ (o : List ℕ). take (length c.octets-octets.result.now - 34) o) whole ∙ take_at front last (length c.octets-octets.result.now - 34) long
+    let long : length front ≡ length c.octets-octets.result.now - 34 =
+    omega (arith, ends.size, ap length whole, length-append front last) in
+    c.split_at.ensures.front
+    ∙ ap (λ (o : List ℕ). take (length c.octets-octets.result.now - 34) o) whole
+    ∙ take_at front last (length c.octets-octets.result.now - 34) long

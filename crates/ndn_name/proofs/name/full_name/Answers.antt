@@ -12,4 +12,10 @@ returns-in_err-full-clause-too_long c =
     let digest = c.args.digest.now in
     rw (p.1, p.2) (λ e.
     let long = c.in_err-full.ensures.too_long.0 e in
-    omega (arith, long, ap (λ n. length (encoding n)) c.view.ensures, ap length (encoding-push name (1, digest)), length-append (encoding name) (element 1 digest)))
+    omega (
+      arith,
+      long,
+      ap (λ n. length (encoding n)) c.view.ensures,
+      ap length (encoding-push name (1, digest)),
+      length-append (encoding name) (element 1 digest),
+    ))

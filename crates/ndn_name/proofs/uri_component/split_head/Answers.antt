@@ -14,4 +14,5 @@ pub returns-in_err-form-clause-none : goal.returns-in_err-form-clause-none
 returns-in_err-form-clause-none c =
     let some = c.in_ok-tail.was in
     let s = rw some at c.split_once.ensures in
-    rw c.from_residual-in_err-form.ensures (other_head c.args.text.now c.split_once.result.0.now c.in_ok-tail.tail.now s.0 s.1 c.in_err-form.ensures.none)
+    rw c.from_residual-in_err-form.ensures
+    (other_head c.args.text.now c.split_once.result.0.now c.in_ok-tail.tail.now s.0 s.1 c.in_err-form.ensures.none)

@@ -9,4 +9,5 @@ loop-i-preserved c =
     let text = c.args.text.now in
     let i = c.loop-i.i in
     let P : List ℕ → Type 0 = λ t. LacksOctet c.args.octet t in
-    subst P (sym (take_more text i 0 c.loop-i-test.true)) (lacks-append c.args.octet (take i text) _ c.loop-i.invariant (c.if-found-octet.false, tt))
+    subst P (sym (take_more text i 0 c.loop-i-test.true))
+    (lacks-append c.args.octet (take i text) _ c.loop-i.invariant (c.if-found-octet.false, tt))

@@ -1,4 +1,5 @@
-use Rattle.std.proofs.Common.{◌≡◌, ◌+◌, ◌<◌, ℕ, List, [], ◌∷◌, ◌++◌, length, take, sym, ap, subst, ◌∙◌, append_assoc, arith, rules}
+use Rattle.std.proofs.Common.{◌≡◌, ◌+◌, ◌<◌, ℕ, List, [], ◌∷◌, ◌++◌, length, take, sym, ap, subst, ◌∙◌, append_assoc}
+use Rattle.std.proofs.Common.{arith, rules}
 use Rattle.std.proofs.lemmas.Result.{err_from_is_err_and}
 use Rattle.std.proofs.lemmas.List.{length-take, take_more_set}
 use Rattle.ndn_name.specs.Uri.{IsDigits}
@@ -12,8 +13,11 @@ returns-in_err-value-clause-read c =
     let p = err_from_is_err_and c.from_residual.result c.from_residual.ensures.1 in
     let inv = c.loop-octet.invariant in
     let i = c.loop-octet.octet-index in
-    let short : length (take i c.loop-octet.octet-items) < 32 = omega (arith, length-take i c.loop-octet.octet-items, c.loop-octet-test.true) in
-    rw (p.1, p.2) (digest-pair_fails c.args.at (take i c.loop-octet.octet-items) inv.front c.loop-octet.rest.now c.args.text.now c.in_err-value.field-0.0 inv.read short inv.split c.in_err-value.ensures)
+    let short : length (take i c.loop-octet.octet-items) < 32 =
+    omega (arith, length-take i c.loop-octet.octet-items, c.loop-octet-test.true) in
+    rw (p.1, p.2)
+    (digest-pair_fails c.args.at (take i c.loop-octet.octet-items) inv.front c.loop-octet.rest.now c.args.text.now
+    c.in_err-value.field-0.0 inv.read short inv.split c.in_err-value.ensures)
 
 pub returns-in_err-value-clause-told : goal.returns-in_err-value-clause-told
 returns-in_err-value-clause-told c =
@@ -27,7 +31,9 @@ loop-octet-preserved c =
     let i = c.loop-octet.octet-index in
     let items = c.loop-octet.octet-items in
     let behind = c.in_ok-value.behind.now in
-    let t = digits-push (take i items) inv.front c.loop-octet.rest.now c.in_ok-value.value behind inv.read (pair-takes _ c.loop-octet.rest.now (c.in_ok-value.value, behind) c.in_ok-value.ensures) in
+    let t =
+    digits-push (take i items) inv.front c.loop-octet.rest.now c.in_ok-value.value behind inv.read
+    (pair-takes _ c.loop-octet.rest.now (c.in_ok-value.value, behind) c.in_ok-value.ensures) in
     let P : List ℕ → Type 0 = λ v. IsDigits v (inv.front ++ t.0) in
     record {
       front = inv.front ++ t.0;
@@ -35,7 +41,8 @@ loop-octet-preserved c =
       read = subst P (sym (take_more_set items i c.in_ok-value.value (omega arith))) t.2;
     }
 
-long : (at : ℕ) (a front rest text : List ℕ) → IsDigits a front → length a ≡ 32 → 0 < length rest → front ++ rest ≡ text → (k : ℕ) × (at + 64 ≡ at + k) × LeavesLanguage IsSomeDigest text k
+long : (at : ℕ) (a front rest text : List ℕ) → IsDigits a front → length a ≡ 32 → 0 < length rest → front ++ rest ≡ text
+    → (k : ℕ) × (at + 64 ≡ at + k) × LeavesLanguage IsSomeDigest text k
 long at a front [] text read size some split = absurd (omega arith)
 long at a front (c ∷ rest) text read size some split =
     (length front + 0, omega (arith, size, length-digits a front read), digest-long a front text c rest read size split)
@@ -44,4 +51,5 @@ pub returns-else-is_empty-clause-read : goal.returns-else-is_empty-clause-read
 returns-else-is_empty-clause-read c =
     let inv = c.loop-octet.invariant in
     let a = take c.loop-octet.octet-index c.loop-octet.octet-items in
-    long c.args.at a inv.front c.loop-octet.rest.now c.args.text.now inv.read (omega (arith, length-take c.loop-octet.octet-index c.loop-octet.octet-items)) (search rules) inv.split
+    long c.args.at a inv.front c.loop-octet.rest.now c.args.text.now inv.read
+    (omega (arith, length-take c.loop-octet.octet-index c.loop-octet.octet-items)) (search rules) inv.split

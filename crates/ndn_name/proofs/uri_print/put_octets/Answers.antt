@@ -8,4 +8,5 @@ pub returns-in_err-put_octet-clause-front : goal.returns-in_err-put_octet-clause
 returns-in_err-put_octet-clause-front c =
     let loop = c.loop-octet in
     let text = flat_map escape_of (take loop.octet-index c.args.octets.now) in
-    front-kept c.args.out.now.items text loop.out.items c.put_octet.new.out.items loop.invariant c.put_octet.ensures.front
+    front-kept c.args.out.now.items text loop.out.items c.put_octet.new.out.items loop.invariant
+    c.put_octet.ensures.front

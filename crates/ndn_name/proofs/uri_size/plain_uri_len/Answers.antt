@@ -20,7 +20,8 @@ returns-then-is_empty c =
     let e : rooted ≡ without_scheme text.now =
     rw c.unwrap_or.ensures (scheme-is c.behind_scheme.result text c.behind_scheme.ensures) in
     let none : length path ≡ 0 = search rules in
-    sym (ap text_size (sym c.as_bytes-text.ensures.value) ∙ text_size-root text.now rooted path e c.in_ok-path.ensures none)
+    sym
+    (ap text_size (sym c.as_bytes-text.ensures.value) ∙ text_size-root text.now rooted path e c.in_ok-path.ensures none)
 
 pub returns : goal.returns
 returns c =
@@ -31,4 +32,5 @@ returns c =
     rw c.unwrap_or.ensures (scheme-is c.behind_scheme.result text c.behind_scheme.ensures) in
     let some : 0 < length path = search rules in
     c.path_len.ensures
-    ∙ sym (ap text_size (sym c.as_bytes-text.ensures.value) ∙ text_size-path text.now rooted path e c.in_ok-path.ensures some)
+    ∙ sym
+    (ap text_size (sym c.as_bytes-text.ensures.value) ∙ text_size-path text.now rooted path e c.in_ok-path.ensures some)

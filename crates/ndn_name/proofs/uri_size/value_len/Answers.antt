@@ -1,5 +1,6 @@
 use Rattle.std.proofs.Common.{◌≡◌, ◌<◌, length, refl, rules}
-use Rattle.ndn_name.proofs.SizeLemmas.{so_far-start, so_far-step, so_far-shrinks, so_far-none, so_far-periods, so_far-other}
+use Rattle.ndn_name.proofs.SizeLemmas.{so_far-start, so_far-step, so_far-shrinks, so_far-none, so_far-periods}
+use Rattle.ndn_name.proofs.SizeLemmas.{so_far-other}
 use Rattle.ndn_name.proofs.uri_size.value_len.Goals as goal
 
 pub returns-in-Err-clause-exact : goal.returns-in-Err-clause-exact
@@ -7,7 +8,8 @@ returns-in-Err-clause-exact c =
     let text = c.args.text.now in
     let rest = c.loop-rest.rest.now in
     let some : 0 < length rest = search rules in
-    rw (so_far-none text rest c.loop-rest.len c.loop-rest.periods c.in-Err.field-0 c.loop-rest.invariant some c.in-Err.ensures)
+    rw (so_far-none text rest c.loop-rest.len c.loop-rest.periods c.in-Err.field-0 c.loop-rest.invariant some
+    c.in-Err.ensures)
     refl
 
 pub returns-then-periods-clause-exact : goal.returns-then-periods-clause-exact

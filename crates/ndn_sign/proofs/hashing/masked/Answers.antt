@@ -7,4 +7,5 @@ pub loop-octet-preserved : goal.loop-octet-preserved
 loop-octet-preserved c =
     let i = c.loop-octet.octet-index in
     let items = c.loop-octet.octet-items in
-    map_over_more (λ octet. bit_xor octet c.args.mask) c.args.block items i (get_or items i 0) (omega arith) c.loop-octet.invariant (grind (arith, common_steps))
+    map_over_more (λ octet. bit_xor octet c.args.mask) c.args.block items i (get_or items i 0) (omega arith)
+    c.loop-octet.invariant (grind (arith, common_steps))

@@ -7,11 +7,15 @@ use Rattle.repo_command.proofs.command_interest.make_command.Goals as goal
 pub unreachable-requires : goal.unreachable-requires
 unreachable-requires c =
     let node = c.args.node.now in
-    let short = command-size node c.args.command.now c.args.key_name.now c.args.key.now c.requires.node c.requires.name c.requires.key_name in
+    let short =
+    command-size node c.args.command.now c.args.key_name.now c.args.key.now c.requires.node c.requires.name
+    c.requires.key_name in
     let long = ((c.write_signed.ensures.too_long c.in-Err-TooLong.field-0-0).0 (cc)).0 in
     let parameters = c.deref.ensures.value ∙ c.in_ok-parameters.ensures in
     let name = c.in_ok-name.ensures ∙ ap (command_name node) c.verb_of.ensures in
     let same =
     ap (λ n. length (written_interest n c.deref.result.now c.args.key_name.now c.args.key.now)) name
-    ∙ ap (λ octets. length (written_interest (command_name node (verb_of c.args.command.now)) octets c.args.key_name.now c.args.key.now)) parameters in
+    ∙ ap (λ octets. length
+    (written_interest (command_name node (verb_of c.args.command.now)) octets c.args.key_name.now c.args.key.now))
+    parameters in
     omega (arith, long, same, short)

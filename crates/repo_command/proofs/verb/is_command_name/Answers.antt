@@ -10,15 +10,23 @@ use Rattle.repo_command.proofs.verb.is_command_name.Goals as goal
 pub returns-in_default : goal.returns-in_default
 returns-in_default c = refused _ (λ yes.
     let d = has_digest c.args.node.now c.args.verb c.args.name.now c.octets.ensures.name yes in
-    strip_prefix_is Decides-eqb c.octets.result.now c.octets-2.result.now None c.in_default.ensures.cases (between c.args.verb ++ d.digest)
-    (c.octets.ensures.spelled ∙ d.octets ∙ ap (λ o. o ++ (between c.args.verb ++ d.digest)) (sym c.octets-2.ensures.spelled)))
+    strip_prefix_is Decides-eqb c.octets.result.now c.octets-2.result.now None c.in_default.ensures.cases
+    (between c.args.verb ++ d.digest)
+    (c.octets.ensures.spelled ∙ d.octets
+    ∙ ap (λ o. o ++ (between c.args.verb ++ d.digest)) (sym c.octets-2.ensures.spelled)))
 
 pub returns-in-None : goal.returns-in-None
 returns-in-None c = refused _ (λ yes.
     let d = has_digest c.args.node.now c.args.verb c.args.name.now c.octets.ensures.name yes in
-    let front = strip_prefix_is Decides-eqb c.octets.result.now c.octets-2.result.now (Some c.in-Some.behind) c.in-Some.ensures.cases in
-    let behind = behind_same (encoding c.args.node.now) c.in-Some.behind.now (between c.args.verb ++ d.digest) (ap (λ o. o ++ c.in-Some.behind.now) (sym c.octets-2.ensures.spelled) ∙ sym front ∙ c.octets.ensures.spelled ∙ d.octets) in
-    strip_prefix_is Decides-eqb c.in-Some.behind.now c.between.result.now None c.in-None.ensures.cases d.digest (behind ∙ ap (λ o. o ++ d.digest) (sym c.between.ensures)))
+    let front =
+    strip_prefix_is Decides-eqb c.octets.result.now c.octets-2.result.now (Some c.in-Some.behind)
+    c.in-Some.ensures.cases in
+    let behind =
+    behind_same (encoding c.args.node.now) c.in-Some.behind.now (between c.args.verb ++ d.digest)
+    (ap (λ o. o ++ c.in-Some.behind.now) (sym c.octets-2.ensures.spelled) ∙ sym front ∙ c.octets.ensures.spelled
+    ∙ d.octets) in
+    strip_prefix_is Decides-eqb c.in-Some.behind.now c.between.result.now None c.in-None.ensures.cases d.digest
+    (behind ∙ ap (λ o. o ++ d.digest) (sym c.between.ensures)))
 
 pub returns-in-Some-strip_prefix : goal.returns-in-Some-strip_prefix
 returns-in-Some-strip_prefix c =
@@ -26,13 +34,23 @@ returns-in-Some-strip_prefix c =
     let verb = c.args.verb in
     let name = c.args.name.now in
     let digest = c.in-Some-strip_prefix.digest.now in
-    let front = strip_prefix_is Decides-eqb c.octets.result.now c.octets-2.result.now (Some c.in-Some.behind) c.in-Some.ensures.cases in
-    let behind = strip_prefix_is Decides-eqb c.in-Some.behind.now c.between.result.now (Some c.in-Some-strip_prefix.digest) c.in-Some-strip_prefix.ensures.cases in
+    let front =
+    strip_prefix_is Decides-eqb c.octets.result.now c.octets-2.result.now (Some c.in-Some.behind)
+    c.in-Some.ensures.cases in
+    let behind =
+    strip_prefix_is Decides-eqb c.in-Some.behind.now c.between.result.now (Some c.in-Some-strip_prefix.digest)
+    c.in-Some-strip_prefix.ensures.cases in
     let whole : encoding name ≡ encoding node ++ (between verb ++ digest) =
-    sym c.octets.ensures.spelled ∙ front ∙ ap (λ o. o ++ c.in-Some.behind.now) c.octets-2.ensures.spelled ∙ ap (λ o. encoding node ++ o) (behind ∙ ap (λ o. o ++ digest) c.between.ensures) in
+    sym c.octets.ensures.spelled
+    ∙ front
+    ∙ ap (λ o. o ++ c.in-Some.behind.now) c.octets-2.ensures.spelled
+    ∙ ap (λ o. encoding node ++ o) (behind ∙ ap (λ o. o ++ digest) c.between.ensures) in
     agreed (eqb (length digest) 32) _
-    (λ long. is_of_node node verb name digest c.octets-2.ensures.name c.octets.ensures.name whole (eqb-true (length digest) 32 long))
+    (λ long. is_of_node node verb name digest c.octets-2.ensures.name c.octets.ensures.name whole
+    (eqb-true (length digest) 32 long))
     (λ yes.
     let d = has_digest node verb name c.octets.ensures.name yes in
-    let same = behind_same (between verb) digest d.digest (behind_same (encoding node) (between verb ++ digest) (between verb ++ d.digest) (sym whole ∙ d.octets)) in
+    let same =
+    behind_same (between verb) digest d.digest
+    (behind_same (encoding node) (between verb ++ digest) (between verb ++ d.digest) (sym whole ∙ d.octets)) in
     eq-eqb (length digest) 32 (ap length same ∙ d.long))

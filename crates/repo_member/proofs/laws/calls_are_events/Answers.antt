@@ -1,5 +1,9 @@
-use Rattle.repo_member.proofs.EventLemmas.{publish_is_event, deliver_is_event, hear_is_event, fire_is_event, restart_is_event, claim_is_event, lose_is_event, answer_is_event, feed_is_event, fetch_is_event, learns_at_once, learns_what_all_know, gathering_is_event, settle_is_event, open_parts_alike, catalogues_alike}
-use Rattle.repo_member.proofs.CommandEvents.{order_is_event, order_is_answered, issue_is_event, issue_is_answered, block_is_event, block_states_alike}
+use Rattle.repo_member.proofs.EventLemmas.{publish_is_event, deliver_is_event, hear_is_event, fire_is_event}
+use Rattle.repo_member.proofs.EventLemmas.{restart_is_event, claim_is_event, lose_is_event, answer_is_event}
+use Rattle.repo_member.proofs.EventLemmas.{feed_is_event, fetch_is_event, learns_at_once, learns_what_all_know}
+use Rattle.repo_member.proofs.EventLemmas.{gathering_is_event, settle_is_event, open_parts_alike, catalogues_alike}
+use Rattle.repo_member.proofs.CommandEvents.{order_is_event, order_is_answered, issue_is_event, issue_is_answered}
+use Rattle.repo_member.proofs.CommandEvents.{block_is_event, block_states_alike}
 use Rattle.repo_member.proofs.laws.calls_are_events.Goals as goal
 
 pub returns-clause-publish : goal.returns-clause-publish

@@ -1,4 +1,7 @@
-use Rattle.repo_member.proofs.TrueChanges.{begins_true, publishes_true, others_publish, logs_have_grown, learns_true, hears_true, inserts_true, blocks_true, deletes_true, obeys_true, restarts_true, fires_true, resets_true, ends_claims_true, claims_true, loses_true, accepts_true, takes_true}
+use Rattle.repo_member.proofs.TrueChanges.{begins_true, publishes_true, others_publish, logs_have_grown, learns_true}
+use Rattle.repo_member.proofs.TrueChanges.{hears_true, inserts_true, blocks_true, deletes_true, obeys_true}
+use Rattle.repo_member.proofs.TrueChanges.{restarts_true, fires_true, resets_true, ends_claims_true, claims_true}
+use Rattle.repo_member.proofs.TrueChanges.{loses_true, accepts_true, takes_true}
 use Rattle.repo_member.proofs.laws.true_members_stay_true.Goals as goal
 
 pub returns-clause-begins : goal.returns-clause-begins

@@ -1,4 +1,5 @@
-use Rattle.repo_member.proofs.LastingPackets.{begins_truly, grows_truly, publishes_truly, accepts_truly, takes_truly, stays_true, logs_begin, logs_grow}
+use Rattle.repo_member.proofs.LastingPackets.{begins_truly, grows_truly, publishes_truly, accepts_truly, takes_truly}
+use Rattle.repo_member.proofs.LastingPackets.{stays_true, logs_begin, logs_grow}
 use Rattle.repo_member.proofs.laws.truly_stored_lasts.Goals as goal
 
 pub returns-clause-begins : goal.returns-clause-begins

@@ -1,4 +1,5 @@
-use Rattle.std.proofs.Common.{Bor, Option, ◌≡◌, ◌+◌, ◌++◌, List, ℕ, [], length, length-append, unwrap_or, sym, ap, ◌∙◌, subst, arith}
+use Rattle.std.proofs.Common.{Bor, Option, ◌≡◌, ◌+◌, ◌++◌, List, ℕ, [], length, length-append, unwrap_or, sym, ap, ◌∙◌}
+use Rattle.std.proofs.Common.{subst, arith}
 use Rattle.sha2.specs.Hashers.{Holds256}
 use Rattle.repo_plan.specs.Parts.{Pair}
 use Rattle.repo_member.specs.Listed.{packet_content, stored_content, contents_joined}
@@ -13,8 +14,11 @@ loop-x-preserved c =
     let more = joined_more packets pair c.loop-x.x in
     let content : c.content_of-content.result.now ≡ stored_content packets pair (c.loop-x.x + 1) =
     c.content_of-content.ensures.exact
-    ∙ ap packet_content (ap (λ (b : Bor (List ℕ)). b.now) c.unwrap_or.ensures ∙ lent_or c.get.result _ ∙ ap (λ (o : Option (List ℕ)). unwrap_or o []) c.get.ensures.found) in
-    let whole : so_far ++ c.content_of-content.result.now ≡ contents_joined packets pair (c.loop-x.x + 1) = ap (λ (m : List ℕ). so_far ++ m) content ∙ sym more in
+    ∙ ap packet_content
+    (ap (λ (b : Bor (List ℕ)). b.now) c.unwrap_or.ensures ∙ lent_or c.get.result _
+    ∙ ap (λ (o : Option (List ℕ)). unwrap_or o []) c.get.ensures.found) in
+    let whole : so_far ++ c.content_of-content.result.now ≡ contents_joined packets pair (c.loop-x.x + 1) =
+    ap (λ (m : List ℕ). so_far ++ m) content ∙ sym more in
     let long = length-append so_far c.content_of-content.result.now in
     let all = ap (λ (m : List ℕ). length m) whole in
     let short = c.content_of-content.ensures.short in

@@ -7,7 +7,9 @@ use Rattle.repo_member.proofs.listing.list_if_whole.Goals as goal
 
 pub returns-then-complete-clause-entries : goal.returns-then-complete-clause-entries
 returns-then-complete-clause-entries c =
-    let entry = listed_whole c.args.plan.now c.args.store.now.packets (c.args.publisher, c.args.seq) c.requires.tied c.args.name c.unwrap_or-segments.result _ _ c.requires.named
+    let entry =
+    listed_whole c.args.plan.now c.args.store.now.packets (c.args.publisher, c.args.seq) c.requires.tied c.args.name
+    c.unwrap_or-segments.result _ _ c.requires.named
     (sym c.complete.ensures ∙ c.if-complete.true)
     (c.unwrap_or-segments.ensures ∙ ap (λ (o : Option ℕ). unwrap_or o 0) c.segments.ensures)
     c.contents_digest-octets.ensures.octets c.contents_digest-octets.ensures.digest in
@@ -24,5 +26,7 @@ returns-then-complete-clause-entries c =
 
 pub returns-else-complete-clause-entries : goal.returns-else-complete-clause-entries
 returns-else-complete-clause-entries c =
-    let none = listed_not c.args.plan.now c.args.store.now.packets (c.args.publisher, c.args.seq) c.requires.tied (sym c.complete.ensures ∙ c.if-complete.false) in
+    let none =
+    listed_not c.args.plan.now c.args.store.now.packets (c.args.publisher, c.args.seq) c.requires.tied
+    (sym c.complete.ensures ∙ c.if-complete.false) in
     ap (λ (o : Option Entry). with_listed o c.args.catalogue.now.entries) (sym none)

@@ -5,4 +5,5 @@ use Rattle.repo_object.proofs.expected.expect_record.Goals as goal
 
 pub invariant_of-result : goal.invariant_of-result
 invariant_of-result c =
-    subst IsAskable (sym c.in_ok-record_name.ensures) (record_askable c.args.node.now c.args.group.now c.args.part.seq c.requires.node c.requires.group (omega arith))
+    subst IsAskable (sym c.in_ok-record_name.ensures)
+    (record_askable c.args.node.now c.args.group.now c.args.part.seq c.requires.node c.requires.group (omega arith))

@@ -7,5 +7,7 @@ use Rattle.repo_object.proofs.expected.expect_segment.Goals as goal
 
 pub invariant_of-result : goal.invariant_of-result
 invariant_of-result c =
-    let name = c.in_ok-segment_name.ensures ∙ ap (λ (n : List Component). segment_name n (c.args.part.part - 1)) c.in_ok-object.ensures in
+    let name =
+    c.in_ok-segment_name.ensures
+    ∙ ap (λ (n : List Component). segment_name n (c.args.part.part - 1)) c.in_ok-object.ensures in
     subst IsAskable (sym name) (segment_askable c.args.object.now (c.args.part.part - 1) c.requires.name (omega arith))

@@ -7,4 +7,5 @@ pub map_err-requires : goal.map_err-requires
 map_err-requires c =
     let node = c.args.node.now in
     let same = ap (λ n. length (encoding (n ++ (8, 75 ∷ 69 ∷ 89 ∷ []) ∷ []))) c.in_ok-name.ensures.cases in
-    only_memory_of_name c.push.result _ (λ e. c.push.ensures.too_long.0 e) c.push.ensures.refused (omega (arith, same, pushed-size node 8 (75 ∷ 69 ∷ 89 ∷ []) (omega arith) (omega arith)))
+    only_memory_of_name c.push.result _ (λ e. c.push.ensures.too_long.0 e) c.push.ensures.refused
+    (omega (arith, same, pushed-size node 8 (75 ∷ 69 ∷ 89 ∷ []) (omega arith) (omega arith)))

@@ -7,4 +7,5 @@ pub map_err-requires : goal.map_err-requires
 map_err-requires c =
     let one = number_field-one c.from.result (omega arith) in
     let size = pushed-size c.args.object 0x32 (number_field c.from.result) (omega arith) (omega arith) in
-    only_memory_of_name c.push_number.result _ (λ e. c.push_number.ensures.too_long.0 e) c.push_number.ensures.refused (omega (arith, one, size))
+    only_memory_of_name c.push_number.result _ (λ e. c.push_number.ensures.too_long.0 e) c.push_number.ensures.refused
+    (omega (arith, one, size))

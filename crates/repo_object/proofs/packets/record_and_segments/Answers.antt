@@ -17,7 +17,11 @@ segment_packets-requires c =
 pub write_record-requires-clause-name : goal.write_record-requires-clause-name
 write_record-requires-clause-name c =
     let same = ap (λ (n : List Component). length (encoding n)) c.in_ok-name.ensures in
-    omega (arith, same, record_name-size c.args.node.now c.args.group.now c.args.seq c.requires.node c.requires.group (omega arith))
+    omega (
+      arith,
+      same,
+      record_name-size c.args.node.now c.args.group.now c.args.seq c.requires.node c.requires.group (omega arith),
+    )
 
 pub write_record-requires-clause-key_name : goal.write_record-requires-clause-key_name
 write_record-requires-clause-key_name c =
@@ -29,8 +33,13 @@ write_record-requires-clause-few c =
     let who : Publisher = publisher c.args.node.now c.args.group.now c.args.key.now in
     let made = c.deref.ensures.value ∙ c.in_ok-segments.ensures in
     let listing = ap (listed_record c.name-2.result.now) (c.deref-2.ensures.value ∙ c.in_ok-digests.ensures)
-    ∙ listing_is who c.args.object.now c.in_ok-key_name.key_name c.name-2.result.now c.deref.result.now c.in_ok-key_name.ensures c.name-2.ensures.same made in
-    omega (arith, ap (λ (l : Listed). length l.digests) listing, (listing_within_limits who c.args.object.now c.name-2.ensures.within).few)
+    ∙ listing_is who c.args.object.now c.in_ok-key_name.key_name c.name-2.result.now c.deref.result.now
+    c.in_ok-key_name.ensures c.name-2.ensures.same made in
+    omega (
+      arith,
+      ap (λ (l : Listed). length l.digests) listing,
+      (listing_within_limits who c.args.object.now c.name-2.ensures.within).few,
+    )
 
 pub returns : goal.returns
 returns c =
@@ -41,11 +50,16 @@ returns c =
     let named = record_name c.args.node.now c.args.group.now c.args.seq in
     let made = c.deref.ensures.value ∙ c.in_ok-segments.ensures in
     let listing = ap (listed_record c.name-2.result.now) (c.deref-2.ensures.value ∙ c.in_ok-digests.ensures)
-    ∙ listing_is who object keyed c.name-2.result.now c.deref.result.now c.in_ok-key_name.ensures c.name-2.ensures.same made in
+    ∙ listing_is who object keyed c.name-2.result.now c.deref.result.now c.in_ok-key_name.ensures c.name-2.ensures.same
+    made in
     let record_is = c.in_ok-record.ensures
-    ∙ ap (λ (n : List Component). written_data n None (record_content (listed_record c.name-2.result.now c.deref-2.result.now)) keyed key) c.in_ok-name.ensures
+    ∙ ap (λ (n : List Component).
+    written_data n None (record_content (listed_record c.name-2.result.now c.deref-2.result.now)) keyed key)
+    c.in_ok-name.ensures
     ∙ ap (λ (l : Listed). written_data named None (record_content l) keyed key) listing
-    ∙ ap (λ (k : List Component). written_data named None (record_content (published_listing who object)) k key) c.in_ok-key_name.ensures in
-    let segments_are = c.in_ok-segments.ensures ∙ ap (λ (k : List Component). segment_packets k key object) c.in_ok-key_name.ensures in
+    ∙ ap (λ (k : List Component). written_data named None (record_content (published_listing who object)) k key)
+    c.in_ok-key_name.ensures in
+    let segments_are =
+    c.in_ok-segments.ensures ∙ ap (λ (k : List Component). segment_packets k key object) c.in_ok-key_name.ensures in
     ap (λ (r : List ℕ). r ∷ c.in_ok-segments.segments.items) record_is
     ∙ ap (λ (ps : List (List ℕ)). record_packet who c.args.seq (published_listing who object) ∷ ps) segments_are

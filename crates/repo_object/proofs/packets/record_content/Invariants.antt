@@ -8,4 +8,5 @@ use Rattle.repo_object.proofs.packets.record_content.Given as goal
 abbrev pub invariant-loop-digest : goal.invariant-loop-digest
 invariant-loop-digest l =
     l.writer ++ flat_map (element 0x83) (drop l.digest-index l.digests)
-    ≡ (element 0x07 (encoding l.name) ++ element 0x81 (number_field (length l.digests))) ++ flat_map (element 0x83) l.digests
+    ≡ (element 0x07 (encoding l.name) ++ element 0x81 (number_field (length l.digests)))
+    ++ flat_map (element 0x83) l.digests

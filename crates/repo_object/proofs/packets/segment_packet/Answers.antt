@@ -7,6 +7,14 @@ use Rattle.repo_object.proofs.packets.segment_packet.Goals as goal
 
 pub write_packet-requires : goal.write_packet-requires
 write_packet-requires c =
-    let name = c.in_ok-name.ensures ∙ ap (λ (n : List Component). segment_name n c.args.i) c.in_ok-clone.ensures.cases in
-    let named = ap (λ (n : List Component). length (written_data n (Some c.args.last) c.args.content.now c.args.key_name.now c.args.key.now)) name in
-    omega (arith, named, segment-size c.args.key_name.now c.args.key.now c.args.name.now c.args.last c.args.i c.args.content.now c.requires.key_name c.requires.name (omega (arith, c.requires.last)) (omega arith) c.requires.content)
+    let name =
+    c.in_ok-name.ensures ∙ ap (λ (n : List Component). segment_name n c.args.i) c.in_ok-clone.ensures.cases in
+    let named =
+    ap (λ (n : List Component).
+    length (written_data n (Some c.args.last) c.args.content.now c.args.key_name.now c.args.key.now)) name in
+    omega (
+      arith,
+      named,
+      segment-size c.args.key_name.now c.args.key.now c.args.name.now c.args.last c.args.i c.args.content.now
+          c.requires.key_name c.requires.name (omega (arith, c.requires.last)) (omega arith) c.requires.content,
+    )

@@ -9,5 +9,6 @@ pub returns : goal.returns
 returns c =
     let key = (key_at c.args.ring.now c.args.number).key in
     let mac = c.args.view.now.signature.now in
-    mac_is c.args.ring.now c.args.number c.signed_portion.result.now mac c.check_mac.result c.requires c.check_mac.ensures
+    mac_is c.args.ring.now c.args.number c.signed_portion.result.now mac c.check_mac.result c.requires
+    c.check_mac.ensures
     ∙ ap (λ (signed : List ℕ). bytes_eq (hmac key signed) mac) c.signed_portion.ensures

@@ -14,7 +14,9 @@ returns c =
     let digests = c.listing.inside.digests.items in
     let found = c.index-digest.result.now in
     let long = ap (λ (x : Listed). length x.digests) c.listing.view_is in
-    let at : slice_get digests i ≡ Some found = slice_get_read digests (length digests) i found (omega arith) (omega (arith, long)) (c.index-digest.ensures ∙ ap (λ (k : ℕ). get_or digests k found) c.from.ensures) in
+    let at : slice_get digests i ≡ Some found =
+    slice_get_read digests (length digests) i found (omega arith) (omega (arith, long))
+    (c.index-digest.ensures ∙ ap (λ (k : ℕ). get_or digests k found) c.from.ensures) in
     let digest = sym at ∙ ap (λ (x : Listed). slice_get x.digests i) c.listing.view_is in
     let name = c.view.ensures ∙ ap (λ (x : Listed). x.name) c.listing.view_is in
     let same = c.in_ok-expect_segment.ensures

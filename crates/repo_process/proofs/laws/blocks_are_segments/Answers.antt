@@ -8,4 +8,5 @@ pub returns-clause-count : goal.returns-clause-count
 returns-clause-count c = segments_counted
 
 pub returns-clause-each : goal.returns-clause-each
-returns-clause-each c p i below = segment_at (λ index. unwrap_or (value_of nat_cmp p.blocks index) []) p.first (p.last + 1 - p.first) i below
+returns-clause-each c p i below =
+    segment_at (λ index. unwrap_or (value_of nat_cmp p.blocks index) []) p.first (p.last + 1 - p.first) i below

@@ -12,12 +12,19 @@ returns-clause-in_order c =
     let packets = c.args.packets.now in
     let held = c.args.index.now.items in
     let place = c.place_of-place.result in
-    let items : c.insert.new.self.items ≡ insert held place c.args.held = rw c.unwrap.ensures at c.insert.ensures.items in
-    let at = subst (λ (xs : List Held). IsPlace (keys_in order packets xs) (key_in order packets c.args.held) place) c.as_slice.ensures.value c.place_of-place.ensures in
-    subst (λ (xs : List Held). Rises key_cmp (keys_in order packets xs)) (sym items) (rw keys_added (rises_added (keys_in order packets held) (key_in order packets c.args.held) place c.requires.in_order at (fresh_key order packets held c.args.held c.requires.fresh)))
+    let items : c.insert.new.self.items ≡ insert held place c.args.held =
+    rw c.unwrap.ensures at c.insert.ensures.items in
+    let at =
+    subst (λ (xs : List Held). IsPlace (keys_in order packets xs) (key_in order packets c.args.held) place)
+    c.as_slice.ensures.value c.place_of-place.ensures in
+    subst (λ (xs : List Held). Rises key_cmp (keys_in order packets xs)) (sym items)
+    (rw keys_added
+    (rises_added (keys_in order packets held) (key_in order packets c.args.held) place c.requires.in_order at
+    (fresh_key order packets held c.args.held c.requires.fresh)))
 
 pub returns-clause-gains : goal.returns-clause-gains
 returns-clause-gains c =
     let held = c.args.index.now.items in
-    let items : c.insert.new.self.items ≡ insert held c.place_of-place.result c.args.held = rw c.unwrap.ensures at c.insert.ensures.items in
+    let items : c.insert.new.self.items ≡ insert held c.place_of-place.result c.args.held =
+    rw c.unwrap.ensures at c.insert.ensures.items in
     subst (GainsOne c.args.held held) (sym items) (gains_one held c.args.held c.place_of-place.result)

@@ -7,4 +7,5 @@ use Rattle.repo_store.proofs.layers.drop_pair.Goals as goal
 
 pub returns-clause-dropped : goal.returns-clause-dropped
 returns-clause-dropped c =
-    filter_same _ (λ (h : Held). not (is_in c.args.pair h.part)) _ (λ x b f' called. search (rules, pair_test)) c.args.held.now.items c.retain.new.self.items c.retain.ensures.filtered
+    filter_same _ (λ (h : Held). not (is_in c.args.pair h.part)) _ (λ x b f' called. search (rules, pair_test))
+    c.args.held.now.items c.retain.new.self.items c.retain.ensures.filtered

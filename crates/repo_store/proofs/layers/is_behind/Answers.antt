@@ -11,4 +11,5 @@ returns c = λ yes.
     let at = sym c.in-Some.ensures.value in
     let within = slice_get_within index (length index - 1) last at in
     let less = less_is _ (sym (c.is_lt.ensures ∙ ap is_lt c.cmp_held.ensures) ∙ yes) in
-    behind_last c.args.order c.args.packets.now index (length index - 1) last c.args.held.now c.requires (omega (arith, within)) at less
+    behind_last c.args.order c.args.packets.now index (length index - 1) last c.args.held.now c.requires
+    (omega (arith, within)) at less

@@ -6,7 +6,9 @@ use Rattle.repo_store.proofs.LayerLemmas.{Merging, rises_behind, merging_more, m
 use Rattle.repo_store.proofs.layers.merge.Goals as goal
 
 pub place_of-requires : goal.place_of-requires
-place_of-requires c = rises_behind c.args.order c.args.packets.now c.loop-held.merged.items c.loop-held.rest.now c.loop-held.invariant.merging.in_order
+place_of-requires c =
+    rises_behind c.args.order c.args.packets.now c.loop-held.merged.items c.loop-held.rest.now
+    c.loop-held.invariant.merging.in_order
 
 pub loop-held-preserved : goal.loop-held-preserved
 loop-held-preserved c =
@@ -18,23 +20,48 @@ loop-held-preserved c =
     let rest = c.loop-held.rest.now in
     let i = c.loop-held.held-index in
     let place = c.place_of.result in
-    let extended : c.extend_from_slice.new.self.items ≡ merged ++ c.split_at.result.0.now = rw c.unwrap.ensures at c.extend_from_slice.ensures.items in
-    let extended_len : vec_len c.extend_from_slice.new.self ≡ vec_len c.loop-held.merged + length c.split_at.result.0.now = rw c.unwrap.ensures at c.extend_from_slice.ensures.len in
+    let extended : c.extend_from_slice.new.self.items ≡ merged ++ c.split_at.result.0.now =
+    rw c.unwrap.ensures at c.extend_from_slice.ensures.items in
+    let extended_len : vec_len c.extend_from_slice.new.self
+    ≡ vec_len c.loop-held.merged + length c.split_at.result.0.now =
+    rw c.unwrap.ensures at c.extend_from_slice.ensures.len in
     let none : Held = record { part = first_part; slot = 0 } in
     let held = get_or recent i none in
-    let pushed : c.push.new.self.items ≡ c.extend_from_slice.new.self.items ++ held ∷ [] = rw c.unwrap-in-loop-held.ensures at c.push.ensures.items in
-    let pushed_len : vec_len c.push.new.self ≡ vec_len c.extend_from_slice.new.self + 1 = rw c.unwrap-in-loop-held.ensures at c.push.ensures.len in
-    let items = pushed ∙ ap (λ (xs : List Held). xs ++ held ∷ []) (extended ∙ ap (λ (xs : List Held). merged ++ xs) c.split_at.ensures.front) in
-    let more = merging_more order packets settled recent merged rest i place none c.loop-held-test.true c.requires.recent c.requires.apart c.place_of.ensures c.loop-held.invariant.merging in
+    let pushed : c.push.new.self.items ≡ c.extend_from_slice.new.self.items ++ held ∷ [] =
+    rw c.unwrap-in-loop-held.ensures at c.push.ensures.items in
+    let pushed_len : vec_len c.push.new.self ≡ vec_len c.extend_from_slice.new.self + 1 =
+    rw c.unwrap-in-loop-held.ensures at c.push.ensures.len in
+    let items =
+    pushed
+    ∙ ap (λ (xs : List Held). xs ++ held ∷ [])
+    (extended ∙ ap (λ (xs : List Held). merged ++ xs) c.split_at.ensures.front) in
+    let more =
+    merging_more order packets settled recent merged rest i place none c.loop-held-test.true c.requires.recent
+    c.requires.apart c.place_of.ensures c.loop-held.invariant.merging in
     record {
       merging =
-          subst (λ (r : List Held). Merging order packets settled recent c.push.new.self.items r (i + 1)) (sym c.split_at.ensures.back)
-          (subst (λ (m : List Held). Merging order packets settled recent m (drop place rest) (i + 1)) (sym items) more);
-      len = omega (arith, c.loop-held.invariant.len, extended_len, pushed_len, c.split_at.ensures.front_len, c.split_at.ensures.back_len, c.place_of.ensures.within);
-      capacity = omega (arith, c.loop-held.invariant.capacity, c.extend_from_slice.ensures.capacity, c.push.ensures.capacity);
+          subst (λ (r : List Held). Merging order packets settled recent c.push.new.self.items r (i + 1))
+          (sym c.split_at.ensures.back)
+          (subst (λ (m : List Held). Merging order packets settled recent m (drop place rest) (i + 1)) (sym items)
+          more);
+      len =
+          omega (
+            arith,
+            c.loop-held.invariant.len,
+            extended_len,
+            pushed_len,
+            c.split_at.ensures.front_len,
+            c.split_at.ensures.back_len,
+            c.place_of.ensures.within,
+          );
+      capacity =
+          omega (arith, c.loop-held.invariant.capacity, c.extend_from_slice.ensures.capacity, c.push.ensures.capacity);
     }
 
 pub returns-clause-merged : goal.returns-clause-merged
 returns-clause-merged c =
-    let extended : c.extend_from_slice-2.new.self.items ≡ c.loop-held.merged.items ++ c.loop-held.rest.now = rw c.unwrap-2.ensures at c.extend_from_slice-2.ensures.items in
-    subst (IsMerged c.args.order c.args.packets.now c.args.settled.now c.args.recent.now) (sym extended) (merging_all c.args.order c.args.packets.now c.args.settled.now c.args.recent.now c.loop-held.merged.items c.loop-held.rest.now c.loop-held.held-index c.loop-held-test.false c.loop-held.invariant.merging)
+    let extended : c.extend_from_slice-2.new.self.items ≡ c.loop-held.merged.items ++ c.loop-held.rest.now =
+    rw c.unwrap-2.ensures at c.extend_from_slice-2.ensures.items in
+    subst (IsMerged c.args.order c.args.packets.now c.args.settled.now c.args.recent.now) (sym extended)
+    (merging_all c.args.order c.args.packets.now c.args.settled.now c.args.recent.now c.loop-held.merged.items
+    c.loop-held.rest.now c.loop-held.held-index c.loop-held-test.false c.loop-held.invariant.merging)

@@ -15,19 +15,29 @@ use Rattle.repo_store.proofs.store.drop_slots.Goals as goal
 pub returns-clause-dropped : goal.returns-clause-dropped
 returns-clause-dropped c =
     let pair : Pair = c.args.pair in
-    let kept = filter_same_pairs _ (λ (e : Part × ℕ). not (is_in pair e.0)) _ (λ k v b w f' called. search (rules, pair_test)) c.args.slots.now.entries c.retain.new.self.entries c.retain.ensures.filtered in
+    let kept =
+    filter_same_pairs _ (λ (e : Part × ℕ). not (is_in pair e.0)) _ (λ k v b w f' called. search (rules, pair_test))
+    c.args.slots.now.entries c.retain.new.self.entries c.retain.ensures.filtered in
     ap (λ (es : List (Part × ℕ)). held_of es) kept
-    ∙ ap (λ (es : List (Part × ℕ)). held_list es) (filter_in_order exact_parts (λ t. not (is_in pair t)) c.args.slots.now.entries)
+    ∙ ap (λ (es : List (Part × ℕ)). held_list es)
+    (filter_in_order exact_parts (λ t. not (is_in pair t)) c.args.slots.now.entries)
     ∙ held_left pair (in_order part_cmp c.args.slots.now.entries)
 
-fewer : (c : goal.After-len) → (c.len.result ≡ length (held_of c.retain.new.self.entries)) × (c.len-before.result ≡ length (held_of c.args.slots.now.entries)) × (c.len.result ≤ c.len-before.result)
+fewer : (c : goal.After-len)
+    → (c.len.result ≡ length (held_of c.retain.new.self.entries))
+    × (c.len-before.result ≡ length (held_of c.args.slots.now.entries)) × (c.len.result ≤ c.len-before.result)
 fewer c =
     let pair : Pair = c.args.pair in
     let old = in_order part_cmp c.args.slots.now.entries in
     let new = in_order part_cmp c.retain.new.self.entries in
-    let kept = filter_same_pairs _ (λ (e : Part × ℕ). not (is_in pair e.0)) _ (λ k v b w f' called. search (rules, pair_test)) c.args.slots.now.entries c.retain.new.self.entries c.retain.ensures.filtered in
-    let left = ap (λ (es : List (Part × ℕ)). length (in_order part_cmp es)) kept ∙ ap length (filter_in_order exact_parts (λ t. not (is_in pair t)) c.args.slots.now.entries) in
-    let few = length-filter_both (λ (e : Part × ℕ). is_in pair e.0) (λ (e : Part × ℕ). not (is_in pair e.0)) (λ e. refl) old in (
+    let kept =
+    filter_same_pairs _ (λ (e : Part × ℕ). not (is_in pair e.0)) _ (λ k v b w f' called. search (rules, pair_test))
+    c.args.slots.now.entries c.retain.new.self.entries c.retain.ensures.filtered in
+    let left =
+    ap (λ (es : List (Part × ℕ)). length (in_order part_cmp es)) kept
+    ∙ ap length (filter_in_order exact_parts (λ t. not (is_in pair t)) c.args.slots.now.entries) in
+    let few =
+    length-filter_both (λ (e : Part × ℕ). is_in pair e.0) (λ (e : Part × ℕ). not (is_in pair e.0)) (λ e. refl) old in (
       c.len.ensures ∙ sym (length-held new),
       c.len-before.ensures ∙ sym (length-held old),
       omega (arith, few, left, c.len.ensures, c.len-before.ensures),

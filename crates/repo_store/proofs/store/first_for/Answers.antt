@@ -11,13 +11,25 @@ returns c =
     let packets = c.args.packets.now in
     let names = all_of c.args.names.now in
     let asked = c.octets-asked.result.now in
-    let full = first_of_same (all_of c.args.full_names.now) names (has_full_name packets asked) (λ h. (c.requires.same h).1) (λ h. (c.requires.same h).0) c.first_with_full_name.result c.first_with_full_name.ensures in
-    let Found = λ (p : Bool) (named : Option Held). IsFirstOf names (satisfies_held packets c.args.name.now p) (lesser named c.first_with_full_name.result) in
+    let full =
+    first_of_same (all_of c.args.full_names.now) names (has_full_name packets asked) (λ h. (c.requires.same h).1)
+    (λ h. (c.requires.same h).0) c.first_with_full_name.result c.first_with_full_name.ensures in
+    let Found =
+    λ (p : Bool) (named : Option Held).
+    IsFirstOf names (satisfies_held packets c.args.name.now p) (lesser named c.first_with_full_name.result) in
     rw c.lesser.ensures (elim c.if-can_be_prefix.branch [
       | then-can_be_prefix w ↦
-          let found = front_found packets c.args.name.now asked c.octets-asked.ensures.name c.octets-asked.ensures.spelled names c.requires.are_data w.first_below-named.result c.first_with_full_name.result w.first_below-named.ensures full in
-          subst (Found c.args.can_be_prefix) (sym w.named-is) (subst (λ (p : Bool). Found p w.first_below-named.result) (sym w.if-can_be_prefix.true) found)
+          let found =
+          front_found packets c.args.name.now asked c.octets-asked.ensures.name c.octets-asked.ensures.spelled names
+          c.requires.are_data w.first_below-named.result c.first_with_full_name.result w.first_below-named.ensures
+          full in
+          subst (Found c.args.can_be_prefix) (sym w.named-is)
+          (subst (λ (p : Bool). Found p w.first_below-named.result) (sym w.if-can_be_prefix.true) found)
       | else-can_be_prefix w ↦
-          let found = plain_found packets c.args.name.now asked c.octets-asked.ensures.name c.octets-asked.ensures.spelled names c.requires.are_data w.first_named-named.result c.first_with_full_name.result w.first_named-named.ensures full in
-          subst (Found c.args.can_be_prefix) (sym w.named-is) (subst (λ (p : Bool). Found p w.first_named-named.result) (sym w.if-can_be_prefix.false) found)
+          let found =
+          plain_found packets c.args.name.now asked c.octets-asked.ensures.name c.octets-asked.ensures.spelled names
+          c.requires.are_data w.first_named-named.result c.first_with_full_name.result w.first_named-named.ensures
+          full in
+          subst (Found c.args.can_be_prefix) (sym w.named-is)
+          (subst (λ (p : Bool). Found p w.first_named-named.result) (sym w.if-can_be_prefix.false) found)
     ])

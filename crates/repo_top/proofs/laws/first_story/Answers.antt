@@ -4,7 +4,8 @@ use Rattle.hex.specs.Hex.{decode_pairs, encode_with}
 use Rattle.sha2.specs.Sha256.{compress, digest_bytes, first_words, hash_after, rounds, schedule, sha256}
 use Rattle.ndn_tlv.specs.Spelling.{number}
 use Rattle.ndn_name.specs.Names.{encoding}
-use Rattle.ndn_name.specs.UriText.{behind_word, component_of_text, components_of_texts, cut_at, name_of_text, octets_of_digits, unescaped}
+use Rattle.ndn_name.specs.UriText.{behind_word, component_of_text, components_of_texts, cut_at, name_of_text}
+use Rattle.ndn_name.specs.UriText.{octets_of_digits, unescaped}
 use Rattle.repo_object.specs.Publication.{segment_packets_from}
 use Rattle.repo_object.specs.Records.{digests_among}
 use Rattle.svs_vector.specs.Vectors.{covers, join, join_all}

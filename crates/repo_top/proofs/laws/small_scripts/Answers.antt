@@ -1,6 +1,7 @@
 use Rattle.std.proofs.Common.{refl}
 use Rattle.std.specs.Fmt.{digits}
-use Rattle.repo_top.specs.Generator.{deliver_text, fetch_line, gen_text, member_text, publish_line, generator_state, texts}
+use Rattle.repo_top.specs.Generator.{deliver_text, fetch_line, gen_text, member_text, publish_line, generator_state}
+use Rattle.repo_top.specs.Generator.{texts}
 use Rattle.repo_top.proofs.laws.small_scripts.Goals as goal
 
 pub returns-clause-two_members : goal.returns-clause-two_members

@@ -3,7 +3,8 @@ use Rattle.std.specs.Fmt.{digits}
 use Rattle.hex.specs.Hex.{decode_pairs}
 use Rattle.ndn_tlv.specs.Spelling.{number}
 use Rattle.ndn_name.specs.Names.{encoding}
-use Rattle.ndn_name.specs.UriText.{behind_word, component_of_text, components_of_texts, cut_at, name_of_text, octets_of_digits, unescaped}
+use Rattle.ndn_name.specs.UriText.{behind_word, component_of_text, components_of_texts, cut_at, name_of_text}
+use Rattle.ndn_name.specs.UriText.{octets_of_digits, unescaped}
 use Rattle.svs_vector.specs.Vectors.{covers, join, join_all}
 use Rattle.svs_sync.specs.KeptVector.{after_all_kept, after_kept}
 use Rattle.svs_sync.specs.Suppression.{after_sync_event, after_sync_events}

@@ -9,14 +9,20 @@ use Rattle.svs_sync.proofs.sync_interest.is_sync_name.Goals as goal
 pub returns-in_default : goal.returns-in_default
 returns-in_default c = refused _ (λ yes.
     let d = has_digest c.args.group.now c.args.name.now c.octets.ensures.name yes in
-    strip_prefix_is Decides-eqb c.octets.result.now c.octets-2.result.now None c.in_default.ensures.cases (between ++ d.digest)
+    strip_prefix_is Decides-eqb c.octets.result.now c.octets-2.result.now None c.in_default.ensures.cases
+    (between ++ d.digest)
     (c.octets.ensures.spelled ∙ d.octets ∙ ap (λ o. o ++ (between ++ d.digest)) (sym c.octets-2.ensures.spelled)))
 
 pub returns-in-None : goal.returns-in-None
 returns-in-None c = refused _ (λ yes.
     let d = has_digest c.args.group.now c.args.name.now c.octets.ensures.name yes in
-    let front = strip_prefix_is Decides-eqb c.octets.result.now c.octets-2.result.now (Some c.in-Some.behind) c.in-Some.ensures.cases in
-    let behind = behind_same (encoding c.args.group.now) c.in-Some.behind.now (between ++ d.digest) (ap (λ o. o ++ c.in-Some.behind.now) (sym c.octets-2.ensures.spelled) ∙ sym front ∙ c.octets.ensures.spelled ∙ d.octets) in
+    let front =
+    strip_prefix_is Decides-eqb c.octets.result.now c.octets-2.result.now (Some c.in-Some.behind)
+    c.in-Some.ensures.cases in
+    let behind =
+    behind_same (encoding c.args.group.now) c.in-Some.behind.now (between ++ d.digest)
+    (ap (λ o. o ++ c.in-Some.behind.now) (sym c.octets-2.ensures.spelled) ∙ sym front ∙ c.octets.ensures.spelled
+    ∙ d.octets) in
     strip_prefix_is Decides-eqb c.in-Some.behind.now between None c.in-None.ensures.cases d.digest behind)
 
 pub returns-in-Some-strip_prefix : goal.returns-in-Some-strip_prefix
@@ -24,13 +30,23 @@ returns-in-Some-strip_prefix c =
     let group = c.args.group.now in
     let name = c.args.name.now in
     let digest = c.in-Some-strip_prefix.digest.now in
-    let front = strip_prefix_is Decides-eqb c.octets.result.now c.octets-2.result.now (Some c.in-Some.behind) c.in-Some.ensures.cases in
-    let behind = strip_prefix_is Decides-eqb c.in-Some.behind.now between (Some c.in-Some-strip_prefix.digest) c.in-Some-strip_prefix.ensures.cases in
+    let front =
+    strip_prefix_is Decides-eqb c.octets.result.now c.octets-2.result.now (Some c.in-Some.behind)
+    c.in-Some.ensures.cases in
+    let behind =
+    strip_prefix_is Decides-eqb c.in-Some.behind.now between (Some c.in-Some-strip_prefix.digest)
+    c.in-Some-strip_prefix.ensures.cases in
     let whole : encoding name ≡ encoding group ++ (between ++ digest) =
-    sym c.octets.ensures.spelled ∙ front ∙ ap (λ o. o ++ c.in-Some.behind.now) c.octets-2.ensures.spelled ∙ ap (λ o. encoding group ++ o) behind in
+    sym c.octets.ensures.spelled
+    ∙ front
+    ∙ ap (λ o. o ++ c.in-Some.behind.now) c.octets-2.ensures.spelled
+    ∙ ap (λ o. encoding group ++ o) behind in
     agreed (eqb (length digest) 32) _
-    (λ long. is_of_group group name digest c.octets-2.ensures.name c.octets.ensures.name whole (eqb-true (length digest) 32 long))
+    (λ long. is_of_group group name digest c.octets-2.ensures.name c.octets.ensures.name whole
+    (eqb-true (length digest) 32 long))
     (λ yes.
     let d = has_digest group name c.octets.ensures.name yes in
-    let same = behind_same between digest d.digest (behind_same (encoding group) (between ++ digest) (between ++ d.digest) (sym whole ∙ d.octets)) in
+    let same =
+    behind_same between digest d.digest
+    (behind_same (encoding group) (between ++ digest) (between ++ d.digest) (sym whole ∙ d.octets)) in
     eq-eqb (length digest) 32 (ap length same ∙ d.long))

@@ -5,4 +5,6 @@ use Rattle.bench_world.proofs.Timers.{later_state}
 use Rattle.bench_world.proofs.world.World.advance.Goals as goal
 
 pub invariant_of-self : goal.invariant_of-self
-invariant_of-self c = later_state (world_state c.self.inside) c.self.invariant (subst (λ (x : GroupState). x.steps < 100000) (sym c.self.view_is) c.requires.few) c.args.ms c.requires.short
+invariant_of-self c =
+    later_state (world_state c.self.inside) c.self.invariant
+    (subst (λ (x : GroupState). x.steps < 100000) (sym c.self.view_is) c.requires.few) c.args.ms c.requires.short

@@ -9,31 +9,43 @@ use Rattle.bench_world.specs.Steps.{IsFaultOf}
 use Rattle.bench_world.specs.Answering.{claim_in, came_in}
 use Rattle.bench_world.specs.Worlds.{GroupState, IsTrueState, world_of, logs_around}
 use Rattle.bench_world.specs.Kept.{world_state}
-use Rattle.bench_world.proofs.Answered.{answer_refusal, answer_taken, answer_passes, answer_world, answer_state, fault_by}
+use Rattle.bench_world.proofs.Answered.{answer_refusal, answer_taken, answer_passes, answer_world, answer_state}
+use Rattle.bench_world.proofs.Answered.{fault_by}
 use Rattle.bench_world.proofs.world.World.answer.Goals as goal
 
 pub returns-in-Err-clause-refused : goal.returns-in-Err-clause-refused
 returns-in-Err-clause-refused c =
     let s = world_state c.self.inside in
     let there = subst (λ (x : GroupState). c.args.m < length x.members) (sym c.self.view_is) c.requires.there in
-    subst (λ (x : GroupState). IsFaultOf (refusal (keyed x.keys) (world_of x) (Event.Answer c.args.m c.args.f c.args.q)) c.in-Err.fault) c.self.view_is
+    subst (λ (x : GroupState).
+    IsFaultOf (refusal (keyed x.keys) (world_of x) (Event.Answer c.args.m c.args.f c.args.q)) c.in-Err.fault)
+    c.self.view_is
     (subst (λ r. IsFaultOf r c.in-Err.fault) (answer_refusal s c.self.invariant c.args.m there c.args.f c.args.q)
-    (fault_by s.keys (logs_around s.members) (claim_in s.members c.args.m c.args.f) (came_in s.keys (logs_around s.members) s.members c.args.q (claim_in s.members c.args.m c.args.f)) c.in-Err.fault c.in-Err.ensures.refused))
+    (fault_by s.keys (logs_around s.members) (claim_in s.members c.args.m c.args.f)
+    (came_in s.keys (logs_around s.members) s.members c.args.q (claim_in s.members c.args.m c.args.f)) c.in-Err.fault
+    c.in-Err.ensures.refused))
 
 pub invariant_of-self-2 : goal.invariant_of-self-2
 invariant_of-self-2 c =
     let s = world_state c.self.inside in
     let there = subst (λ (x : GroupState). c.args.m < length x.members) (sym c.self.view_is) c.requires.there in
     let one = c.parts_of.ensures in
-    subst (λ (t : Tally). IsTrueState (record s { members = c.ask.new.members.items; tally = t; steps = s.steps + 1 })) (λ i. record s.tally { attempts = s.tally.attempts + 1; parts = s.tally.parts + sym one i; octets = s.tally.octets + sym c.unwrap_or.ensures i })
-    (answer_state s c.self.invariant c.args.m there c.args.f c.args.q c.in-Ok.kept c.in-Ok.ensures.kept c.ask.new.members.items c.in-Ok.ensures.members
+    subst (λ (t : Tally). IsTrueState (record s { members = c.ask.new.members.items; tally = t; steps = s.steps + 1 }))
+    (λ i. record s.tally {
+      attempts = s.tally.attempts + 1;
+      parts = s.tally.parts + sym one i;
+      octets = s.tally.octets + sym c.unwrap_or.ensures i;
+    })
+    (answer_state s c.self.invariant c.args.m there c.args.f c.args.q c.in-Ok.kept c.in-Ok.ensures.kept
+    c.ask.new.members.items c.in-Ok.ensures.members
     (subst (λ (x : GroupState). x.steps < 100000) (sym c.self.view_is) c.requires.few))
 
 pub returns-clause-taken : goal.returns-clause-taken
 returns-clause-taken c =
     let s = world_state c.self.inside in
     let there = subst (λ (x : GroupState). c.args.m < length x.members) (sym c.self.view_is) c.requires.there in
-    subst (λ (x : GroupState). refusal (keyed x.keys) (world_of x) (Event.Answer c.args.m c.args.f c.args.q) ≡ None) c.self.view_is
+    subst (λ (x : GroupState). refusal (keyed x.keys) (world_of x) (Event.Answer c.args.m c.args.f c.args.q) ≡ None)
+    c.self.view_is
     (answer_taken s c.self.invariant c.args.m there c.args.f c.args.q c.in-Ok.kept c.in-Ok.ensures.kept)
 
 pub returns-clause-world : goal.returns-clause-world
@@ -41,14 +53,24 @@ returns-clause-world c =
     let s = world_state c.self.inside in
     let there = subst (λ (x : GroupState). c.args.m < length x.members) (sym c.self.view_is) c.requires.there in
     let one = c.parts_of.ensures in
-    ap (λ (t : Tally). world_of (record s { members = c.ask.new.members.items; tally = t; steps = s.steps + 1 })) (λ i. record s.tally { attempts = s.tally.attempts + 1; parts = s.tally.parts + one i; octets = s.tally.octets + c.unwrap_or.ensures i })
-    ∙ answer_world s c.self.invariant c.args.m there c.args.f c.args.q c.in-Ok.kept c.in-Ok.ensures.kept c.ask.new.members.items c.in-Ok.ensures.members
-    ∙ ap (λ (x : GroupState). after_event (keyed x.keys) (world_of x) (Event.Answer c.args.m c.args.f c.args.q)) c.self.view_is
+    ap (λ (t : Tally). world_of (record s { members = c.ask.new.members.items; tally = t; steps = s.steps + 1 }))
+    (λ i. record s.tally {
+      attempts = s.tally.attempts + 1;
+      parts = s.tally.parts + one i;
+      octets = s.tally.octets + c.unwrap_or.ensures i;
+    })
+    ∙ answer_world s c.self.invariant c.args.m there c.args.f c.args.q c.in-Ok.kept c.in-Ok.ensures.kept
+    c.ask.new.members.items c.in-Ok.ensures.members
+    ∙ ap (λ (x : GroupState). after_event (keyed x.keys) (world_of x) (Event.Answer c.args.m c.args.f c.args.q))
+    c.self.view_is
 
 pub returns-clause-told : goal.returns-clause-told
 returns-clause-told c =
     let s = world_state c.self.inside in
     let there = subst (λ (x : GroupState). c.args.m < length x.members) (sym c.self.view_is) c.requires.there in
     c.answered.ensures ∙ (λ i. answer_told c.args.m (c.from.ensures i) (c.is_some.ensures i))
-    ∙ ap (answer_told c.args.m c.args.f) (answer_passes s c.self.invariant c.args.m there c.args.f c.args.q c.in-Ok.kept c.in-Ok.ensures.kept)
-    ∙ ap (λ (x : GroupState). answer_told c.args.m c.args.f (passes_checks (came_from (keyed x.keys) (world_of x) c.args.q (claim_at (world_of x) c.args.m c.args.f)))) c.self.view_is
+    ∙ ap (answer_told c.args.m c.args.f)
+    (answer_passes s c.self.invariant c.args.m there c.args.f c.args.q c.in-Ok.kept c.in-Ok.ensures.kept)
+    ∙ ap (λ (x : GroupState). answer_told c.args.m c.args.f
+    (passes_checks (came_from (keyed x.keys) (world_of x) c.args.q (claim_at (world_of x) c.args.m c.args.f))))
+    c.self.view_is

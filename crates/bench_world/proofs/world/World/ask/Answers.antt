@@ -13,5 +13,8 @@ returns-clause-told c =
     let s = world_state c.self.inside in
     let there = subst (λ (x : GroupState). c.args.m < length x.members) (sym c.self.view_is) c.requires.there in
     c.in_ok-happened.ensures
-    ∙ ap (λ es. ask_told c.args.m (served c.args.octets.now es)) (store_at s c.self.invariant c.args.m there c.index.result.now c.index.ensures)
-    ∙ ap (λ (w : GroupState). ask_told c.args.m (served c.args.octets.now (true_packets w.keys (logs (world_of w)) (member (world_of w) c.args.m).held))) c.self.view_is
+    ∙ ap (λ es. ask_told c.args.m (served c.args.octets.now es))
+    (store_at s c.self.invariant c.args.m there c.index.result.now c.index.ensures)
+    ∙ ap (λ (w : GroupState). ask_told c.args.m
+    (served c.args.octets.now (true_packets w.keys (logs (world_of w)) (member (world_of w) c.args.m).held)))
+    c.self.view_is

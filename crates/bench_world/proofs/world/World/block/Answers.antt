@@ -27,8 +27,12 @@ returns-in-Err-NumbersSpent-clause-refused g c =
     let event = Event.Block c.args.m c.args.process c.args.index c.args.content.now in
     let r : Result Blocked PublishRefusal = Err c.in-Err-NumbersSpent.field-0 in
     let is_err : r ≡ Err (NumbersSpent c.in-Err-NumbersSpent.field-0-0) = cc in
-    let spent = block_refused s c.self.invariant c.args.m there c.index_mut-member.result.now c.index_mut-member.ensures.value c.args.process c.args.index c.args.content.now (g.D.Draws.draw c.args.draws.now) r c.in-Err-NumbersSpent.field-0-0 is_err c.in-Err-NumbersSpent.ensures.spent in
-    subst (λ (x : GroupState). IsFaultOf (refusal (drawing (g.D.Draws.draw c.args.draws.now)) (world_of x) event) (fault.Refused 8)) c.self.view_is
+    let spent =
+    block_refused s c.self.invariant c.args.m there c.index_mut-member.result.now c.index_mut-member.ensures.value
+    c.args.process c.args.index c.args.content.now (g.D.Draws.draw c.args.draws.now) r c.in-Err-NumbersSpent.field-0-0
+    is_err c.in-Err-NumbersSpent.ensures.spent in
+    subst (λ (x : GroupState).
+    IsFaultOf (refusal (drawing (g.D.Draws.draw c.args.draws.now)) (world_of x) event) (fault.Refused 8)) c.self.view_is
     (subst (λ (o : Option Refusal). IsFaultOf o (fault.Refused 8)) (sym spent) refl)
 
 pub invariant_of-self-2 : goal.invariant_of-self-2
@@ -37,11 +41,18 @@ invariant_of-self-2 g c =
     let there = subst (λ (x : GroupState). c.args.m < length x.members) (sym c.self.view_is) c.requires.there in
     let old = c.index_mut-member.result.now in
     let r : Result Blocked PublishRefusal = Ok c.in-Ok.blocked in
-    let room = finds_number s c.self.invariant c.args.m there old c.index_mut-member.ensures.value c.args.process c.args.index c.args.content.now r c.in-Ok.blocked refl c.in-Ok.ensures.spent in
+    let room =
+    finds_number s c.self.invariant c.args.m there old c.index_mut-member.ensures.value c.args.process c.args.index
+    c.args.content.now r c.in-Ok.blocked refl c.in-Ok.ensures.spent in
     let few = subst (λ (x : GroupState). x.steps < 100000) (sym c.self.view_is) c.requires.few in
-    let after = after_so s c.self.invariant c.args.m there old c.index_mut-member.ensures.value c.args.process c.args.index c.args.content.now room c.block.new.self (g.D.Draws.draw c.args.draws.now) c.draw-draw.result
-    (c.draw-draw.ensures ∙ ap (g.D.Draws.draw c.args.draws.now c.args.m) c.next_draw.ensures) c.in-Ok.ensures.ok c.in-Ok.blocked c.in-Ok.ensures.told few c.in-Ok.ensures.object
-    c.send_blocked-happened.new.sent.packets c.reserve.new.self.packets c.in_ok-vector.vector.items (ap (λ x. x.packets) c.in_ok-reserve.ensures.ok) (c.in_ok-vector.ensures ∙ c.vector.ensures.known) c.send_blocked-happened.ensures.sent in
+    let after =
+    after_so s c.self.invariant c.args.m there old c.index_mut-member.ensures.value c.args.process c.args.index
+    c.args.content.now room c.block.new.self (g.D.Draws.draw c.args.draws.now) c.draw-draw.result
+    (c.draw-draw.ensures ∙ ap (g.D.Draws.draw c.args.draws.now c.args.m) c.next_draw.ensures) c.in-Ok.ensures.ok
+    c.in-Ok.blocked c.in-Ok.ensures.told few c.in-Ok.ensures.object
+    c.send_blocked-happened.new.sent.packets c.reserve.new.self.packets c.in_ok-vector.vector.items
+    (ap (λ x. x.packets) c.in_ok-reserve.ensures.ok) (c.in_ok-vector.ensures ∙ c.vector.ensures.known)
+    c.send_blocked-happened.ensures.sent in
     after.state
 
 pub returns-clause-taken : goal.returns-clause-taken
@@ -50,10 +61,14 @@ returns-clause-taken g c =
     let there = subst (λ (x : GroupState). c.args.m < length x.members) (sym c.self.view_is) c.requires.there in
     let old = c.index_mut-member.result.now in
     let r : Result Blocked PublishRefusal = Ok c.in-Ok.blocked in
-    let room = finds_number s c.self.invariant c.args.m there old c.index_mut-member.ensures.value c.args.process c.args.index c.args.content.now r c.in-Ok.blocked refl c.in-Ok.ensures.spent in
+    let room =
+    finds_number s c.self.invariant c.args.m there old c.index_mut-member.ensures.value c.args.process c.args.index
+    c.args.content.now r c.in-Ok.blocked refl c.in-Ok.ensures.spent in
     let event = Event.Block c.args.m c.args.process c.args.index c.args.content.now in
-    subst (λ (x : GroupState). refusal (drawing (g.D.Draws.draw c.args.draws.now)) (world_of x) event ≡ None) c.self.view_is
-    (block_taken s c.self.invariant c.args.m there old c.index_mut-member.ensures.value c.args.process c.args.index c.args.content.now room (g.D.Draws.draw c.args.draws.now))
+    subst (λ (x : GroupState). refusal (drawing (g.D.Draws.draw c.args.draws.now)) (world_of x) event ≡ None)
+    c.self.view_is
+    (block_taken s c.self.invariant c.args.m there old c.index_mut-member.ensures.value c.args.process c.args.index
+    c.args.content.now room (g.D.Draws.draw c.args.draws.now))
 
 pub returns-clause-world : goal.returns-clause-world
 returns-clause-world g c =
@@ -61,13 +76,21 @@ returns-clause-world g c =
     let there = subst (λ (x : GroupState). c.args.m < length x.members) (sym c.self.view_is) c.requires.there in
     let old = c.index_mut-member.result.now in
     let r : Result Blocked PublishRefusal = Ok c.in-Ok.blocked in
-    let room = finds_number s c.self.invariant c.args.m there old c.index_mut-member.ensures.value c.args.process c.args.index c.args.content.now r c.in-Ok.blocked refl c.in-Ok.ensures.spent in
+    let room =
+    finds_number s c.self.invariant c.args.m there old c.index_mut-member.ensures.value c.args.process c.args.index
+    c.args.content.now r c.in-Ok.blocked refl c.in-Ok.ensures.spent in
     let few = subst (λ (x : GroupState). x.steps < 100000) (sym c.self.view_is) c.requires.few in
-    let after = after_so s c.self.invariant c.args.m there old c.index_mut-member.ensures.value c.args.process c.args.index c.args.content.now room c.block.new.self (g.D.Draws.draw c.args.draws.now) c.draw-draw.result
-    (c.draw-draw.ensures ∙ ap (g.D.Draws.draw c.args.draws.now c.args.m) c.next_draw.ensures) c.in-Ok.ensures.ok c.in-Ok.blocked c.in-Ok.ensures.told few c.in-Ok.ensures.object
-    c.send_blocked-happened.new.sent.packets c.reserve.new.self.packets c.in_ok-vector.vector.items (ap (λ x. x.packets) c.in_ok-reserve.ensures.ok) (c.in_ok-vector.ensures ∙ c.vector.ensures.known) c.send_blocked-happened.ensures.sent in
+    let after =
+    after_so s c.self.invariant c.args.m there old c.index_mut-member.ensures.value c.args.process c.args.index
+    c.args.content.now room c.block.new.self (g.D.Draws.draw c.args.draws.now) c.draw-draw.result
+    (c.draw-draw.ensures ∙ ap (g.D.Draws.draw c.args.draws.now c.args.m) c.next_draw.ensures) c.in-Ok.ensures.ok
+    c.in-Ok.blocked c.in-Ok.ensures.told few c.in-Ok.ensures.object
+    c.send_blocked-happened.new.sent.packets c.reserve.new.self.packets c.in_ok-vector.vector.items
+    (ap (λ x. x.packets) c.in_ok-reserve.ensures.ok) (c.in_ok-vector.ensures ∙ c.vector.ensures.known)
+    c.send_blocked-happened.ensures.sent in
     let event = Event.Block c.args.m c.args.process c.args.index c.args.content.now in
-    after.world ∙ ap (λ (x : GroupState). after_event (drawing (g.D.Draws.draw c.args.draws.now)) (world_of x) event) c.self.view_is
+    after.world
+    ∙ ap (λ (x : GroupState). after_event (drawing (g.D.Draws.draw c.args.draws.now)) (world_of x) event) c.self.view_is
 
 pub returns-clause-told : goal.returns-clause-told
 returns-clause-told g c =
@@ -75,8 +98,13 @@ returns-clause-told g c =
     let there = subst (λ (x : GroupState). c.args.m < length x.members) (sym c.self.view_is) c.requires.there in
     let old = c.index_mut-member.result.now in
     let r : Result Blocked PublishRefusal = Ok c.in-Ok.blocked in
-    let room = finds_number s c.self.invariant c.args.m there old c.index_mut-member.ensures.value c.args.process c.args.index c.args.content.now r c.in-Ok.blocked refl c.in-Ok.ensures.spent in
-    told_so s c.self.invariant c.args.m there old c.index_mut-member.ensures.value c.args.process c.args.index c.args.content.now room c.block.new.self (g.D.Draws.draw c.args.draws.now) c.draw-draw.result
-    (c.draw-draw.ensures ∙ ap (g.D.Draws.draw c.args.draws.now c.args.m) c.next_draw.ensures) c.in-Ok.ensures.ok c.in-Ok.blocked c.in-Ok.ensures.told _ (length c.reserve.new.self.packets + 1) c.send_blocked-happened.ensures.told
+    let room =
+    finds_number s c.self.invariant c.args.m there old c.index_mut-member.ensures.value c.args.process c.args.index
+    c.args.content.now r c.in-Ok.blocked refl c.in-Ok.ensures.spent in
+    told_so s c.self.invariant c.args.m there old c.index_mut-member.ensures.value c.args.process c.args.index
+    c.args.content.now room c.block.new.self (g.D.Draws.draw c.args.draws.now) c.draw-draw.result
+    (c.draw-draw.ensures ∙ ap (g.D.Draws.draw c.args.draws.now c.args.m) c.next_draw.ensures) c.in-Ok.ensures.ok
+    c.in-Ok.blocked c.in-Ok.ensures.told _ (length c.reserve.new.self.packets + 1) c.send_blocked-happened.ensures.told
     (ap (λ x. length x.packets + 1) c.in_ok-reserve.ensures.ok)
-    ∙ ap (λ (x : GroupState). block_told c.args.m (next_seq_at (world_of x) c.args.m) (next_sync (world_of x)) (block_at (world_of x) c.args.m c.args.process c.args.index c.args.content.now)) c.self.view_is
+    ∙ ap (λ (x : GroupState). block_told c.args.m (next_seq_at (world_of x) c.args.m) (next_sync (world_of x))
+    (block_at (world_of x) c.args.m c.args.process c.args.index c.args.content.now)) c.self.view_is

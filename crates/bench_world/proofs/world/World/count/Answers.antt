@@ -5,7 +5,9 @@ use Rattle.bench_world.proofs.Readers.{counted_state}
 use Rattle.bench_world.proofs.world.World.count.Goals as goal
 
 pub invariant_of-self : goal.invariant_of-self
-invariant_of-self c = counted_state (world_state c.self.inside) c.self.invariant (subst (λ (x : GroupState). x.steps < 100000) (sym c.self.view_is) c.requires)
+invariant_of-self c =
+    counted_state (world_state c.self.inside) c.self.invariant
+    (subst (λ (x : GroupState). x.steps < 100000) (sym c.self.view_is) c.requires)
 
 pub returns-clause-world : goal.returns-clause-world
 returns-clause-world c = ap world_of c.self.view_is

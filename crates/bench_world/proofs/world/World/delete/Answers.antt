@@ -7,6 +7,8 @@ use Rattle.bench_world.proofs.world.World.delete.Goals as goal
 
 pub returns-clause-told : goal.returns-clause-told
 returns-clause-told c =
-    ap (λ k. Told.Delete c.args.m k c.in-Ok.answer.process c.in-Ok.answer.inserted c.in-Ok.answer.deleted) c.from.ensures
+    ap (λ k. Told.Delete c.args.m k c.in-Ok.answer.process c.in-Ok.answer.inserted c.in-Ok.answer.deleted)
+    c.from.ensures
     ∙ ap (delete_told c.args.m) c.in-Ok.ensures.answer
-    ∙ ap (λ n. delete_told c.args.m (command_answer (world_of c.args.self.now) c.args.m (Delete n))) c.in_ok-clone.ensures.cases
+    ∙ ap (λ n. delete_told c.args.m (command_answer (world_of c.args.self.now) c.args.m (Delete n)))
+    c.in_ok-clone.ensures.cases

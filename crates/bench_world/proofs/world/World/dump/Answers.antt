@@ -14,5 +14,9 @@ returns-clause-told c =
     let s = world_state c.self.inside in
     let there = subst (λ (x : GroupState). c.args.m < length x.members) (sym c.self.view_is) c.requires.there in
     c.in_ok-happened.ensures
-    ∙ ap (dump_told c.args.m) (packet_of_held s c.self.invariant c.args.m there c.index.result.now c.index.ensures (part_at c.args.p c.args.s c.args.x))
-    ∙ ap (λ (w : GroupState). dump_told c.args.m (if member_holds (member (world_of w) c.args.m) (part_at c.args.p c.args.s c.args.x) then true_packet w.keys (logs (world_of w)) (part_at c.args.p c.args.s c.args.x) else None)) c.self.view_is
+    ∙ ap (dump_told c.args.m)
+    (packet_of_held s c.self.invariant c.args.m there c.index.result.now c.index.ensures
+    (part_at c.args.p c.args.s c.args.x))
+    ∙ ap (λ (w : GroupState). dump_told c.args.m
+    (if member_holds (member (world_of w) c.args.m) (part_at c.args.p c.args.s c.args.x)
+    then true_packet w.keys (logs (world_of w)) (part_at c.args.p c.args.s c.args.x) else None)) c.self.view_is

@@ -11,40 +11,79 @@ use Rattle.bench_world.proofs.world.World.fetch.Goals as goal
 pub fetch_at-fetched-requires : goal.fetch_at-fetched-requires
 fetch_at-fetched-requires g c κs within =
     let s = world_state c.self.inside in
-    let there = subst (λ (x : GroupState). c.args.m < length x.members) (sym c.self.view_is) c.requires.there in
-    (within.0, (within.1, (c.type_bounds.sync-N, (c.type_bounds.sync-R, (c.requires.workers, (c.requires.tries, (there, (few_logs s c.self.invariant, (refl, (c.self.invariant.numbers, (c.self.invariant.members, tried_few s c.self.invariant)))))))))))
+    let there = subst (λ (x : GroupState). c.args.m < length x.members) (sym c.self.view_is) c.requires.there in (
+      within.0,
+      (
+        within.1,
+        (
+          c.type_bounds.sync-N,
+          (
+            c.type_bounds.sync-R,
+            (
+              c.requires.workers,
+              (
+                c.requires.tries,
+                (
+                  there,
+                  (
+                    few_logs s c.self.invariant,
+                    (refl, (c.self.invariant.numbers, (c.self.invariant.members, tried_few s c.self.invariant))),
+                  ),
+                ),
+              ),
+            ),
+          ),
+        ),
+      ),
+    )
 
 pub overflow_add-self : goal.overflow_add-self
 overflow_add-self g c =
     let s = world_state c.self.inside in
     let few = subst (λ (x : GroupState). x.steps < 100000) (sym c.self.view_is) c.requires.few in
-    let fits = fetch_fits s c.self.invariant few (g.N.Net.passes c.args.net.now) c.args.m c.args.tries c.args.loss c.requires.tries.1 c.in-Ok.counts.attempts c.in-Ok.counts.kept.parts c.in-Ok.counts.kept.octets c.in-Ok.ensures.attempts c.in-Ok.ensures.parts c.in-Ok.ensures.octets in
+    let fits =
+    fetch_fits s c.self.invariant few (g.N.Net.passes c.args.net.now) c.args.m c.args.tries c.args.loss
+    c.requires.tries.1 c.in-Ok.counts.attempts c.in-Ok.counts.kept.parts c.in-Ok.counts.kept.octets
+    c.in-Ok.ensures.attempts c.in-Ok.ensures.parts c.in-Ok.ensures.octets in
     omega (arith, fits.0)
 
 pub overflow_add-self-3 : goal.overflow_add-self-3
 overflow_add-self-3 g c =
     let s = world_state c.self.inside in
     let few = subst (λ (x : GroupState). x.steps < 100000) (sym c.self.view_is) c.requires.few in
-    let fits = fetch_fits s c.self.invariant few (g.N.Net.passes c.args.net.now) c.args.m c.args.tries c.args.loss c.requires.tries.1 c.in-Ok.counts.attempts c.in-Ok.counts.kept.parts c.in-Ok.counts.kept.octets c.in-Ok.ensures.attempts c.in-Ok.ensures.parts c.in-Ok.ensures.octets in
+    let fits =
+    fetch_fits s c.self.invariant few (g.N.Net.passes c.args.net.now) c.args.m c.args.tries c.args.loss
+    c.requires.tries.1 c.in-Ok.counts.attempts c.in-Ok.counts.kept.parts c.in-Ok.counts.kept.octets
+    c.in-Ok.ensures.attempts c.in-Ok.ensures.parts c.in-Ok.ensures.octets in
     omega (arith, fits.2)
 
 pub invariant_of-self-2 : goal.invariant_of-self-2
 invariant_of-self-2 g c =
     let s = world_state c.self.inside in
     let few = subst (λ (x : GroupState). x.steps < 100000) (sym c.self.view_is) c.requires.few in
-    fetch_state s c.self.invariant few (g.N.Net.passes c.args.net.now) c.args.m c.args.tries c.args.loss c.requires.tries.1 c.in-Ok.counts.attempts c.from.result c.in-Ok.counts.kept.octets
-    c.in-Ok.ensures.attempts (c.from.ensures ∙ c.in-Ok.ensures.parts) c.in-Ok.ensures.octets c.fetch_at-fetched.new.members.items c.in-Ok.ensures.members c.fetch_at-fetched.ensures.len c.fetch_at-fetched.ensures.numbers c.fetch_at-fetched.ensures.truly
+    fetch_state s c.self.invariant few (g.N.Net.passes c.args.net.now) c.args.m c.args.tries c.args.loss
+    c.requires.tries.1 c.in-Ok.counts.attempts c.from.result c.in-Ok.counts.kept.octets
+    c.in-Ok.ensures.attempts (c.from.ensures ∙ c.in-Ok.ensures.parts) c.in-Ok.ensures.octets
+    c.fetch_at-fetched.new.members.items c.in-Ok.ensures.members c.fetch_at-fetched.ensures.len
+    c.fetch_at-fetched.ensures.numbers c.fetch_at-fetched.ensures.truly
 
 pub returns-clause-world : goal.returns-clause-world
 returns-clause-world g c =
     let s = world_state c.self.inside in
     let few = subst (λ (x : GroupState). x.steps < 100000) (sym c.self.view_is) c.requires.few in
-    fetch_world s c.self.invariant few (g.N.Net.passes c.args.net.now) c.args.m c.args.tries c.args.loss c.requires.tries.1 c.in-Ok.counts.attempts c.from.result c.in-Ok.counts.kept.octets
-    c.in-Ok.ensures.attempts (c.from.ensures ∙ c.in-Ok.ensures.parts) c.in-Ok.ensures.octets c.fetch_at-fetched.new.members.items c.in-Ok.ensures.members
-    ∙ ap (λ (x : GroupState). after_fetch (outside x.keys (λ _ _. 0) (g.N.Net.passes c.args.net.now)) (world_of x) c.args.m c.args.tries c.args.loss) c.self.view_is
+    fetch_world s c.self.invariant few (g.N.Net.passes c.args.net.now) c.args.m c.args.tries c.args.loss
+    c.requires.tries.1 c.in-Ok.counts.attempts c.from.result c.in-Ok.counts.kept.octets
+    c.in-Ok.ensures.attempts (c.from.ensures ∙ c.in-Ok.ensures.parts) c.in-Ok.ensures.octets
+    c.fetch_at-fetched.new.members.items c.in-Ok.ensures.members
+    ∙ ap (λ (x : GroupState). after_fetch (outside x.keys (λ _ _. 0) (g.N.Net.passes c.args.net.now)) (world_of x)
+    c.args.m c.args.tries c.args.loss) c.self.view_is
 
 pub returns-clause-told : goal.returns-clause-told
 returns-clause-told g c =
-    (λ i. Told.Fetch c.args.m (c.in-Ok.ensures.planned i) ((c.from-2.ensures ∙ c.in-Ok.ensures.parts) i) (c.in-Ok.ensures.attempts i))
-    ∙ ap (λ (x : GroupState). Told.Fetch c.args.m (length (planned_parts (world_of x) c.args.m)) (length (fetched_parts (outside x.keys (λ _ _. 0) (g.N.Net.passes c.args.net.now)) (world_of x) c.args.m c.args.tries c.args.loss))
-    (attempts_made (outside x.keys (λ _ _. 0) (g.N.Net.passes c.args.net.now)) (world_of x) c.args.m c.args.tries c.args.loss)) c.self.view_is
+    (λ i. Told.Fetch c.args.m (c.in-Ok.ensures.planned i) ((c.from-2.ensures ∙ c.in-Ok.ensures.parts) i)
+    (c.in-Ok.ensures.attempts i))
+    ∙ ap (λ (x : GroupState). Told.Fetch c.args.m (length (planned_parts (world_of x) c.args.m))
+    (length (fetched_parts (outside x.keys (λ _ _. 0) (g.N.Net.passes c.args.net.now)) (world_of x) c.args.m
+    c.args.tries c.args.loss))
+    (attempts_made (outside x.keys (λ _ _. 0) (g.N.Net.passes c.args.net.now)) (world_of x) c.args.m c.args.tries
+    c.args.loss)) c.self.view_is

@@ -20,8 +20,12 @@ returns-in-Err-Sync-clause-taken g c =
     let s = world_state c.self.inside in
     let there = subst (λ (x : GroupState). c.args.m < length x.members) (sym c.self.view_is) c.requires.there in
     let r = group_verdict s.keys c.args.octets.now in
-    let all = refused_so s c.self.invariant c.args.m there c.index.result.now c.index.ensures r (g.D.Draws.draw c.args.draws.now) c.in-Err-Sync.field-0 c.in-Err-Sync.ensures.refused (λ memory. apart (sym c.in-Err-Sync.field-0-is ∙ memory)) in
-    subst (λ (x : GroupState). if_unsent (world_of x) c.args.m (read_as (group_verdict x.keys c.args.octets.now)) ≡ None) c.self.view_is all.0 where
+    let all =
+    refused_so s c.self.invariant c.args.m there c.index.result.now c.index.ensures r (g.D.Draws.draw c.args.draws.now)
+    c.in-Err-Sync.field-0 c.in-Err-Sync.ensures.refused (λ memory. apart (sym c.in-Err-Sync.field-0-is ∙ memory)) in
+    subst
+    (λ (x : GroupState). if_unsent (world_of x) c.args.m (read_as (group_verdict x.keys c.args.octets.now)) ≡ None)
+    c.self.view_is all.0 where
       apart : hear.Sync c.in-Err-Sync.refusal ≡ hear.NoMemory → ⊥
       apart h = cc
 
@@ -30,8 +34,13 @@ returns-in-Err-Sync-clause-world g c =
     let s = world_state c.self.inside in
     let there = subst (λ (x : GroupState). c.args.m < length x.members) (sym c.self.view_is) c.requires.there in
     let r = group_verdict s.keys c.args.octets.now in
-    let all = refused_so s c.self.invariant c.args.m there c.index.result.now c.index.ensures r (g.D.Draws.draw c.args.draws.now) c.in-Err-Sync.field-0 c.in-Err-Sync.ensures.refused (λ memory. apart (sym c.in-Err-Sync.field-0-is ∙ memory)) in
-    c.count.ensures.world ∙ subst (λ (x : GroupState). world_of x ≡ after_hear (drawing (g.D.Draws.draw c.args.draws.now)) (world_of x) c.args.m (read_as (group_verdict x.keys c.args.octets.now))) c.self.view_is (sym all.1) where
+    let all =
+    refused_so s c.self.invariant c.args.m there c.index.result.now c.index.ensures r (g.D.Draws.draw c.args.draws.now)
+    c.in-Err-Sync.field-0 c.in-Err-Sync.ensures.refused (λ memory. apart (sym c.in-Err-Sync.field-0-is ∙ memory)) in
+    c.count.ensures.world
+    ∙ subst (λ (x : GroupState). world_of x
+    ≡ after_hear (drawing (g.D.Draws.draw c.args.draws.now)) (world_of x) c.args.m
+    (read_as (group_verdict x.keys c.args.octets.now))) c.self.view_is (sym all.1) where
       apart : hear.Sync c.in-Err-Sync.refusal ≡ hear.NoMemory → ⊥
       apart h = cc
 
@@ -40,9 +49,13 @@ returns-in-Err-Sync-clause-told g c =
     let s = world_state c.self.inside in
     let there = subst (λ (x : GroupState). c.args.m < length x.members) (sym c.self.view_is) c.requires.there in
     let r = group_verdict s.keys c.args.octets.now in
-    let all = refused_so s c.self.invariant c.args.m there c.index.result.now c.index.ensures r (g.D.Draws.draw c.args.draws.now) c.in-Err-Sync.field-0 c.in-Err-Sync.ensures.refused (λ memory. apart (sym c.in-Err-Sync.field-0-is ∙ memory)) in
+    let all =
+    refused_so s c.self.invariant c.args.m there c.index.result.now c.index.ensures r (g.D.Draws.draw c.args.draws.now)
+    c.in-Err-Sync.field-0 c.in-Err-Sync.ensures.refused (λ memory. apart (sym c.in-Err-Sync.field-0-is ∙ memory)) in
     ap (Told.HearRefused c.args.m) (sym c.in-Err-Sync.field-0-is)
-    ∙ subst (λ (x : GroupState). Told.HearRefused c.args.m c.in-Err-Sync.field-0 ≡ hear_told (drawing (g.D.Draws.draw c.args.draws.now)) (world_of x) c.args.m (group_verdict x.keys c.args.octets.now)) c.self.view_is (sym all.2) where
+    ∙ subst (λ (x : GroupState). Told.HearRefused c.args.m c.in-Err-Sync.field-0
+    ≡ hear_told (drawing (g.D.Draws.draw c.args.draws.now)) (world_of x) c.args.m
+    (group_verdict x.keys c.args.octets.now)) c.self.view_is (sym all.2) where
       apart : hear.Sync c.in-Err-Sync.refusal ≡ hear.NoMemory → ⊥
       apart h = cc
 
@@ -51,8 +64,13 @@ returns-in-Err-OwnNumberAhead-clause-taken g c =
     let s = world_state c.self.inside in
     let there = subst (λ (x : GroupState). c.args.m < length x.members) (sym c.self.view_is) c.requires.there in
     let r = group_verdict s.keys c.args.octets.now in
-    let all = refused_so s c.self.invariant c.args.m there c.index.result.now c.index.ensures r (g.D.Draws.draw c.args.draws.now) c.in-Err-OwnNumberAhead.field-0 c.in-Err-OwnNumberAhead.ensures.refused (λ memory. apart (sym c.in-Err-OwnNumberAhead.field-0-is ∙ memory)) in
-    subst (λ (x : GroupState). if_unsent (world_of x) c.args.m (read_as (group_verdict x.keys c.args.octets.now)) ≡ None) c.self.view_is all.0 where
+    let all =
+    refused_so s c.self.invariant c.args.m there c.index.result.now c.index.ensures r (g.D.Draws.draw c.args.draws.now)
+    c.in-Err-OwnNumberAhead.field-0 c.in-Err-OwnNumberAhead.ensures.refused
+    (λ memory. apart (sym c.in-Err-OwnNumberAhead.field-0-is ∙ memory)) in
+    subst
+    (λ (x : GroupState). if_unsent (world_of x) c.args.m (read_as (group_verdict x.keys c.args.octets.now)) ≡ None)
+    c.self.view_is all.0 where
       apart : hear.OwnNumberAhead c.in-Err-OwnNumberAhead.own c.in-Err-OwnNumberAhead.told ≡ hear.NoMemory → ⊥
       apart h = cc
 
@@ -61,8 +79,14 @@ returns-in-Err-OwnNumberAhead-clause-world g c =
     let s = world_state c.self.inside in
     let there = subst (λ (x : GroupState). c.args.m < length x.members) (sym c.self.view_is) c.requires.there in
     let r = group_verdict s.keys c.args.octets.now in
-    let all = refused_so s c.self.invariant c.args.m there c.index.result.now c.index.ensures r (g.D.Draws.draw c.args.draws.now) c.in-Err-OwnNumberAhead.field-0 c.in-Err-OwnNumberAhead.ensures.refused (λ memory. apart (sym c.in-Err-OwnNumberAhead.field-0-is ∙ memory)) in
-    c.count-in-Err-OwnNumberAhead.ensures.world ∙ subst (λ (x : GroupState). world_of x ≡ after_hear (drawing (g.D.Draws.draw c.args.draws.now)) (world_of x) c.args.m (read_as (group_verdict x.keys c.args.octets.now))) c.self.view_is (sym all.1) where
+    let all =
+    refused_so s c.self.invariant c.args.m there c.index.result.now c.index.ensures r (g.D.Draws.draw c.args.draws.now)
+    c.in-Err-OwnNumberAhead.field-0 c.in-Err-OwnNumberAhead.ensures.refused
+    (λ memory. apart (sym c.in-Err-OwnNumberAhead.field-0-is ∙ memory)) in
+    c.count-in-Err-OwnNumberAhead.ensures.world
+    ∙ subst (λ (x : GroupState). world_of x
+    ≡ after_hear (drawing (g.D.Draws.draw c.args.draws.now)) (world_of x) c.args.m
+    (read_as (group_verdict x.keys c.args.octets.now))) c.self.view_is (sym all.1) where
       apart : hear.OwnNumberAhead c.in-Err-OwnNumberAhead.own c.in-Err-OwnNumberAhead.told ≡ hear.NoMemory → ⊥
       apart h = cc
 
@@ -71,9 +95,14 @@ returns-in-Err-OwnNumberAhead-clause-told g c =
     let s = world_state c.self.inside in
     let there = subst (λ (x : GroupState). c.args.m < length x.members) (sym c.self.view_is) c.requires.there in
     let r = group_verdict s.keys c.args.octets.now in
-    let all = refused_so s c.self.invariant c.args.m there c.index.result.now c.index.ensures r (g.D.Draws.draw c.args.draws.now) c.in-Err-OwnNumberAhead.field-0 c.in-Err-OwnNumberAhead.ensures.refused (λ memory. apart (sym c.in-Err-OwnNumberAhead.field-0-is ∙ memory)) in
+    let all =
+    refused_so s c.self.invariant c.args.m there c.index.result.now c.index.ensures r (g.D.Draws.draw c.args.draws.now)
+    c.in-Err-OwnNumberAhead.field-0 c.in-Err-OwnNumberAhead.ensures.refused
+    (λ memory. apart (sym c.in-Err-OwnNumberAhead.field-0-is ∙ memory)) in
     ap (Told.HearRefused c.args.m) (sym c.in-Err-OwnNumberAhead.field-0-is)
-    ∙ subst (λ (x : GroupState). Told.HearRefused c.args.m c.in-Err-OwnNumberAhead.field-0 ≡ hear_told (drawing (g.D.Draws.draw c.args.draws.now)) (world_of x) c.args.m (group_verdict x.keys c.args.octets.now)) c.self.view_is (sym all.2) where
+    ∙ subst (λ (x : GroupState). Told.HearRefused c.args.m c.in-Err-OwnNumberAhead.field-0
+    ≡ hear_told (drawing (g.D.Draws.draw c.args.draws.now)) (world_of x) c.args.m
+    (group_verdict x.keys c.args.octets.now)) c.self.view_is (sym all.2) where
       apart : hear.OwnNumberAhead c.in-Err-OwnNumberAhead.own c.in-Err-OwnNumberAhead.told ≡ hear.NoMemory → ⊥
       apart h = cc
 
@@ -90,10 +119,16 @@ returns-in-Err-clause-refused g c =
     let r = group_verdict s.keys c.args.octets.now in
     let old = c.index_mut-member.result.now in
     let same : c.index.result.now ≡ c.index_mut-member.result.now =
-    c.index.ensures ∙ get_or_default s.members c.args.m c.index.result.now nobody there ∙ sym (c.index_mut-member.ensures.value ∙ get_or_default s.members c.args.m c.index_mut-member.result.now nobody there) in
+    c.index.ensures
+    ∙ get_or_default s.members c.args.m c.index.result.now nobody there
+    ∙ sym
+    (c.index_mut-member.ensures.value ∙ get_or_default s.members c.args.m c.index_mut-member.result.now nobody there) in
     let told = ap (λ (a : Alone). told_sync (length a.log) c.args.m r) (sym same) ∙ c.in-Ok.ensures.told in
-    subst (λ (x : GroupState). IsFaultOf (if_unsent (world_of x) c.args.m (read_as (group_verdict x.keys c.args.octets.now))) c.in-Err.fault) c.self.view_is
-    (foreign_so s c.self.invariant c.args.m there old c.index_mut-member.ensures.value r c.in-Ok.told.0 c.in-Ok.told.1 told c.in-Err.fault c.in-Err.ensures.foreign)
+    subst (λ (x : GroupState).
+    IsFaultOf (if_unsent (world_of x) c.args.m (read_as (group_verdict x.keys c.args.octets.now))) c.in-Err.fault)
+    c.self.view_is
+    (foreign_so s c.self.invariant c.args.m there old c.index_mut-member.ensures.value r c.in-Ok.told.0 c.in-Ok.told.1
+    told c.in-Err.fault c.in-Err.ensures.foreign)
 
 pub invariant_of-self-2 : goal.invariant_of-self-2
 invariant_of-self-2 g c =
@@ -102,10 +137,15 @@ invariant_of-self-2 g c =
     let r = group_verdict s.keys c.args.octets.now in
     let old = c.index_mut-member.result.now in
     let same : c.index.result.now ≡ c.index_mut-member.result.now =
-    c.index.ensures ∙ get_or_default s.members c.args.m c.index.result.now nobody there ∙ sym (c.index_mut-member.ensures.value ∙ get_or_default s.members c.args.m c.index_mut-member.result.now nobody there) in
+    c.index.ensures
+    ∙ get_or_default s.members c.args.m c.index.result.now nobody there
+    ∙ sym
+    (c.index_mut-member.ensures.value ∙ get_or_default s.members c.args.m c.index_mut-member.result.now nobody there) in
     let told = ap (λ (a : Alone). told_sync (length a.log) c.args.m r) (sym same) ∙ c.in-Ok.ensures.told in
     let drawn = c.draw-draw.ensures ∙ ap (g.D.Draws.draw c.args.draws.now c.args.m) c.next_draw.ensures in
-    heard_state s c.self.invariant c.args.m there old c.index_mut-member.ensures.value r c.in-Ok.told.0 c.in-Ok.told.1 told c.in-Ok-hear_sent.ensures.sent (g.D.Draws.draw c.args.draws.now) c.hear_sent.new.member c.draw-draw.result c.in-Ok-hear_sent.ensures.ok drawn
+    heard_state s c.self.invariant c.args.m there old c.index_mut-member.ensures.value r c.in-Ok.told.0 c.in-Ok.told.1
+    told c.in-Ok-hear_sent.ensures.sent (g.D.Draws.draw c.args.draws.now) c.hear_sent.new.member c.draw-draw.result
+    c.in-Ok-hear_sent.ensures.ok drawn
     (subst (λ (x : GroupState). x.steps < 100000) (sym c.self.view_is) c.requires.few)
 
 pub returns-clause-taken : goal.returns-clause-taken
@@ -115,9 +155,16 @@ returns-clause-taken g c =
     let r = group_verdict s.keys c.args.octets.now in
     let old = c.index_mut-member.result.now in
     let same : c.index.result.now ≡ c.index_mut-member.result.now =
-    c.index.ensures ∙ get_or_default s.members c.args.m c.index.result.now nobody there ∙ sym (c.index_mut-member.ensures.value ∙ get_or_default s.members c.args.m c.index_mut-member.result.now nobody there) in
+    c.index.ensures
+    ∙ get_or_default s.members c.args.m c.index.result.now nobody there
+    ∙ sym
+    (c.index_mut-member.ensures.value ∙ get_or_default s.members c.args.m c.index_mut-member.result.now nobody there) in
     let told = ap (λ (a : Alone). told_sync (length a.log) c.args.m r) (sym same) ∙ c.in-Ok.ensures.told in
-    subst (λ (x : GroupState). if_unsent (world_of x) c.args.m (read_as (group_verdict x.keys c.args.octets.now)) ≡ None) c.self.view_is (sent_taken s c.self.invariant c.args.m there old c.index_mut-member.ensures.value r c.in-Ok.told.0 c.in-Ok.told.1 told c.in-Ok-hear_sent.ensures.sent)
+    subst
+    (λ (x : GroupState). if_unsent (world_of x) c.args.m (read_as (group_verdict x.keys c.args.octets.now)) ≡ None)
+    c.self.view_is
+    (sent_taken s c.self.invariant c.args.m there old c.index_mut-member.ensures.value r c.in-Ok.told.0 c.in-Ok.told.1
+    told c.in-Ok-hear_sent.ensures.sent)
 
 pub returns-clause-world : goal.returns-clause-world
 returns-clause-world g c =
@@ -126,11 +173,17 @@ returns-clause-world g c =
     let r = group_verdict s.keys c.args.octets.now in
     let old = c.index_mut-member.result.now in
     let same : c.index.result.now ≡ c.index_mut-member.result.now =
-    c.index.ensures ∙ get_or_default s.members c.args.m c.index.result.now nobody there ∙ sym (c.index_mut-member.ensures.value ∙ get_or_default s.members c.args.m c.index_mut-member.result.now nobody there) in
+    c.index.ensures
+    ∙ get_or_default s.members c.args.m c.index.result.now nobody there
+    ∙ sym
+    (c.index_mut-member.ensures.value ∙ get_or_default s.members c.args.m c.index_mut-member.result.now nobody there) in
     let told = ap (λ (a : Alone). told_sync (length a.log) c.args.m r) (sym same) ∙ c.in-Ok.ensures.told in
     let drawn = c.draw-draw.ensures ∙ ap (g.D.Draws.draw c.args.draws.now c.args.m) c.next_draw.ensures in
-    heard_world s c.self.invariant c.args.m there old c.index_mut-member.ensures.value r c.in-Ok.told.0 c.in-Ok.told.1 told c.in-Ok-hear_sent.ensures.sent (g.D.Draws.draw c.args.draws.now) c.hear_sent.new.member c.draw-draw.result c.in-Ok-hear_sent.ensures.ok drawn
-    ∙ ap (λ (x : GroupState). after_hear (drawing (g.D.Draws.draw c.args.draws.now)) (world_of x) c.args.m (read_as (group_verdict x.keys c.args.octets.now))) c.self.view_is
+    heard_world s c.self.invariant c.args.m there old c.index_mut-member.ensures.value r c.in-Ok.told.0 c.in-Ok.told.1
+    told c.in-Ok-hear_sent.ensures.sent (g.D.Draws.draw c.args.draws.now) c.hear_sent.new.member c.draw-draw.result
+    c.in-Ok-hear_sent.ensures.ok drawn
+    ∙ ap (λ (x : GroupState). after_hear (drawing (g.D.Draws.draw c.args.draws.now)) (world_of x) c.args.m
+    (read_as (group_verdict x.keys c.args.octets.now))) c.self.view_is
 
 pub returns-clause-told : goal.returns-clause-told
 returns-clause-told g c =
@@ -139,8 +192,15 @@ returns-clause-told g c =
     let r = group_verdict s.keys c.args.octets.now in
     let old = c.index_mut-member.result.now in
     let same : c.index.result.now ≡ c.index_mut-member.result.now =
-    c.index.ensures ∙ get_or_default s.members c.args.m c.index.result.now nobody there ∙ sym (c.index_mut-member.ensures.value ∙ get_or_default s.members c.args.m c.index_mut-member.result.now nobody there) in
+    c.index.ensures
+    ∙ get_or_default s.members c.args.m c.index.result.now nobody there
+    ∙ sym
+    (c.index_mut-member.ensures.value ∙ get_or_default s.members c.args.m c.index_mut-member.result.now nobody there) in
     let told = ap (λ (a : Alone). told_sync (length a.log) c.args.m r) (sym same) ∙ c.in-Ok.ensures.told in
     let drawn = c.draw-draw.ensures ∙ ap (g.D.Draws.draw c.args.draws.now c.args.m) c.next_draw.ensures in
-    c.heard.ensures ∙ heard_told s c.self.invariant c.args.m there old c.index_mut-member.ensures.value r c.in-Ok.told.0 c.in-Ok.told.1 told c.in-Ok-hear_sent.ensures.sent (g.D.Draws.draw c.args.draws.now) c.hear_sent.new.member c.draw-draw.result c.in-Ok-hear_sent.ensures.ok drawn c.in-Ok-hear_sent.mode c.in-Ok-hear_sent.ensures.mode
-    ∙ ap (λ (x : GroupState). hear_told (drawing (g.D.Draws.draw c.args.draws.now)) (world_of x) c.args.m (group_verdict x.keys c.args.octets.now)) c.self.view_is
+    c.heard.ensures
+    ∙ heard_told s c.self.invariant c.args.m there old c.index_mut-member.ensures.value r c.in-Ok.told.0 c.in-Ok.told.1
+    told c.in-Ok-hear_sent.ensures.sent (g.D.Draws.draw c.args.draws.now) c.hear_sent.new.member c.draw-draw.result
+    c.in-Ok-hear_sent.ensures.ok drawn c.in-Ok-hear_sent.mode c.in-Ok-hear_sent.ensures.mode
+    ∙ ap (λ (x : GroupState). hear_told (drawing (g.D.Draws.draw c.args.draws.now)) (world_of x) c.args.m
+    (group_verdict x.keys c.args.octets.now)) c.self.view_is

@@ -4,5 +4,6 @@ use Rattle.bench_world.proofs.world.World.insert.Goals as goal
 
 pub returns-clause-told : goal.returns-clause-told
 returns-clause-told c =
-    ap (λ k. Told.Insert c.args.m k c.in-Ok.answer.process c.in-Ok.answer.inserted c.in-Ok.answer.deleted) c.from.ensures
+    ap (λ k. Told.Insert c.args.m k c.in-Ok.answer.process c.in-Ok.answer.inserted c.in-Ok.answer.deleted)
+    c.from.ensures
     ∙ ap (insert_told c.args.m) c.in-Ok.ensures.answer

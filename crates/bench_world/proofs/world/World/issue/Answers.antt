@@ -14,33 +14,50 @@ invariant_of-self-2 c =
     let s = world_state c.self.inside in
     let there = subst (λ (x : GroupState). c.args.m < length x.members) (sym c.self.view_is) c.requires.there in
     let few = subst (λ (x : GroupState). x.steps < 100000) (sym c.self.view_is) c.requires.few in
-    let known = subst (λ (x : GroupState). c.args.client < length x.keys.clients.names) (sym c.self.view_is) c.requires.client in
+    let known =
+    subst (λ (x : GroupState). c.args.client < length x.keys.clients.names) (sym c.self.view_is) c.requires.client in
     let old = c.index_mut-member.result.now in
-    let taken = taken_is s c.self.invariant c.args.m there old c.index_mut-member.ensures.value c.args.client c.args.command known c.requires.spelled c.requires.command c.deref.result.now (c.deref.ensures.value ∙ c.in_ok-octets.ensures) in
+    let taken =
+    taken_is s c.self.invariant c.args.m there old c.index_mut-member.ensures.value c.args.client c.args.command known
+    c.requires.spelled c.requires.command c.deref.result.now (c.deref.ensures.value ∙ c.in_ok-octets.ensures) in
     let b_is = c.in-Ok.ensures.ok ∙ ap (λ r. commanded.alone_after_order r old) taken in
     let one : IssuedCommand = record { member = c.args.m; client = c.args.client; command = c.args.command } in
-    let made = c.add_reserved.ensures.made ∙ ap (λ (x : IssuedList). x.commands ++ issued_of one ∷ []) c.in_ok-reserve.ensures.ok in
-    issue_state s c.self.invariant c.args.m there old c.index_mut-member.ensures.value c.args.client c.args.command c.add_reserved.new.self.commands made c.command.new.self b_is few c.requires.short
+    let made =
+    c.add_reserved.ensures.made
+    ∙ ap (λ (x : IssuedList). x.commands ++ issued_of one ∷ []) c.in_ok-reserve.ensures.ok in
+    issue_state s c.self.invariant c.args.m there old c.index_mut-member.ensures.value c.args.client c.args.command
+    c.add_reserved.new.self.commands made c.command.new.self b_is few c.requires.short
 
 pub returns-clause-world : goal.returns-clause-world
 returns-clause-world c =
     let s = world_state c.self.inside in
     let there = subst (λ (x : GroupState). c.args.m < length x.members) (sym c.self.view_is) c.requires.there in
-    let known = subst (λ (x : GroupState). c.args.client < length x.keys.clients.names) (sym c.self.view_is) c.requires.client in
+    let known =
+    subst (λ (x : GroupState). c.args.client < length x.keys.clients.names) (sym c.self.view_is) c.requires.client in
     let old = c.index_mut-member.result.now in
-    let taken = taken_is s c.self.invariant c.args.m there old c.index_mut-member.ensures.value c.args.client c.args.command known c.requires.spelled c.requires.command c.deref.result.now (c.deref.ensures.value ∙ c.in_ok-octets.ensures) in
+    let taken =
+    taken_is s c.self.invariant c.args.m there old c.index_mut-member.ensures.value c.args.client c.args.command known
+    c.requires.spelled c.requires.command c.deref.result.now (c.deref.ensures.value ∙ c.in_ok-octets.ensures) in
     let b_is = c.in-Ok.ensures.ok ∙ ap (λ r. commanded.alone_after_order r old) taken in
     let one : IssuedCommand = record { member = c.args.m; client = c.args.client; command = c.args.command } in
-    let made = c.add_reserved.ensures.made ∙ ap (λ (x : IssuedList). x.commands ++ issued_of one ∷ []) c.in_ok-reserve.ensures.ok in
-    issue_world s c.self.invariant c.args.m there old c.index_mut-member.ensures.value c.args.client c.args.command c.add_reserved.new.self.commands made c.command.new.self b_is
+    let made =
+    c.add_reserved.ensures.made
+    ∙ ap (λ (x : IssuedList). x.commands ++ issued_of one ∷ []) c.in_ok-reserve.ensures.ok in
+    issue_world s c.self.invariant c.args.m there old c.index_mut-member.ensures.value c.args.client c.args.command
+    c.add_reserved.new.self.commands made c.command.new.self b_is
     ∙ ap (λ (x : GroupState). after_issue (world_of x) c.args.m c.args.client c.args.command) c.self.view_is
 
 pub returns-clause-answer : goal.returns-clause-answer
 returns-clause-answer c =
     let s = world_state c.self.inside in
     let there = subst (λ (x : GroupState). c.args.m < length x.members) (sym c.self.view_is) c.requires.there in
-    let known = subst (λ (x : GroupState). c.args.client < length x.keys.clients.names) (sym c.self.view_is) c.requires.client in
+    let known =
+    subst (λ (x : GroupState). c.args.client < length x.keys.clients.names) (sym c.self.view_is) c.requires.client in
     let old = c.index_mut-member.result.now in
-    let taken = taken_is s c.self.invariant c.args.m there old c.index_mut-member.ensures.value c.args.client c.args.command known c.requires.spelled c.requires.command c.deref.result.now (c.deref.ensures.value ∙ c.in_ok-octets.ensures) in
-    c.in-Ok.ensures.answer ∙ ap (λ r. commanded.alone_order_answer r old) taken ∙ issue_answered s c.self.invariant c.args.m there old c.index_mut-member.ensures.value c.args.client c.args.command
+    let taken =
+    taken_is s c.self.invariant c.args.m there old c.index_mut-member.ensures.value c.args.client c.args.command known
+    c.requires.spelled c.requires.command c.deref.result.now (c.deref.ensures.value ∙ c.in_ok-octets.ensures) in
+    c.in-Ok.ensures.answer
+    ∙ ap (λ r. commanded.alone_order_answer r old) taken
+    ∙ issue_answered s c.self.invariant c.args.m there old c.index_mut-member.ensures.value c.args.client c.args.command
     ∙ ap (λ (x : GroupState). command_answer (world_of x) c.args.m c.args.command) c.self.view_is

@@ -10,12 +10,15 @@ pub invariant_of-self-2 : goal.invariant_of-self-2
 invariant_of-self-2 c =
     let s = world_state c.self.inside in
     let there = subst (λ (x : GroupState). c.args.m < length x.members) (sym c.self.view_is) c.requires.there in
-    lost_state s c.self.invariant c.args.m there c.index_mut-member.result.now c.index_mut-member.ensures.value c.args.f c.lose.new.self c.in-Ok.ensures.ok
+    lost_state s c.self.invariant c.args.m there c.index_mut-member.result.now c.index_mut-member.ensures.value c.args.f
+    c.lose.new.self c.in-Ok.ensures.ok
     (subst (λ (x : GroupState). x.steps < 100000) (sym c.self.view_is) c.requires.few)
 
 pub returns-clause-world : goal.returns-clause-world
 returns-clause-world c =
     let s = world_state c.self.inside in
     let there = subst (λ (x : GroupState). c.args.m < length x.members) (sym c.self.view_is) c.requires.there in
-    lost_world s c.self.invariant c.args.m there c.index_mut-member.result.now c.index_mut-member.ensures.value c.args.f c.lose.new.self c.in-Ok.ensures.ok
-    ∙ ap (λ (x : GroupState). with_member (world_of x) c.args.m (member_with_claim c.args.f None (member (world_of x) c.args.m))) c.self.view_is
+    lost_world s c.self.invariant c.args.m there c.index_mut-member.result.now c.index_mut-member.ensures.value c.args.f
+    c.lose.new.self c.in-Ok.ensures.ok
+    ∙ ap (λ (x : GroupState).
+    with_member (world_of x) c.args.m (member_with_claim c.args.f None (member (world_of x) c.args.m))) c.self.view_is

@@ -7,13 +7,29 @@ use Rattle.bench_world.proofs.world.World.new.Goals as goal
 
 pub invariant_of-result : goal.invariant_of-result
 invariant_of-result g c =
-    subst (λ (made : List Issued). IsTrueState (record { keys = c.args.group; members = c.in_ok-members.members.items; sent = c.new.result.packets; moment = 0; issued = made; tally = record { delivered = 0; attempts = 0; parts = 0; octets = 0 }; steps = 0 }))
+    subst (λ (made : List Issued). IsTrueState (record {
+      keys = c.args.group;
+      members = c.in_ok-members.members.items;
+      sent = c.new.result.packets;
+      moment = 0;
+      issued = made;
+      tally = record { delivered = 0; attempts = 0; parts = 0; octets = 0 };
+      steps = 0;
+    }))
     (sym (ap (λ (x : IssuedList). x.commands) c.new-2.ensures))
     (opening_state c.args.group c.roster-roster.ensures.sound (g.D.Draws.draw c.args.draws.now)
     c.in_ok-members.members.items c.new.result.packets c.in_ok-members.ensures (ap (λ x. x.packets) c.new.ensures))
 
 pub returns-clause-world : goal.returns-clause-world
 returns-clause-world g c =
-    ap (λ (made : List Issued). world_of (record { keys = c.args.group; members = c.in_ok-members.members.items; sent = c.new.result.packets; moment = 0; issued = made; tally = record { delivered = 0; attempts = 0; parts = 0; octets = 0 }; steps = 0 })) (ap (λ (x : IssuedList). x.commands) c.new-2.ensures)
+    ap (λ (made : List Issued). world_of (record {
+      keys = c.args.group;
+      members = c.in_ok-members.members.items;
+      sent = c.new.result.packets;
+      moment = 0;
+      issued = made;
+      tally = record { delivered = 0; attempts = 0; parts = 0; octets = 0 };
+      steps = 0;
+    })) (ap (λ (x : IssuedList). x.commands) c.new-2.ensures)
     ∙ opening_is c.args.group c.roster-roster.ensures.sound (g.D.Draws.draw c.args.draws.now)
     c.in_ok-members.members.items c.new.result.packets c.in_ok-members.ensures (ap (λ x. x.packets) c.new.ensures)

@@ -27,8 +27,12 @@ invariant_of-self-2 c =
     let few = subst (λ (x : GroupState). x.steps < 100000) (sym c.self.view_is) c.requires.few in
     let old = c.index_mut-member.result.now in
     let number = number_is s c.self.invariant c.args.m there old c.index_mut-member.ensures.value in
-    let b_is = c.in-Ok.ensures.ok ∙ ap (λ (k : ℕ). commanded.alone_after_order (commanded.order_of s.keys k c.args.octets.now) old) number in
-    obeyed_state s c.self.invariant c.args.m there old c.index_mut-member.ensures.value (commanded.order_of s.keys c.args.m c.args.octets.now) c.command_checked.new.self b_is few (order_range s.keys c.args.m c.args.octets.now)
+    let b_is =
+    c.in-Ok.ensures.ok
+    ∙ ap (λ (k : ℕ). commanded.alone_after_order (commanded.order_of s.keys k c.args.octets.now) old) number in
+    obeyed_state s c.self.invariant c.args.m there old c.index_mut-member.ensures.value
+    (commanded.order_of s.keys c.args.m c.args.octets.now) c.command_checked.new.self b_is few
+    (order_range s.keys c.args.m c.args.octets.now)
 
 pub returns-clause-world : goal.returns-clause-world
 returns-clause-world c =
@@ -36,9 +40,13 @@ returns-clause-world c =
     let there = subst (λ (x : GroupState). c.args.m < length x.members) (sym c.self.view_is) c.requires.there in
     let old = c.index_mut-member.result.now in
     let number = number_is s c.self.invariant c.args.m there old c.index_mut-member.ensures.value in
-    let b_is = c.in-Ok.ensures.ok ∙ ap (λ (k : ℕ). commanded.alone_after_order (commanded.order_of s.keys k c.args.octets.now) old) number in
-    obeyed_world s c.self.invariant c.args.m there old c.index_mut-member.ensures.value (commanded.order_of s.keys c.args.m c.args.octets.now) c.command_checked.new.self b_is
-    ∙ ap (λ (x : GroupState). after_order (world_of x) c.args.m (commanded.order_of x.keys c.args.m c.args.octets.now)) c.self.view_is
+    let b_is =
+    c.in-Ok.ensures.ok
+    ∙ ap (λ (k : ℕ). commanded.alone_after_order (commanded.order_of s.keys k c.args.octets.now) old) number in
+    obeyed_world s c.self.invariant c.args.m there old c.index_mut-member.ensures.value
+    (commanded.order_of s.keys c.args.m c.args.octets.now) c.command_checked.new.self b_is
+    ∙ ap (λ (x : GroupState). after_order (world_of x) c.args.m (commanded.order_of x.keys c.args.m c.args.octets.now))
+    c.self.view_is
 
 pub returns-clause-told : goal.returns-clause-told
 returns-clause-told c =
@@ -46,15 +54,22 @@ returns-clause-told c =
     let there = subst (λ (x : GroupState). c.args.m < length x.members) (sym c.self.view_is) c.requires.there in
     let old = c.index_mut-member.result.now in
     let number = number_is s c.self.invariant c.args.m there old c.index_mut-member.ensures.value in
-    c.ordered.ensures ∙ ap (order_told c.args.m) (c.in-Ok.ensures.answer ∙ ap (λ (k : ℕ). commanded.alone_order_answer (commanded.order_of s.keys k c.args.octets.now) old) number
-    ∙ order_answered s c.self.invariant c.args.m there old c.index_mut-member.ensures.value (commanded.order_of s.keys c.args.m c.args.octets.now))
-    ∙ ap (λ (x : GroupState). order_told c.args.m (order_answer (world_of x) c.args.m (commanded.order_of x.keys c.args.m c.args.octets.now))) c.self.view_is
+    c.ordered.ensures
+    ∙ ap (order_told c.args.m)
+    (c.in-Ok.ensures.answer
+    ∙ ap (λ (k : ℕ). commanded.alone_order_answer (commanded.order_of s.keys k c.args.octets.now) old) number
+    ∙ order_answered s c.self.invariant c.args.m there old c.index_mut-member.ensures.value
+    (commanded.order_of s.keys c.args.m c.args.octets.now))
+    ∙ ap (λ (x : GroupState).
+    order_told c.args.m (order_answer (world_of x) c.args.m (commanded.order_of x.keys c.args.m c.args.octets.now)))
+    c.self.view_is
 
 pub returns-clause-taken : goal.returns-clause-taken
 returns-clause-taken c =
     let s = world_state c.self.inside in
     let may = c.in_ok-verdict.ensures.issued in
-    subst (λ (x : GroupState). if_unissued (world_of x) c.args.m (commanded.order_of x.keys c.args.m c.args.octets.now) ≡ None) c.self.view_is
+    subst (λ (x : GroupState).
+    if_unissued (world_of x) c.args.m (commanded.order_of x.keys c.args.m c.args.octets.now) ≡ None) c.self.view_is
     (may_taken (world_of s) c.args.m (commanded.order_of s.keys c.args.m c.args.octets.now) may)
 
 pub returns-in_err-verdict-clause-refused : goal.returns-in_err-verdict-clause-refused
@@ -64,6 +79,7 @@ returns-in_err-verdict-clause-refused c =
     let order = commanded.order_of s.keys c.args.m c.args.octets.now in
     let stopped = order_fault (world_of s) c.args.m order told c.in_err-verdict.ensures.refused in
     subst (λ (x : GroupState). IfErr c.from_residual.result
-    (IsFaultOf (if_unissued (world_of x) c.args.m (commanded.order_of x.keys c.args.m c.args.octets.now)))) c.self.view_is
+    (IsFaultOf (if_unissued (world_of x) c.args.m (commanded.order_of x.keys c.args.m c.args.octets.now))))
+    c.self.view_is
     (same_fault c.from_residual.result told (IsFaultOf (if_unissued (world_of s) c.args.m order))
     c.from_residual.ensures.1 stopped)

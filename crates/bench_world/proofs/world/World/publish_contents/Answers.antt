@@ -20,8 +20,11 @@ returns-in-Err-clause-refused g c =
     let s = world_state c.self.inside in
     let there = subst (λ (x : GroupState). c.args.m < length x.members) (sym c.self.view_is) c.requires.there in
     let object : NamedContents = record { name = c.args.name.now; contents = map (λ x. x.items) c.args.contents.now } in
-    subst (λ (x : GroupState). (c.in-Err.refusal ≡ _) ⊎ (refusal (drawing (g.D.Draws.draw c.args.draws.now)) (world_of x) (Event.Publish c.args.m object) ≡ Some Refusal.NumbersSpent)) c.self.view_is
-    (refused_so s c.self.invariant c.args.m there c.index_mut-member.result.now c.index_mut-member.ensures.value (g.D.Draws.draw c.args.draws.now) object (Err c.in-Err.refusal) c.in-Err.refusal refl c.in-Err.ensures.spent)
+    subst (λ (x : GroupState). (c.in-Err.refusal ≡ _)
+    ⊎ (refusal (drawing (g.D.Draws.draw c.args.draws.now)) (world_of x) (Event.Publish c.args.m object)
+    ≡ Some Refusal.NumbersSpent)) c.self.view_is
+    (refused_so s c.self.invariant c.args.m there c.index_mut-member.result.now c.index_mut-member.ensures.value
+    (g.D.Draws.draw c.args.draws.now) object (Err c.in-Err.refusal) c.in-Err.refusal refl c.in-Err.ensures.spent)
 
 pub invariant_of-self-2 : goal.invariant_of-self-2
 invariant_of-self-2 g c =
@@ -31,11 +34,19 @@ invariant_of-self-2 g c =
     let old = c.index_mut-member.result.now in
     let object : NamedContents = record { name = c.args.name.now; contents = map (λ x. x.items) c.args.contents.now } in
     let n_is = c.draw-draw.ensures ∙ ap (g.D.Draws.draw c.args.draws.now c.args.m) c.next_draw.ensures in
-    let room = has_room s c.self.invariant c.args.m there old c.index_mut-member.ensures.value (Ok c.in-Ok.published) c.in-Ok.published refl c.in-Ok.ensures.spent in
-    let sent = sent_is s c.self.invariant c.args.m there old c.index_mut-member.ensures.value c.publish.new.self (g.D.Draws.draw c.args.draws.now) c.draw-draw.result n_is object c.in-Ok.ensures.ok
-    c.add_reserved-k.new.self.packets c.reserve.new.self.packets c.in_ok-vector.vector.items c.in-Ok.published.seq c.in-Ok.published.sync.items (ap (λ x. x.packets) c.in_ok-reserve.ensures.ok) (c.in_ok-vector.ensures ∙ c.vector.ensures.known)
+    let room =
+    has_room s c.self.invariant c.args.m there old c.index_mut-member.ensures.value (Ok c.in-Ok.published)
+    c.in-Ok.published refl c.in-Ok.ensures.spent in
+    let sent =
+    sent_is s c.self.invariant c.args.m there old c.index_mut-member.ensures.value c.publish.new.self
+    (g.D.Draws.draw c.args.draws.now) c.draw-draw.result n_is object c.in-Ok.ensures.ok
+    c.add_reserved-k.new.self.packets c.reserve.new.self.packets c.in_ok-vector.vector.items c.in-Ok.published.seq
+    c.in-Ok.published.sync.items (ap (λ x. x.packets) c.in_ok-reserve.ensures.ok)
+    (c.in_ok-vector.ensures ∙ c.vector.ensures.known)
     c.in-Ok.ensures.seq c.in-Ok.ensures.sync c.add_reserved-k.ensures.sent in
-    state_sent s c.self.invariant c.args.m there old c.index_mut-member.ensures.value c.publish.new.self (g.D.Draws.draw c.args.draws.now) c.draw-draw.result n_is object c.in-Ok.ensures.ok few c.in-Ok.ensures.object room c.add_reserved-k.new.self.packets sent
+    state_sent s c.self.invariant c.args.m there old c.index_mut-member.ensures.value c.publish.new.self
+    (g.D.Draws.draw c.args.draws.now) c.draw-draw.result n_is object c.in-Ok.ensures.ok few c.in-Ok.ensures.object room
+    c.add_reserved-k.new.self.packets sent
 
 pub returns-clause-ok : goal.returns-clause-ok
 returns-clause-ok g c =
@@ -44,11 +55,18 @@ returns-clause-ok g c =
     let old = c.index_mut-member.result.now in
     let object : NamedContents = record { name = c.args.name.now; contents = map (λ x. x.items) c.args.contents.now } in
     let n_is = c.draw-draw.ensures ∙ ap (g.D.Draws.draw c.args.draws.now c.args.m) c.next_draw.ensures in
-    let sent = sent_is s c.self.invariant c.args.m there old c.index_mut-member.ensures.value c.publish.new.self (g.D.Draws.draw c.args.draws.now) c.draw-draw.result n_is object c.in-Ok.ensures.ok
-    c.add_reserved-k.new.self.packets c.reserve.new.self.packets c.in_ok-vector.vector.items c.in-Ok.published.seq c.in-Ok.published.sync.items (ap (λ x. x.packets) c.in_ok-reserve.ensures.ok) (c.in_ok-vector.ensures ∙ c.vector.ensures.known)
+    let sent =
+    sent_is s c.self.invariant c.args.m there old c.index_mut-member.ensures.value c.publish.new.self
+    (g.D.Draws.draw c.args.draws.now) c.draw-draw.result n_is object c.in-Ok.ensures.ok
+    c.add_reserved-k.new.self.packets c.reserve.new.self.packets c.in_ok-vector.vector.items c.in-Ok.published.seq
+    c.in-Ok.published.sync.items (ap (λ x. x.packets) c.in_ok-reserve.ensures.ok)
+    (c.in_ok-vector.ensures ∙ c.vector.ensures.known)
     c.in-Ok.ensures.seq c.in-Ok.ensures.sync c.add_reserved-k.ensures.sent in
-    world_sent s c.self.invariant c.args.m there old c.index_mut-member.ensures.value c.publish.new.self (g.D.Draws.draw c.args.draws.now) c.draw-draw.result n_is object c.in-Ok.ensures.ok c.add_reserved-k.new.self.packets sent
-    ∙ ap (λ (x : GroupState). after_publish (drawing (g.D.Draws.draw c.args.draws.now)) (world_of x) c.args.m object) c.self.view_is
+    world_sent s c.self.invariant c.args.m there old c.index_mut-member.ensures.value c.publish.new.self
+    (g.D.Draws.draw c.args.draws.now) c.draw-draw.result n_is object c.in-Ok.ensures.ok
+    c.add_reserved-k.new.self.packets sent
+    ∙ ap (λ (x : GroupState). after_publish (drawing (g.D.Draws.draw c.args.draws.now)) (world_of x) c.args.m object)
+    c.self.view_is
 
 pub returns-clause-taken : goal.returns-clause-taken
 returns-clause-taken g c =
@@ -58,13 +76,19 @@ returns-clause-taken g c =
     let old = c.index_mut-member.result.now in
     let object : NamedContents = record { name = c.args.name.now; contents = map (λ x. x.items) c.args.contents.now } in
     let n_is = c.draw-draw.ensures ∙ ap (g.D.Draws.draw c.args.draws.now c.args.m) c.next_draw.ensures in
-    let room = has_room s c.self.invariant c.args.m there old c.index_mut-member.ensures.value (Ok c.in-Ok.published) c.in-Ok.published refl c.in-Ok.ensures.spent in
-    subst (λ (x : GroupState). refusal (drawing (g.D.Draws.draw c.args.draws.now)) (world_of x) (Event.Publish c.args.m object) ≡ None) c.self.view_is
-    (publish_taken s c.self.invariant c.args.m there old c.index_mut-member.ensures.value c.publish.new.self (g.D.Draws.draw c.args.draws.now) c.draw-draw.result n_is object c.in-Ok.ensures.ok few c.in-Ok.ensures.object room)
+    let room =
+    has_room s c.self.invariant c.args.m there old c.index_mut-member.ensures.value (Ok c.in-Ok.published)
+    c.in-Ok.published refl c.in-Ok.ensures.spent in
+    subst (λ (x : GroupState).
+    refusal (drawing (g.D.Draws.draw c.args.draws.now)) (world_of x) (Event.Publish c.args.m object) ≡ None)
+    c.self.view_is
+    (publish_taken s c.self.invariant c.args.m there old c.index_mut-member.ensures.value c.publish.new.self
+    (g.D.Draws.draw c.args.draws.now) c.draw-draw.result n_is object c.in-Ok.ensures.ok few c.in-Ok.ensures.object room)
 
 pub returns-clause-seq : goal.returns-clause-seq
 returns-clause-seq g c =
     let s = world_state c.self.inside in
     let there = subst (λ (x : GroupState). c.args.m < length x.members) (sym c.self.view_is) c.requires.there in
-    seq_is s c.self.invariant c.args.m there c.index_mut-member.result.now c.index_mut-member.ensures.value c.in-Ok.published.seq c.in-Ok.ensures.seq
+    seq_is s c.self.invariant c.args.m there c.index_mut-member.result.now c.index_mut-member.ensures.value
+    c.in-Ok.published.seq c.in-Ok.ensures.seq
     ∙ ap (λ (x : GroupState). next_seq_at (world_of x) c.args.m) c.self.view_is

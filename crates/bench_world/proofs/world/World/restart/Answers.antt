@@ -17,13 +17,16 @@ invariant_of-self g c =
     let s = world_state c.self.inside in
     let there = subst (λ (x : GroupState). c.args.m < length x.members) (sym c.self.view_is) c.requires.there in
     let few = subst (λ (x : GroupState). x.steps < 100000) (sym c.self.view_is) c.requires.few in
-    restarted_state s c.self.invariant c.args.m there c.index_mut-member.result.now c.index_mut-member.ensures.value c.restart.new.self (g.D.Draws.draw c.args.draws.now) c.draw-draw.result
+    restarted_state s c.self.invariant c.args.m there c.index_mut-member.result.now c.index_mut-member.ensures.value
+    c.restart.new.self (g.D.Draws.draw c.args.draws.now) c.draw-draw.result
     (c.draw-draw.ensures ∙ ap (g.D.Draws.draw c.args.draws.now c.args.m) c.next_draw.ensures) c.restart.ensures few
 
 pub returns-clause-world : goal.returns-clause-world
 returns-clause-world g c =
     let s = world_state c.self.inside in
     let there = subst (λ (x : GroupState). c.args.m < length x.members) (sym c.self.view_is) c.requires.there in
-    restarted_world s c.self.invariant c.args.m there c.index_mut-member.result.now c.index_mut-member.ensures.value c.restart.new.self (g.D.Draws.draw c.args.draws.now) c.draw-draw.result
+    restarted_world s c.self.invariant c.args.m there c.index_mut-member.result.now c.index_mut-member.ensures.value
+    c.restart.new.self (g.D.Draws.draw c.args.draws.now) c.draw-draw.result
     (c.draw-draw.ensures ∙ ap (g.D.Draws.draw c.args.draws.now c.args.m) c.next_draw.ensures) c.restart.ensures
-    ∙ ap (λ (x : GroupState). after_restart (drawing (g.D.Draws.draw c.args.draws.now)) (world_of x) c.args.m) c.self.view_is
+    ∙ ap (λ (x : GroupState). after_restart (drawing (g.D.Draws.draw c.args.draws.now)) (world_of x) c.args.m)
+    c.self.view_is

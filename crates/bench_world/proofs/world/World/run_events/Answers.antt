@@ -26,38 +26,73 @@ loop-event-preserved g c =
     let out = outside c.args.self.now.keys (g.D.Draws.draw c.args.draws.now) (g.N.Net.passes c.args.net.now) in
     let inv = c.loop-event.invariant in
     let i = c.loop-event.event-index in
-    let inside : c.loop-event.event-index < length c.args.events.now = omega (arith, c.loop-event-test.true, c.loop-event.auto.event-index-end) in
+    let inside : c.loop-event.event-index < length c.args.events.now =
+    omega (arith, c.loop-event-test.true, c.loop-event.auto.event-index-end) in
     let item = c.event-item.result in
-    let ready : IsReady (length c.args.self.now.keys.members.names) (event_value c.event-item.result) = subst (λ e. IsReady (length c.args.self.now.keys.members.names) (event_value e)) (sym c.event-item.is) (c.requires.ready i c.event-item.result inside) in
-    let not_refused : refusal (outside c.args.self.now.keys (g.D.Draws.draw c.args.draws.now) (g.N.Net.passes c.args.net.now)) (world_of c.loop-event.self) (group_event c.args.self.now.keys (event_value c.event-item.result)) ≡ None =
-    subst (λ k. refusal (outside k (g.D.Draws.draw c.args.draws.now) (g.N.Net.passes c.args.net.now)) (world_of c.loop-event.self) (group_event k (event_value c.event-item.result)) ≡ None) inv.keys c.in-Ok.ensures.taken in
-    let stepped : world_of c.step.new.self ≡ after_event (outside c.args.self.now.keys (g.D.Draws.draw c.args.draws.now) (g.N.Net.passes c.args.net.now)) (world_of c.loop-event.self) (group_event c.args.self.now.keys (event_value c.event-item.result)) =
-    c.in-Ok.ensures.world ∙ ap (λ k. after_event (outside k (g.D.Draws.draw c.args.draws.now) (g.N.Net.passes c.args.net.now)) (world_of c.loop-event.self) (group_event k (event_value c.event-item.result))) inv.keys in
+    let ready : IsReady (length c.args.self.now.keys.members.names) (event_value c.event-item.result) =
+    subst (λ e. IsReady (length c.args.self.now.keys.members.names) (event_value e)) (sym c.event-item.is)
+    (c.requires.ready i c.event-item.result inside) in
+    let not_refused : refusal
+    (outside c.args.self.now.keys (g.D.Draws.draw c.args.draws.now) (g.N.Net.passes c.args.net.now))
+    (world_of c.loop-event.self) (group_event c.args.self.now.keys (event_value c.event-item.result))
+    ≡ None =
+    subst (λ k. refusal (outside k (g.D.Draws.draw c.args.draws.now) (g.N.Net.passes c.args.net.now))
+    (world_of c.loop-event.self) (group_event k (event_value c.event-item.result))
+    ≡ None) inv.keys c.in-Ok.ensures.taken in
+    let stepped : world_of c.step.new.self
+    ≡ after_event (outside c.args.self.now.keys (g.D.Draws.draw c.args.draws.now) (g.N.Net.passes c.args.net.now))
+    (world_of c.loop-event.self) (group_event c.args.self.now.keys (event_value c.event-item.result)) =
+    c.in-Ok.ensures.world
+    ∙ ap (λ k. after_event (outside k (g.D.Draws.draw c.args.draws.now) (g.N.Net.passes c.args.net.now))
+    (world_of c.loop-event.self) (group_event k (event_value c.event-item.result))) inv.keys in
     record {
       made = omega (arith, inv.made);
       steps = omega (arith, inv.steps, c.in-Ok.ensures.steps);
       keys = c.step.ensures.keys ∙ inv.keys;
-      many = many_more out c.args.self.now.keys (world_of c.args.self.now) c.args.events.now i inside item c.event-item.is (world_of c.loop-event.self) (world_of c.step.new.self) (length c.args.self.now.keys.members.names) inv.many ready inv.taken inv.world not_refused stepped c.members-count.ensures.sound;
-      taken = taken_more out c.args.self.now.keys (world_of c.args.self.now) c.args.events.now i inside item c.event-item.is (world_of c.loop-event.self) (world_of c.step.new.self) (length c.args.self.now.keys.members.names) inv.many ready inv.taken inv.world not_refused stepped;
-      world = world_more out c.args.self.now.keys (world_of c.args.self.now) c.args.events.now i inside item c.event-item.is (world_of c.loop-event.self) (world_of c.step.new.self) (length c.args.self.now.keys.members.names) inv.many ready inv.taken inv.world not_refused stepped;
+      many =
+          many_more out c.args.self.now.keys (world_of c.args.self.now) c.args.events.now i inside item c.event-item.is
+          (world_of c.loop-event.self) (world_of c.step.new.self) (length c.args.self.now.keys.members.names) inv.many
+          ready inv.taken inv.world not_refused stepped c.members-count.ensures.sound;
+      taken =
+          taken_more out c.args.self.now.keys (world_of c.args.self.now) c.args.events.now i inside item c.event-item.is
+          (world_of c.loop-event.self) (world_of c.step.new.self) (length c.args.self.now.keys.members.names) inv.many
+          ready inv.taken inv.world not_refused stepped;
+      world =
+          world_more out c.args.self.now.keys (world_of c.args.self.now) c.args.events.now i inside item c.event-item.is
+          (world_of c.loop-event.self) (world_of c.step.new.self) (length c.args.self.now.keys.members.names) inv.many
+          ready inv.taken inv.world not_refused stepped;
     }
 
 pub returns-clause-joined : goal.returns-clause-joined
 returns-clause-joined g c =
     let out = outside c.args.self.now.keys (g.D.Draws.draw c.args.draws.now) (g.N.Net.passes c.args.net.now) in
-    let all : c.loop-event.event-index ≡ length c.args.events.now = omega (arith, c.loop-event-test.false, c.loop-event.auto.event-index-end) in
-    all_joined out c.args.self.now.keys (world_of c.args.self.now) c.args.events.now c.members-count.ensures.sound c.loop-event.event-index all (world_of c.loop-event.self) c.loop-event.invariant.taken c.loop-event.invariant.world
+    let all : c.loop-event.event-index ≡ length c.args.events.now =
+    omega (arith, c.loop-event-test.false, c.loop-event.auto.event-index-end) in
+    all_joined out c.args.self.now.keys (world_of c.args.self.now) c.args.events.now c.members-count.ensures.sound
+    c.loop-event.event-index all (world_of c.loop-event.self) c.loop-event.invariant.taken c.loop-event.invariant.world
 
 pub returns-in-Err-clause-stopped : goal.returns-in-Err-clause-stopped
 returns-in-Err-clause-stopped g c =
     let out = outside c.args.self.now.keys (g.D.Draws.draw c.args.draws.now) (g.N.Net.passes c.args.net.now) in
     let inv = c.loop-event.invariant in
     let i = c.loop-event.event-index in
-    let inside : c.loop-event.event-index < length c.args.events.now = omega (arith, c.loop-event-test.true, c.loop-event.auto.event-index-end) in
+    let inside : c.loop-event.event-index < length c.args.events.now =
+    omega (arith, c.loop-event-test.true, c.loop-event.auto.event-index-end) in
     let item = c.event-item.result in
-    let ready : IsReady (length c.args.self.now.keys.members.names) (event_value c.event-item.result) = subst (λ e. IsReady (length c.args.self.now.keys.members.names) (event_value e)) (sym c.event-item.is) (c.requires.ready i c.event-item.result inside) in
-    let because : IsFaultOf (refusal (outside c.args.self.now.keys (g.D.Draws.draw c.args.draws.now) (g.N.Net.passes c.args.net.now)) (world_of c.loop-event.self) (group_event c.args.self.now.keys (event_value c.event-item.result))) c.in-Err.fault =
-    subst (λ k. IsFaultOf (refusal (outside k (g.D.Draws.draw c.args.draws.now) (g.N.Net.passes c.args.net.now)) (world_of c.loop-event.self) (group_event k (event_value c.event-item.result))) c.in-Err.fault) inv.keys c.in-Err.ensures.refused in
-    subst (λ k. IsStopped (outside c.args.self.now.keys (g.D.Draws.draw c.args.draws.now) (g.N.Net.passes c.args.net.now)) c.args.self.now (event_values c.args.events.now) k c.in-Err.fault c.step.new.self) (sym inv.made)
-    (stopped_here out c.args.self.now.keys (world_of c.args.self.now) c.args.events.now i inside item c.event-item.is (world_of c.loop-event.self) (world_of c.step.new.self) (length c.args.self.now.keys.members.names) inv.many ready inv.taken inv.world
-    out c.args.self.now c.loop-event.self c.step.new.self c.in-Err.fault refl refl refl refl because c.in-Err.ensures.err)
+    let ready : IsReady (length c.args.self.now.keys.members.names) (event_value c.event-item.result) =
+    subst (λ e. IsReady (length c.args.self.now.keys.members.names) (event_value e)) (sym c.event-item.is)
+    (c.requires.ready i c.event-item.result inside) in
+    let because : IsFaultOf
+    (refusal (outside c.args.self.now.keys (g.D.Draws.draw c.args.draws.now) (g.N.Net.passes c.args.net.now))
+    (world_of c.loop-event.self) (group_event c.args.self.now.keys (event_value c.event-item.result))) c.in-Err.fault =
+    subst (λ k. IsFaultOf
+    (refusal (outside k (g.D.Draws.draw c.args.draws.now) (g.N.Net.passes c.args.net.now)) (world_of c.loop-event.self)
+    (group_event k (event_value c.event-item.result))) c.in-Err.fault) inv.keys c.in-Err.ensures.refused in
+    subst
+    (λ k. IsStopped (outside c.args.self.now.keys (g.D.Draws.draw c.args.draws.now) (g.N.Net.passes c.args.net.now))
+    c.args.self.now (event_values c.args.events.now) k c.in-Err.fault c.step.new.self) (sym inv.made)
+    (stopped_here out c.args.self.now.keys (world_of c.args.self.now) c.args.events.now i inside item c.event-item.is
+    (world_of c.loop-event.self) (world_of c.step.new.self) (length c.args.self.now.keys.members.names) inv.many ready
+    inv.taken inv.world
+    out c.args.self.now c.loop-event.self c.step.new.self c.in-Err.fault refl refl refl refl because
+    c.in-Err.ensures.err)

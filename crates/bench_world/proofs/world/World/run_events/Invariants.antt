@@ -12,6 +12,9 @@ invariant-loop-event g l = record {
   steps : l.self.steps ≡ l.fn.self.steps + l.event-index;
   keys : l.self.keys ≡ l.fn.self.keys;
   many : length (world_of l.self).members ≡ length l.fn.self.keys.members.names;
-  taken : EventsAreTaken (outside l.fn.self.keys (g.D.Draws.draw l.draws) (g.N.Net.passes l.net)) (world_of l.fn.self) (group_events l.fn.self.keys (event_values (take l.event-index l.events)));
-  world : world_of l.self ≡ after_events (outside l.fn.self.keys (g.D.Draws.draw l.draws) (g.N.Net.passes l.net)) (world_of l.fn.self) (group_events l.fn.self.keys (event_values (take l.event-index l.events)));
+  taken : EventsAreTaken (outside l.fn.self.keys (g.D.Draws.draw l.draws) (g.N.Net.passes l.net)) (world_of l.fn.self)
+      (group_events l.fn.self.keys (event_values (take l.event-index l.events)));
+  world : world_of l.self
+      ≡ after_events (outside l.fn.self.keys (g.D.Draws.draw l.draws) (g.N.Net.passes l.net)) (world_of l.fn.self)
+      (group_events l.fn.self.keys (event_values (take l.event-index l.events)));
 }

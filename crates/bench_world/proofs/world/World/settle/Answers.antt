@@ -10,49 +10,86 @@ use Rattle.bench_world.specs.Kept.{world_state}
 use Rattle.bench_world.proofs.States.{few_logs, few_members, few_sent, tried_few}
 use Rattle.bench_world.proofs.Readers.{counted_state}
 use Rattle.bench_world.proofs.GatheredAll.{where_err}
-use Rattle.bench_world.proofs.Gainings.{sound_only, failed_state, partly, partly_before, settle_world, settle_state, settle_joined, settle_fits}
+use Rattle.bench_world.proofs.Gainings.{sound_only, failed_state, partly, partly_before, settle_world, settle_state}
+use Rattle.bench_world.proofs.Gainings.{settle_joined, settle_fits}
 use Rattle.bench_world.proofs.world.World.settle.Goals as goal
 
 pub invariant_of-self : goal.invariant_of-self
 invariant_of-self g c =
     let s = world_state c.self.inside in
     let few = subst (λ (x : GroupState). x.steps < 100000) (sym c.self.view_is) c.requires.few in
-    subst (λ (ps : List SentPacket). IsTrueState (record s { sent = ps; steps = s.steps + 1 })) (sym (ap (λ x. x.packets) c.in_err-reserve.ensures.err)) (counted_state s c.self.invariant few)
+    subst (λ (ps : List SentPacket). IsTrueState (record s { sent = ps; steps = s.steps + 1 }))
+    (sym (ap (λ x. x.packets) c.in_err-reserve.ensures.err)) (counted_state s c.self.invariant few)
 
 pub returns-in_err-reserve-clause-err : goal.returns-in_err-reserve-clause-err
 returns-in_err-reserve-clause-err g c =
     let s = world_state c.self.inside in
     let few = subst (λ (x : GroupState). x.steps < 100000) (sym c.self.view_is) c.requires.few in
     where_err c.from_residual.result (
-    subst (λ (x : GroupState). HaveSettledPart x (record s { sent = c.reserve.new.self.packets; steps = s.steps + 1 })) c.self.view_is
-    (subst (λ (ps : List SentPacket). HaveSettledPart s (record s { sent = ps; steps = s.steps + 1 })) (sym (ap (λ x. x.packets) c.in_err-reserve.ensures.err)) (partly_before s c.self.invariant few)))
+    subst (λ (x : GroupState). HaveSettledPart x (record s { sent = c.reserve.new.self.packets; steps = s.steps + 1 }))
+    c.self.view_is
+    (subst (λ (ps : List SentPacket). HaveSettledPart s (record s { sent = ps; steps = s.steps + 1 }))
+    (sym (ap (λ x. x.packets) c.in_err-reserve.ensures.err)) (partly_before s c.self.invariant few)))
 
 pub settle_members-settled-requires : goal.settle_members-settled-requires
 settle_members-settled-requires g c κs within =
-    let s = world_state c.self.inside in
-    (within.0, (within.1, (c.type_bounds.sync-N, (c.type_bounds.sync-R, (c.requires.workers, (few_logs s c.self.invariant, (refl, (c.self.invariant.numbers, (c.self.invariant.members, (sound_only s c.self.invariant, tried_few s c.self.invariant))))))))))
+    let s = world_state c.self.inside in (
+      within.0,
+      (
+        within.1,
+        (
+          c.type_bounds.sync-N,
+          (
+            c.type_bounds.sync-R,
+            (
+              c.requires.workers,
+              (
+                few_logs s c.self.invariant,
+                (
+                  refl,
+                  (
+                    c.self.invariant.numbers,
+                    (c.self.invariant.members, (sound_only s c.self.invariant, tried_few s c.self.invariant)),
+                  ),
+                ),
+              ),
+            ),
+          ),
+        ),
+      ),
+    )
 
 pub invariant_of-self-in-Err : goal.invariant_of-self-in-Err
 invariant_of-self-in-Err g c =
     let s = world_state c.self.inside in
     let few = subst (λ (x : GroupState). x.steps < 100000) (sym c.self.view_is) c.requires.few in
     let same : c.reserve.new.self.packets ≡ s.sent = ap (λ x. x.packets) c.in_ok-reserve.ensures.ok in
-    subst (λ (ps : List SentPacket). IsTrueState (record s { members = c.settle_members-settled.new.members.items; sent = ps; steps = s.steps + 1 })) (sym same)
-    (failed_state s c.self.invariant few c.settle_members-settled.new.members.items c.settle_members-settled.ensures.len c.settle_members-settled.ensures.numbers c.settle_members-settled.ensures.truly c.settle_members-settled.ensures.counts c.in-Err.ensures.err)
+    subst (λ (ps : List SentPacket).
+    IsTrueState (record s { members = c.settle_members-settled.new.members.items; sent = ps; steps = s.steps + 1 }))
+    (sym same)
+    (failed_state s c.self.invariant few c.settle_members-settled.new.members.items c.settle_members-settled.ensures.len
+    c.settle_members-settled.ensures.numbers c.settle_members-settled.ensures.truly
+    c.settle_members-settled.ensures.counts c.in-Err.ensures.err)
 
 pub returns-in-Err-clause-err : goal.returns-in-Err-clause-err
 returns-in-Err-clause-err g c =
     let s = world_state c.self.inside in
     let few = subst (λ (x : GroupState). x.steps < 100000) (sym c.self.view_is) c.requires.few in
     let same : c.reserve.new.self.packets ≡ s.sent = ap (λ x. x.packets) c.in_ok-reserve.ensures.ok in
-    subst (λ (x : GroupState). HaveSettledPart x (record s { members = c.settle_members-settled.new.members.items; sent = c.reserve.new.self.packets; steps = s.steps + 1 })) c.self.view_is
-    (subst (λ (ps : List SentPacket). HaveSettledPart s (record s { members = c.settle_members-settled.new.members.items; sent = ps; steps = s.steps + 1 })) (sym same)
+    subst (λ (x : GroupState). HaveSettledPart x (record s {
+      members = c.settle_members-settled.new.members.items;
+      sent = c.reserve.new.self.packets;
+      steps = s.steps + 1;
+    })) c.self.view_is
+    (subst (λ (ps : List SentPacket). HaveSettledPart s
+    (record s { members = c.settle_members-settled.new.members.items; sent = ps; steps = s.steps + 1 })) (sym same)
     (partly s c.self.invariant few c.settle_members-settled.new.members.items c.in-Err.ensures.err))
 
 pub send_all-requires-clause-room : goal.send_all-requires-clause-room
 send_all-requires-clause-room g c =
     let s = world_state c.self.inside in
-    let a : length (map told_of c.in-Ok.settled.0.items) ≡ length (map (tells s.keys) s.members) = ap length c.in-Ok.ensures.told in
+    let a : length (map told_of c.in-Ok.settled.0.items) ≡ length (map (tells s.keys) s.members) =
+    ap length c.in-Ok.ensures.told in
     let b = length-map c.in-Ok.settled.0.items told_of in
     let d = length-map s.members (tells s.keys) in
     let room = ap (λ x. x.spare) c.in_ok-reserve.ensures.ok in
@@ -61,7 +98,8 @@ send_all-requires-clause-room g c =
 pub send_all-requires-clause-few : goal.send_all-requires-clause-few
 send_all-requires-clause-few g c =
     let s = world_state c.self.inside in
-    let a : length (map told_of c.in-Ok.settled.0.items) ≡ length (map (tells s.keys) s.members) = ap length c.in-Ok.ensures.told in
+    let a : length (map told_of c.in-Ok.settled.0.items) ≡ length (map (tells s.keys) s.members) =
+    ap length c.in-Ok.ensures.told in
     let b = length-map c.in-Ok.settled.0.items told_of in
     let d = length-map s.members (tells s.keys) in
     let e : length c.reserve.new.self.packets ≡ length s.sent = ap (λ x. length x.packets) c.in_ok-reserve.ensures.ok in
@@ -74,10 +112,16 @@ overflow_add-self-3 g c =
     let s = world_state c.self.inside in
     let few = subst (λ (x : GroupState). x.steps < 100000) (sym c.self.view_is) c.requires.few in
     let sent : c.send_all.new.sent.packets ≡ c.self.inside.sent.packets ++ map told_of c.in-Ok.settled.0.items =
-    c.send_all.ensures ∙ ap (λ (ps : List SentPacket). ps ++ map told_of c.in-Ok.settled.0.items) (ap (λ x. x.packets) c.in_ok-reserve.ensures.ok) in
-    let count : c.len-count.result ≡ length c.settle_members-settled.new.members.items = omega (arith, c.len-count.ensures, c.settle_members-settled.new.members.ok) in
-    let fits = settle_fits s c.self.invariant few c.settle_members-settled.new.members.items c.in-Ok.ensures.members c.send_all.new.sent.packets c.in-Ok.settled.0.items sent c.in-Ok.ensures.told
-    c.len-count.result c.saturating_sub.result c.in-Ok.settled.1 c.in-Ok.settled.2 count c.saturating_sub.ensures c.in-Ok.ensures.parts c.in-Ok.ensures.octets in
+    c.send_all.ensures
+    ∙ ap (λ (ps : List SentPacket). ps ++ map told_of c.in-Ok.settled.0.items)
+    (ap (λ x. x.packets) c.in_ok-reserve.ensures.ok) in
+    let count : c.len-count.result ≡ length c.settle_members-settled.new.members.items =
+    omega (arith, c.len-count.ensures, c.settle_members-settled.new.members.ok) in
+    let fits =
+    settle_fits s c.self.invariant few c.settle_members-settled.new.members.items c.in-Ok.ensures.members
+    c.send_all.new.sent.packets c.in-Ok.settled.0.items sent c.in-Ok.ensures.told
+    c.len-count.result c.saturating_sub.result c.in-Ok.settled.1 c.in-Ok.settled.2 count c.saturating_sub.ensures
+    c.in-Ok.ensures.parts c.in-Ok.ensures.octets in
     omega (arith, fits.2)
 
 pub overflow_add-self-4 : goal.overflow_add-self-4
@@ -85,10 +129,16 @@ overflow_add-self-4 g c =
     let s = world_state c.self.inside in
     let few = subst (λ (x : GroupState). x.steps < 100000) (sym c.self.view_is) c.requires.few in
     let sent : c.send_all.new.sent.packets ≡ c.self.inside.sent.packets ++ map told_of c.in-Ok.settled.0.items =
-    c.send_all.ensures ∙ ap (λ (ps : List SentPacket). ps ++ map told_of c.in-Ok.settled.0.items) (ap (λ x. x.packets) c.in_ok-reserve.ensures.ok) in
-    let count : c.len-count.result ≡ length c.settle_members-settled.new.members.items = omega (arith, c.len-count.ensures, c.settle_members-settled.new.members.ok) in
-    let fits = settle_fits s c.self.invariant few c.settle_members-settled.new.members.items c.in-Ok.ensures.members c.send_all.new.sent.packets c.in-Ok.settled.0.items sent c.in-Ok.ensures.told
-    c.len-count.result c.saturating_sub.result c.in-Ok.settled.1 c.in-Ok.settled.2 count c.saturating_sub.ensures c.in-Ok.ensures.parts c.in-Ok.ensures.octets in
+    c.send_all.ensures
+    ∙ ap (λ (ps : List SentPacket). ps ++ map told_of c.in-Ok.settled.0.items)
+    (ap (λ x. x.packets) c.in_ok-reserve.ensures.ok) in
+    let count : c.len-count.result ≡ length c.settle_members-settled.new.members.items =
+    omega (arith, c.len-count.ensures, c.settle_members-settled.new.members.ok) in
+    let fits =
+    settle_fits s c.self.invariant few c.settle_members-settled.new.members.items c.in-Ok.ensures.members
+    c.send_all.new.sent.packets c.in-Ok.settled.0.items sent c.in-Ok.ensures.told
+    c.len-count.result c.saturating_sub.result c.in-Ok.settled.1 c.in-Ok.settled.2 count c.saturating_sub.ensures
+    c.in-Ok.ensures.parts c.in-Ok.ensures.octets in
     omega (arith, fits.3)
 
 pub invariant_of-self-2 : goal.invariant_of-self-2
@@ -96,10 +146,15 @@ invariant_of-self-2 g c =
     let s = world_state c.self.inside in
     let few = subst (λ (x : GroupState). x.steps < 100000) (sym c.self.view_is) c.requires.few in
     let sent : c.send_all.new.sent.packets ≡ c.self.inside.sent.packets ++ map told_of c.in-Ok.settled.0.items =
-    c.send_all.ensures ∙ ap (λ (ps : List SentPacket). ps ++ map told_of c.in-Ok.settled.0.items) (ap (λ x. x.packets) c.in_ok-reserve.ensures.ok) in
-    let count : c.len-count.result ≡ length c.settle_members-settled.new.members.items = omega (arith, c.len-count.ensures, c.settle_members-settled.new.members.ok) in
-    settle_state s c.self.invariant few c.settle_members-settled.new.members.items c.in-Ok.ensures.members c.send_all.new.sent.packets c.in-Ok.settled.0.items sent c.in-Ok.ensures.told
-    c.len-count.result c.saturating_sub.result c.in-Ok.settled.1 c.in-Ok.settled.2 count c.saturating_sub.ensures c.in-Ok.ensures.parts c.in-Ok.ensures.octets
+    c.send_all.ensures
+    ∙ ap (λ (ps : List SentPacket). ps ++ map told_of c.in-Ok.settled.0.items)
+    (ap (λ x. x.packets) c.in_ok-reserve.ensures.ok) in
+    let count : c.len-count.result ≡ length c.settle_members-settled.new.members.items =
+    omega (arith, c.len-count.ensures, c.settle_members-settled.new.members.ok) in
+    settle_state s c.self.invariant few c.settle_members-settled.new.members.items c.in-Ok.ensures.members
+    c.send_all.new.sent.packets c.in-Ok.settled.0.items sent c.in-Ok.ensures.told
+    c.len-count.result c.saturating_sub.result c.in-Ok.settled.1 c.in-Ok.settled.2 count c.saturating_sub.ensures
+    c.in-Ok.ensures.parts c.in-Ok.ensures.octets
     c.settle_members-settled.ensures.len c.settle_members-settled.ensures.numbers c.settle_members-settled.ensures.truly
 
 pub returns-clause-world : goal.returns-clause-world
@@ -107,10 +162,15 @@ returns-clause-world g c =
     let s = world_state c.self.inside in
     let few = subst (λ (x : GroupState). x.steps < 100000) (sym c.self.view_is) c.requires.few in
     let sent : c.send_all.new.sent.packets ≡ c.self.inside.sent.packets ++ map told_of c.in-Ok.settled.0.items =
-    c.send_all.ensures ∙ ap (λ (ps : List SentPacket). ps ++ map told_of c.in-Ok.settled.0.items) (ap (λ x. x.packets) c.in_ok-reserve.ensures.ok) in
-    let count : c.len-count.result ≡ length c.settle_members-settled.new.members.items = omega (arith, c.len-count.ensures, c.settle_members-settled.new.members.ok) in
-    settle_world s c.self.invariant few c.settle_members-settled.new.members.items c.in-Ok.ensures.members c.send_all.new.sent.packets c.in-Ok.settled.0.items sent c.in-Ok.ensures.told
-    c.len-count.result c.saturating_sub.result c.in-Ok.settled.1 c.in-Ok.settled.2 count c.saturating_sub.ensures c.in-Ok.ensures.parts c.in-Ok.ensures.octets
+    c.send_all.ensures
+    ∙ ap (λ (ps : List SentPacket). ps ++ map told_of c.in-Ok.settled.0.items)
+    (ap (λ x. x.packets) c.in_ok-reserve.ensures.ok) in
+    let count : c.len-count.result ≡ length c.settle_members-settled.new.members.items =
+    omega (arith, c.len-count.ensures, c.settle_members-settled.new.members.ok) in
+    settle_world s c.self.invariant few c.settle_members-settled.new.members.items c.in-Ok.ensures.members
+    c.send_all.new.sent.packets c.in-Ok.settled.0.items sent c.in-Ok.ensures.told
+    c.len-count.result c.saturating_sub.result c.in-Ok.settled.1 c.in-Ok.settled.2 count c.saturating_sub.ensures
+    c.in-Ok.ensures.parts c.in-Ok.ensures.octets
     ∙ ap (λ (x : GroupState). after_gathering (keyed x.keys) (world_of x)) c.self.view_is
 
 pub returns-clause-parts : goal.returns-clause-parts
@@ -122,7 +182,12 @@ returns-clause-joined g c =
     let s = world_state c.self.inside in
     let few = subst (λ (x : GroupState). x.steps < 100000) (sym c.self.view_is) c.requires.few in
     let sent : c.send_all.new.sent.packets ≡ c.self.inside.sent.packets ++ map told_of c.in-Ok.settled.0.items =
-    c.send_all.ensures ∙ ap (λ (ps : List SentPacket). ps ++ map told_of c.in-Ok.settled.0.items) (ap (λ x. x.packets) c.in_ok-reserve.ensures.ok) in
-    let count : c.len-count.result ≡ length c.settle_members-settled.new.members.items = omega (arith, c.len-count.ensures, c.settle_members-settled.new.members.ok) in
-    settle_joined s c.self.invariant few c.settle_members-settled.new.members.items c.in-Ok.ensures.members c.send_all.new.sent.packets c.in-Ok.settled.0.items sent c.in-Ok.ensures.told
-    c.len-count.result c.saturating_sub.result c.in-Ok.settled.1 c.in-Ok.settled.2 count c.saturating_sub.ensures c.in-Ok.ensures.parts c.in-Ok.ensures.octets
+    c.send_all.ensures
+    ∙ ap (λ (ps : List SentPacket). ps ++ map told_of c.in-Ok.settled.0.items)
+    (ap (λ x. x.packets) c.in_ok-reserve.ensures.ok) in
+    let count : c.len-count.result ≡ length c.settle_members-settled.new.members.items =
+    omega (arith, c.len-count.ensures, c.settle_members-settled.new.members.ok) in
+    settle_joined s c.self.invariant few c.settle_members-settled.new.members.items c.in-Ok.ensures.members
+    c.send_all.new.sent.packets c.in-Ok.settled.0.items sent c.in-Ok.ensures.told
+    c.len-count.result c.saturating_sub.result c.in-Ok.settled.1 c.in-Ok.settled.2 count c.saturating_sub.ensures
+    c.in-Ok.ensures.parts c.in-Ok.ensures.octets

@@ -7,6 +7,7 @@ use Rattle.bench_world.proofs.world.World.status.Goals as goal
 
 pub returns-clause-told : goal.returns-clause-told
 returns-clause-told c =
-    ap (λ k. Told.Status c.args.m k c.in-Ok.answer.process c.in-Ok.answer.inserted c.in-Ok.answer.deleted) c.from-2.ensures
+    ap (λ k. Told.Status c.args.m k c.in-Ok.answer.process c.in-Ok.answer.inserted c.in-Ok.answer.deleted)
+    c.from-2.ensures
     ∙ ap (status_told c.args.m) c.in-Ok.ensures.answer
     ∙ ap (λ k. status_told c.args.m (command_answer (world_of c.args.self.now) c.args.m (Check k))) c.from.ensures

@@ -10,7 +10,8 @@ use Rattle.bench_world.proofs.Stepping.{all_named}
 use Rattle.bench_world.proofs.world.World.step.Goals as goal
 
 pub carry_out-requires-clause-ready : goal.carry_out-requires-clause-ready
-carry_out-requires-clause-ready g c κs within = subst (λ n. IsReady n (event_value c.args.event.now)) (sym c.members-count.ensures.names) c.requires.ready
+carry_out-requires-clause-ready g c κs within =
+    subst (λ n. IsReady n (event_value c.args.event.now)) (sym c.members-count.ensures.names) c.requires.ready
 
 pub returns-clause-taken : goal.returns-clause-taken
 returns-clause-taken g c = c.carry_out.ensures.taken
@@ -26,8 +27,10 @@ returns-clause-all g c =
     let n = length c.args.self.now.keys.members.names in
     let out = outside c.args.self.now.keys (g.D.Draws.draw c.args.draws.now) (g.N.Net.passes c.args.net.now) in
     let many = length-map c.args.self.now.members in_group ∙ c.members-count.ensures.names in
-    all_named n (telling c.args.self.now.keys out (world_of c.args.self.now) (event_value c.args.event.now)) c.carry_out.result c.carry_out.ensures.told
-    (names_all n c.args.self.now.keys out (world_of c.args.self.now) many c.members-count.ensures.sound (event_value c.args.event.now) c.requires.ready)
+    all_named n (telling c.args.self.now.keys out (world_of c.args.self.now) (event_value c.args.event.now))
+    c.carry_out.result c.carry_out.ensures.told
+    (names_all n c.args.self.now.keys out (world_of c.args.self.now) many c.members-count.ensures.sound
+    (event_value c.args.event.now) c.requires.ready)
 
 pub returns-clause-joined : goal.returns-clause-joined
 returns-clause-joined g c = c.carry_out.ensures.joined

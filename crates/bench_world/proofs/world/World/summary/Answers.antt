@@ -11,14 +11,30 @@ use Rattle.bench_world.proofs.Summaries.{few_totals_at, sums_are}
 use Rattle.bench_world.proofs.world.World.summary.Goals as goal
 
 pub add_up-requires : goal.add_up-requires
-add_up-requires c = subst (λ (ms : List Alone). (j : ℕ) → j < length ms → HasFewTotals (totals_in (alone_at ms j))) (sym c.as_slice.ensures.value) (few_totals_at (world_state c.self.inside) c.self.invariant)
+add_up-requires c =
+    subst (λ (ms : List Alone). (j : ℕ) → j < length ms → HasFewTotals (totals_in (alone_at ms j)))
+    (sym c.as_slice.ensures.value) (few_totals_at (world_state c.self.inside) c.self.invariant)
 
 pub returns-clause-told : goal.returns-clause-told
 returns-clause-told c =
     let s = world_state c.self.inside in
-    let numbers = c.in_ok-members.ensures ∙ ap (λ (x : GroupState). numbers_from 0 (length x.members)) (sym c.self.view_is) ∙ ap (numbers_from 0) (sym (length-map s.members in_group)) in
-    let entries = c.in_ok-sums.ensures.entries ∙ ap (map (λ a. (totals_in a).entries)) c.as_slice.ensures.value ∙ sums_are s c.self.invariant (λ t. t.entries) in
-    let segments = c.in_ok-sums.ensures.segments ∙ ap (map (λ a. (totals_in a).segments)) c.as_slice.ensures.value ∙ sums_are s c.self.invariant (λ t. t.segments) in
-    let octets = c.in_ok-sums.ensures.octets ∙ ap (map (λ a. (totals_in a).octets)) c.as_slice.ensures.value ∙ sums_are s c.self.invariant (λ t. t.octets) in
+    let numbers =
+    c.in_ok-members.ensures
+    ∙ ap (λ (x : GroupState). numbers_from 0 (length x.members)) (sym c.self.view_is)
+    ∙ ap (numbers_from 0) (sym (length-map s.members in_group)) in
+    let entries =
+    c.in_ok-sums.ensures.entries
+    ∙ ap (map (λ a. (totals_in a).entries)) c.as_slice.ensures.value
+    ∙ sums_are s c.self.invariant (λ t. t.entries) in
+    let segments =
+    c.in_ok-sums.ensures.segments
+    ∙ ap (map (λ a. (totals_in a).segments)) c.as_slice.ensures.value
+    ∙ sums_are s c.self.invariant (λ t. t.segments) in
+    let octets =
+    c.in_ok-sums.ensures.octets
+    ∙ ap (map (λ a. (totals_in a).octets)) c.as_slice.ensures.value
+    ∙ sums_are s c.self.invariant (λ t. t.octets) in
     (λ i. Told.Summary (numbers i) (entries i) (segments i) (octets i))
-    ∙ ap (λ (x : GroupState). Told.Summary (numbers_from 0 (length (world_of x).members)) (map (λ t. t.entries) (all_totals (world_of x))) (map (λ t. t.segments) (all_totals (world_of x))) (map (λ t. t.octets) (all_totals (world_of x)))) c.self.view_is
+    ∙ ap (λ (x : GroupState). Told.Summary (numbers_from 0 (length (world_of x).members))
+    (map (λ t. t.entries) (all_totals (world_of x))) (map (λ t. t.segments) (all_totals (world_of x)))
+    (map (λ t. t.octets) (all_totals (world_of x)))) c.self.view_is

@@ -13,18 +13,25 @@ use Rattle.bench_world.proofs.world.World.sync.Goals as goal
 pub invariant_of-self : goal.invariant_of-self
 invariant_of-self c =
     let s = world_state c.self.inside in
-    stepped s c.self.invariant (subst (λ (x : GroupState). x.steps < 100000) (sym c.self.view_is) c.requires.few) (drawing (λ _ _. 0)) (λ t. omega arith) (Event.Sync c.args.k) tt s.members s.sent s.moment s.tally refl
+    stepped s c.self.invariant (subst (λ (x : GroupState). x.steps < 100000) (sym c.self.view_is) c.requires.few)
+    (drawing (λ _ _. 0)) (λ t. omega arith) (Event.Sync c.args.k) tt s.members s.sent s.moment s.tally refl
     c.self.invariant.numbers c.self.invariant.members c.self.invariant.sent refl
 
 pub returns-clause-taken : goal.returns-clause-taken
 returns-clause-taken c =
     let s = world_state c.self.inside in
     let at = there s.sent c.args.k c.in-Some.octets.now c.in-Some.ensures in
-    subst (λ (x : GroupState). unless_sent (world_of x) c.args.k ≡ None) c.self.view_is (not_refused s c.args.k at.first at.last)
+    subst (λ (x : GroupState). unless_sent (world_of x) c.args.k ≡ None) c.self.view_is
+    (not_refused s c.args.k at.first at.last)
 
 pub returns-clause-told : goal.returns-clause-told
 returns-clause-told c =
     let s = world_state c.self.inside in
     let at = there s.sent c.args.k c.in-Some.octets.now c.in-Some.ensures in
-    ap (λ k. Told.Sync k c.in_ok-octets.octets.items) c.from.ensures ∙ ap (Told.Sync c.args.k) (c.in_ok-octets.ensures.items_if_clones_equal (λ x y e. e) ∙ at.octets ∙ octets_are s c.self.invariant c.args.k at.first at.last)
-    ∙ ap (λ (x : GroupState). Told.Sync c.args.k (sync_of x.keys (sent_at (world_of x) c.args.k).sender (sent_at (world_of x) c.args.k).vector)) c.self.view_is
+    ap (λ k. Told.Sync k c.in_ok-octets.octets.items) c.from.ensures
+    ∙ ap (Told.Sync c.args.k)
+    (c.in_ok-octets.ensures.items_if_clones_equal (λ x y e. e) ∙ at.octets
+    ∙ octets_are s c.self.invariant c.args.k at.first at.last)
+    ∙ ap (λ (x : GroupState).
+    Told.Sync c.args.k (sync_of x.keys (sent_at (world_of x) c.args.k).sender (sent_at (world_of x) c.args.k).vector))
+    c.self.view_is

@@ -8,4 +8,5 @@ use Rattle.bench_world.proofs.world.commanding.made.Goals as goal
 pub make_command-requires-clause-key_name : goal.make_command-requires-clause-key_name
 make_command-requires-clause-key_name c =
     subst (λ (n : List Component). length (encoding n) ≤ 205) (sym c.in_ok-key_name.ensures)
-    (key_short (client_at c.args.g.now c.args.client) (client_plain c.args.g.now c.roster.ensures.sound.clients c.args.client c.requires.client).short)
+    (key_short (client_at c.args.g.now c.args.client)
+    (client_plain c.args.g.now c.roster.ensures.sound.clients c.args.client c.requires.client).short)

@@ -7,7 +7,8 @@ use Rattle.ndn_interest.proofs.interest_fields.Gathered.of_fields.Given as goal
 
 abbrev pub invariant-loop-next : goal.invariant-loop-next
 invariant-loop-next l = record {
-  so_far : gathered (with_interest_field l.octets) packet_fault (interest_so_far l.gathered) l.fields ≡ interest_fields l.octets (item l.outer);
+  so_far : gathered (with_interest_field l.octets) packet_fault (interest_so_far l.gathered) l.fields
+      ≡ interest_fields l.octets (item l.outer);
   low : ℕ;
   starts : ParametersStartBy low l.gathered;
   within : AreWithin low (l.outer.value_start + length l.outer.value.now) (map (λ f. f.1) l.fields.items);

@@ -30,9 +30,13 @@ returns-in_err-parts c =
 pub name_of_parts-requires : goal.name_of_parts-requires
 name_of_parts-requires c =
     let parts = c.in_ok-parts.parts.items in
-    let none : first_bad_digest (map uri_part parts) ≡ None = ap (λ (ps : List UriPart). first_bad_digest (map uri_part ps)) (sym c.deref.ensures.value) ∙ sym c.first_bad_digest.ensures ∙ c.in_default.is in
+    let none : first_bad_digest (map uri_part parts) ≡ None =
+    ap (λ (ps : List UriPart). first_bad_digest (map uri_part ps)) (sym c.deref.ensures.value)
+    ∙ sym c.first_bad_digest.ensures
+    ∙ c.in_default.is in
     let P : List UriPart → Type 0 = λ ps. AllByRecursion MayBeAppended (name_of_parts (map uri_part ps)) in
-    subst P (sym c.deref-2.ensures.value) (uri-sound (map uri_part parts) c.as_bytes.result.now c.in_ok-parts.ensures none)
+    subst P (sym c.deref-2.ensures.value)
+    (uri-sound (map uri_part parts) c.as_bytes.result.now c.in_ok-parts.ensures none)
 
 pub returns-in-Some-clause-plain : goal.returns-in-Some-clause-plain
 returns-in-Some-clause-plain c =

@@ -13,4 +13,5 @@ unwrap-requires c =
     let start = c.in_ok-text.text.items in
     let seen = ap (λ (n : List Component). start ++ uri n) c.view.ensures in
     let printed = c.in_ok-put_uri.ensures.ok ∙ seen ∙ ap (λ (t : List ℕ). t ++ uri name) c.in_ok-text.ensures.items in
-    c.from_utf8.ensures.succeeds (subst P (sym printed) (IsUtf8-from_ascii (uri name) (uri-ascii name c.octets.ensures.name)))
+    c.from_utf8.ensures.succeeds
+    (subst P (sym printed) (IsUtf8-from_ascii (uri name) (uri-ascii name c.octets.ensures.name)))

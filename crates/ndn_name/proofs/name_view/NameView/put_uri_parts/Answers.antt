@@ -29,7 +29,8 @@ returns-in_err-put_component-clause-front c =
     let out = c.args.out.now.items in
     let slashed = c.extend_from_slice-in-Ok-Some.new.self.items in
     let mid : take (length out) slashed ≡ out =
-    front-more out c.loop-element.out.items slashed _ c.loop-element.invariant.front c.in_ok-extend_from_slice.ensures.items in
+    front-more out c.loop-element.out.items slashed _ c.loop-element.invariant.front
+    c.in_ok-extend_from_slice.ensures.items in
     front-longer out slashed c.put_component.new.out.items mid c.put_component.ensures.front
 
 pub loop-element-preserved : goal.loop-element-preserved
@@ -37,7 +38,8 @@ loop-element-preserved c =
     let out = c.args.out.now.items in
     let slashed = c.extend_from_slice-in-Ok-Some.new.self.items in
     let mid : take (length out) slashed ≡ out =
-    front-more out c.loop-element.out.items slashed _ c.loop-element.invariant.front c.in_ok-extend_from_slice.ensures.items in
+    front-more out c.loop-element.out.items slashed _ c.loop-element.invariant.front
+    c.in_ok-extend_from_slice.ensures.items in
     record {
       front = front-longer out slashed c.put_component.new.out.items mid c.put_component.ensures.front;
       so_far = grind (arith, common_steps);

@@ -10,4 +10,6 @@ returns c =
     let other = c.octets-2.result.now in
     c.eq.ensures
     ∙ texts_ties own other
-    ∙ ap is_eq (ap (λ (x : List ℕ). slice_cmp nat_cmp x other) c.octets.ensures.spelled ∙ ap (slice_cmp nat_cmp _) c.octets-2.ensures.spelled ∙ encodings-cmp c.args.self.now c.args.other.now c.octets.ensures.name c.octets-2.ensures.name)
+    ∙ ap is_eq (ap (λ (x : List ℕ). slice_cmp nat_cmp x other) c.octets.ensures.spelled
+    ∙ ap (slice_cmp nat_cmp _) c.octets-2.ensures.spelled
+    ∙ encodings-cmp c.args.self.now c.args.other.now c.octets.ensures.name c.octets-2.ensures.name)

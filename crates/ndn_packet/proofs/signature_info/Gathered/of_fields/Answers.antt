@@ -12,29 +12,44 @@ use Rattle.ndn_packet.proofs.signature_info.Gathered.of_fields.Goals as goal
 
 pub loop-next-init : goal.loop-next-init
 loop-next-init c = record {
-  so_far = ap (gathered with_info_field packet_fault (record { signature_type = None; locator = None })) (c.new-fields.ensures.fields ∙ ap (fields signature_info_table) c.new-elements.ensures.elements);
+  so_far =
+      ap (gathered with_info_field packet_fault (record { signature_type = None; locator = None }))
+      (c.new-fields.ensures.fields ∙ ap (fields signature_info_table) c.new-elements.ensures.elements);
   low = c.args.element.value_start;
-  within = c.new-fields.ensures.within c.args.element.value_start (c.args.element.value_start + length c.args.element.value.now) c.new-elements.ensures.within;
+  within =
+      c.new-fields.ensures.within c.args.element.value_start
+      (c.args.element.value_start + length c.args.element.value.now) c.new-elements.ensures.within;
 }
 
 pub returns-in_err-next : goal.returns-in_err-next
 returns-in_err-next c =
     let p = err_from_is_err_and c.from_residual.result c.from_residual.ensures.1 in
-    rw (p.1, p.2) (ends_at_fault with_info_field packet_fault (info_so_far c.loop-next.gathered) c.loop-next.fields (info_fields (item c.args.element)) c.loop-next.invariant.so_far c.in_err-next.field-0.0 c.in_err-next.ensures.fault)
+    rw (p.1, p.2)
+    (ends_at_fault with_info_field packet_fault (info_so_far c.loop-next.gathered) c.loop-next.fields
+    (info_fields (item c.args.element)) c.loop-next.invariant.so_far c.in_err-next.field-0.0
+    c.in_err-next.ensures.fault)
 
 pub returns-in_err-take : goal.returns-in_err-take
 returns-in_err-take c =
     let p = err_from_is_err_and c.from_residual-in_err-take.result c.from_residual-in_err-take.ensures.1 in
     let seen = rw c.in-Some.is at c.in_ok-next.ensures.ok in
-    rw (p.1, p.2) (ends_at_step with_info_field packet_fault (info_so_far c.loop-next.gathered) c.loop-next.fields (info_fields (item c.args.element)) c.loop-next.invariant.so_far (c.in-Some.next.0, item c.in-Some.next.1) c.next.new.self c.in_err-take.field-0.0 seen c.in_err-take.ensures)
+    rw (p.1, p.2)
+    (ends_at_step with_info_field packet_fault (info_so_far c.loop-next.gathered) c.loop-next.fields
+    (info_fields (item c.args.element)) c.loop-next.invariant.so_far (c.in-Some.next.0, item c.in-Some.next.1)
+    c.next.new.self c.in_err-take.field-0.0 seen c.in_err-take.ensures)
 
 pub loop-next-preserved : goal.loop-next-preserved
 loop-next-preserved c =
     let seen = rw c.in-Some.is at c.in_ok-next.ensures.ok in
-    let P : Listing (InfoField × Item) FieldFault → Type 0 = λ read. AreWithin c.loop-next.invariant.low (c.args.element.value_start + length c.args.element.value.now) (map (λ f. f.1) read.items) in
+    let P : Listing (InfoField × Item) FieldFault → Type 0 =
+    λ read. AreWithin c.loop-next.invariant.low (c.args.element.value_start + length c.args.element.value.now)
+    (map (λ f. f.1) read.items) in
     let within = subst P seen c.loop-next.invariant.within in
     record {
-      so_far = goes_on with_info_field packet_fault (info_so_far c.loop-next.gathered) c.loop-next.fields (info_fields (item c.args.element)) c.loop-next.invariant.so_far (c.in-Some.next.0, item c.in-Some.next.1) c.next.new.self (info_so_far c.take.new.self) seen c.in_ok-take.ensures;
+      so_far =
+          goes_on with_info_field packet_fault (info_so_far c.loop-next.gathered) c.loop-next.fields
+          (info_fields (item c.args.element)) c.loop-next.invariant.so_far (c.in-Some.next.0, item c.in-Some.next.1)
+          c.next.new.self (info_so_far c.take.new.self) seen c.in_ok-take.ensures;
       low = c.in-Some.next.1.end;
       within = within.3;
     }
@@ -42,4 +57,5 @@ loop-next-preserved c =
 pub returns : goal.returns
 returns c =
     let seen = rw c.in_default.is at c.in_ok-next.ensures.ok in
-    all_gathered with_info_field packet_fault (info_so_far c.loop-next.gathered) c.loop-next.fields (info_fields (item c.args.element)) c.loop-next.invariant.so_far seen.0
+    all_gathered with_info_field packet_fault (info_so_far c.loop-next.gathered) c.loop-next.fields
+    (info_fields (item c.args.element)) c.loop-next.invariant.so_far seen.0

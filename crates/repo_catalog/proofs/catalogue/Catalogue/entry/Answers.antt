@@ -8,13 +8,18 @@ use Rattle.repo_catalog.proofs.catalogue.Catalogue.entry.Goals as goal
 pub returns-in_default : goal.returns-in_default
 returns-in_default c =
     let k : Pair = (c.args.publisher, c.args.seq) in
-    let place = found_place c.args.self.now.entries k (Err c.in_default.field-0) c.in_default.ensures.ordered c.in_default.ensures.bound c.in_default.ensures.position in
+    let place =
+    found_place c.args.self.now.entries k (Err c.in_default.field-0) c.in_default.ensures.ordered
+    c.in_default.ensures.bound c.in_default.ensures.position in
     sym (no_entry_between k c.args.self.now.entries c.in_default.field-0 place)
 
 pub returns : goal.returns
 returns c =
     let k : Pair = (c.args.publisher, c.args.seq) in
     let d = c.index.result.now in
-    let place = found_place c.args.self.now.entries k (Ok c.in-Ok.place) c.in-Ok.ensures.ordered c.in-Ok.ensures.bound c.in-Ok.ensures.position in
+    let place =
+    found_place c.args.self.now.entries k (Ok c.in-Ok.place) c.in-Ok.ensures.ordered c.in-Ok.ensures.bound
+    c.in-Ok.ensures.position in
     let there = c.index.ensures ∙ ap (λ (l : EntryList). get_or l.entries c.in-Ok.place d) c.self.view_is in
-    ap (λ (e : Entry). Some e) there ∙ sym (entry_at k c.args.self.now.entries c.in-Ok.place d c.in-Ok.ensures.ordered place)
+    ap (λ (e : Entry). Some e) there
+    ∙ sym (entry_at k c.args.self.now.entries c.in-Ok.place d c.in-Ok.ensures.ordered place)

@@ -9,5 +9,7 @@ pub returns-clause-position : goal.returns-clause-position
 returns-clause-position c =
     let pair : Pair = (c.args.publisher, c.args.seq) in
     let r = c.binary_search_by_key.result in
-    let position = c.binary_search_by_key.ensures.position publication_of (answers_always _ _ _ (λ f a r g called. search rules)) in
-    subst (λ (l : EntryList). IsBinarySearchResult (λ e. pair_cmp (publication_of e) pair) l.entries r) c.self.view_is (rw c.deref.ensures.value at position)
+    let position =
+    c.binary_search_by_key.ensures.position publication_of (answers_always _ _ _ (λ f a r g called. search rules)) in
+    subst (λ (l : EntryList). IsBinarySearchResult (λ e. pair_cmp (publication_of e) pair) l.entries r) c.self.view_is
+    (rw c.deref.ensures.value at position)

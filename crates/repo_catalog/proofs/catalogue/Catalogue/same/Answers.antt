@@ -8,5 +8,7 @@ pub returns : goal.returns
 returns c =
     let mine = ap (λ (l : EntryList). l.entries) c.self.view_is in
     let other = ap (λ (l : EntryList). l.entries) c.other.view_is in
-    let same = slice_eq-Decides entry_eq-Decides c.self.inside.entries.items c.other.inside.entries.items c.eq.result c.eq.ensures in
+    let same =
+    slice_eq-Decides entry_eq-Decides c.self.inside.entries.items c.other.inside.entries.items c.eq.result
+    c.eq.ensures in
     (λ h. sym mine ∙ same.0 h ∙ other, λ e. same.1 (mine ∙ e ∙ sym other))

@@ -6,7 +6,8 @@ use Rattle.repo_command.proofs.parameters.Parameters.of_fields.Given as goal
 
 abbrev pub invariant-loop-next : goal.invariant-loop-next
 invariant-loop-next l = record {
-  so_far : gathered with_parameter bad_parameter_field (parameters l.gathered) l.fields ≡ parameters_in (item l.element);
+  so_far : gathered with_parameter bad_parameter_field (parameters l.gathered) l.fields
+      ≡ parameters_in (item l.element);
   low : ℕ;
   within : AreWithin low (l.element.value_start + length l.element.value.now) (map (λ f. f.1) l.fields.items);
 }

@@ -8,4 +8,5 @@ use Rattle.repo_member.proofs.member.Member.claim.Goals as goal
 pub returns-clause-part : goal.returns-clause-part
 returns-clause-part c =
     subst (λ (part : Option Part). IfOk c.claim.result (λ claim. claim ≡ part))
-    (reading (λ p. first (unclaimed p)) c.self.inside c.args.self.now c.self.invariant c.self.view_is refl) c.claim.ensures.part
+    (reading (λ p. first (unclaimed p)) c.self.inside c.args.self.now c.self.invariant c.self.view_is refl)
+    c.claim.ensures.part

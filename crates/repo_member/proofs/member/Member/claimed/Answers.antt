@@ -5,5 +5,8 @@ use Rattle.repo_member.proofs.member.Member.claimed.Goals as goal
 
 pub prove-unreachable-requires : goal.prove-unreachable-requires
 prove-unreachable-requires c =
-    let wanted = c.holds-held.ensures.sound.claimed (c.args.f - 1) c.in_ok-part.part (sym c.claimed.ensures ∙ c.in_ok-part.was) in
-    absurd (true≢false (sym c.if-prove.true ∙ c.holds-held.ensures.held ∙ (wanted_parts c.self.inside.plan c.in_ok-part.part wanted).not_held))
+    let wanted =
+    c.holds-held.ensures.sound.claimed (c.args.f - 1) c.in_ok-part.part (sym c.claimed.ensures ∙ c.in_ok-part.was) in
+    absurd
+    (true≢false (sym c.if-prove.true ∙ c.holds-held.ensures.held
+    ∙ (wanted_parts c.self.inside.plan c.in_ok-part.part wanted).not_held))

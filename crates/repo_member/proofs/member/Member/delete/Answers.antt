@@ -9,13 +9,21 @@ use Rattle.repo_member.proofs.member.Member.delete.Goals as goal
 
 pub hide_all-requires-clause-unclaimed : goal.hide_all-requires-clause-unclaimed
 hide_all-requires-clause-unclaimed c =
-    let claims = ap (λ (p : Holdings). p.claims) c.in_ok-reserve.ensures.ok ∙ ap (λ (a : Alone). a.claims) c.self.view_is in
-    let each = subst (All (λ (pair : Pair). claims_part_in (alone_plan c.args.self.now) pair ≡ false)) (sym c.deref.ensures.value) c.in_ok-found.ensures.unclaimed in
-    λ k d low. ap (λ (cs : List (Option Part)). list_any (is_claim_in (get_or c.deref.result.now k d)) cs) claims ∙ each k d low
+    let claims =
+    ap (λ (p : Holdings). p.claims) c.in_ok-reserve.ensures.ok ∙ ap (λ (a : Alone). a.claims) c.self.view_is in
+    let each =
+    subst (All (λ (pair : Pair). claims_part_in (alone_plan c.args.self.now) pair ≡ false)) (sym c.deref.ensures.value)
+    c.in_ok-found.ensures.unclaimed in
+    λ k d low.
+    ap (λ (cs : List (Option Part)). list_any (is_claim_in (get_or c.deref.result.now k d)) cs) claims ∙ each k d low
 
 pub invariant_of-self-2 : goal.invariant_of-self-2
 invariant_of-self-2 c =
-    let known = subst (All (λ (pair : Pair). knows (alone_plan c.args.self.now) pair ≡ true)) (sym c.deref.ensures.value) c.in_ok-found.ensures.known in
+    let known =
+    subst (All (λ (pair : Pair). knows (alone_plan c.args.self.now) pair ≡ true)) (sym c.deref.ensures.value)
+    c.in_ok-found.ensures.known in
     hidden_is c.self.inside _ c.reserve.new.self c.deref.result.now c.self.invariant refl refl refl refl refl
-    (ap (λ (p : Holdings). p.known) c.in_ok-reserve.ensures.ok) (ap (λ (p : Holdings). p.hidden) c.in_ok-reserve.ensures.ok) c.hide_all.ensures.hidden
-    (subst (λ (a : Alone). All (λ (pair : Pair). knows (alone_plan a) pair ≡ true) c.deref.result.now) (sym c.self.view_is) known) c.hide_all.ensures.kept
+    (ap (λ (p : Holdings). p.known) c.in_ok-reserve.ensures.ok)
+    (ap (λ (p : Holdings). p.hidden) c.in_ok-reserve.ensures.ok) c.hide_all.ensures.hidden
+    (subst (λ (a : Alone). All (λ (pair : Pair). knows (alone_plan a) pair ≡ true) c.deref.result.now)
+    (sym c.self.view_is) known) c.hide_all.ensures.kept

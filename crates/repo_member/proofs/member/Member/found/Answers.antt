@@ -1,4 +1,5 @@
-use Rattle.std.proofs.Common.{◌≡◌, ◌≤◌, ◌<◌, ◌+◌, ℕ, Bool, true, false, cond, List, [], ◌∷◌, ◌++◌, append-nil, length, get_or, take, sym, ap, ◌∙◌, subst, arith}
+use Rattle.std.proofs.Common.{◌≡◌, ◌≤◌, ◌<◌, ◌+◌, ℕ, Bool, true, false, cond, List, [], ◌∷◌, ◌++◌, append-nil, length}
+use Rattle.std.proofs.Common.{get_or, take, sym, ap, ◌∙◌, subst, arith}
 use Rattle.std.specs.Ordering.{is_eq}
 use Rattle.std.proofs.lemmas.Bool.{true≢false}
 use Rattle.std.proofs.lemmas.List.{take_more, take_all}
@@ -21,47 +22,74 @@ use Rattle.repo_member.proofs.member.Member.found.Goals.{then-is_eq+else-prove+i
 use Rattle.repo_member.proofs.member.Member.found.Goals as goal
 
 -- the entry at a place, in a member
-entry_at_place : (m : Inside) (name : List Component) (entries : List Entry) (i : ℕ) (e : Entry) → IsMember m → PlanIsSound m.plan
-    → entries ≡ m.catalogue.entries → IsCatalogue m.catalogue.entries → i < length entries → e ≡ get_or entries i e → IsEntryAt m.plan m.store.packets name entries i e
+entry_at_place : (m : Inside) (name : List Component) (entries : List Entry) (i : ℕ) (e : Entry) → IsMember m
+    → PlanIsSound m.plan
+    → entries ≡ m.catalogue.entries → IsCatalogue m.catalogue.entries → i < length entries → e ≡ get_or entries i e
+    → IsEntryAt m.plan m.store.packets name entries i e
 entry_at_place m name entries i e is sound same order low found =
-    entry_is_at m.plan m.store.packets name entries i e e sound is.kept.tied (same ∙ is.kept.listed) (subst IsCatalogue (sym same) order) low found
+    entry_is_at m.plan m.store.packets name entries i e e sound is.kept.tied (same ∙ is.kept.listed)
+    (subst IsCatalogue (sym same) order) low found
 
 -- one name more, or none
-named_more : (name : List Component) (entries : List Entry) (i : ℕ) (e : Entry) (b : Bool) → i < length entries → e ≡ get_or entries i e → entry_has_name name e ≡ b
-    → publications_named name (take (i + 1) entries) ≡ publications_named name (take i entries) ++ cond b (publication_of e ∷ []) []
+named_more : (name : List Component) (entries : List Entry) (i : ℕ) (e : Entry) (b : Bool) → i < length entries
+    → e ≡ get_or entries i e → entry_has_name name e ≡ b
+    → publications_named name (take (i + 1) entries)
+    ≡ publications_named name (take i entries) ++ cond b (publication_of e ∷ []) []
 named_more name entries i e b low found is =
     ap (publications_named name) (take_more entries i e low ∙ ap (λ (x : Entry). take i entries ++ x ∷ []) (sym found))
-    ∙ named_append name (take i entries) e ∙ ap (λ (c : Bool). publications_named name (take i entries) ++ cond c (publication_of e ∷ []) []) is
+    ∙ named_append name (take i entries) e
+    ∙ ap (λ (c : Bool). publications_named name (take i entries) ++ cond c (publication_of e ∷ []) []) is
 
 -- what the plan of a member says is what the member says
-known_alone : (m : Inside) (a : Alone) (pair : Pair) → IsMember m → alone m ≡ a → knows m.plan pair ≡ true → knows (alone_plan a) pair ≡ true
+known_alone : (m : Inside) (a : Alone) (pair : Pair) → IsMember m → alone m ≡ a → knows m.plan pair ≡ true
+    → knows (alone_plan a) pair ≡ true
 known_alone m a pair is same h =
-    ap (λ (b : Alone). knows (alone_plan b) pair) (sym same) ∙ ap (λ (known : List ℕ). knows (record m.plan { known = known }) pair) (sym is.known) ∙ h
+    ap (λ (b : Alone). knows (alone_plan b) pair) (sym same)
+    ∙ ap (λ (known : List ℕ). knows (record m.plan { known = known }) pair) (sym is.known)
+    ∙ h
 
-unclaimed_alone : (m : Inside) (a : Alone) (pair : Pair) → alone m ≡ a → claims_part_in m.plan pair ≡ false → claims_part_in (alone_plan a) pair ≡ false
+unclaimed_alone : (m : Inside) (a : Alone) (pair : Pair) → alone m ≡ a → claims_part_in m.plan pair ≡ false
+    → claims_part_in (alone_plan a) pair ≡ false
 unclaimed_alone m a pair same h = ap (λ (b : Alone). claims_part_in (alone_plan b) pair) (sym same) ∙ h
 
 pub loop-entry-init : goal.loop-entry-init
 loop-entry-init c = record {
   named = c.new-publications.ensures.items;
-  left = c.len-left.ensures.number ∙ ap (λ (a : Alone). length a.store) c.self.view_is ∙ ap (λ (pairs : List Pair). length (outside_all pairs c.args.self.now.store)) (sym c.new-publications.ensures.items);
+  left =
+      c.len-left.ensures.number
+      ∙ ap (λ (a : Alone). length a.store) c.self.view_is
+      ∙ ap (λ (pairs : List Pair). length (outside_all pairs c.args.self.now.store))
+      (sym c.new-publications.ensures.items);
   known = rw c.new-publications.ensures.items (All-nil (λ pair. knows (alone_plan c.args.self.now) pair ≡ true));
-  unclaimed = rw c.new-publications.ensures.items (All-nil (λ pair. claims_part_in (alone_plan c.args.self.now) pair ≡ false));
+  unclaimed =
+      rw c.new-publications.ensures.items (All-nil (λ pair. claims_part_in (alone_plan c.args.self.now) pair ≡ false));
 }
 
 pub prove-unreachable-requires : goal.prove-unreachable-requires
 prove-unreachable-requires c =
-    let at = entry_at_place c.self.inside c.args.name.now c.entries-entry-items.result.now c.loop-entry.entry-index c.entry-item.result c.self.invariant c.holds-held.ensures.sound
-    c.entries-entry-items.ensures.entries c.entries-entry-items.ensures.ordered c.loop-entry-test.true c.entry-item.is in
+    let at =
+    entry_at_place c.self.inside c.args.name.now c.entries-entry-items.result.now c.loop-entry.entry-index
+    c.entry-item.result c.self.invariant c.holds-held.ensures.sound
+    c.entries-entry-items.ensures.entries c.entries-entry-items.ensures.ordered c.loop-entry-test.true
+    c.entry-item.is in
     true≢false (sym at.held ∙ sym c.holds-held.ensures.held ∙ c.if-prove.true)
 
 pub overflow_sub-left : goal.overflow_sub-left
 overflow_sub-left c =
-    let at = entry_at_place c.self.inside c.args.name.now c.entries-entry-items.result.now c.loop-entry.entry-index c.entry-item.result c.self.invariant c.holds-held.ensures.sound
-    c.entries-entry-items.ensures.entries c.entries-entry-items.ensures.ordered c.loop-entry-test.true c.entry-item.is in
-    let here : c.loop-entry.left ≡ length (outside_all (publications_named c.args.name.now (take c.loop-entry.entry-index c.entries-entry-items.result.now)) c.self.inside.store.packets) =
-    c.loop-entry.invariant.left ∙ ap (λ (pairs : List Pair). length (outside_all pairs c.args.self.now.store)) c.loop-entry.invariant.named
-    ∙ ap (λ (a : Alone). length (outside_all (publications_named c.args.name.now (take c.loop-entry.entry-index c.entries-entry-items.result.now)) a.store)) (sym c.self.view_is) in
+    let at =
+    entry_at_place c.self.inside c.args.name.now c.entries-entry-items.result.now c.loop-entry.entry-index
+    c.entry-item.result c.self.invariant c.holds-held.ensures.sound
+    c.entries-entry-items.ensures.entries c.entries-entry-items.ensures.ordered c.loop-entry-test.true
+    c.entry-item.is in
+    let here : c.loop-entry.left
+    ≡ length
+    (outside_all (publications_named c.args.name.now (take c.loop-entry.entry-index c.entries-entry-items.result.now))
+    c.self.inside.store.packets) =
+    c.loop-entry.invariant.left
+    ∙ ap (λ (pairs : List Pair). length (outside_all pairs c.args.self.now.store)) c.loop-entry.invariant.named
+    ∙ ap (λ (a : Alone). length
+    (outside_all (publications_named c.args.name.now (take c.loop-entry.entry-index c.entries-entry-items.result.now))
+    a.store)) (sym c.self.view_is) in
     omega (arith, here, at.fewer)
 
 pub loop-entry-preserved : goal.loop-entry-preserved
@@ -71,28 +99,51 @@ loop-entry-preserved c =
     let i : ℕ = c.loop-entry.entry-index in
     let e : Entry = c.entry-item.result in
     let invariant = c.loop-entry.invariant in
-    let named : entry_has_name name e ≡ c.is_eq.result = sym (c.is_eq.ensures ∙ ap is_eq (c.compare.ensures ∙ ap (λ (n : List Component). canonical_cmp n c.view-in-loop-entry.result) c.view.ensures ∙ ap (canonical_cmp e.name) c.view-in-loop-entry.ensures)) in
+    let named : entry_has_name name e ≡ c.is_eq.result =
+    sym (c.is_eq.ensures
+    ∙ ap is_eq
+    (c.compare.ensures ∙ ap (λ (n : List Component). canonical_cmp n c.view-in-loop-entry.result) c.view.ensures
+    ∙ ap (canonical_cmp e.name) c.view-in-loop-entry.ensures)) in
     elim c.if-is_eq.branch [
       | then-is_eq+else-prove+in_ok-push w ↦
           let at = entry_at_place c.self.inside name entries i e c.self.invariant w.holds-held.ensures.sound
-          c.entries-entry-items.ensures.entries c.entries-entry-items.ensures.ordered c.loop-entry-test.true c.entry-item.is in
-          let pushed : w.push.new.self.items ≡ c.loop-entry.publications.items ++ publication_of e ∷ [] = w.in_ok-push.ensures.items in
-          let more = named_more name entries i e true c.loop-entry-test.true c.entry-item.is (named ∙ w.if-is_eq.true) in
+          c.entries-entry-items.ensures.entries c.entries-entry-items.ensures.ordered c.loop-entry-test.true
+          c.entry-item.is in
+          let pushed : w.push.new.self.items ≡ c.loop-entry.publications.items ++ publication_of e ∷ [] =
+          w.in_ok-push.ensures.items in
+          let more =
+          named_more name entries i e true c.loop-entry-test.true c.entry-item.is (named ∙ w.if-is_eq.true) in
           let store : List Packet = c.args.self.now.store in
           let same = ap (λ (a : Alone). a.store) c.self.view_is in
-          let here : c.loop-entry.left ≡ length (outside_all (publications_named name (take i entries)) c.self.inside.store.packets) =
-          invariant.left ∙ ap (λ (pairs : List Pair). length (outside_all pairs store)) invariant.named ∙ ap (λ (stored : List Packet). length (outside_all (publications_named name (take i entries)) stored)) (sym same) in
-          let there : length (outside_all w.push.new.self.items store) ≡ length (outside_all (publications_named name (take i entries) ++ publication_of e ∷ []) c.self.inside.store.packets) =
-          ap (λ (pairs : List Pair). length (outside_all pairs store)) (pushed ∙ ap (λ (pairs : List Pair). pairs ++ publication_of e ∷ []) invariant.named)
-          ∙ ap (λ (stored : List Packet). length (outside_all (publications_named name (take i entries) ++ publication_of e ∷ []) stored)) (sym same) in
+          let here : c.loop-entry.left
+          ≡ length (outside_all (publications_named name (take i entries)) c.self.inside.store.packets) =
+          invariant.left
+          ∙ ap (λ (pairs : List Pair). length (outside_all pairs store)) invariant.named
+          ∙ ap (λ (stored : List Packet). length (outside_all (publications_named name (take i entries)) stored))
+          (sym same) in
+          let there : length (outside_all w.push.new.self.items store)
+          ≡ length (outside_all (publications_named name (take i entries) ++ publication_of e ∷ [])
+          c.self.inside.store.packets) =
+          ap (λ (pairs : List Pair). length (outside_all pairs store))
+          (pushed ∙ ap (λ (pairs : List Pair). pairs ++ publication_of e ∷ []) invariant.named)
+          ∙ ap (λ (stored : List Packet).
+          length (outside_all (publications_named name (take i entries) ++ publication_of e ∷ []) stored)) (sym same) in
           rw (w.publications-is, w.left-is) (record {
             named = pushed ∙ ap (λ (pairs : List Pair). pairs ++ publication_of e ∷ []) invariant.named ∙ sym more;
             left = omega (arith, here, there, at.fewer);
-            known = rw pushed (All-push (λ (pair : Pair). knows (alone_plan c.args.self.now) pair ≡ true) c.loop-entry.publications.items (publication_of e) invariant.known (known_alone c.self.inside c.args.self.now (publication_of e) c.self.invariant c.self.view_is at.known));
-            unclaimed = rw pushed (All-push (λ (pair : Pair). claims_part_in (alone_plan c.args.self.now) pair ≡ false) c.loop-entry.publications.items (publication_of e) invariant.unclaimed (unclaimed_alone c.self.inside c.args.self.now (publication_of e) c.self.view_is at.unclaimed));
+            known =
+                rw pushed (All-push (λ (pair : Pair). knows (alone_plan c.args.self.now) pair ≡ true)
+                c.loop-entry.publications.items (publication_of e) invariant.known
+                (known_alone c.self.inside c.args.self.now (publication_of e) c.self.invariant c.self.view_is
+                at.known));
+            unclaimed =
+                rw pushed (All-push (λ (pair : Pair). claims_part_in (alone_plan c.args.self.now) pair ≡ false)
+                c.loop-entry.publications.items (publication_of e) invariant.unclaimed
+                (unclaimed_alone c.self.inside c.args.self.now (publication_of e) c.self.view_is at.unclaimed));
           })
       | else-is_eq w ↦
-          let same = named_more name entries i e false c.loop-entry-test.true c.entry-item.is (named ∙ w.if-is_eq.false) in
+          let same =
+          named_more name entries i e false c.loop-entry-test.true c.entry-item.is (named ∙ w.if-is_eq.false) in
           rw (w.publications-is, w.left-is) (record {
             named = invariant.named ∙ sym (same ∙ append-nil (publications_named name (take i entries)));
             left = invariant.left;
@@ -102,10 +153,12 @@ loop-entry-preserved c =
     ]
 
 -- at the end
-all_named : (m : Inside) (a : Alone) (name : List Component) (entries : List Entry) (i : ℕ) → IsMember m → alone m ≡ a → entries ≡ m.catalogue.entries → length entries ≤ i
+all_named : (m : Inside) (a : Alone) (name : List Component) (entries : List Entry) (i : ℕ) → IsMember m → alone m ≡ a
+    → entries ≡ m.catalogue.entries → length entries ≤ i
     → publications_named name (take i entries) ≡ publications_named name (alone_catalogue a.store)
 all_named m a name entries i is same listed high =
-    ap (publications_named name) (take_all i entries high ∙ listed ∙ is.kept.listed ∙ ap (λ (b : Alone). alone_catalogue b.store) same)
+    ap (publications_named name)
+    (take_all i entries high ∙ listed ∙ is.kept.listed ∙ ap (λ (b : Alone). alone_catalogue b.store) same)
 
 pub overflow_sub-result : goal.overflow_sub-result
 overflow_sub-result c =
@@ -116,13 +169,16 @@ overflow_sub-result c =
 pub returns-clause-publications : goal.returns-clause-publications
 returns-clause-publications c =
     c.loop-entry.invariant.named
-    ∙ all_named c.self.inside c.args.self.now c.args.name.now c.entries-entry-items.result.now c.loop-entry.entry-index c.self.invariant c.self.view_is c.entries-entry-items.ensures.entries (omega (arith, c.loop-entry-test.false))
+    ∙ all_named c.self.inside c.args.self.now c.args.name.now c.entries-entry-items.result.now c.loop-entry.entry-index
+    c.self.invariant c.self.view_is c.entries-entry-items.ensures.entries (omega (arith, c.loop-entry-test.false))
 
 pub returns-clause-packets : goal.returns-clause-packets
 returns-clause-packets c =
     let named : c.loop-entry.publications.items ≡ catalogued_named c.args.name.now c.args.self.now =
     c.loop-entry.invariant.named
-    ∙ all_named c.self.inside c.args.self.now c.args.name.now c.entries-entry-items.result.now c.loop-entry.entry-index c.self.invariant c.self.view_is c.entries-entry-items.ensures.entries (omega (arith, c.loop-entry-test.false)) in
+    ∙ all_named c.self.inside c.args.self.now c.args.name.now c.entries-entry-items.result.now c.loop-entry.entry-index
+    c.self.invariant c.self.view_is c.entries-entry-items.ensures.entries (omega (arith, c.loop-entry-test.false)) in
     let stored = c.len.ensures.number ∙ ap (λ (a : Alone). length a.store) c.self.view_is in
-    let left = c.loop-entry.invariant.left ∙ ap (λ (pairs : List Pair). length (outside_all pairs c.args.self.now.store)) named in
+    let left =
+    c.loop-entry.invariant.left ∙ ap (λ (pairs : List Pair). length (outside_all pairs c.args.self.now.store)) named in
     omega (arith, stored, left)

@@ -7,6 +7,8 @@ use Rattle.repo_member.proofs.member.Member.gain_claimed.Goals as goal
 pub gain_listed-requires-clause-not_claimed : goal.gain_listed-requires-clause-not_claimed
 gain_listed-requires-clause-not_claimed c =
     let claim =
-    ap (λ (p : Holdings). claim_of p c.args.f) c.make_room.ensures.plan ∙ ap (λ (a : Alone). claim_of (alone_plan a) c.args.f) c.self.view_is
+    ap (λ (p : Holdings). claim_of p c.args.f) c.make_room.ensures.plan
+    ∙ ap (λ (a : Alone). claim_of (alone_plan a) c.args.f) c.self.view_is
     ∙ c.requires.claimed in
-    (ended_claim c.release.result _ c.release.new.self c.args.f c.args.part c.release.ensures.busy c.release.ensures.free c.release.ensures.ok c.release.ensures.idle claim).0.not_claimed
+    (ended_claim c.release.result _ c.release.new.self c.args.f c.args.part c.release.ensures.busy
+    c.release.ensures.free c.release.ensures.ok c.release.ensures.idle claim).0.not_claimed

@@ -8,5 +8,6 @@ pub invariant_of-self : goal.invariant_of-self
 invariant_of-self c =
     learns_is c.self.inside c.args.told.now _ _ _ c.self.invariant
     (c.requires.width ∙ sym (ap (λ (a : Alone). length a.known) c.self.view_is))
-    (subst (λ (a : Alone). slice_index c.args.told.now a.number ≤ length a.log) (sym c.self.view_is) c.in_ok-not_ahead.ensures.own)
+    (subst (λ (a : Alone). slice_index c.args.told.now a.number ≤ length a.log) (sym c.self.view_is)
+    c.in_ok-not_ahead.ensures.own)
     c.learn.ensures.vector c.learn.ensures.plan (still_wide _ _ _ _ _ _ c.heard-mode.ensures.kept)

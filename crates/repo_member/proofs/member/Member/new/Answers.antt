@@ -16,14 +16,18 @@ pub invariant_of-result : goal.invariant_of-result
 invariant_of-result c =
     let n : ℕ = c.len-members.result in
     let zero_number : ℕ = 0 in
-    let inside : c.args.number < n = omega (arith, c.requires.number, ap length c.roster.ensures.names, c.len-members.ensures.len) in
+    let inside : c.args.number < n =
+    omega (arith, c.requires.number, ap length c.roster.ensures.names, c.len-members.ensures.len) in
     let known = c.in_ok-new.ensures in
     let plan = c.in_ok-new-3.ensures in
     let wide : length c.in_ok-new.field-0 ≡ n = ap length known ∙ length-replicate n zero_number in
     record {
       alone = record {
         member = omega (arith, inside, wide);
-        own = ap (λ (v : List ℕ). slice_index v c.args.number) known ∙ get_or-replicate n c.args.number zero_number 0 inside ∙ sym (ap length c.new.ensures.items);
+        own =
+            ap (λ (v : List ℕ). slice_index v c.args.number) known
+            ∙ get_or-replicate n c.args.number zero_number 0 inside
+            ∙ sym (ap length c.new.ensures.items);
         width = ap (λ (m : Keeper). m.members) c.in_ok-new-2.ensures ∙ sym wide;
         in_order = subst (λ (s : StoreList). Rises part_cmp (keys s.packets)) (sym c.new-5.ensures) tt;
         hidden = λ pair h. absurd (true≢false (sym h ∙ ap (λ (p : Holdings). contains pair_cmp p.hidden pair) plan));
@@ -33,9 +37,13 @@ invariant_of-result c =
         tied = record {
           in_order = subst (λ (s : StoreList). Rises part_cmp (keys s.packets)) (sym c.new-5.ensures) tt;
           held = ap (λ (p : Holdings). p.held) plan ∙ sym (ap (λ (s : StoreList). keys s.packets) c.new-5.ensures);
-          shapes = ap (λ (p : Holdings). p.shapes) plan ∙ sym (ap (λ (s : StoreList). shapes_in s.packets) c.new-5.ensures);
+          shapes =
+              ap (λ (p : Holdings). p.shapes) plan ∙ sym (ap (λ (s : StoreList). shapes_in s.packets) c.new-5.ensures);
         };
-        listed = ap (λ (k : EntryList). k.entries) c.new-6.ensures ∙ sym (ap (λ (s : StoreList). alone_catalogue s.packets) c.new-5.ensures);
+        listed =
+            ap (λ (k : EntryList). k.entries) c.new-6.ensures
+            ∙ sym (ap (λ (s : StoreList). alone_catalogue s.packets) c.new-5.ensures);
       };
-      waiting = subst (λ (i : Insertions). AreWaiting i.processes) (sym c.new-7.ensures) (λ number p found waits. absurd cc);
+      waiting =
+          subst (λ (i : Insertions). AreWaiting i.processes) (sym c.new-7.ensures) (λ number p found waits. absurd cc);
     }

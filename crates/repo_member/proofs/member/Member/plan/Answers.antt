@@ -7,5 +7,9 @@ use Rattle.repo_member.proofs.member.Member.plan.Goals as goal
 
 pub jobs-requires-clause-asked : goal.jobs-requires-clause-asked
 jobs-requires-clause-asked c = λ k d inside.
-    let listed = subst (All (λ t. is_asked c.self.inside.plan t ≡ true)) (sym (c.deref.ensures.value ∙ c.in_ok-parts.ensures)) (listed_are_asked c.self.inside.plan c.args.after c.args.most) in
-    sym (reading (λ p. is_asked p (slice_index_or c.deref.result.now k d)) c.self.inside c.args.self.now c.self.invariant c.self.view_is refl) ∙ listed k d inside
+    let listed =
+    subst (All (λ t. is_asked c.self.inside.plan t ≡ true)) (sym (c.deref.ensures.value ∙ c.in_ok-parts.ensures))
+    (listed_are_asked c.self.inside.plan c.args.after c.args.most) in
+    sym (reading (λ p. is_asked p (slice_index_or c.deref.result.now k d)) c.self.inside c.args.self.now
+    c.self.invariant c.self.view_is refl)
+    ∙ listed k d inside

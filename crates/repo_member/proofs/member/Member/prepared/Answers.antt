@@ -7,5 +7,6 @@ pub returns-clause-publisher : goal.returns-clause-publisher
 returns-clause-publisher c =
     let number = ap (λ (a : Alone). a.number) c.self.view_is in
     let known = ap (λ (a : Alone). length a.known) c.self.view_is in
-    let inside : c.args.self.now.number < length c.args.g.now.members.names = omega (arith, c.self.invariant.alone.member, number, known, c.requires.group) in
+    let inside : c.args.self.now.number < length c.args.g.now.members.names =
+    omega (arith, c.self.invariant.alone.member, number, known, c.requires.group) in
     is_publisher c.args.g.now c.args.self.now.number c.roster.ensures.sound inside

@@ -14,12 +14,29 @@ unreachable-requires-in-Err-TooLong c =
     let long = ((c.write_signed.ensures.too_long c.in-Err-TooLong.field-0-0).0 (cc)).0 in
     let names = c.args.g.now.members.names in
     let number = c.self.inside.number in
-    let inside : number < length names = omega (arith, c.self.invariant.alone.member, c.requires.group, ap (λ (a : Alone). length a.known) c.self.view_is) in
+    let inside : number < length names =
+    omega (arith, c.self.invariant.alone.member, c.requires.group, ap (λ (a : Alone). length a.known) c.self.view_is) in
     let node : IsPlainNodeName c.name-2.result.now =
-    subst IsPlainNodeName (sym (unwrap_or-slice_get names number []) ∙ ap (λ o. unwrap_or o []) (ap (λ ns. slice_get ns number) (sym c.roster.ensures.names) ∙ c.name-2.ensures)) (c.roster.ensures.sound.members.node_names number [] inside) in
-    let keyed : length (encoding c.in_ok-key_name.key_name) ≤ 205 = omega (arith, key_name-size c.name-2.result.now node.short, ap (λ (n : List Component). length (encoding n)) c.in_ok-key_name.ensures) in
-    let short : length (encoding c.in-Ok.name) ≤ 1000 = omega (arith, ap (λ (n : List Component). length (encoding n)) c.in-Ok.ensures.ok, c.if-octets-gt-REPLY_NAME_LIMIT.false, ap length c.octets.ensures.spelled) in
+    subst IsPlainNodeName
+    (sym (unwrap_or-slice_get names number [])
+    ∙ ap (λ o. unwrap_or o []) (ap (λ ns. slice_get ns number) (sym c.roster.ensures.names) ∙ c.name-2.ensures))
+    (c.roster.ensures.sound.members.node_names number [] inside) in
+    let keyed : length (encoding c.in_ok-key_name.key_name) ≤ 205 =
+    omega (
+      arith,
+      key_name-size c.name-2.result.now node.short,
+      ap (λ (n : List Component). length (encoding n)) c.in_ok-key_name.ensures,
+    ) in
+    let short : length (encoding c.in-Ok.name) ≤ 1000 =
+    omega (
+      arith,
+      ap (λ (n : List Component). length (encoding n)) c.in-Ok.ensures.ok,
+      c.if-octets-gt-REPLY_NAME_LIMIT.false,
+      ap length c.octets.ensures.spelled,
+    ) in
     let content = c.deref.ensures.value ∙ c.in_ok-content.ensures in
     let size = reply-size c.in-Ok.name c.args.answer.now c.in_ok-key_name.key_name c.key-key.result.now short keyed in
-    let same = ap (λ octets. length (written_data c.in-Ok.name None octets c.in_ok-key_name.key_name c.key-key.result.now)) content in
+    let same =
+    ap (λ octets. length (written_data c.in-Ok.name None octets c.in_ok-key_name.key_name c.key-key.result.now))
+    content in
     omega (arith, long, same, size)

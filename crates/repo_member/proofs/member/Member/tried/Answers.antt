@@ -11,17 +11,24 @@ use Rattle.repo_member.specs.declared.member.outcome.Tried.{Tried}
 use Rattle.repo_member.specs.Alone.{alone_plan, Fetched}
 use Rattle.repo_member.specs.Gaining.{IsArrival}
 use Rattle.repo_member.specs.Outcomes.{outcome_of, came, CanBeTaken}
-use Rattle.repo_member.proofs.OutcomeLemmas.{IsSmallPart, nothing_left, first_fetched, one_more, fetched_asked, can_be_taken, all_apart, few_tried}
+use Rattle.repo_member.proofs.OutcomeLemmas.{IsSmallPart, nothing_left, first_fetched, one_more, fetched_asked}
+use Rattle.repo_member.proofs.OutcomeLemmas.{can_be_taken, all_apart, few_tried}
 use Rattle.repo_member.proofs.member.Member.tried.Goals.{in-Some-checked+in_ok-arrived-in-Some-checked, in-None-checked}
 use Rattle.repo_member.proofs.member.Member.tried.Goals as goal
 
-same_packet : (c : goal.In_ok-push) → option_map (λ (a : Arrival). a.packet) c.match-checked.arrival ≡ option_map (λ (k : CheckedPart). k.octets) c.in-Some.checked.now
+same_packet : (c : goal.In_ok-push)
+    → option_map (λ (a : Arrival). a.packet) c.match-checked.arrival
+    ≡ option_map (λ (k : CheckedPart). k.octets) c.in-Some.checked.now
 same_packet c = elim c.match-checked.branch [
-  | in-Some-checked+in_ok-arrived-in-Some-checked w ↦ rw (w.arrival-is, w.in-Some-checked.is, w.in_ok-arrived-in-Some-checked.ensures.octets, w.octets.ensures.same) refl
+  | in-Some-checked+in_ok-arrived-in-Some-checked w ↦
+      rw (w.arrival-is, w.in-Some-checked.is, w.in_ok-arrived-in-Some-checked.ensures.octets, w.octets.ensures.same)
+      refl
   | in-None-checked w ↦ rw (w.arrival-is, w.in-None-checked.is) refl
 ]
 
-arrived : (c : goal.In_ok-push) → IfSome c.match-checked.arrival (λ a. IsArrival c.args.self.now.store c.part-part.result a.packet a.segments a.name)
+arrived : (c : goal.In_ok-push)
+    → IfSome c.match-checked.arrival
+    (λ a. IsArrival c.args.self.now.store c.part-part.result a.packet a.segments a.name)
 arrived c = elim c.match-checked.branch [
   | in-Some-checked+in_ok-arrived-in-Some-checked w ↦ rw w.arrival-is w.in_ok-arrived-in-Some-checked.ensures.arrival
   | in-None-checked w ↦ rw w.arrival-is tt
@@ -30,35 +37,58 @@ arrived c = elim c.match-checked.branch [
 pub arrived-requires-clause-asked : goal.arrived-requires-clause-asked
 arrived-requires-clause-asked c =
     let steps = c.in-Some.ensures.steps in
-    let is = first_fetched c.args.g.now c.args.self.now c.in-Some.job.now c.in-Some.checked.now c.in-Some.tries.now _ _ _ _ _ _ steps.0.0 steps.0.1 steps.1 c.loop-job.invariant.rest in
-    fetched_asked c.args.g.now c.args.self.now c.in-Some.job.now c.in-Some.checked.now c.in-Some.tries.now c.part-part.result is.0 c.part-part.ensures
+    let is =
+    first_fetched c.args.g.now c.args.self.now c.in-Some.job.now c.in-Some.checked.now c.in-Some.tries.now _ _ _ _ _ _
+    steps.0.0 steps.0.1 steps.1 c.loop-job.invariant.rest in
+    fetched_asked c.args.g.now c.args.self.now c.in-Some.job.now c.in-Some.checked.now c.in-Some.tries.now
+    c.part-part.result is.0 c.part-part.ensures
 
 pub loop-job-preserved : goal.loop-job-preserved
 loop-job-preserved c =
     let inv = c.loop-job.invariant in
     let steps = c.in-Some.ensures.steps in
-    let is = first_fetched c.args.g.now c.args.self.now c.in-Some.job.now c.in-Some.checked.now c.in-Some.tries.now _ _ _ _ _ _ steps.0.0 steps.0.1 steps.1 inv.rest in
-    let one : Tried = record { part = c.part-part.result; attempts = c.in-Some.tries.now; arrival = c.match-checked.arrival } in
+    let is =
+    first_fetched c.args.g.now c.args.self.now c.in-Some.job.now c.in-Some.checked.now c.in-Some.tries.now _ _ _ _ _ _
+    steps.0.0 steps.0.1 steps.1 inv.rest in
+    let one : Tried =
+    record { part = c.part-part.result; attempts = c.in-Some.tries.now; arrival = c.match-checked.arrival } in
     let later = iter_rest (zip_first (zip_first c.next.new.self)) in
     let behind = iter_rest (zip_second (zip_first c.next.new.self)) in
     let rest = iter_rest (zip_second c.next.new.self) in
-    let can = can_be_taken c.args.g.now c.args.self.now c.in-Some.job.now c.in-Some.checked.now c.in-Some.tries.now one is.0 c.part-part.ensures refl (arrived c) in
+    let can =
+    can_be_taken c.args.g.now c.args.self.now c.in-Some.job.now c.in-Some.checked.now c.in-Some.tries.now one is.0
+    c.part-part.ensures refl (arrived c) in
     let pushed = c.in_ok-push.ensures.items in
     record {
       came =
           ap (λ (xs : List Tried). map came xs ++ outcome_of later behind rest) pushed
-          ∙ one_more c.args.g.now c.args.self.now c.in-Some.job.now c.in-Some.checked.now c.in-Some.tries.now one _ _ _ _ _ _ c.loop-job.all.items steps.0.0 steps.0.1 steps.1 c.part-part.ensures (same_packet c) refl
+          ∙ one_more c.args.g.now c.args.self.now c.in-Some.job.now c.in-Some.checked.now c.in-Some.tries.now one _ _ _
+          _ _ _ c.loop-job.all.items steps.0.0 steps.0.1 steps.1 c.part-part.ensures (same_packet c) refl
           ∙ inv.came;
-      can = subst (All (CanBeTaken (alone_plan c.args.self.now) c.args.self.now.store)) (sym pushed) (All-push (CanBeTaken (alone_plan c.args.self.now) c.args.self.now.store) c.loop-job.all.items one inv.can can);
-      small = subst (All (λ (x : Tried). IsSmallPart x.part)) (sym pushed) (All-push (λ (x : Tried). IsSmallPart x.part) c.loop-job.all.items one inv.small (record { seq = omega (arith, c.part-part.type_inv); part = omega (arith, c.part-part.type_inv) }));
+      can =
+          subst (All (CanBeTaken (alone_plan c.args.self.now) c.args.self.now.store)) (sym pushed)
+          (All-push (CanBeTaken (alone_plan c.args.self.now) c.args.self.now.store) c.loop-job.all.items one inv.can
+          can);
+      small =
+          subst (All (λ (x : Tried). IsSmallPart x.part)) (sym pushed)
+          (All-push (λ (x : Tried). IsSmallPart x.part) c.loop-job.all.items one inv.small
+          (record { seq = omega (arith, c.part-part.type_inv); part = omega (arith, c.part-part.type_inv) }));
       rest = is.1;
     }
 
-came_all : (c : goal.In-None) → map came c.loop-job.all.items ≡ outcome_of c.args.jobs.now c.args.parts.now c.args.attempts.now
+came_all : (c : goal.In-None)
+    → map came c.loop-job.all.items ≡ outcome_of c.args.jobs.now c.args.parts.now c.args.attempts.now
 came_all c =
-    let nothing = nothing_left (iter_rest (zip_first (zip_first c.loop-job.job-iterator))) (iter_rest (zip_second (zip_first c.loop-job.job-iterator))) (iter_rest (zip_second c.loop-job.job-iterator))
-    (elim c.in-None.ensures.steps [ inl earlier ↦ elim earlier.1 [ inl jobs ↦ inl jobs.1.0 | inr parts ↦ inr (inl parts.1.0) ] | inr tries ↦ inr (inr tries.1.0) ]) in
-    sym (append-nil (map came c.loop-job.all.items)) ∙ ap (λ (xs : List Fetched). map came c.loop-job.all.items ++ xs) (sym nothing) ∙ c.loop-job.invariant.came
+    let nothing =
+    nothing_left (iter_rest (zip_first (zip_first c.loop-job.job-iterator)))
+    (iter_rest (zip_second (zip_first c.loop-job.job-iterator))) (iter_rest (zip_second c.loop-job.job-iterator))
+    (elim c.in-None.ensures.steps [
+      | inl earlier ↦ elim earlier.1 [ inl jobs ↦ inl jobs.1.0 | inr parts ↦ inr (inl parts.1.0) ]
+      | inr tries ↦ inr (inr tries.1.0)
+    ]) in
+    sym (append-nil (map came c.loop-job.all.items))
+    ∙ ap (λ (xs : List Fetched). map came c.loop-job.all.items ++ xs) (sym nothing)
+    ∙ c.loop-job.invariant.came
 
 pub returns-clause-came : goal.returns-clause-came
 returns-clause-came c = came_all c
@@ -66,12 +96,16 @@ returns-clause-came c = came_all c
 pub returns-clause-takable : goal.returns-clause-takable
 returns-clause-takable c = record {
   each = c.loop-job.invariant.can;
-  apart = all_apart c.args.g.now c.args.self.now c.args.jobs.now c.args.parts.now c.args.attempts.now c.requires.outcome c.loop-job.all.items (came_all c);
+  apart =
+      all_apart c.args.g.now c.args.self.now c.args.jobs.now c.args.parts.now c.args.attempts.now c.requires.outcome
+      c.loop-job.all.items (came_all c);
 }
 
 pub returns-clause-few : goal.returns-clause-few
 returns-clause-few c =
-    let few = few_tried c.args.g.now c.args.self.now c.args.jobs.now c.args.parts.now c.args.attempts.now c.requires.outcome c.loop-job.all.items (came_all c)
+    let few =
+    few_tried c.args.g.now c.args.self.now c.args.jobs.now c.args.parts.now c.args.attempts.now c.requires.outcome
+    c.loop-job.all.items (came_all c)
     c.args.self.now.store c.loop-job.invariant.small c.loop-job.invariant.can in
     let members = c.len-members.ensures.len in
     let roster = ap (λ names. length names) c.roster.ensures.names in

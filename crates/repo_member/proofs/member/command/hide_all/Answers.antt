@@ -12,7 +12,8 @@ use Rattle.repo_member.proofs.member.command.hide_all.Goals as goal
 
 pub hide_reserved-requires-clause-spare : goal.hide_reserved-requires-clause-spare
 hide_reserved-requires-clause-spare c =
-    let rest = at_drop_more length c.args.publications.now c.loop-publisher.publisher-index (0, 0) c.loop-publisher-test.true in
+    let rest =
+    at_drop_more length c.args.publications.now c.loop-publisher.publisher-index (0, 0) c.loop-publisher-test.true in
     omega (arith, c.loop-publisher.invariant.room, rest)
 
 pub hide_reserved-requires-clause-not_claimed : goal.hide_reserved-requires-clause-not_claimed
@@ -34,13 +35,18 @@ loop-publisher-preserved c =
     let less = at_drop_more length pairs i (0, 0) c.loop-publisher-test.true in
     record {
       packets = ap (λ (s : StoreList). outside_all (drop (i + 1) pairs) s.packets) c.drop_parts.ensures.dropped
-          ∙ sym (at_drop_more (λ (rest : List Pair). outside_all rest stored) pairs i (0, 0) c.loop-publisher-test.true) ∙ invariant.packets;
+          ∙ sym (at_drop_more (λ (rest : List Pair). outside_all rest stored) pairs i (0, 0) c.loop-publisher-test.true)
+          ∙ invariant.packets;
       hidden = ap (λ (p : Holdings). with_hidden (drop (i + 1) pairs) p.hidden) hidden
-          ∙ sym (at_drop_more (λ (rest : List Pair). with_hidden rest plan.hidden) pairs i (0, 0) c.loop-publisher-test.true) ∙ invariant.hidden;
+          ∙ sym
+          (at_drop_more (λ (rest : List Pair). with_hidden rest plan.hidden) pairs i (0, 0) c.loop-publisher-test.true)
+          ∙ invariant.hidden;
       known = ap (λ (p : Holdings). p.known) hidden ∙ invariant.known;
       claims = ap (λ (p : Holdings). p.claims) hidden ∙ invariant.claims;
       attempts = ap (λ (p : Holdings). p.attempts) hidden ∙ invariant.attempts;
-      kept = rw (hidden, c.drop_parts.ensures.dropped, c.remove.ensures.left) (kept_hides pair plan stored entries invariant.kept);
+      kept =
+          rw (hidden, c.drop_parts.ensures.dropped, c.remove.ensures.left)
+          (kept_hides pair plan stored entries invariant.kept);
       room = omega (arith, invariant.room, less, ap (λ (p : Holdings). p.spare) hidden);
     }
 
@@ -50,11 +56,15 @@ returns-clause-hidden c =
     record {
       known = invariant.known;
       claims = invariant.claims;
-      hidden = sym (at_drop_all (λ (rest : List Pair). with_hidden rest c.loop-publisher.plan.hidden) c.args.publications.now c.loop-publisher.publisher-index (omega (arith, c.loop-publisher-test.false))) ∙ invariant.hidden;
+      hidden =
+          sym (at_drop_all (λ (rest : List Pair). with_hidden rest c.loop-publisher.plan.hidden) c.args.publications.now
+          c.loop-publisher.publisher-index (omega (arith, c.loop-publisher-test.false)))
+          ∙ invariant.hidden;
       attempts = invariant.attempts;
     }
 
 pub returns-clause-packets : goal.returns-clause-packets
 returns-clause-packets c =
-    sym (at_drop_all (λ (rest : List Pair). outside_all rest c.loop-publisher.store.packets) c.args.publications.now c.loop-publisher.publisher-index (omega (arith, c.loop-publisher-test.false)))
+    sym (at_drop_all (λ (rest : List Pair). outside_all rest c.loop-publisher.store.packets) c.args.publications.now
+    c.loop-publisher.publisher-index (omega (arith, c.loop-publisher-test.false)))
     ∙ c.loop-publisher.invariant.packets

@@ -1,4 +1,5 @@
-use Rattle.std.proofs.Common.{◌≡◌, Bool, true, false, cond, ℕ, List, [], map, length, Option, Some, None, option_map, unwrap_or, count_by, sum_by, is_some, refl, sym, ap, ◌∙◌, subst, add-one, arith}
+use Rattle.std.proofs.Common.{◌≡◌, Bool, true, false, cond, ℕ, List, [], map, length, Option, Some, None, option_map}
+use Rattle.std.proofs.Common.{unwrap_or, count_by, sum_by, is_some, refl, sym, ap, ◌∙◌, subst, add-one, arith}
 use Rattle.std.specs.List.{All}
 use Rattle.std.specs.Vec.Iter.{into_iter_items}
 use Rattle.std.proofs.lemmas.List.Elements.{All-head, All-tail}
@@ -13,13 +14,16 @@ use Rattle.repo_member.proofs.member.outcome.take_all.Goals as goal
 pub take_one-came-requires-clause-takable : goal.take_one-came-requires-clause-takable
 take_one-came-requires-clause-takable c =
     All-head (CanBeTaken c.loop-tried.plan c.loop-tried.store.packets) c.in-Some.tried (into_iter_items c.next.new.self)
-    (subst (All (CanBeTaken c.loop-tried.plan c.loop-tried.store.packets)) c.in-Some.ensures.steps.0 c.loop-tried.invariant.takable.each)
+    (subst (All (CanBeTaken c.loop-tried.plan c.loop-tried.store.packets)) c.in-Some.ensures.steps.0
+    c.loop-tried.invariant.takable.each)
 
 made : (o : Option Arrival) → is_some (option_map (λ (a : Arrival). length a.packet) o) ≡ is_some o
 made None = refl
 made (Some a) = refl
 
-counted : (o : Option Arrival) → unwrap_or (option_map (λ (a : Arrival). length a.packet) o) 0 ≡ length (unwrap_or (option_map (λ (a : Arrival). a.packet) o) [])
+counted : (o : Option Arrival)
+    → unwrap_or (option_map (λ (a : Arrival). length a.packet) o) 0
+    ≡ length (unwrap_or (option_map (λ (a : Arrival). a.packet) o) [])
 counted None = refl
 counted (Some a) = refl
 
@@ -34,8 +38,13 @@ loop-tried-preserved c =
     let later = into_iter_items c.next.new.self in
     let takable = subst (AreTakable c.loop-tried.plan c.loop-tried.store.packets) rest inv.takable in
     let can = All-head (CanBeTaken c.loop-tried.plan c.loop-tried.store.packets) c.in-Some.tried later takable.each in
-    let one = one_came c (is_some c.in-Some.tried.arrival) (c.is_some.ensures ∙ ap is_some c.take_one-came.ensures.came ∙ made c.in-Some.tried.arrival) in
-    let octets = c.unwrap_or-octets.ensures ∙ ap (λ (o : Option ℕ). unwrap_or o 0) c.take_one-came.ensures.came ∙ counted c.in-Some.tried.arrival in
+    let one =
+    one_came c (is_some c.in-Some.tried.arrival)
+    (c.is_some.ensures ∙ ap is_some c.take_one-came.ensures.came ∙ made c.in-Some.tried.arrival) in
+    let octets =
+    c.unwrap_or-octets.ensures
+    ∙ ap (λ (o : Option ℕ). unwrap_or o 0) c.take_one-came.ensures.came
+    ∙ counted c.in-Some.tried.arrival in
     let more_octets = sum_by-cons arrival_octets c.in-Some.tried later in
     let octets_so_far = ap (sum_by arrival_octets) rest in
     let more = sum_by-cons (λ (x : Tried). cond (is_some x.arrival) 1 0) c.in-Some.tried later in
@@ -47,12 +56,21 @@ loop-tried-preserved c =
       attempts =
           ap (with_all_tries (map came later)) c.take_one-came.ensures.attempts
           ∙ sym (ap (λ (r : List Tried). with_all_tries (map came r) c.loop-tried.plan.attempts) rest) ∙ inv.attempts;
-      others = keeps_on c.args.plan.now c.loop-tried.plan c.take_one-came.new.plan inv.others c.take_one-came.ensures.others;
+      others =
+          keeps_on c.args.plan.now c.loop-tried.plan c.take_one-came.new.plan inv.others c.take_one-came.ensures.others;
       kept = c.take_one-came.ensures.kept;
-      room = c.take_one-came.ensures.room (length later) (rw add-one (subst (λ (r : List Tried). HaveRoom (length r) c.loop-tried.plan c.loop-tried.store c.loop-tried.catalogue) rest inv.room));
+      room =
+          c.take_one-came.ensures.room (length later)
+          (rw add-one
+          (subst (λ (r : List Tried). HaveRoom (length r) c.loop-tried.plan c.loop-tried.store c.loop-tried.catalogue)
+          rest inv.room));
       takable = record {
-        each = still_takable c.loop-tried.plan c.take_one-came.new.plan c.loop-tried.store.packets c.take_one-came.new.store.packets c.in-Some.tried inv.kept.tied c.take_one-came.ensures.kept.tied can
-            c.take_one-came.ensures.packets c.take_one-came.ensures.attempts c.take_one-came.ensures.others later takable.apart.0 (All-tail (CanBeTaken c.loop-tried.plan c.loop-tried.store.packets) c.in-Some.tried later takable.each);
+        each =
+            still_takable c.loop-tried.plan c.take_one-came.new.plan c.loop-tried.store.packets
+            c.take_one-came.new.store.packets c.in-Some.tried inv.kept.tied c.take_one-came.ensures.kept.tied can
+            c.take_one-came.ensures.packets c.take_one-came.ensures.attempts c.take_one-came.ensures.others later
+            takable.apart.0
+            (All-tail (CanBeTaken c.loop-tried.plan c.loop-tried.store.packets) c.in-Some.tried later takable.each);
         apart = takable.apart.1;
       };
       count = omega (arith, one, more, so_far, inv.count);

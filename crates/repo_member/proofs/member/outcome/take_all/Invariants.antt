@@ -1,14 +1,17 @@
 use Rattle.std.proofs.Common.{◌≡◌, ◌+◌, map, length, count_by, sum_by, is_some}
 use Rattle.std.specs.Vec.Iter.{into_iter_items}
 use Rattle.repo_member.specs.Gaining.{AreKept, HaveRoom}
-use Rattle.repo_member.specs.Outcomes.{came, arrival_octets, AreTakable, KeepsButTries, with_all_fetched, with_all_tries}
+use Rattle.repo_member.specs.Outcomes.{came, arrival_octets, AreTakable, KeepsButTries, with_all_fetched}
+use Rattle.repo_member.specs.Outcomes.{with_all_tries}
 use Rattle.repo_member.proofs.member.outcome.take_all.Given as goal
 
 abbrev pub invariant-loop-tried : goal.invariant-loop-tried
 invariant-loop-tried l =
     let rest = into_iter_items l.tried-iterator in record {
-      packets : with_all_fetched (map came rest) l.store.packets ≡ with_all_fetched (map came l.fn.all.items) l.initial.store.packets;
-      attempts : with_all_tries (map came rest) l.plan.attempts ≡ with_all_tries (map came l.fn.all.items) l.initial.plan.attempts;
+      packets : with_all_fetched (map came rest) l.store.packets
+          ≡ with_all_fetched (map came l.fn.all.items) l.initial.store.packets;
+      attempts : with_all_tries (map came rest) l.plan.attempts
+          ≡ with_all_tries (map came l.fn.all.items) l.initial.plan.attempts;
       others : KeepsButTries l.initial.plan l.plan;
       kept : AreKept l.plan l.store.packets l.catalogue.entries;
       room : HaveRoom (length rest) l.plan l.store l.catalogue;

@@ -15,10 +15,12 @@ use Rattle.repo_member.proofs.member.publishing.gain_all.Goals as goal
 pub gain-requires-clause-data : goal.gain-requires-clause-data
 gain-requires-clause-data c =
     let rest = c.in-Some.ensures.steps.0 in
-    All-head (λ octets. IsOk (data_of octets)) c.in-Some.packet _ (subst (All (λ octets. IsOk (data_of octets))) rest c.loop-packet.invariant.read)
+    All-head (λ octets. IsOk (data_of octets)) c.in-Some.packet _
+    (subst (All (λ octets. IsOk (data_of octets))) rest c.loop-packet.invariant.read)
 
 pub gain-requires-clause-not_claimed : goal.gain-requires-clause-not_claimed
-gain-requires-clause-not_claimed c = not_claimed _ _ (c.args.publisher, c.args.seq) _ c.loop-packet.x c.requires.new c.loop-packet.invariant.gained
+gain-requires-clause-not_claimed c =
+    not_claimed _ _ (c.args.publisher, c.args.seq) _ c.loop-packet.x c.requires.new c.loop-packet.invariant.gained
 
 shape_of_part : (c : goal.After-gain) → c.if-x-eq0.segments ≡ told_first (c.len.result - 1) c.loop-packet.x
 shape_of_part c = elim c.if-x-eq0.branch [
@@ -34,13 +36,28 @@ loop-packet-preserved c =
     let later = into_iter_items c.next.new.self in
     record {
       stored =
-          ap (λ (s : StoreList). with_packets (as_parts (c.args.publisher, c.args.seq) (c.loop-packet.x + 1) later) s.packets) c.gain.ensures.store
-          ∙ sym (ap (λ (r : List (List ℕ)). with_packets (as_parts (c.args.publisher, c.args.seq) c.loop-packet.x r) c.loop-packet.store.packets) rest) ∙ inv.stored;
+          ap (λ (s : StoreList).
+          with_packets (as_parts (c.args.publisher, c.args.seq) (c.loop-packet.x + 1) later) s.packets)
+          c.gain.ensures.store
+          ∙ sym (ap (λ (r : List (List ℕ)).
+          with_packets (as_parts (c.args.publisher, c.args.seq) c.loop-packet.x r) c.loop-packet.store.packets) rest)
+          ∙ inv.stored;
       tied = c.gain.ensures.tied;
-      gained = gained_more _ _ (c.args.publisher, c.args.seq) _ c.loop-packet.x c.requires.new inv.gained c.if-x-eq0.segments _ (shape_of_part c) c.gain.ensures.plan;
-      plan_room = omega (arith, fewer, inv.plan_room, ap (λ (p : Holdings). p.spare) c.gain.ensures.plan, room_kept (part_of (c.args.publisher, c.args.seq) c.loop-packet.x) c.if-x-eq0.segments c.loop-packet.plan);
+      gained =
+          gained_more _ _ (c.args.publisher, c.args.seq) _ c.loop-packet.x c.requires.new inv.gained c.if-x-eq0.segments
+          _ (shape_of_part c) c.gain.ensures.plan;
+      plan_room =
+          omega (
+            arith,
+            fewer,
+            inv.plan_room,
+            ap (λ (p : Holdings). p.spare) c.gain.ensures.plan,
+            room_kept (part_of (c.args.publisher, c.args.seq) c.loop-packet.x) c.if-x-eq0.segments c.loop-packet.plan,
+          );
       store_room = omega (arith, fewer, inv.store_room, ap (λ (s : StoreList). s.spare) c.gain.ensures.store);
-      read = All-tail (λ octets. IsOk (data_of octets)) c.in-Some.packet _ (subst (All (λ octets. IsOk (data_of octets))) rest inv.read);
+      read =
+          All-tail (λ octets. IsOk (data_of octets)) c.in-Some.packet _
+          (subst (All (λ octets. IsOk (data_of octets))) rest inv.read);
       count = omega (arith, fewer, inv.count);
       told = tells_later _ c.loop-packet.x later;
     }

@@ -11,7 +11,8 @@ use Rattle.repo_member.proofs.member.publishing.gain_all.Given as goal
 abbrev pub invariant-loop-packet : goal.invariant-loop-packet
 invariant-loop-packet l =
     let rest = into_iter_items l.packet-iterator in record {
-      stored : with_packets (as_parts (l.publisher, l.seq) l.x rest) l.store.packets ≡ with_packets (as_parts (l.publisher, l.seq) 0 l.fn.packets.items) l.initial.store.packets;
+      stored : with_packets (as_parts (l.publisher, l.seq) l.x rest) l.store.packets
+          ≡ with_packets (as_parts (l.publisher, l.seq) 0 l.fn.packets.items) l.initial.store.packets;
       tied : AreTied l.plan l.store.packets;
       gained : HasGained l.initial.plan l.plan (l.publisher, l.seq) l.segments l.x;
       plan_room : length rest ≤ l.plan.spare;

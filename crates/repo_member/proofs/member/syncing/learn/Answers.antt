@@ -7,7 +7,8 @@ use Rattle.repo_member.proofs.VectorLemmas.{join_next, length-join_take}
 use Rattle.repo_member.proofs.member.syncing.learn.Goals as goal
 
 pub loop-member-init : goal.loop-member-init
-loop-member-init c = ap (λ (k : List ℕ). record c.args.plan.now { known = k }) (c.requires.known ∙ sym (join-[] c.args.vector.now))
+loop-member-init c =
+    ap (λ (k : List ℕ). record c.args.plan.now { known = k }) (c.requires.known ∙ sym (join-[] c.args.vector.now))
 
 pub raise-requires : goal.raise-requires
 raise-requires c =
@@ -19,5 +20,8 @@ pub loop-member-preserved : goal.loop-member-preserved
 loop-member-preserved c =
     let so_far = join c.args.vector.now (take c.loop-member.member c.args.told.now) in
     c.raise.ensures ∙ ap (raises c.loop-member.member c.get.result) c.loop-member.invariant
-    ∙ ap (λ (n : ℕ). record c.args.plan.now { known = slice_set so_far c.loop-member.member (max (slice_index so_far c.loop-member.member) n) }) c.get.ensures
-    ∙ ap (λ (k : List ℕ). record c.args.plan.now { known = k }) (join_next c.args.vector.now c.args.told.now c.loop-member.member (omega arith) c.requires.width)
+    ∙ ap (λ (n : ℕ). record c.args.plan.now {
+      known = slice_set so_far c.loop-member.member (max (slice_index so_far c.loop-member.member) n);
+    }) c.get.ensures
+    ∙ ap (λ (k : List ℕ). record c.args.plan.now { known = k })
+    (join_next c.args.vector.now c.args.told.now c.loop-member.member (omega arith) c.requires.width)

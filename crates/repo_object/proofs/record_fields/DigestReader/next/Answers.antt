@@ -1,6 +1,7 @@
 use Rattle.std.proofs.Common.{refl, arith}
 use Rattle.ndn_tlv.specs.Elements.{item}
-use Rattle.repo_object.proofs.DigestLemmas.{counted-fault, counted-end, counted-early, counted-bad, counted-full, counted-digest}
+use Rattle.repo_object.proofs.DigestLemmas.{counted-fault, counted-end, counted-early, counted-bad, counted-full}
+use Rattle.repo_object.proofs.DigestLemmas.{counted-digest}
 use Rattle.repo_object.proofs.record_fields.DigestReader.next.Goals as goal
 
 pub returns-in_default-clause-bad : goal.returns-in_default-clause-bad
@@ -19,15 +20,22 @@ returns-else-self-eq0-clause-bad c =
 
 pub returns-in_default-digest_in-clause-bad : goal.returns-in_default-digest_in-clause-bad
 returns-in_default-digest_in-clause-bad c =
-    let seen = rw c.in-Some.is at c.in-Ok.ensures.ok in
-    (refl, counted-bad c.args.self.now.left c.args.self.now.fields (c.in-Some.field.0, item c.in-Some.field.1) c.next.new.self seen c.in_default-digest_in.ensures)
+    let seen = rw c.in-Some.is at c.in-Ok.ensures.ok in (
+      refl,
+      counted-bad c.args.self.now.left c.args.self.now.fields (c.in-Some.field.0, item c.in-Some.field.1)
+          c.next.new.self seen c.in_default-digest_in.ensures,
+    )
 
 pub returns-in_default-checked_sub-clause-bad : goal.returns-in_default-checked_sub-clause-bad
 returns-in_default-checked_sub-clause-bad c =
-    let seen = rw c.in-Some.is at c.in-Ok.ensures.ok in
-    (refl, counted-full c.args.self.now.left c.args.self.now.fields (c.in-Some.field.0, item c.in-Some.field.1) c.next.new.self seen _ c.in-Some-digest_in.ensures (omega arith))
+    let seen = rw c.in-Some.is at c.in-Ok.ensures.ok in (
+      refl,
+      counted-full c.args.self.now.left c.args.self.now.fields (c.in-Some.field.0, item c.in-Some.field.1)
+          c.next.new.self seen _ c.in-Some-digest_in.ensures (omega arith),
+    )
 
 pub returns-clause-ok : goal.returns-clause-ok
 returns-clause-ok c =
     let seen = rw c.in-Some.is at c.in-Ok.ensures.ok in
-    counted-digest c.args.self.now.left c.args.self.now.fields (c.in-Some.field.0, item c.in-Some.field.1) c.next.new.self seen _ c.in-Some-digest_in.ensures c.in-Some-checked_sub.left (omega arith)
+    counted-digest c.args.self.now.left c.args.self.now.fields (c.in-Some.field.0, item c.in-Some.field.1)
+    c.next.new.self seen _ c.in-Some-digest_in.ensures c.in-Some-checked_sub.left (omega arith)

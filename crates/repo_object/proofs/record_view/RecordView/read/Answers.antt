@@ -7,6 +7,11 @@ use Rattle.repo_object.proofs.record_view.RecordView.read.Goals as goal
 
 pub invariant_of-result : goal.invariant_of-result
 invariant_of-result c =
-    let all = sym c.if-not-are_all.false ∙ c.are_all.ensures ∙ ap (λ (r : DigestReader). is_some (digests_to_come r)) c.copy.ensures in
-    record_is_read c.args.content.now c.in_ok-name.field-0.name c.in_ok-name.field-0.digests c.in_ok-name.field-0.row.now (λ i. omega (arith, c.type_inv.content i)) (omega arith) c.in_ok-name.ensures.read c.in_ok-name.ensures.row
+    let all =
+    sym c.if-not-are_all.false
+    ∙ c.are_all.ensures
+    ∙ ap (λ (r : DigestReader). is_some (digests_to_come r)) c.copy.ensures in
+    record_is_read c.args.content.now c.in_ok-name.field-0.name c.in_ok-name.field-0.digests
+    c.in_ok-name.field-0.row.now (λ i. omega (arith, c.type_inv.content i)) (omega arith) c.in_ok-name.ensures.read
+    c.in_ok-name.ensures.row
     (sym all)

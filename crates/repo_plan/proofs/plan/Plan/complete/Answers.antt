@@ -10,7 +10,10 @@ use Rattle.repo_plan.proofs.plan.Plan.complete.Goals as goal
 pub returns-then-is_some : goal.returns-then-is_some
 returns-then-is_some c =
     let pair : Pair = (c.args.publisher, c.args.seq) in
-    let some = c.if-is_some.ensures ∙ ap is_some c.segments.ensures ∙ ap (λ (p : Holdings). is_some (shape_of p pair)) (sym c.self.view_is) in
+    let some =
+    c.if-is_some.ensures
+    ∙ ap is_some c.segments.ensures
+    ∙ ap (λ (p : Holdings). is_some (shape_of p pair)) (sym c.self.view_is) in
     c.contains.ensures
     ∙ ap (λ (b : Bool). b && has_number nat_cmp c.self.inside.done pair) some
     ∙ complete_is c.self.inside c.self.invariant pair

@@ -7,21 +7,28 @@ use Rattle.repo_plan.proofs.plan.whole.note_held.Goals as goal
 
 pub returns-then-gap_from-from-clause-noted : goal.returns-then-gap_from-from-clause-noted
 returns-then-gap_from-from-clause-noted c =
-    noted_whole c.args.number c.args.told c.gap_from.result (has_number nat_cmp c.args.done.now) (has_number pair_cmp c.args.held.now) (has_number pair_cmp c.insert.new.self) c.insert.ensures.numbers
-    (has_number nat_cmp c.insert-then-gap_from-from.new.self) (has_number pair_cmp c.remove_all.new.self) c.insert-then-gap_from-from.ensures.numbers c.remove_all.ensures.numbers
+    noted_whole c.args.number c.args.told c.gap_from.result (has_number nat_cmp c.args.done.now)
+    (has_number pair_cmp c.args.held.now) (has_number pair_cmp c.insert.new.self) c.insert.ensures.numbers
+    (has_number nat_cmp c.insert-then-gap_from-from.new.self) (has_number pair_cmp c.remove_all.new.self)
+    c.insert-then-gap_from-from.ensures.numbers c.remove_all.ensures.numbers
     (λ m l. c.gap_from.ensures.none_before m (omega arith) l) (omega (arith, c.if-gap_from-from.true, c.from.ensures))
 
 pub returns-then-gap_from-from-clause-whole : goal.returns-then-gap_from-from-clause-whole
 returns-then-gap_from-from-clause-whole c =
-    whole_done c.args.number c.args.told c.gap_from.result (has_number nat_cmp c.args.done.now) (has_number pair_cmp c.args.held.now) (has_number pair_cmp c.insert.new.self) c.insert.ensures.numbers
-    (has_number nat_cmp c.insert-then-gap_from-from.new.self) (has_number pair_cmp c.remove_all.new.self) c.insert-then-gap_from-from.ensures.numbers c.remove_all.ensures.numbers
+    whole_done c.args.number c.args.told c.gap_from.result (has_number nat_cmp c.args.done.now)
+    (has_number pair_cmp c.args.held.now) (has_number pair_cmp c.insert.new.self) c.insert.ensures.numbers
+    (has_number nat_cmp c.insert-then-gap_from-from.new.self) (has_number pair_cmp c.remove_all.new.self)
+    c.insert-then-gap_from-from.ensures.numbers c.remove_all.ensures.numbers
 
 pub returns-then-gap_from-from-clause-kept : goal.returns-then-gap_from-from-clause-kept
 returns-then-gap_from-from-clause-kept c =
-    kept_whole c.args.number c.args.told c.gap_from.result (has_number nat_cmp c.args.done.now) (has_number pair_cmp c.args.held.now) (has_number pair_cmp c.insert.new.self) c.insert.ensures.numbers
-    (has_number nat_cmp c.insert-then-gap_from-from.new.self) (has_number pair_cmp c.remove_all.new.self) c.insert-then-gap_from-from.ensures.numbers c.remove_all.ensures.numbers
+    kept_whole c.args.number c.args.told c.gap_from.result (has_number nat_cmp c.args.done.now)
+    (has_number pair_cmp c.args.held.now) (has_number pair_cmp c.insert.new.self) c.insert.ensures.numbers
+    (has_number nat_cmp c.insert-then-gap_from-from.new.self) (has_number pair_cmp c.remove_all.new.self)
+    c.insert-then-gap_from-from.ensures.numbers c.remove_all.ensures.numbers
 
 pub returns-else-gap_from-from-clause-whole : goal.returns-else-gap_from-from-clause-whole
 returns-else-gap_from-from-clause-whole c =
-    not_whole c.args.number c.args.told c.gap_from.result (has_number nat_cmp c.args.done.now) (has_number pair_cmp c.args.held.now) (has_number pair_cmp c.insert.new.self) c.insert.ensures.numbers
+    not_whole c.args.number c.args.told c.gap_from.result (has_number nat_cmp c.args.done.now)
+    (has_number pair_cmp c.args.held.now) (has_number pair_cmp c.insert.new.self) c.insert.ensures.numbers
     c.gap_from.ensures.gap (omega (arith, c.if-gap_from-from.false, c.from.ensures))

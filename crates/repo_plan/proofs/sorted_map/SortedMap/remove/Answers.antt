@@ -10,8 +10,11 @@ returns-in-Ok g c =
     let o = g.met.K.Ord.total in
     let rises = rw (← c.deref.ensures.value) at c.requires in
     let by_key = c.in-Ok.ensures.position (λ entry. entry.0) (answers_always _ _ _ (λ f a r g called. search rules)) in
-    let place = found o (λ entry. entry.0) c.deref.result.now c.args.key (Ok c.in-Ok.place) rises c.in-Ok.ensures.bound by_key in
-    let new = c.remove.ensures.items ∙ sym (rw c.deref.ensures.value at (without_at o c.deref.result.now c.args.key c.in-Ok.place rises place)) in
+    let place =
+    found o (λ entry. entry.0) c.deref.result.now c.args.key (Ok c.in-Ok.place) rises c.in-Ok.ensures.bound by_key in
+    let new =
+    c.remove.ensures.items
+    ∙ sym (rw c.deref.ensures.value at (without_at o c.deref.result.now c.args.key c.in-Ok.place rises place)) in
     record {
       entries = new;
       map = rw new (rises_without o c.args.key (entries c.args.self.now) c.requires);
@@ -22,7 +25,11 @@ pub returns-in_default : goal.returns-in_default
 returns-in_default g c =
     let o = g.met.K.Ord.total in
     let rises = rw (← c.deref.ensures.value) at c.requires in
-    let by_key = c.in_default.ensures.position (λ entry. entry.0) (answers_always _ _ _ (λ f a r g called. search rules)) in
-    let place = found o (λ entry. entry.0) c.deref.result.now c.args.key (Err c.in_default.field-0) rises c.in_default.ensures.bound by_key in
-    let same = sym (rw c.deref.ensures.value at (without_between o c.deref.result.now c.args.key c.in_default.field-0 place)) in
+    let by_key =
+    c.in_default.ensures.position (λ entry. entry.0) (answers_always _ _ _ (λ f a r g called. search rules)) in
+    let place =
+    found o (λ entry. entry.0) c.deref.result.now c.args.key (Err c.in_default.field-0) rises c.in_default.ensures.bound
+    by_key in
+    let same =
+    sym (rw c.deref.ensures.value at (without_between o c.deref.result.now c.args.key c.in_default.field-0 place)) in
     record { entries = same; map = c.requires; room = omega arith }

@@ -23,6 +23,11 @@ returns-clause-whole c =
     let m = c.self.inside in
     let o = opened m c.args.self.now c.self.invariant c.self.view_is c.requires in
     let count : c.count_empty.result ≡ missing_in (contents_of m) =
-    c.count_empty.ensures ∙ ap (count_by (λ v. eqb (vec_len v) 0)) c.deref.ensures.value ∙ sym (missing-vecs m.contents.items) in
-    let whole : is_whole c.args.self.now ≡ eqb (missing_in (contents_of m)) 0 = ap is_whole o.same ∙ whole-counted m.name m.first m.last (contents_of m) o.long in
-    (λ yes. count ∙ eqb-true (missing_in (contents_of m)) 0 (sym whole ∙ yes), λ none. whole ∙ eq-eqb (missing_in (contents_of m)) 0 (sym count ∙ none))
+    c.count_empty.ensures
+    ∙ ap (count_by (λ v. eqb (vec_len v) 0)) c.deref.ensures.value
+    ∙ sym (missing-vecs m.contents.items) in
+    let whole : is_whole c.args.self.now ≡ eqb (missing_in (contents_of m)) 0 =
+    ap is_whole o.same ∙ whole-counted m.name m.first m.last (contents_of m) o.long in (
+      λ yes. count ∙ eqb-true (missing_in (contents_of m)) 0 (sym whole ∙ yes),
+      λ none. whole ∙ eq-eqb (missing_in (contents_of m)) 0 (sym count ∙ none),
+    )

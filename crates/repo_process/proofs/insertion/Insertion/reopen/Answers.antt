@@ -14,7 +14,15 @@ invariant_of-self c =
       named = is.named;
       order = is.order;
       few = is.few;
-      places = λ h. omega (arith, c.requires.all, ap (λ (p : Process). p.last) c.self.view_is, ap (λ (p : Process). p.first) c.self.view_is);
+      places =
+          λ h. omega (
+            arith,
+            c.requires.all,
+            ap (λ (p : Process). p.last) c.self.view_is,
+            ap (λ (p : Process). p.first) c.self.view_is,
+          );
       emptied = λ h. absurd cc;
-      contents = All-map (λ (octets : List ℕ). length octets ≤ 8000) items contents (All-weaker (λ v. IsContent v.items) (λ v. length v.items ≤ 8000) (λ v h. h.1) contents c.requires.contents);
+      contents =
+          All-map (λ (octets : List ℕ). length octets ≤ 8000) items contents
+          (All-weaker (λ v. IsContent v.items) (λ v. length v.items ≤ 8000) (λ v h. h.1) contents c.requires.contents);
     }

@@ -11,18 +11,45 @@ returns-then-self-clause-present c =
     let p = c.args.self.now in
     let first : m.first ≡ p.first = ap (λ (q : Process). q.first) c.self.view_is in
     let last : m.last ≡ p.last = ap (λ (q : Process). q.last) c.self.view_is in
-    omega (arith, first, last, c.self.invariant.order, present-published p (sym (ap (λ (q : Process). q.published) c.self.view_is) ∙ c.if-self.true))
+    omega (
+      arith,
+      first,
+      last,
+      c.self.invariant.order,
+      present-published p (sym (ap (λ (q : Process). q.published) c.self.view_is) ∙ c.if-self.true),
+    )
 
 pub overflow_sub-result : goal.overflow_sub-result
 overflow_sub-result c =
     let m = c.self.inside in
-    let o = opened m c.args.self.now c.self.invariant c.self.view_is (sym (ap (λ (q : Process). q.published) c.self.view_is) ∙ c.if-self.false) in
+    let o =
+    opened m c.args.self.now c.self.invariant c.self.view_is
+    (sym (ap (λ (q : Process). q.published) c.self.view_is) ∙ c.if-self.false) in
     let missed = missing-counted m.name m.first m.last (contents_of m) o.long in
-    omega (arith, c.missing.ensures.count, ap missing o.same, missed, present-counted m.name m.first m.last (contents_of m) o.long, o.long, c.self.invariant.order)
+    omega (
+      arith,
+      c.missing.ensures.count,
+      ap missing o.same,
+      missed,
+      present-counted m.name m.first m.last (contents_of m) o.long,
+      o.long,
+      c.self.invariant.order,
+    )
 
 pub returns-clause-present : goal.returns-clause-present
 returns-clause-present c =
     let m = c.self.inside in
-    let o = opened m c.args.self.now c.self.invariant c.self.view_is (sym (ap (λ (q : Process). q.published) c.self.view_is) ∙ c.if-self.false) in
+    let o =
+    opened m c.args.self.now c.self.invariant c.self.view_is
+    (sym (ap (λ (q : Process). q.published) c.self.view_is) ∙ c.if-self.false) in
     let missed = missing-counted m.name m.first m.last (contents_of m) o.long in
-    omega (arith, c.missing.ensures.count, ap missing o.same, ap present o.same, missed, present-counted m.name m.first m.last (contents_of m) o.long, o.long, c.self.invariant.order)
+    omega (
+      arith,
+      c.missing.ensures.count,
+      ap missing o.same,
+      ap present o.same,
+      missed,
+      present-counted m.name m.first m.last (contents_of m) o.long,
+      o.long,
+      c.self.invariant.order,
+    )

@@ -12,26 +12,32 @@ pub overflow_sub-index : goal.overflow_sub-index
 overflow_sub-index c =
     let m = c.self.inside in
     let o = opened m c.args.self.now c.self.invariant c.self.view_is c.requires.open in
-    (block_within c.args.index m.first (contents_of m) (ap (λ p. has_block p c.args.index) (sym o.same) ∙ c.requires.block)).0
+    (block_within c.args.index m.first (contents_of m)
+    (ap (λ p. has_block p c.args.index) (sym o.same) ∙ c.requires.block)).0
 
 pub index_mut-requires : goal.index_mut-requires
 index_mut-requires c =
     let m = c.self.inside in
     let o = opened m c.args.self.now c.self.invariant c.self.view_is c.requires.open in
-    let within = block_within c.args.index m.first (contents_of m) (ap (λ p. has_block p c.args.index) (sym o.same) ∙ c.requires.block) in
+    let within =
+    block_within c.args.index m.first (contents_of m)
+    (ap (λ p. has_block p c.args.index) (sym o.same) ∙ c.requires.block) in
     omega (arith, within, length-map m.contents.items items, m.contents.ok.0)
 
 pub invariant_of-self : goal.invariant_of-self
 invariant_of-self c =
     let m = c.self.inside in
     let o = opened m c.args.self.now c.self.invariant c.self.view_is c.requires.open in
-    placed_is m c.args.self.now (c.args.index - m.first) c.new.result c.self.invariant o (omega (arith, ap length c.new.ensures.items))
+    placed_is m c.args.self.now (c.args.index - m.first) c.new.result c.self.invariant o
+    (omega (arith, ap length c.new.ensures.items))
 
 pub returns : goal.returns
 returns c =
     let m = c.self.inside in
     let o = opened m c.args.self.now c.self.invariant c.self.view_is c.requires.open in
-    let within = block_within c.args.index m.first (contents_of m) (ap (λ p. has_block p c.args.index) (sym o.same) ∙ c.requires.block) in
+    let within =
+    block_within c.args.index m.first (contents_of m)
+    (ap (λ p. has_block p c.args.index) (sym o.same) ∙ c.requires.block) in
     let j = c.args.index - m.first in
     let at : m.first + j ≡ c.args.index = omega (arith, within) in
     placed_process m c.args.self.now j c.new.result o

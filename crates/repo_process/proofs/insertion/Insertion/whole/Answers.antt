@@ -19,7 +19,10 @@ returns-clause-object c =
     let o = opened m p c.self.invariant c.self.view_is unpublished in
     let object : NamedContents = record { name = m.name; contents = map items c.deref.result.now } in
     let named : p.name ≡ m.name = ap (λ (q : Process). q.name) o.same in
-    let contents = ap (λ (q : Process). (object_of q).contents) o.same ∙ object-contents m.name m.first m.last (contents_of m) o.long ∙ ap (map items) (sym c.deref.ensures.value) in
+    let contents =
+    ap (λ (q : Process). (object_of q).contents) o.same
+    ∙ object-contents m.name m.first m.last (contents_of m) o.long
+    ∙ ap (map items) (sym c.deref.ensures.value) in
     whole_is p object unpublished (c.missing.ensures.whole.1 c.if-missing-ne0.false) (same_object named contents)
 
 pub returns-clause-within : goal.returns-clause-within
@@ -29,7 +32,11 @@ returns-clause-within c =
     let unpublished = sym (ap (λ (q : Process). q.published) c.self.view_is) ∙ c.if-self.false in
     let o = opened m p c.self.invariant c.self.view_is unpublished in
     let same : contents_of m ≡ map items c.deref.result.now = ap (map items) (sym c.deref.ensures.value) in
-    let none : missing_in (contents_of m) ≡ 0 = sym (missing-counted m.name m.first m.last (contents_of m) o.long) ∙ ap missing (sym o.same) ∙ sym c.missing.ensures.count ∙ c.if-missing-ne0.false in
+    let none : missing_in (contents_of m) ≡ 0 =
+    sym (missing-counted m.name m.first m.last (contents_of m) o.long)
+    ∙ ap missing (sym o.same)
+    ∙ sym c.missing.ensures.count
+    ∙ c.if-missing-ne0.false in
     let P : List (List ℕ) → Type 0 = All IsContent in
     record {
       name = c.self.invariant.name;

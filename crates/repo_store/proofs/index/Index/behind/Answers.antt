@@ -11,5 +11,10 @@ returns c =
     let name = c.args.name.now in
     let order = c.requires.order in
     let rises = rw order at c.requires.in_order in
-    let point = IsPartitionPoint-from_clause (named packets name) held c.partition_point-place.result c.partition_point-place.ensures.partitioned (named_parted packets name held rises c.requires.first) (λ a r f called. search (rules, order)) in
-    subst (IsBehind packets held name) (sym c.split_at.ensures.back) (behind_named packets name held c.partition_point-place.result rises c.requires.first c.partition_point-place.ensures.bound point)
+    let point =
+    IsPartitionPoint-from_clause (named packets name) held c.partition_point-place.result
+    c.partition_point-place.ensures.partitioned (named_parted packets name held rises c.requires.first)
+    (λ a r f called. search (rules, order)) in
+    subst (IsBehind packets held name) (sym c.split_at.ensures.back)
+    (behind_named packets name held c.partition_point-place.result rises c.requires.first
+    c.partition_point-place.ensures.bound point)

@@ -8,16 +8,20 @@ use Rattle.repo_store.proofs.index.Index.first_with_full_name.Goals as goal
 
 pub returns-in_err-name : goal.returns-in_err-name
 returns-in_err-name c =
-    rw c.from_residual.ensures (short_lacks c.args.self.now.held.now c.args.self.now.packets.now c.args.asked.now c.in_err-name.ensures.cases)
+    rw c.from_residual.ensures
+    (short_lacks c.args.self.now.held.now c.args.self.now.packets.now c.args.asked.now c.in_err-name.ensures.cases)
 
 pub returns-in_err-digest : goal.returns-in_err-digest
 returns-in_err-digest c =
     let asked = c.args.asked.now in
     let last = c.as_slice.result.now in
     let parts = c.in_ok-name.ensures.cases in
-    let is = taken_and_rest (length asked - 34) asked c.in_ok-name.name.now last parts.0 (c.as_slice.ensures ∙ parts.1) in
+    let is =
+    taken_and_rest (length asked - 34) asked c.in_ok-name.name.now last parts.0 (c.as_slice.ensures ∙ parts.1) in
     let none = strip_prefix_is unsigned_Decides last (1 ∷ 32 ∷ []) None c.in_err-digest.ensures.cases in
-    rw c.from_residual-in_err-digest.ensures (other_lacks c.args.self.now.held.now c.args.self.now.packets.now asked c.in_ok-name.name.now last is (omega (arith, parts.2, ap length is, length-append c.in_ok-name.name.now last)) none)
+    rw c.from_residual-in_err-digest.ensures
+    (other_lacks c.args.self.now.held.now c.args.self.now.packets.now asked c.in_ok-name.name.now last is
+    (omega (arith, parts.2, ap length is, length-append c.in_ok-name.name.now last)) none)
 
 pub returns : goal.returns
 returns c =
@@ -25,8 +29,15 @@ returns c =
     let last = c.as_slice.result.now in
     let digest = c.in_ok-digest.digest.now in
     let parts = c.in_ok-name.ensures.cases in
-    let is = taken_and_rest (length asked - 34) asked c.in_ok-name.name.now last parts.0 (c.as_slice.ensures ∙ parts.1) in
-    let last_is = strip_prefix_is unsigned_Decides last (1 ∷ 32 ∷ []) (Some c.in_ok-digest.digest) c.in_ok-digest.ensures.cases in
+    let is =
+    taken_and_rest (length asked - 34) asked c.in_ok-name.name.now last parts.0 (c.as_slice.ensures ∙ parts.1) in
+    let last_is =
+    strip_prefix_is unsigned_Decides last (1 ∷ 32 ∷ []) (Some c.in_ok-digest.digest) c.in_ok-digest.ensures.cases in
     let order = c.requires.order in
-    let first = subst (λ (o : Order). IsFirstOf c.args.self.now.held.now (has_key o c.args.self.now.packets.now (c.in_ok-name.name.now, digest)) c.first.result) order c.first.ensures in
-    full_found c.args.self.now.held.now c.args.self.now.packets.now asked c.in_ok-name.name.now digest (is ∙ ap (λ (x : List ℕ). c.in_ok-name.name.now ++ x) last_is) (omega (arith, parts.2, ap length is, ap length last_is, length-append c.in_ok-name.name.now last)) c.first.result first
+    let first =
+    subst (λ (o : Order). IsFirstOf c.args.self.now.held.now
+    (has_key o c.args.self.now.packets.now (c.in_ok-name.name.now, digest)) c.first.result) order c.first.ensures in
+    full_found c.args.self.now.held.now c.args.self.now.packets.now asked c.in_ok-name.name.now digest
+    (is ∙ ap (λ (x : List ℕ). c.in_ok-name.name.now ++ x) last_is)
+    (omega (arith, parts.2, ap length is, ap length last_is, length-append c.in_ok-name.name.now last)) c.first.result
+    first

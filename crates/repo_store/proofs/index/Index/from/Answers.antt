@@ -7,4 +7,5 @@ pub returns : goal.returns
 returns c =
     let index = c.args.self.now in
     let name : FullName = (c.args.key.now.name.now, c.args.key.now.digest.now) in
-    subst (IsFrom index.order index.packets.now index.held.now name) (sym c.split_at.ensures.back) (from_place index.order index.packets.now index.held.now name c.place.result c.requires c.place.ensures)
+    subst (IsFrom index.order index.packets.now index.held.now name) (sym c.split_at.ensures.back)
+    (from_place index.order index.packets.now index.held.now name c.place.result c.requires c.place.ensures)

@@ -13,5 +13,7 @@ returns c =
     let held = index.held.now in
     let key = key_in index.order index.packets.now in
     let asked : FullName × Part = ((c.args.key.now.name.now, c.args.key.now.digest.now), c.args.part) in
-    let point = IsPartitionPoint-from_clause (λ (h : Held). is_lt (key_cmp (key h) asked)) held c.partition_point.result c.partition_point.ensures.partitioned (parted key held asked c.requires) (λ a r f called. search rules) in
+    let point =
+    IsPartitionPoint-from_clause (λ (h : Held). is_lt (key_cmp (key h) asked)) held c.partition_point.result
+    c.partition_point.ensures.partitioned (parted key held asked c.requires) (λ a r f called. search rules) in
     placed key held asked c.partition_point.result c.partition_point.ensures.bound point

@@ -11,23 +11,34 @@ returns-then-is_behind-clause-in_order c =
     let order = c.args.order in
     let packets = c.args.packets.now in
     let l = c.args.self.now in
-    let items : c.push.new.self.items ≡ l.settled.items ++ c.args.held ∷ [] = rw c.unwrap.ensures at c.push.ensures.items in
-    let place = subst (λ (xs : List Held). IsPlace (keys_in order packets xs) (key_in order packets c.args.held) (length xs)) c.deref.ensures.value (c.is_behind.ensures c.if-is_behind.true) in
+    let items : c.push.new.self.items ≡ l.settled.items ++ c.args.held ∷ [] =
+    rw c.unwrap.ensures at c.push.ensures.items in
+    let place =
+    subst (λ (xs : List Held). IsPlace (keys_in order packets xs) (key_in order packets c.args.held) (length xs))
+    c.deref.ensures.value (c.is_behind.ensures c.if-is_behind.true) in
     record {
-      settled = subst (λ (xs : List Held). Rises key_cmp (keys_in order packets xs)) (sym items) (rises_pushed order packets l.settled.items c.args.held c.requires.in_order.settled place);
+      settled =
+          subst (λ (xs : List Held). Rises key_cmp (keys_in order packets xs)) (sym items)
+          (rises_pushed order packets l.settled.items c.args.held c.requires.in_order.settled place);
       recent = c.requires.in_order.recent;
-      apart = subst (λ (xs : List Held). AreApart xs l.recent.items) (sym items) (apart_too order packets l.settled.items l.recent.items c.args.held c.requires.in_order.apart c.requires.fresh);
+      apart =
+          subst (λ (xs : List Held). AreApart xs l.recent.items) (sym items)
+          (apart_too order packets l.settled.items l.recent.items c.args.held c.requires.in_order.apart
+          c.requires.fresh);
     }
 
 pub returns-then-is_behind-clause-gains : goal.returns-then-is_behind-clause-gains
 returns-then-is_behind-clause-gains c =
     let l = c.args.self.now in
-    let items : c.push.new.self.items ≡ l.settled.items ++ c.args.held ∷ [] = rw c.unwrap.ensures at c.push.ensures.items in
-    subst (λ (xs : List Held). GainsOne c.args.held (all_of l) (xs ++ l.recent.items)) (sym items) (more_settled c.args.order c.args.packets.now l.settled.items l.recent.items c.args.held)
+    let items : c.push.new.self.items ≡ l.settled.items ++ c.args.held ∷ [] =
+    rw c.unwrap.ensures at c.push.ensures.items in
+    subst (λ (xs : List Held). GainsOne c.args.held (all_of l) (xs ++ l.recent.items)) (sym items)
+    (more_settled c.args.order c.args.packets.now l.settled.items l.recent.items c.args.held)
 
 pub returns-then-len-gt-RECENT_LIMIT-clause-gains : goal.returns-then-len-gt-RECENT_LIMIT-clause-gains
 returns-then-len-gt-RECENT_LIMIT-clause-gains c =
-    gains_same c.args.held (all_of c.args.self.now) (all_of c.add_recent.new.self) (all_of c.settle.new.self) c.add_recent.ensures.gains c.settle.ensures.same
+    gains_same c.args.held (all_of c.args.self.now) (all_of c.add_recent.new.self) (all_of c.settle.new.self)
+    c.add_recent.ensures.gains c.settle.ensures.same
 
 pub returns-then-len-gt-RECENT_LIMIT-clause-room : goal.returns-then-len-gt-RECENT_LIMIT-clause-room
 returns-then-len-gt-RECENT_LIMIT-clause-room c n room = c.settle.ensures.room n (c.add_recent.ensures.room n room)

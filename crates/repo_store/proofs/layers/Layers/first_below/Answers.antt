@@ -10,4 +10,7 @@ use Rattle.repo_store.proofs.layers.Layers.first_below.Goals as goal
 pub returns : goal.returns
 returns c =
     let test : Order → Slab (List ℕ) → Held → Bool = λ o p h. begins_with p c.args.front.now h in
-    rw c.lesser.ensures (first_in_layers Names c.args.packets.now c.args.self.now.settled.items c.args.self.now.recent.items test c.indexes.result.0 c.indexes.result.1 c.first_below.result c.first_below-2.result c.indexes.ensures.settled c.indexes.ensures.recent c.first_below.ensures c.first_below-2.ensures)
+    rw c.lesser.ensures
+    (first_in_layers Names c.args.packets.now c.args.self.now.settled.items c.args.self.now.recent.items test
+    c.indexes.result.0 c.indexes.result.1 c.first_below.result c.first_below-2.result c.indexes.ensures.settled
+    c.indexes.ensures.recent c.first_below.ensures c.first_below-2.ensures)

@@ -10,4 +10,7 @@ use Rattle.repo_store.proofs.layers.Layers.first_with_full_name.Goals as goal
 pub returns : goal.returns
 returns c =
     let test : Order → Slab (List ℕ) → Held → Bool = λ o p h. has_full_name p c.args.asked.now h in
-    rw c.lesser.ensures (first_in_layers FullNames c.args.packets.now c.args.self.now.settled.items c.args.self.now.recent.items test c.indexes.result.0 c.indexes.result.1 c.first_with_full_name.result c.first_with_full_name-2.result c.indexes.ensures.settled c.indexes.ensures.recent c.first_with_full_name.ensures c.first_with_full_name-2.ensures)
+    rw c.lesser.ensures
+    (first_in_layers FullNames c.args.packets.now c.args.self.now.settled.items c.args.self.now.recent.items test
+    c.indexes.result.0 c.indexes.result.1 c.first_with_full_name.result c.first_with_full_name-2.result
+    c.indexes.ensures.settled c.indexes.ensures.recent c.first_with_full_name.ensures c.first_with_full_name-2.ensures)

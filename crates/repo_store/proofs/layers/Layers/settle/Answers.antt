@@ -16,5 +16,7 @@ returns-clause-same c =
     let l = c.args.self.now in
     let merged = c.merge.new.merged.items in
     let is = subst (λ (xs : List Held). IsMerged order packets l.settled.items xs merged) c.deref-2.ensures.value
-    (subst (λ (xs : List Held). IsMerged order packets xs c.deref-2.result.now merged) c.deref.ensures.value c.merge.ensures.merged) in
-    settled_same order packets l.settled.items l.recent.items merged c.swap.new.x.items c.clear-2.new.self.items is (ap (λ v. v.items) c.swap.ensures.x_after) c.clear-2.ensures.items
+    (subst (λ (xs : List Held). IsMerged order packets xs c.deref-2.result.now merged) c.deref.ensures.value
+    c.merge.ensures.merged) in
+    settled_same order packets l.settled.items l.recent.items merged c.swap.new.x.items c.clear-2.new.self.items is
+    (ap (λ v. v.items) c.swap.ensures.x_after) c.clear-2.ensures.items

@@ -6,12 +6,19 @@ use Rattle.repo_store.proofs.layers.Layers.slot_of.Goals as goal
 pub returns-in-Some : goal.returns-in-Some
 returns-in-Some c =
     let l = c.args.self.now in
-    let found = slot_in FullNames c.args.packets.now l.settled.items c.args.packet.now c.indexes.result.0 (Some c.in-Some.slot) c.indexes.ensures.settled c.in-Some.ensures in
+    let found =
+    slot_in FullNames c.args.packets.now l.settled.items c.args.packet.now c.indexes.result.0 (Some c.in-Some.slot)
+    c.indexes.ensures.settled c.in-Some.ensures in
     slot_in_settled l.settled.items l.recent.items c.args.packets.now c.args.packet.now c.in-Some.slot found
 
 pub returns-in-None : goal.returns-in-None
 returns-in-None c =
     let l = c.args.self.now in
-    let none = slot_in FullNames c.args.packets.now l.settled.items c.args.packet.now c.indexes.result.0 None c.indexes.ensures.settled c.in-None.ensures in
-    let found = slot_in FullNames c.args.packets.now l.recent.items c.args.packet.now c.indexes.result.1 c.slot_of-in-None.result c.indexes.ensures.recent c.slot_of-in-None.ensures in
-    slot_in_recent l.settled.items l.recent.items c.args.packets.now c.args.packet.now c.slot_of-in-None.result none found
+    let none =
+    slot_in FullNames c.args.packets.now l.settled.items c.args.packet.now c.indexes.result.0 None
+    c.indexes.ensures.settled c.in-None.ensures in
+    let found =
+    slot_in FullNames c.args.packets.now l.recent.items c.args.packet.now c.indexes.result.1 c.slot_of-in-None.result
+    c.indexes.ensures.recent c.slot_of-in-None.ensures in
+    slot_in_recent l.settled.items l.recent.items c.args.packets.now c.args.packet.now c.slot_of-in-None.result none
+    found

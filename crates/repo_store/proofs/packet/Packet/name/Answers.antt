@@ -7,4 +7,6 @@ pub returns : goal.returns
 returns c =
     let named = c.self.invariant.0 in
     ap (λ (o : List ℕ). slice_range o c.self.inside.name_start c.self.inside.name_end) c.deref.ensures.value
-    ∙ named.spelled ∙ sym (name_of-read c.self.inside.octets.items named.is.packet named.is.read) ∙ ap packet_name c.self.view_is
+    ∙ named.spelled
+    ∙ sym (name_of-read c.self.inside.octets.items named.is.packet named.is.read)
+    ∙ ap packet_name c.self.view_is

@@ -5,4 +5,7 @@ use Rattle.repo_store.proofs.KeptLemmas.{kept_is}
 use Rattle.repo_store.proofs.store.Store.kept.Goals as goal
 
 pub returns : goal.returns
-returns c = c.len.ensures ∙ kept_is c.self.inside.packets (held_of c.self.inside.slots.entries) c.self.invariant.slots ∙ ap (λ (s : StoreList). length (different_octets s.packets)) c.self.view_is
+returns c =
+    c.len.ensures
+    ∙ kept_is c.self.inside.packets (held_of c.self.inside.slots.entries) c.self.invariant.slots
+    ∙ ap (λ (s : StoreList). length (different_octets s.packets)) c.self.view_is

@@ -17,4 +17,9 @@ returns-then-is_some-clause-fresh c = sym (ap not (there c))
 pub returns-then-is_some-clause-ok : goal.returns-then-is_some-clause-ok
 returns-then-is_some-clause-ok c =
     let packets = c.args.self.now.packets in
-    ap (λ (b : Bool). let s : StoreList = record { packets = cond b packets (with_value part_cmp c.args.part c.args.octets.now packets); spare = c.args.self.now.spare } in s) (sym (there c))
+    ap (λ (b : Bool).
+    let s : StoreList = record {
+      packets = cond b packets (with_value part_cmp c.args.part c.args.octets.now packets);
+      spare = c.args.self.now.spare;
+    } in
+    s) (sym (there c))

@@ -18,7 +18,8 @@ invariant_of-self-in_err-reserve-2 c =
       slots = omega (arith, c.self.invariant.room, c.reserve-then-self-n.ensures.kept);
       names = c.self.invariant.room_of_names;
       full_names = c.self.invariant.room_of_full_names;
-      packets = rw c.reserve.ensures.rest_kept (omega (arith, c.self.invariant.room_of_packets, c.reserve.ensures.capacity));
+      packets =
+          rw c.reserve.ensures.rest_kept (omega (arith, c.self.invariant.room_of_packets, c.reserve.ensures.capacity));
     }
     ) c.self.invariant
 
@@ -36,7 +37,8 @@ invariant_of-self-in_err-reserve-3 c =
       slots = omega (arith, c.self.invariant.room, c.reserve-then-self-n.ensures.kept);
       names = c.reserve-then-self-n-2.ensures.kept c.self.inside.spare c.self.invariant.room_of_names;
       full_names = c.self.invariant.room_of_full_names;
-      packets = rw c.reserve.ensures.rest_kept (omega (arith, c.self.invariant.room_of_packets, c.reserve.ensures.capacity));
+      packets =
+          rw c.reserve.ensures.rest_kept (omega (arith, c.self.invariant.room_of_packets, c.reserve.ensures.capacity));
     }
     ) c.self.invariant
 
@@ -54,7 +56,8 @@ invariant_of-self-in_err-reserve-4 c =
       slots = omega (arith, c.self.invariant.room, c.reserve-then-self-n.ensures.kept);
       names = c.reserve-then-self-n-2.ensures.kept c.self.inside.spare c.self.invariant.room_of_names;
       full_names = c.reserve-then-self-n-3.ensures.kept c.self.inside.spare c.self.invariant.room_of_full_names;
-      packets = rw c.reserve.ensures.rest_kept (omega (arith, c.self.invariant.room_of_packets, c.reserve.ensures.capacity));
+      packets =
+          rw c.reserve.ensures.rest_kept (omega (arith, c.self.invariant.room_of_packets, c.reserve.ensures.capacity));
     }
     ) c.self.invariant
 
@@ -90,6 +93,7 @@ invariant_of-self c =
       slots = c.self.invariant.room;
       names = c.self.invariant.room_of_names;
       full_names = c.self.invariant.room_of_full_names;
-      packets = rw c.reserve.ensures.rest_kept (omega (arith, c.self.invariant.room_of_packets, c.reserve.ensures.capacity));
+      packets =
+          rw c.reserve.ensures.rest_kept (omega (arith, c.self.invariant.room_of_packets, c.reserve.ensures.capacity));
     }
     ) c.self.invariant

@@ -30,11 +30,22 @@ returns-in-Some c =
     let parts = (held_of c.self.inside.slots.entries) in
     let names = c.self.invariant.names in
     let test = satisfies_held packets interest.name interest.can_be_prefix in
-    let among = first_of_same (all_of c.self.inside.names) parts test names.held_only names.all_held (Some c.in-Some.held) c.in-Some.ensures in
-    let found = found_is packets (satisfies interest.name interest.can_be_prefix) parts (Some c.in-Some.held) (parts_rise packets parts c.self.invariant.sound) among in
+    let among =
+    first_of_same (all_of c.self.inside.names) parts test names.held_only names.all_held (Some c.in-Some.held)
+    c.in-Some.ensures in
+    let found =
+    found_is packets (satisfies interest.name interest.can_be_prefix) parts (Some c.in-Some.held)
+    (parts_rise packets parts c.self.invariant.sound) among in
     let is = ap (λ (s : StoreList). s.packets) c.self.view_is in
     record {
-      served = served_found c.args.interest.now c.args.self.now.packets _ c.in_ok-interest.ensures c.if-interest.false ∙ ap (λ (es : List (Part × List ℕ)). let r : Result (Option (List ℕ)) PacketFault = Ok (option_map (λ e. e.1) (find (λ e. satisfies interest.name interest.can_be_prefix e.1) es)) in r) (sym is) ∙ ap (λ (o : Option (List ℕ)). let r : Result (Option (List ℕ)) PacketFault = Ok o in r) (found ∙ ap (λ (o : List ℕ). Some o) (sym c.octets_at.ensures));
+      served =
+          served_found c.args.interest.now c.args.self.now.packets _ c.in_ok-interest.ensures c.if-interest.false
+          ∙ ap (λ (es : List (Part × List ℕ)).
+          let r : Result (Option (List ℕ)) PacketFault =
+          Ok (option_map (λ e. e.1) (find (λ e. satisfies interest.name interest.can_be_prefix e.1) es)) in
+          r) (sym is)
+          ∙ ap (λ (o : Option (List ℕ)). let r : Result (Option (List ℕ)) PacketFault = Ok o in r)
+          (found ∙ ap (λ (o : List ℕ). Some o) (sym c.octets_at.ensures));
     }
 
 pub returns-in-None : goal.returns-in-None
@@ -44,9 +55,18 @@ returns-in-None c =
     let parts = (held_of c.self.inside.slots.entries) in
     let names = c.self.invariant.names in
     let test = satisfies_held packets interest.name interest.can_be_prefix in
-    let among = first_of_same (all_of c.self.inside.names) parts test names.held_only names.all_held None c.in-None.ensures in
-    let found = found_is packets (satisfies interest.name interest.can_be_prefix) parts (None) (parts_rise packets parts c.self.invariant.sound) among in
+    let among =
+    first_of_same (all_of c.self.inside.names) parts test names.held_only names.all_held None c.in-None.ensures in
+    let found =
+    found_is packets (satisfies interest.name interest.can_be_prefix) parts (None)
+    (parts_rise packets parts c.self.invariant.sound) among in
     let is = ap (λ (s : StoreList). s.packets) c.self.view_is in
     record {
-      served = served_found c.args.interest.now c.args.self.now.packets _ c.in_ok-interest.ensures c.if-interest.false ∙ ap (λ (es : List (Part × List ℕ)). let r : Result (Option (List ℕ)) PacketFault = Ok (option_map (λ e. e.1) (find (λ e. satisfies interest.name interest.can_be_prefix e.1) es)) in r) (sym is) ∙ ap (λ (o : Option (List ℕ)). let r : Result (Option (List ℕ)) PacketFault = Ok o in r) (found);
+      served =
+          served_found c.args.interest.now c.args.self.now.packets _ c.in_ok-interest.ensures c.if-interest.false
+          ∙ ap (λ (es : List (Part × List ℕ)).
+          let r : Result (Option (List ℕ)) PacketFault =
+          Ok (option_map (λ e. e.1) (find (λ e. satisfies interest.name interest.can_be_prefix e.1) es)) in
+          r) (sym is)
+          ∙ ap (λ (o : Option (List ℕ)). let r : Result (Option (List ℕ)) PacketFault = Ok o in r) (found);
     }

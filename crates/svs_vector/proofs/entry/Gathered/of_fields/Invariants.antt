@@ -6,7 +6,8 @@ use Rattle.svs_vector.proofs.entry.Gathered.of_fields.Given as goal
 
 abbrev pub invariant-loop-next : goal.invariant-loop-next
 invariant-loop-next l = record {
-  so_far : gathered with_entry_field (fault_in (item l.element)) (entry_so_far l.gathered) l.fields ≡ entry_fields (item l.element);
+  so_far : gathered with_entry_field (fault_in (item l.element)) (entry_so_far l.gathered) l.fields
+      ≡ entry_fields (item l.element);
   low : ℕ;
   within : AreWithin low (l.element.value_start + length l.element.value.now) (map (λ f. f.1) l.fields.items);
 }

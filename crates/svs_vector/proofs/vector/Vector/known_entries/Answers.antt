@@ -15,13 +15,19 @@ loop-member-preserved c =
     elim c.if-number-ne0.branch [
       | then-number-ne0+in_ok-insert w ↦
           let some : slice_index c.args.self.now i ≢ 0 = λ none. w.if-number-ne0.true (c.get-number.ensures ∙ none) in
-          let placed = known_of_next c.args.roster.now c.args.self.now i es known within w.name.result w.name.ensures some in
+          let placed =
+          known_of_next c.args.roster.now c.args.self.now i es known within w.name.result w.name.ensures some in
           record {
             known = rw (w.entries-is, w.in_ok-insert.ensures.entries, c.get-number.ensures) placed;
-            few = rw w.entries-is (omega (arith, w.in_ok-insert.ensures.len, at_most_one (is_some w.in_ok-insert.field-0)));
+            few =
+                rw w.entries-is
+                (omega (arith, w.in_ok-insert.ensures.len, at_most_one (is_some w.in_ok-insert.field-0)));
           }
       | else-number-ne0 w ↦ record {
-        known = ap lent_entries w.entries-is ∙ nothing_of_next c.args.roster.now c.args.self.now i es known within listed (sym c.get-number.ensures ∙ w.if-number-ne0.false);
+        known =
+            ap lent_entries w.entries-is
+            ∙ nothing_of_next c.args.roster.now c.args.self.now i es known within listed
+            (sym c.get-number.ensures ∙ w.if-number-ne0.false);
         few = rw w.entries-is (omega arith);
       }
     ]

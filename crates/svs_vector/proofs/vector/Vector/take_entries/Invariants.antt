@@ -6,7 +6,8 @@ use Rattle.svs_vector.proofs.vector.Vector.take_entries.Given as goal
 
 abbrev pub invariant-loop-next : goal.invariant-loop-next
 invariant-loop-next l = record {
-  so_far : gathered (with_vector_entry l.roster) (fault_in (item l.element)) l.self l.fields ≡ vector_in l.roster (item l.element);
+  so_far : gathered (with_vector_entry l.roster) (fault_in (item l.element)) l.self l.fields
+      ≡ vector_in l.roster (item l.element);
   low : ℕ;
   within : AreWithin low (l.element.value_start + length l.element.value.now) (map (λ f. f.1) l.fields.items);
   width : length l.self ≡ length l.roster;
