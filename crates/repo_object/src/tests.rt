@@ -13,6 +13,7 @@ use ndn_name::Name;
 use ndn_sign::{KeyRing, digest};
 use repo_plan::Part;
 use std::process::Abort;
+use std::str;
 use std::test::*;
 use worked::{RECORD, RECORD_DIGEST, RECORD_INTEREST, SEGMENT, SEGMENT_INTEREST};
 
@@ -77,11 +78,10 @@ fn segment_want(rt: &(impl Abort + AllocGlobal), seq: u16, part: u8, listing: &L
 // The octets that are written as digits.
 fn octets_of(rt: &(impl Abort + AllocGlobal), digits: &str) -> Vec<u8> {
     let mut octets = Vec::new(rt.alloc());
-    let mut rest = digits;
-    while let Some((pair, behind)) = rest.split_at_checked(2) {
+    for pair in digits.as_bytes().chunks(2) {
+        let pair = str::from_utf8(pair).expect(rt, "digits");
         let octet = u8::from_str_radix(pair, 16).expect(rt, "two digits");
         octets.push(octet).expect(rt, "memory");
-        rest = behind;
     }
     octets
 }
