@@ -2,6 +2,9 @@
 //! reads the hexadecimal digits of octets and writes the elements that they are, and `gen` writes a script.
 #![tactic(auto)]
 
+#[cfg(test)]
+mod tests;
+
 use bench_net::Seeded;
 use repo_top::{ReadSource, Status, WriteSink, run};
 use std::env::{self, Env};

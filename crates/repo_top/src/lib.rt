@@ -44,6 +44,3 @@ pub use top::run;
 pub use vec_sink::VecSink;
 pub use vec_source::VecSource;
 pub use write_sink::WriteSink;
-
-#[cfg(test)]
-mod tests;

@@ -1,7 +1,7 @@
 ghost use Rattle.std.specs.Prelude.{◌≤◌};
 
 use super::{call_alone, compare, status_of};
-use crate::*;
+use repo_top::*;
 use sha2::{Digest, Sha256};
 use std::process::Abort;
 use std::str;

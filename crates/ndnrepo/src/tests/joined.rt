@@ -1,5 +1,5 @@
 use super::{PRE, put, status_of};
-use crate::*;
+use repo_top::*;
 use std::process::Abort;
 use std::str;
 use std::test::*;

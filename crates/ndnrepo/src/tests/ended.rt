@@ -1,9 +1,9 @@
 ghost use Rattle.std.specs.Prelude.{◌≡◌, None};
 
 use super::run_over;
-use crate::*;
 use bench_net::{FixedDraws, OpenNet};
 use bench_world::World;
+use repo_top::*;
 use std::process::Abort;
 use std::test::*;
 use std::thread::Threads;

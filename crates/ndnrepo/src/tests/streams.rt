@@ -1,7 +1,7 @@
 ghost use Rattle.std.specs.Prelude.{◌≤◌};
 
 use super::{PRE, call_alone, expect, expect_from, put, report_of, script_of, status_of};
-use crate::*;
+use repo_top::*;
 use std::process::Abort;
 use std::test::*;
 use std::thread::Threads;

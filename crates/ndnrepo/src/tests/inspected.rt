@@ -1,5 +1,5 @@
 use super::expect;
-use crate::*;
+use repo_top::*;
 use std::process::Abort;
 use std::test::*;
 use std::thread::Threads;

@@ -1,5 +1,5 @@
 use super::{PRE, expect_transcript};
-use crate::*;
+use repo_top::*;
 use std::test::*;
 
 // Behind what stands in front of all: lines, each with what it prints behind it, and the status.

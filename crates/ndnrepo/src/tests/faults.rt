@@ -1,5 +1,5 @@
 use super::{PRINTED, call_alone, expect_from, put, report_of, script_of, status_of};
-use crate::*;
+use repo_top::*;
 use std::process::Abort;
 use std::test::*;
 use std::thread::Threads;

@@ -13,9 +13,9 @@ mod serial;
 mod streams;
 mod words;
 
-use super::*;
 use bench_net::{Draws, FixedDraws, Net, OpenNet};
 use bench_world::World;
+use repo_top::*;
 use std::process::Abort;
 use std::str;
 use std::thread::Threads;

@@ -1,6 +1,6 @@
 use super::{PRE, put, run_over};
-use crate::*;
 use bench_net::{FixedDraws, Net};
+use repo_top::*;
 use std::process::Abort;
 use std::sync::atomic::{AtomicBool, Ordering};
 use std::test::*;

@@ -1,6 +1,6 @@
 use super::{PRE, compare, put, run_over};
-use crate::*;
 use bench_net::{FixedDraws, Net, Seeded, TableNet};
+use repo_top::*;
 use std::process::Abort;
 use std::test::*;
 use std::thread::Threads;
