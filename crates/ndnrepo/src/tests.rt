@@ -2,6 +2,7 @@ ghost use Rattle.std.specs.Prelude.{◌≡◌, ◌≤◌, None};
 
 mod changed;
 mod ended;
+mod events;
 mod faults;
 mod generated;
 mod inspected;
