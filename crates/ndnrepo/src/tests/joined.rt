@@ -131,7 +131,10 @@ fn script_of_lines(rt: &(impl Abort + AllocGlobal), lines: &[(&str, &str)]) -> S
 
 fn expect_joined<R: Threads + Sync + AllocGlobal + Abort>(rt: &R, lines: &[(&str, &str)]) {
     let script = script_of_lines(rt, lines);
-    let listed = lines.last().map_or(NONE, |line| line.1);
+    let listed = match lines.last() {
+        Some(line) => line.1,
+        None => NONE,
+    };
     let end = catalogues_of(rt, listed);
     expect_end(rt, &script, &end);
 }
