@@ -15,6 +15,3 @@ pub use seeded::Seeded;
 pub use sent::Sent;
 pub use table_net::TableNet;
 pub use tally::Tally;
-
-#[cfg(test)]
-mod tests;

@@ -18,6 +18,3 @@ pub use outcome::Outcome;
 pub use seat::Seat;
 pub use taken::{Seen, Taken};
 pub use word::Word;
-
-#[cfg(test)]
-mod tests;

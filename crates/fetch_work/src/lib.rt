@@ -16,6 +16,3 @@ pub use link::{Link, Reply};
 pub use outcome::PhaseOutcome;
 pub use phases::phase;
 pub use worker::Worker;
-
-#[cfg(test)]
-mod tests;

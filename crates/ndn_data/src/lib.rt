@@ -12,6 +12,3 @@ mod write;
 pub use data_view::DataView;
 pub use laws::{contents_fit, data_is_spelled, written_data_is_read};
 pub use write::write_signed;
-
-#[cfg(test)]
-mod tests;

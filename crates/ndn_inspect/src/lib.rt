@@ -8,6 +8,3 @@ mod types;
 
 pub use inspector::inspect;
 pub use laws::lines_are_those_of_elements;
-
-#[cfg(test)]
-mod tests;

@@ -20,6 +20,3 @@ pub use laws::{
 pub use signature_refusal::SignatureRefusal;
 pub use signer::signer_of;
 pub use write::{write_plain, write_signed};
-
-#[cfg(test)]
-mod tests;

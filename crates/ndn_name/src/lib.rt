@@ -32,6 +32,3 @@ pub use name::{NAME_LIMIT, Name, full_name};
 pub use name_fault::NameFault;
 pub use name_view::NameView;
 pub use uri_size::plain_uri_len;
-
-#[cfg(test)]
-mod tests;

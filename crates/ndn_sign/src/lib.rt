@@ -12,6 +12,3 @@ pub use hashing::{digest, hmac};
 pub use key_ring::KeyRing;
 pub use laws::names_tell_pairs_apart;
 pub use ring_fault::RingFault;
-
-#[cfg(test)]
-mod tests;

@@ -12,6 +12,3 @@ pub use laws::{
     added_entries_are_found, entries_tell_all_of_a_catalogue, first_named_is_least,
     removed_entries_are_gone,
 };
-
-#[cfg(test)]
-mod tests;

@@ -21,6 +21,3 @@ pub use laws::{
     commands_are_tested, made_commands_are_checked, order_tables_are_the_profiles,
     status_codes_are_the_profiles, taken_commands_are_within_limits, written_answers_are_read,
 };
-
-#[cfg(test)]
-mod tests;

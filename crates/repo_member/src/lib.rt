@@ -23,6 +23,3 @@ pub use laws::{
 };
 pub use member::{Answered, Blocked, Fire, Kept, Member, Published};
 pub use refusals::{AcceptRefusal, HearRefusal, PublishRefusal, WantFault};
-
-#[cfg(test)]
-mod tests;

@@ -39,6 +39,3 @@ pub use part_refusal::PartRefusal;
 pub use record_fault::RecordFault;
 pub use record_view::RecordView;
 pub use want::{Want, want_record, want_segment};
-
-#[cfg(test)]
-mod tests;

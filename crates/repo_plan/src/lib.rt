@@ -15,6 +15,3 @@ pub use laws::{
 };
 pub use part::Part;
 pub use plan::{FetcherBusy, FetcherIdle, Plan};
-
-#[cfg(test)]
-mod tests;

@@ -16,6 +16,3 @@ pub use laws::{
 };
 pub use processes::Processes;
 pub use start_fault::StartFault;
-
-#[cfg(test)]
-mod tests;

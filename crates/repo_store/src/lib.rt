@@ -14,6 +14,3 @@ pub use laws::{
     served_part_is_the_least,
 };
 pub use store::Store;
-
-#[cfg(test)]
-mod tests;

@@ -31,6 +31,3 @@ pub use telling::{
     put_ask_found, put_ask_none, put_ask_refused, put_dump_hex, put_dump_none, put_hear_refused,
     put_hear_steady, put_hear_suppressed,
 };
-
-#[cfg(test)]
-mod tests;

@@ -19,6 +19,3 @@ pub use machine::Machine;
 pub use mode::Mode;
 pub use sync_interest::{check_sync, make_sync};
 pub use sync_refusal::SyncRefusal;
-
-#[cfg(test)]
-mod tests;

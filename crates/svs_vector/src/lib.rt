@@ -27,6 +27,3 @@ pub use vector_laws::{
     entries_tell_the_same_in_any_order, state_vectors_tell_their_entries,
     written_vectors_are_read_back,
 };
-
-#[cfg(test)]
-mod tests;

@@ -1,6 +1,0 @@
-use Rattle.std.proofs.Common.{All}
-use Rattle.fetch_work.specs.Attempts.{CanBeTried}
-use Rattle.fetch_work.proofs.tests.jobs.Given as goal
-
-abbrev pub invariant-loop-seq : goal.invariant-loop-seq
-invariant-loop-seq l = All (λ job. CanBeTried 1 5 job) l.jobs.items

@@ -1,0 +1,126 @@
+ghost use Rattle.std.specs.Prelude.{◌≡◌, ◌<◌, ◌≤◌, OnSome};
+ghost use Rattle.fetch_board.specs.Counts.{items};
+ghost use Rattle.fetch_board.specs.Seats.{fresh, IsSeatOf};
+ghost use Rattle.fetch_board.specs.Answers.{Rests};
+
+use fetch_board::*;
+use std::alloc::Global;
+use std::test::*;
+
+// Two seats share two items of two tries each.
+fn share_with_two_tries(board: &Board<u32>, one: &mut Seat<u32>, two: &mut Seat<u32>) -> Option<()>
+    requires board { (board.now.items ≡ 2) × (board.now.tries ≡ 2) }
+    requires seats { (one.old ≡ fresh board.now 1) × (two.old ≡ fresh board.now 1) }
+    ensures one { OnSome result (IsSeatOf board.now one.new × (one.new.shares ≡ 1) × Rests one.new) }
+    ensures two { OnSome result (IsSeatOf board.now two.new × (two.new.shares ≡ 1) × Rests two.new) }
+    ensures passed { OnSome result ((0 < items 0 one.new.passed) × (0 < items 1 one.new.passed)) }
+{
+    let Taken::Yes { attempt: 0 } = board.claim(one, 0) else {
+        return None;
+    };
+    let Taken::Held = board.claim(two, 0) else {
+        return None;
+    };
+    board.give_back(one, 0);
+    let Taken::Yes { attempt: 1 } = board.claim(two, 0) else {
+        return None;
+    };
+    board.spend(two, 0);
+    let Taken::Spent = board.claim(one, 0) else {
+        return None;
+    };
+    let Taken::Yes { attempt: 0 } = board.claim(one, 1) else {
+        return None;
+    };
+    board.finish(one, 1, 7);
+    let Taken::Done = board.claim(two, 1) else {
+        return None;
+    };
+    Some(())
+}
+
+// Two seats share two items of one try each.
+fn share_with_one_try(board: &Board<u32>, one: &mut Seat<u32>, two: &mut Seat<u32>) -> Option<()>
+    requires board { (board.now.items ≡ 2) × (board.now.tries ≡ 1) }
+    requires seats { (one.old ≡ fresh board.now 1) × (two.old ≡ fresh board.now 1) }
+    ensures one { OnSome result (IsSeatOf board.now one.new × (one.new.shares ≡ 1) × Rests one.new) }
+    ensures two { OnSome result (IsSeatOf board.now two.new × (two.new.shares ≡ 1) × Rests two.new) }
+    ensures passed { OnSome result ((0 < items 0 one.new.passed) × (0 < items 1 one.new.passed)) }
+{
+    let Taken::Yes { attempt: 0 } = board.claim(one, 0) else {
+        return None;
+    };
+    let Taken::Held = board.claim(two, 0) else {
+        return None;
+    };
+    board.spend(one, 0);
+    let Taken::Spent = board.claim(two, 0) else {
+        return None;
+    };
+    let Taken::Yes { attempt: 0 } = board.claim(one, 1) else {
+        return None;
+    };
+    board.finish(one, 1, 7);
+    let Taken::Done = board.claim(two, 1) else {
+        return None;
+    };
+    Some(())
+}
+
+fn share(board: &Board<u32>, one: &mut Seat<u32>, two: &mut Seat<u32>) -> Option<()>
+    requires board { (board.now.items ≡ 2) × (board.now.tries ≤ 2) }
+    requires seats { (one.old ≡ fresh board.now 1) × (two.old ≡ fresh board.now 1) }
+    ensures one { OnSome result (IsSeatOf board.now one.new × (one.new.shares ≡ 1) × Rests one.new) }
+    ensures two { OnSome result (IsSeatOf board.now two.new × (two.new.shares ≡ 1) × Rests two.new) }
+    ensures passed { OnSome result ((0 < items 0 one.new.passed) × (0 < items 1 one.new.passed)) }
+{
+    if board.tries() == 1 {
+        share_with_one_try(board, one, two)
+    } else {
+        share_with_two_tries(board, one, two)
+    }
+}
+
+// What became of two items that two seats shared.
+fn outcome(alloc: Global, tries: u32) -> Option<Outcome<u32>>
+    requires { (1 ≤ tries) × (tries ≤ 2) }
+{
+    let Ok((board, mut seats)) = Board::<u32>::new(alloc, 2, tries, 2) else {
+        return None;
+    };
+    let mut one = seats.pop()?;
+    let mut two = seats.pop()?;
+    share(&board, &mut one, &mut two)?;
+    board.join(&mut one, two);
+    board.close(one).ok()
+}
+
+#[test]
+fn two_seats_share_two_items(rt: HostRuntime) -> Result<(), Fail> {
+    let alloc: Global = rt.alloc();
+    for (tries, attempts) in [(1u32, [1u32, 1]), (2, [2, 1])] {
+        let shared = outcome(alloc, tries).expect(&rt, "an outcome");
+        assert!(rt; shared.values.as_slice() == [None, Some(7)].as_slice());
+        assert!(rt; shared.attempts.as_slice() == attempts.as_slice());
+    }
+    Ok(())
+}
+
+#[test]
+fn a_board_may_have_no_items(rt: HostRuntime) -> Result<(), Fail> {
+    let alloc: Global = rt.alloc();
+    let (board, mut seats) = Board::<u32>::new(alloc, 0, 1, 1)?;
+    let seat = seats.pop().expect(&rt, "a seat");
+    let outcome = board.close(seat)?;
+    assert!(rt; outcome.values.is_empty() && outcome.attempts.is_empty());
+    Ok(())
+}
+
+#[test]
+fn a_look_tells_the_word(rt: HostRuntime) -> Result<(), Fail> {
+    let alloc: Global = rt.alloc();
+    let (board, mut seats) = Board::<u32>::new(alloc, 1, 2, 1)?;
+    let mut seat = seats.pop().expect(&rt, "a seat");
+    assert_eq!(rt; board.look(&mut seat, 0), Seen::Wanted { attempt: 0 });
+    Ok(())
+}

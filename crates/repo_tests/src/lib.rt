@@ -1,0 +1,25 @@
+//! Tests of the crates that a member of a group is made of, of the member, and of those that fetch in threads.
+//!
+//! They stand in a crate of their own, since a library is proved once more for the tests that stand in it.
+#![tactic(auto)]
+
+#[cfg(test)]
+mod board;
+#[cfg(test)]
+mod catalog;
+#[cfg(test)]
+mod command;
+#[cfg(test)]
+mod member;
+#[cfg(test)]
+mod net;
+#[cfg(test)]
+mod object;
+#[cfg(test)]
+mod plan;
+#[cfg(test)]
+mod process;
+#[cfg(test)]
+mod store;
+#[cfg(test)]
+mod work;

@@ -1,0 +1,199 @@
+ghost use Rattle.std.specs.Prelude.{◌≡◌, length};
+ghost use Rattle.repo_member.specs.Groups.{IsPlainNodeName, IsKey};
+
+mod commands;
+mod peer;
+mod play;
+mod worked;
+
+use ndn_name::Name;
+use peer::Peer;
+use repo_member::*;
+use repo_object::{NODE_NAME_LIMIT, PartRefusal, is_object_name};
+use repo_plan::Part;
+use std::fmt::Display;
+use std::process::Abort;
+use std::test::*;
+use svs_sync::{Mode, SyncRefusal};
+use worked::FIVE_OF_BOB;
+
+const ALICE: u32 = 0;
+
+const BOB: u32 = 1;
+
+const CAROL: u32 = 2;
+
+// The name of a group or a node.
+fn node_name(rt: &(impl Abort + AllocGlobal), text: &str) -> Name
+    ensures { IsPlainNodeName result }
+{
+    let name = Name::from_uri(rt.alloc(), text).expect(rt, "a name");
+    assert!(rt; is_object_name(&name.view()));
+    assert!(rt; name.octets().len() <= NODE_NAME_LIMIT);
+    name
+}
+
+// Adds a member of this name, or a client.
+fn add(
+    rt: &(impl Abort + AllocGlobal),
+    g: &mut Group,
+    text: &str,
+    key: &[u8],
+    is_client: bool,
+) -> Result<u32, GroupFault>
+    requires { IsKey key.now }
+{
+    let name = node_name(rt, text);
+    if is_client {
+        return g.add_client(&name, key);
+    }
+    g.add_member(&name, key)
+}
+
+// The group "/g" of alice, bob and carol.
+fn three_members(rt: &(impl Abort + AllocGlobal)) -> Group
+    ensures { length result.members.names ≡ 3 }
+{
+    let mut g = Group::new(rt.alloc(), &node_name(rt, "/g")).expect(rt, "memory");
+    assert_eq!(rt; add(rt, &mut g, "/alice", b"k1", false), Ok(ALICE));
+    assert_eq!(rt; add(rt, &mut g, "/bob", b"k2", false), Ok(BOB));
+    assert_eq!(rt; add(rt, &mut g, "/carol", b"k3", false), Ok(CAROL));
+    assert_eq!(rt; g.roster().len(), 3);
+    g
+}
+
+// A part of a publication.
+fn part(publisher: u32, seq: u16, part: u8) -> Part {
+    Part {
+        publisher,
+        seq,
+        part,
+    }
+}
+
+#[test]
+fn nobody_tells_of_more_than_was_published(rt: HostRuntime) {
+    let g = three_members(&rt);
+    let mut bob = Peer::new(&rt, &g, BOB);
+    refuses_five_of_its_own(&rt, &mut bob);
+    is_unchanged(&rt, &bob);
+}
+
+fn refuses_five_of_its_own(rt: &impl Abort, bob: &mut Peer<'_>) {
+    let ahead = HearRefusal::OwnNumberAhead { own: 0, told: 5 };
+    assert_eq!(rt; bob.hear(rt, &FIVE_OF_BOB, 10), Err(ahead));
+    assert_eq!(rt; bob.join_from(rt, &FIVE_OF_BOB), Err(ahead));
+}
+
+fn is_unchanged(rt: &impl Abort, bob: &Peer<'_>) {
+    assert_eq!(rt; bob.numbers(rt), (0, 0, 0));
+    assert_eq!(rt;
+        (bob.member.log_len(), bob.member.mode()),
+        (0, Mode::Steady)
+    );
+    assert_eq!(rt; bob.member.next_draw(), 1);
+    assert!(rt; bob.member.catalogue().entries().is_empty());
+}
+
+#[test]
+fn numbers_are_spent(rt: HostRuntime) {
+    let g = three_members(&rt);
+    let mut alice = Peer::new(&rt, &g, ALICE);
+    spend_all(&rt, &mut alice);
+}
+
+// Publishes an object without contents under each number.
+fn spend_all(rt: &(impl Abort + AllocGlobal), alice: &mut Peer<'_>) {
+    let name = Name::from_uri(rt.alloc(), "/e").expect(rt, "a name");
+    for seq in 0..u16::MAX {
+        let published = alice.publish(rt, &name, &[], 0).expect(rt, "a number");
+        assert!(rt; published.seq == seq + 1);
+    }
+    let spent = PublishRefusal::NumbersSpent { log: 65_535 };
+    assert_eq!(rt; alice.publish(rt, &name, &[], 0).err(), Some(spent));
+    assert_eq!(rt;
+        (alice.member.log_len(), alice.member.next_draw()),
+        (65_535, 65_536)
+    );
+    assert_eq!(rt; alice.member.catalogue().entries().len(), 65_535);
+}
+
+#[test]
+fn groups_take_each_name_once_and_sixteen_members(rt: HostRuntime) {
+    let mut g = three_members(&rt);
+    take_each_name_once(&rt, &mut g);
+    take_sixteen(&rt, &mut g);
+}
+
+fn take_each_name_once(rt: &(impl Abort + AllocGlobal), g: &mut Group) {
+    assert_eq!(rt; add(rt, g, "/carl", b"k", true), Ok(0));
+    for (name, is_client) in [
+        ("/alice", false),
+        ("/alice", true),
+        ("/carl", false),
+        ("/carl", true),
+    ] {
+        let added = add(rt, g, name, b"k", is_client);
+        assert_eq!(rt; added, Err(GroupFault::Duplicate), "{name}");
+    }
+}
+
+// With the members "/n/3" to "/n/15" the group is full, and takes clients still.
+fn take_sixteen(rt: &(impl Abort + AllocGlobal), g: &mut Group) {
+    for number in 3..16u32 {
+        let name = format!(in rt.alloc(); "/n/{number}").expect(rt, "memory");
+        assert_eq!(rt; add(rt, g, &name, b"k", false), Ok(number));
+    }
+    for (name, is_client, answer) in [
+        ("/n", false, Err(GroupFault::Full)),
+        ("/bob", false, Err(GroupFault::Duplicate)),
+        ("/n", true, Ok(1)),
+    ] {
+        assert_eq!(rt; add(rt, g, name, b"k", is_client), answer, "{name}");
+    }
+    assert_eq!(rt; g.roster().len(), 16);
+}
+
+// What is printed.
+fn print<T: Display>(rt: &(impl Abort + AllocGlobal), printed: &T, text: &str) {
+    let made = format!(in rt.alloc(); "{printed}").expect(rt, "memory");
+    assert!(rt; made.as_str() == text, "{made}");
+}
+
+fn print_faults(rt: &(impl Abort + AllocGlobal)) {
+    let taken = "a member or a client has the name already";
+    print(rt, &GroupFault::Duplicate, taken);
+    print(rt, &GroupFault::Full, "there are 16 of its kind already");
+    print(rt, &GroupFault::NoMemory, "out of memory");
+    print(rt, &WantFault::FetcherIdle, "the fetcher claims no part");
+    print(rt, &WantFault::NoMemory, "out of memory");
+}
+
+fn print_refusals(rt: &(impl Abort + AllocGlobal)) {
+    let spent = PublishRefusal::NumbersSpent { log: 65_535 };
+    let all = "all numbers are spent: the log has 65535 publications";
+    print(rt, &spent, all);
+    print(rt, &PublishRefusal::NoMemory, "out of memory");
+    let ahead = HearRefusal::OwnNumberAhead { own: 0, told: 5 };
+    let more = "5 publications of this member are told, and it made 0";
+    print(rt, &ahead, more);
+    let unsigned = HearRefusal::Sync(SyncRefusal::Unsigned);
+    print(rt, &unsigned, "the Interest is not signed");
+    print(rt, &HearRefusal::NoMemory, "out of memory");
+}
+
+fn print_refusals_of_parts(rt: &(impl Abort + AllocGlobal)) {
+    let idle = AcceptRefusal::FetcherIdle;
+    print(rt, &idle, "the fetcher claims no part");
+    let bad_signature = AcceptRefusal::Refused(PartRefusal::BadSignature);
+    let not_the_mac = "the signature is not the mac of what is signed";
+    print(rt, &bad_signature, not_the_mac);
+    print(rt, &AcceptRefusal::NoMemory, "out of memory");
+}
+
+#[test]
+fn refusals_are_printed(rt: HostRuntime) {
+    print_faults(&rt);
+    print_refusals(&rt);
+    print_refusals_of_parts(&rt);
+}

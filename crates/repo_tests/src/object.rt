@@ -1,0 +1,279 @@
+ghost use Rattle.std.specs.Prelude.{◌≡◌, ◌<◌, ◌≤◌, length};
+ghost use Rattle.ndn_name.specs.Names.{encoding};
+
+mod contents;
+mod hostile;
+mod worked;
+
+use contents::CONTENTS;
+use hostile::{FOR_THE_RECORD, FOR_THE_SEGMENT};
+use ndn_data::DataView;
+use ndn_name::Name;
+use ndn_sign::{KeyRing, digest};
+use repo_object::*;
+use repo_plan::Part;
+use std::process::Abort;
+use std::str;
+use std::test::*;
+use worked::{RECORD, RECORD_DIGEST, RECORD_INTEREST, SEGMENT, SEGMENT_INTEREST};
+
+const KEY: &[u8] = b"k1";
+
+// The name of a node or a group.
+fn short_name(rt: &(impl Abort + AllocGlobal), text: &str) -> Name
+    ensures { length (encoding result) ≤ 200 }
+{
+    let name = Name::from_uri(rt.alloc(), text).expect(rt, "a name");
+    assert!(rt; name.octets().len() <= NODE_NAME_LIMIT);
+    name
+}
+
+// The object of this name whose content is cut into segments of that size.
+fn object(rt: &(impl Abort + AllocGlobal), name: &Name, content: &[u8], size: usize) -> Object
+    requires some { 0 < size }
+    requires size { size ≤ 8000 }
+{
+    assert!(rt; is_object_name(&name.view()));
+    let contents = cut(rt.alloc(), content, size).expect(rt, "few segments");
+    Object::new(rt.alloc(), name, &contents).expect(rt, "memory")
+}
+
+// A ring with the node's key.
+fn ring_of(rt: &(impl Abort + AllocGlobal), node: &Name, key: &[u8]) -> KeyRing
+    requires { length (encoding node.now) ≤ 200 }
+    ensures { 0 < length result }
+{
+    let mut ring = KeyRing::new(rt.alloc());
+    let name = key_name(node).expect(rt, "memory");
+    ring.add(name.octets(), key).expect(rt, "memory");
+    ring
+}
+
+fn record_want(rt: &(impl Abort + AllocGlobal), seq: u16, node: &Name, group: &Name) -> Want
+    requires node { length (encoding node.now) ≤ 200 }
+    requires group { length (encoding group.now) ≤ 200 }
+    ensures { result.part.publisher ≡ 0 }
+{
+    let part = Part {
+        publisher: 0,
+        seq,
+        part: 0,
+    };
+    want_record(rt.alloc(), part, node, group).expect(rt, "memory")
+}
+
+fn segment_want(rt: &(impl Abort + AllocGlobal), seq: u16, part: u8, listing: &Listing) -> Want
+    ensures { result.part.publisher ≡ 0 }
+{
+    let part = Part {
+        publisher: 0,
+        seq,
+        part,
+    };
+    assert!(rt; 0 < part.part && usize::from(part.part) <= listing.digests.len());
+    assert!(rt; listing.name.octets().len() <= OBJECT_NAME_LIMIT);
+    want_segment(rt.alloc(), part, listing).expect(rt, "memory")
+}
+
+// The octets that are written as digits.
+fn octets_of(rt: &(impl Abort + AllocGlobal), digits: &str) -> Vec<u8> {
+    let mut octets = Vec::new(rt.alloc());
+    for pair in digits.as_bytes().chunks(2) {
+        let pair = str::from_utf8(pair).expect(rt, "digits");
+        let octet = u8::from_str_radix(pair, 16).expect(rt, "two digits");
+        octets.push(octet).expect(rt, "memory");
+    }
+    octets
+}
+
+// Checks the octets of each row for a want, with the refusal that comes, if one does.
+fn check_all(rt: &(impl Abort + AllocGlobal), want: &Want, ring: &KeyRing, rows: &str)
+    requires { want.now.part.publisher < length ring.now }
+{
+    for row in rows.lines() {
+        if !row.starts_with('#') {
+            checks(rt, want, ring, row);
+        }
+    }
+}
+
+fn checks(rt: &(impl Abort + AllocGlobal), want: &Want, ring: &KeyRing, row: &str)
+    requires { want.now.part.publisher < length ring.now }
+{
+    let (digits, answer) = row.split_once(" => ").expect(rt, "an answer");
+    let octets = octets_of(rt, digits);
+    let refusal = check_part(want, &octets, ring).err();
+    let told = format!(in rt.alloc(); "{refusal:?}").expect(rt, "memory");
+    assert!(rt; told.as_str() == answer, "{told}: {row}");
+}
+
+#[test]
+fn worked_publication_is_written(rt: HostRuntime) {
+    let alice = short_name(&rt, "/alice");
+    let group = short_name(&rt, "/g");
+    let name = short_name(&rt, "/doc");
+    let object = object(&rt, &name, b"abc", 10);
+    is_written_whole(&rt, &object, &alice, &group);
+    is_written_alone(&rt, &object, &alice, &group);
+    comes_with_digests(&rt, &object, &alice, &group);
+}
+
+fn is_written_whole(rt: &(impl Abort + AllocGlobal), object: &Object, node: &Name, group: &Name)
+    requires node { length (encoding node.now) ≤ 200 }
+    requires group { length (encoding group.now) ≤ 200 }
+{
+    let packets = packets_of(rt.alloc(), object, 1, node, group, KEY).expect(rt, "memory");
+    let [record, segment] = packets.as_slice() else {
+        panic!(rt; "two packets");
+    };
+    assert!(rt; record.as_slice() == RECORD.as_slice());
+    assert!(rt; segment.as_slice() == SEGMENT.as_slice());
+}
+
+fn is_written_alone(rt: &(impl Abort + AllocGlobal), object: &Object, node: &Name, group: &Name)
+    requires node { length (encoding node.now) ≤ 200 }
+    requires group { length (encoding group.now) ≤ 200 }
+{
+    let alone = [Some(RECORD.as_slice()), Some(SEGMENT.as_slice()), None];
+    for (part, packet) in alone.into_iter().enumerate() {
+        let made = packet_of(rt.alloc(), object, 1, part as u8, node, group, KEY);
+        assert!(rt; made.expect(rt, "memory").as_deref() == packet, "{part}");
+    }
+}
+
+// Sees that the first publication of an object is made of the worked packets, each with its digest.
+fn comes_with_digests(rt: &(impl Abort + AllocGlobal), object: &Object, node: &Name, group: &Name)
+    requires node { length (encoding node.now) ≤ 200 }
+    requires group { length (encoding group.now) ≤ 200 }
+{
+    let made = digested_packets_of(rt.alloc(), object, 1, node, group, KEY).expect(rt, "memory");
+    assert!(rt; made.len() == 2);
+    for (one, packet) in made.iter().zip([RECORD.as_slice(), SEGMENT.as_slice()]) {
+        assert!(rt; one.octets() == packet);
+        assert!(rt; *one.digest() == digest(packet));
+    }
+}
+
+#[test]
+fn worked_record_is_checked(rt: HostRuntime) {
+    let alice = short_name(&rt, "/alice");
+    let group = short_name(&rt, "/g");
+    let ring = ring_of(&rt, &alice, KEY);
+    let want = record_want(&rt, 1, &alice, &group);
+    assert!(rt; want.interest() == RECORD_INTEREST.as_slice());
+    check_all(&rt, &want, &ring, FOR_THE_RECORD);
+}
+
+#[test]
+fn worked_segment_is_checked(rt: HostRuntime) {
+    let alice = short_name(&rt, "/alice");
+    let ring = ring_of(&rt, &alice, KEY);
+    let listing = listing_of(&rt, &RECORD);
+    record_is_written(&rt, &listing, &alice);
+    let want = segment_want(&rt, 1, 1, &listing);
+    assert!(rt; want.interest() == SEGMENT_INTEREST.as_slice());
+    check_all(&rt, &want, &ring, FOR_THE_SEGMENT);
+}
+
+// What a record lists.
+fn listing_of(rt: &(impl Abort + AllocGlobal), record: &[u8]) -> Listing {
+    let content = DataView::read(record).expect(rt, "a packet").content;
+    read_record(rt.alloc(), content).expect(rt, "a record")
+}
+
+// Sees that what the record lists is written as the record's packet, without its segment's.
+fn record_is_written(rt: &(impl Abort + AllocGlobal), listing: &Listing, node: &Name)
+    requires node { length (encoding node.now) ≤ 200 }
+{
+    let group = short_name(rt, "/g");
+    assert!(rt; listing.name.octets().len() <= OBJECT_NAME_LIMIT);
+    assert!(rt; listing.digests.len() <= SEGMENT_LIMIT);
+    let packet = record_packet(rt.alloc(), listing, 1, node, &group, KEY).expect(rt, "memory");
+    assert!(rt; packet.as_slice() == RECORD.as_slice());
+}
+
+#[test]
+fn contents_are_read_as_records(rt: HostRuntime) {
+    for row in CONTENTS.lines() {
+        if !row.starts_with('#') {
+            is_read(&rt, row);
+        }
+    }
+}
+
+fn is_read(rt: &(impl Abort + AllocGlobal), row: &str) {
+    let (digits, answer) = row.split_once(" => ").expect(rt, "an answer");
+    let segments = segments_in(rt, &octets_of(rt, digits));
+    let told = format!(in rt.alloc(); "{segments:?}").expect(rt, "memory");
+    assert!(rt; told.as_str() == answer, "{told}: {row}");
+}
+
+// How many segments a content lists where it is a record's.
+fn segments_in(rt: &(impl Abort + AllocGlobal), content: &[u8]) -> Option<usize> {
+    let segments = match read_record(rt.alloc(), content) {
+        Ok(listing) => Some(listing.digests.len()),
+        Err(RecordFault::BadRecord) => None,
+        Err(RecordFault::NoMemory) => panic!(rt; "memory"),
+    };
+    assert!(rt; is_record(content) == segments.is_some());
+    assert!(rt; digest_at(content, 0).is_some() == segments.is_some_and(|n| n > 0));
+    segments
+}
+
+// A value that may go to another thread and be let go there.
+fn goes_anywhere<T: Send + Drop>(_: T) {}
+
+#[test]
+fn publications_at_the_limits_pass(rt: HostRuntime) {
+    let octets = [b'a'; 396];
+    let node = name_of(&rt, &octets[..198]);
+    let name = name_of(&rt, &octets);
+    let key = [b'k'; 128];
+    assert!(rt; node.octets().len() <= NODE_NAME_LIMIT);
+    let object = object(&rt, &name, &[b'A'; 200], 1);
+    let packets = packets_of(rt.alloc(), &object, 65_535, &node, &node, &key).expect(&rt, "memory");
+    let ring = ring_of(&rt, &node, &key);
+    let want = record_want(&rt, 65_535, &node, &node);
+    pass(&rt, &packets, &want, &ring);
+}
+
+// The name of one component.
+fn name_of(rt: &(impl Abort + AllocGlobal), value: &[u8]) -> Name {
+    let mut name = Name::new(rt.alloc());
+    name.push(8, value).expect(rt, "memory");
+    name
+}
+
+// Sees that a record of the greatest publication passes, and each segment that it lists.
+fn pass(rt: &(impl Abort + AllocGlobal), packets: &[Vec<u8>], want: &Want, ring: &KeyRing)
+    requires publisher { want.now.part.publisher < length ring.now }
+    requires some { 0 < length ring.now }
+{
+    let [record, segments @ ..] = packets else {
+        panic!(rt; "a record");
+    };
+    assert!(rt; record.len() == 7_871 && segments.len() == 200);
+    assert!(rt; digest(record) == RECORD_DIGEST);
+    goes_anywhere(check_part(want, record, ring).expect(rt, "a record"));
+    segments_pass(rt, record, segments, ring);
+}
+
+fn segments_pass(
+    rt: &(impl Abort + AllocGlobal),
+    record: &[u8],
+    segments: &[Vec<u8>],
+    ring: &KeyRing,
+)
+    requires some { 0 < length ring.now }
+{
+    let content = DataView::read(record).expect(rt, "a packet").content;
+    let listing = listing_of(rt, record);
+    let mut part = 0u8;
+    for segment in segments {
+        assert!(rt; digest_at(content, usize::from(part)) == Some(&digest(segment)));
+        part = part.saturating_add(1);
+        let want = segment_want(rt, 65_535, part, &listing);
+        let checked = check_part(&want, segment, ring).expect(rt, "a segment");
+        assert!(rt; checked.part().part == part && checked.octets() == segment.as_slice());
+    }
+}

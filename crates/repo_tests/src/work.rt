@@ -1,0 +1,311 @@
+ghost use Rattle.std.specs.Prelude.{◌≡◌, ◌<◌, ◌≤◌, length, All, IfOk};
+ghost use Rattle.ndn_name.specs.Names.{encoding};
+ghost use Rattle.fetch_work.specs.Attempts.{CanBeTried};
+
+use fetch_board::Board;
+use fetch_work::*;
+use ndn_name::{Name, NameFault};
+use ndn_sign::KeyRing;
+use repo_object::{
+    Job, NODE_NAME_LIMIT, Object, Want, is_object_name, key_name, packets_of, want_record,
+};
+use repo_plan::Part;
+use std::alloc::{AllocError, Global};
+use std::process::Abort;
+use std::sync::atomic::{AtomicBool, Ordering};
+use std::test::*;
+use std::thread::Threads;
+
+const KEY: &[u8] = b"k1";
+
+// A link that has the record of each publication but every tenth, in whose place it lends another. Of publication
+// `seq` it passes the attempt `seq % 7 + 1` alone.
+#[derive(Drop)]
+struct OneAttempt<'w> {
+    records: &'w [Vec<u8>],
+}
+
+impl<'w> Link for OneAttempt<'w> {
+    ghost use Rattle.std.specs.Prelude.{◌+◌, ◌-◌, ◌%◌, ◌==◌, if◌then◌else◌, option_map, slice_get, None};
+
+    ghost answer = { λ l want attempt. if attempt == want.part.seq % 7 + 1
+        then option_map (λ packet. packet.items) (slice_get l.records.now (want.part.seq - 1))
+        else None };
+
+    fn ask<'a>(&'a self, want: &Want, attempt: u32) -> Reply<'a> {
+        let seq = want.part().seq;
+        if attempt != u32::from(seq) % 7 + 1 {
+            return Reply::Lost;
+        }
+        match self.records.get(usize::from(seq.saturating_sub(1))) {
+            Some(record) => Reply::Came(record),
+            None => Reply::Lost,
+        }
+    }
+}
+
+// A link that never answers. Whoever asks first waits, for so many looks, until all four parts were asked for.
+#[derive(Drop)]
+struct Gate {
+    asked: [AtomicBool; 4],
+    first: AtomicBool,
+    saw_all: AtomicBool,
+}
+
+impl Link for Gate {
+    ghost use Rattle.std.specs.Prelude.{None};
+
+    ghost answer = { λ gate want attempt. None };
+
+    fn ask<'a>(&'a self, want: &Want, attempt: u32) -> Reply<'a> {
+        if let Some(flag) = self.asked.get(usize::from(want.part().seq % 4)) {
+            flag.store(true, Ordering::SeqCst);
+        }
+        if !self.first.swap(true, Ordering::SeqCst) {
+            for _ in 0..100_000_000 {
+                if self.asked.iter().all(|flag| flag.load(Ordering::SeqCst)) {
+                    self.saw_all.store(true, Ordering::SeqCst);
+                    break;
+                }
+            }
+        }
+        Reply::Lost
+    }
+}
+
+fn short_name(rt: &impl Abort, alloc: Global, text: &str) -> Result<Name, NameFault>
+    ensures { IfOk result (λ name. length (encoding name) ≤ 200) }
+{
+    let name = Name::from_uri(alloc, text)?;
+    assert!(rt; name.octets().len() <= NODE_NAME_LIMIT);
+    Ok(name)
+}
+
+fn ring_of(alloc: Global, node: &Name) -> Result<KeyRing, Fail>
+    requires { length (encoding node.now) ≤ 200 }
+    ensures { IfOk result (λ ring. 0 < length ring) }
+{
+    let mut ring = KeyRing::new(alloc);
+    ring.add(key_name(node)?.octets(), KEY)?;
+    Ok(ring)
+}
+
+// The job of a publication's record, which was tried before or not.
+fn job(alloc: Global, seq: u16, node: &Name, group: &Name) -> Result<Job, AllocError>
+    requires node { length (encoding node.now) ≤ 200 }
+    requires group { length (encoding group.now) ≤ 200 }
+    ensures { IfOk result (λ job. CanBeTried 1 5 job) }
+{
+    let part = Part {
+        publisher: 0,
+        seq,
+        part: 0,
+    };
+    Ok(Job {
+        want: want_record(alloc, part, node, group)?,
+        base: u32::from(seq % 3),
+    })
+}
+
+fn jobs(alloc: Global, count: u16, node: &Name) -> Result<Vec<Job>, AllocError>
+    requires { length (encoding node.now) ≤ 200 }
+    ensures { IfOk result (λ jobs. All (λ job. CanBeTried 1 5 job) jobs.items) }
+{
+    let mut jobs = Vec::with_capacity(alloc, usize::from(count))?;
+    for seq in 1..=count {
+        jobs.push(job(alloc, seq, node, node)?)?;
+    }
+    Ok(jobs)
+}
+
+// The records, each of an object without contents. In the place of every tenth lies the one before.
+fn records(
+    alloc: Global,
+    count: u16,
+    object: &Object,
+    node: &Name,
+) -> Result<Vec<Vec<u8>>, AllocError>
+    requires { length (encoding node.now) ≤ 200 }
+{
+    let mut records = Vec::with_capacity(alloc, usize::from(count))?;
+    for seq in 1..=count {
+        let lies = if seq % 10 == 0 { seq - 1 } else { seq };
+        let mut packets = packets_of(alloc, object, lies, node, node, KEY)?;
+        records.push(packets.pop().unwrap_or(Vec::new(alloc)))?;
+    }
+    Ok(records)
+}
+
+fn object(rt: &impl Abort, alloc: Global) -> Result<Object, Fail> {
+    let name = Name::from_uri(alloc, "/doc")?;
+    assert!(rt; is_object_name(&name.view()));
+    Ok(Object::new(alloc, &name, &[])?)
+}
+
+// The publications of a node, numbered from 1: the jobs of their records, the records and the ring for their check.
+#[derive(Drop)]
+struct Published {
+    jobs: Vec<Job>,
+    records: Vec<Vec<u8>>,
+    ring: KeyRing,
+}
+
+fn publish(rt: &impl Abort, alloc: Global, count: u16) -> Result<Published, Fail>
+    ensures jobs { IfOk result (λ p. All (λ job. CanBeTried 1 5 job) p.jobs.items) }
+    ensures few { IfOk result (λ p. length p.jobs.items ≤ 4096) }
+    ensures ring { IfOk result (λ p. 0 < length p.ring) }
+{
+    let node = short_name(rt, alloc, "/alice")?;
+    let records = records(alloc, count, &object(rt, alloc)?, &node)?;
+    let jobs = jobs(alloc, count, &node)?;
+    assert!(rt; jobs.len() <= 4096);
+    let ring = ring_of(alloc, &node)?;
+    Ok(Published {
+        jobs,
+        records,
+        ring,
+    })
+}
+
+fn fetch<'p, L: Link + Sync, R: Threads + Sync>(
+    rt: &R,
+    alloc: Global,
+    link: &'p L,
+    jobs: &'p [Job],
+    ring: &'p KeyRing,
+    tries: u32,
+    workers: u32,
+) -> Result<PhaseOutcome<'p>, AllocError>
+    requires few { length jobs.now ≤ 4096 }
+    requires jobs { All (λ job. CanBeTried 1 5 job) jobs.now }
+    requires ring { 0 < length ring.now }
+    requires tries { (1 ≤ tries) × (tries ≤ 5) }
+    requires workers { (1 ≤ workers) × (workers ≤ 16) }
+{
+    phase(rt, alloc, link, jobs, ring, tries, workers)
+}
+
+// How many of five attempts are made for a publication's record, and whether it comes.
+fn expected(seq: u16) -> (u32, bool) {
+    let base = u32::from(seq % 3);
+    let passes = u32::from(seq % 7) + 1;
+    if seq % 10 != 0 && base < passes && passes <= base + 5 {
+        (passes - base, true)
+    } else {
+        (5, false)
+    }
+}
+
+// Whether each record came as it has to, and after as many attempts.
+fn is_expected(outcome: &PhaseOutcome<'_>, published: &Published) -> bool {
+    let given = outcome.parts.iter().zip(&outcome.attempts);
+    let wanted = published.jobs.iter().zip(&published.records);
+    for ((job, record), (part, attempts)) in wanted.zip(given) {
+        let (made, comes) = expected(job.want.part().seq);
+        let came = match part {
+            Some(checked) => checked.octets() == record.as_slice(),
+            None => false,
+        };
+        if *attempts != made || came != comes {
+            return false;
+        }
+    }
+    outcome.parts.len() == published.jobs.len()
+}
+
+// Whether a phase of so many workers gives what is expected.
+fn phase_is_expected<R: Threads + Sync>(
+    rt: &R,
+    alloc: Global,
+    published: &Published,
+    workers: u32,
+) -> Result<bool, AllocError>
+    requires jobs { All (λ job. CanBeTried 1 5 job) published.now.jobs.items }
+    requires few { length published.now.jobs.items ≤ 4096 }
+    requires ring { 0 < length published.now.ring }
+    requires workers { (1 ≤ workers) × (workers ≤ 16) }
+{
+    let link = OneAttempt {
+        records: &published.records,
+    };
+    let outcome = fetch(
+        rt,
+        alloc,
+        &link,
+        &published.jobs,
+        &published.ring,
+        5,
+        workers,
+    )?;
+    Ok(is_expected(&outcome, published))
+}
+
+// Whether one worker alone, at a board of five tries, makes of the jobs what is expected.
+fn work_is_expected(alloc: Global, published: &Published) -> Result<bool, Fail>
+    requires jobs { All (λ job. CanBeTried 1 5 job) published.now.jobs.items }
+    requires few { length published.now.jobs.items ≤ 4096 }
+    requires ring { 0 < length published.now.ring }
+{
+    let link = OneAttempt {
+        records: &published.records,
+    };
+    let (board, mut seats) = Board::new(alloc, published.jobs.len(), 5, 1)?;
+    let Some(seat) = seats.pop() else {
+        return Err("a seat".into());
+    };
+    let mut worker = Worker::new(seat);
+    worker.work(&board, &link, &published.jobs, &published.ring);
+    let outcome = board.close(worker.into_seat())?;
+    let outcome = PhaseOutcome {
+        parts: outcome.values,
+        attempts: outcome.attempts,
+    };
+    Ok(is_expected(&outcome, published))
+}
+
+#[test]
+fn outcomes_are_the_same_for_any_number_of_workers(rt: HostRuntime) -> Result<(), Fail> {
+    let alloc: Global = rt.alloc();
+    let published = publish(&rt, alloc, 500)?;
+    assert_eq!(rt; published.jobs.len(), 500);
+    assert!(rt; work_is_expected(alloc, &published)?);
+    for workers in [1u32, 2, 4, 16] {
+        assert!(rt;
+            phase_is_expected(&rt, alloc, &published, workers)?,
+            "{workers}"
+        );
+    }
+    Ok(())
+}
+
+// Whether the first of two workers sees all four parts asked for before it gets its answer.
+fn first_sees_all<R: Threads + Sync>(
+    rt: &R,
+    alloc: Global,
+    published: &Published,
+) -> Result<bool, AllocError>
+    requires jobs { All (λ job. CanBeTried 1 5 job) published.now.jobs.items }
+    requires few { length published.now.jobs.items ≤ 4096 }
+    requires ring { 0 < length published.now.ring }
+{
+    let gate = Gate {
+        asked: [
+            AtomicBool::new(false),
+            AtomicBool::new(false),
+            AtomicBool::new(false),
+            AtomicBool::new(false),
+        ],
+        first: AtomicBool::new(false),
+        saw_all: AtomicBool::new(false),
+    };
+    let outcome = fetch(rt, alloc, &gate, &published.jobs, &published.ring, 1, 2)?;
+    Ok(gate.saw_all.load(Ordering::SeqCst) && outcome.parts.iter().all(|part| part.is_none()))
+}
+
+#[test]
+fn workers_go_on_beside_each_other(rt: HostRuntime) -> Result<(), Fail> {
+    let alloc: Global = rt.alloc();
+    let published = publish(&rt, alloc, 4)?;
+    assert!(rt; first_sees_all(&rt, alloc, &published)?);
+    Ok(())
+}

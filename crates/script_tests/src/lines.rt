@@ -1,0 +1,412 @@
+mod rows;
+
+use ndn_name::Name;
+use rows::ROWS;
+use script_lang::*;
+use std::alloc::{AllocError, Global};
+use std::fmt::Write;
+use std::process::Abort;
+use std::test::*;
+
+#[test]
+fn lines_are_read(rt: HostRuntime) {
+    for row in ROWS.split('\n') {
+        let (line, answer) = row.split_once(" => ").expect(&rt, "an answer");
+        tells(&rt, line.as_bytes(), answer);
+    }
+}
+
+// A line is read as what is told of it.
+fn tells(rt: &(impl Abort + AllocGlobal), line: &[u8], answer: &str) {
+    let told = told(rt.alloc(), line).expect(rt, "memory");
+    assert!(rt; told.as_str() == answer, "{told}, and not {answer}");
+}
+
+fn told(alloc: Global, line: &[u8]) -> Result<String, AllocError> {
+    match read_line(alloc, line) {
+        Ok(None) => String::from_str(alloc, "-"),
+        Ok(Some(line)) => spelled(alloc, &line),
+        Err(LineFault::Syntax) => String::from_str(alloc, "!Syntax"),
+        Err(LineFault::Limit) => String::from_str(alloc, "!Limit"),
+        Err(LineFault::NoMemory) => Err(AllocError),
+    }
+}
+
+// A line as it is printed from its values: those with a name or octets, and the others.
+fn spelled(alloc: Global, line: &Line) -> Result<String, AllocError> {
+    match line {
+        Line::Group { name } => named(alloc, "group", name),
+        Line::Member { label, name, key } => party(alloc, "member", label, name, key),
+        Line::Client { label, name, key } => party(alloc, "client", label, name, key),
+        Line::Publish {
+            m,
+            name,
+            size,
+            content,
+        } => publication(alloc, m, name, *size, content),
+        Line::Hear { m, octets } => given(alloc, "hear", m, octets),
+        Line::Order { m, octets } => given(alloc, "order", m, octets),
+        Line::Ask { m, octets } => given(alloc, "ask", m, octets),
+        Line::Feed { m, f, octets } => fed(alloc, m, *f, octets),
+        Line::Insert {
+            m,
+            client,
+            name,
+            first,
+            last,
+        } => insertion(alloc, m, client, name, *first, *last),
+        Line::Block {
+            m,
+            process,
+            index,
+            content,
+        } => block(alloc, m, *process, *index, content),
+        Line::Delete { m, client, name } => deletion(alloc, m, client, name),
+        _ => plain(alloc, line),
+    }
+}
+
+fn plain(alloc: Global, line: &Line) -> Result<String, AllocError> {
+    match line {
+        Line::Deliver { k, m } => format!(in alloc; "deliver {k} {m}"),
+        Line::Sync { k } => format!(in alloc; "sync {k}"),
+        Line::Advance { ms } => format!(in alloc; "advance {ms}"),
+        Line::Fire { m } => labelled(alloc, "fire", m, &[]),
+        Line::Restart { m } => labelled(alloc, "restart", m, &[]),
+        Line::Vector { m } => labelled(alloc, "vector", m, &[]),
+        Line::Catalogue { m } => labelled(alloc, "catalogue", m, &[]),
+        Line::Claim { m, f } => labelled(alloc, "claim", m, &[*f]),
+        Line::Lose { m, f } => labelled(alloc, "lose", m, &[*f]),
+        Line::Answer { m, f, q } => format!(in alloc; "answer {m} {f} {q}"),
+        Line::Fetch {
+            m,
+            workers,
+            tries,
+            loss,
+        } => labelled(alloc, "fetch", m, &[*workers, *tries, *loss]),
+        Line::Settle { workers } => format!(in alloc; "settle {workers}"),
+        Line::Dump { m, p, s, x } => format!(in alloc; "dump {m} {p} {s} {x}"),
+        Line::Status { m, client, process } => format!(in alloc; "status {m} {client} {process}"),
+        Line::Summary => String::from_str(alloc, "summary"),
+        Line::Traffic => String::from_str(alloc, "traffic"),
+        _ => String::from_str(alloc, "no plain line"),
+    }
+}
+
+fn labelled(alloc: Global, verb: &str, label: &str, numbers: &[u32]) -> Result<String, AllocError> {
+    let mut text = format!(in alloc; "{verb} {label}")?;
+    for number in numbers {
+        write!(text, " {number}")?;
+    }
+    Ok(text)
+}
+
+fn named(alloc: Global, front: &str, name: &Name) -> Result<String, AllocError> {
+    format!(in alloc; "{front} {}", name.to_uri(alloc)?)
+}
+
+fn given(alloc: Global, verb: &str, m: &str, octets: &[u8]) -> Result<String, AllocError> {
+    format!(in alloc; "{verb} {m} {}", hex::encode(alloc, octets)?)
+}
+
+fn fed(alloc: Global, m: &str, f: u32, octets: &[u8]) -> Result<String, AllocError> {
+    format!(in alloc; "feed {m} {f} {}", hex::encode(alloc, octets)?)
+}
+
+fn publication(
+    alloc: Global,
+    m: &str,
+    name: &Name,
+    size: u32,
+    content: &[u8],
+) -> Result<String, AllocError> {
+    format!(in alloc;
+        "publish {m} {} {size} {}",
+        name.to_uri(alloc)?,
+        content_text(alloc, content)?
+    )
+}
+
+fn insertion(
+    alloc: Global,
+    m: &str,
+    client: &str,
+    name: &Name,
+    first: u64,
+    last: u64,
+) -> Result<String, AllocError> {
+    format!(in alloc;
+        "insert {m} {client} {} {first} {last}",
+        name.to_uri(alloc)?
+    )
+}
+
+fn block(
+    alloc: Global,
+    m: &str,
+    process: u32,
+    index: u64,
+    content: &[u8],
+) -> Result<String, AllocError> {
+    format!(in alloc;
+        "block {m} {process} {index} {}",
+        content_text(alloc, content)?
+    )
+}
+
+fn deletion(alloc: Global, m: &str, client: &str, name: &Name) -> Result<String, AllocError> {
+    format!(in alloc; "delete {m} {client} {}", name.to_uri(alloc)?)
+}
+
+fn party(
+    alloc: Global,
+    verb: &str,
+    label: &str,
+    name: &Name,
+    key: &[u8],
+) -> Result<String, AllocError> {
+    format!(in alloc;
+        "{verb} {label} {} {}",
+        name.to_uri(alloc)?,
+        hex::encode(alloc, key)?
+    )
+}
+
+fn content_text(alloc: Global, content: &[u8]) -> Result<String, AllocError> {
+    if content.len() <= 16 {
+        return format!(in alloc; "hex:{}", hex::encode(alloc, content)?);
+    }
+    let last = content.last().copied().unwrap_or(0);
+    format!(in alloc; "{}*{last:02x}", content.len())
+}
+
+// Lines of so many octets of one kind and an end: a line's length counts its carriage return and not its line feed.
+const LENGTHS: [(&str, usize, u8, &str, &str); 15] = [
+    ("", 32_768, b' ', "", "-"),
+    ("", 32_768, b' ', "\n", "-"),
+    ("", 32_767, b' ', "\r\n", "-"),
+    ("", 32_768, b' ', "\r\n", "!Limit"),
+    ("", 32_769, b' ', "\n", "!Limit"),
+    ("#", 32_768, b'x', "", "!Limit"),
+    ("#", 32_767, b'\t', "\r", "!Limit"),
+    ("group\t", 32_763, b'/', "", "!Limit"),
+    ("group\t", 32_762, b'/', "", "!Syntax"),
+    ("summary", 32_761, b' ', "", "summary"),
+    ("summary", 32_761, b' ', "\n", "summary"),
+    ("summary", 32_760, b' ', "\r\n", "summary"),
+    ("group /", 1_100, b'g', "\r\n", "!Limit"),
+    ("group /", 1_100, b'g', "/1=x\n", "!Syntax"),
+    ("group /", 198, b'g', "/g\n", "!Limit"),
+];
+
+// Ends of lines: a carriage return is dropped once, right before the line feed.
+const ENDS: [(&str, &str); 9] = [
+    ("summary\n", "summary"),
+    ("summary\r\n", "summary"),
+    ("summary \r\n", "summary"),
+    ("summary\r", "!Syntax"),
+    ("summary\r\r\n", "!Syntax"),
+    ("summary\r \n", "!Syntax"),
+    ("\r\n", "-"),
+    ("\r", "!Syntax"),
+    (" # a comment\r", "-"),
+];
+
+// Lines in which one word is so long: the last length in its range, and the next.
+const LENGTHS_OF_WORDS: [(&str, usize, usize, u8, &str); 15] = [
+    ("group /", 198, 199, b'g', ""),
+    ("member a /", 198, 199, b'a', " 61"),
+    ("client c /", 198, 199, b'c', " 61"),
+    ("member a /a ", 256, 258, b'6', ""),
+    ("client c /c ", 256, 258, b'6', ""),
+    ("publish a /", 396, 397, b'x', " 1 text:"),
+    ("publish a /x 1 text:", 200, 201, b'x', ""),
+    ("hear a ", 18_000, 18_002, b'0', ""),
+    ("order a ", 18_000, 18_002, b'0', ""),
+    ("ask a ", 18_000, 18_002, b'0', ""),
+    ("feed a 1 ", 18_000, 18_002, b'0', ""),
+    ("insert a c /", 396, 397, b'i', " 1 1"),
+    ("block a 1 1 text:", 8_000, 8_001, b'x', ""),
+    ("block a 1 1 hex:", 16_000, 16_002, b'0', ""),
+    ("delete a c /", 396, 397, b'i', ""),
+];
+
+#[test]
+fn long_words_are_read_within_their_ranges(rt: HostRuntime) {
+    for (front, last, next, octet, end) in &LENGTHS_OF_WORDS {
+        let line = padded(rt.alloc(), front, *last, *octet, end).expect(&rt, "memory");
+        assert!(rt; is_line(&rt, &line), "{front}");
+        let line = padded(rt.alloc(), front, *next, *octet, end).expect(&rt, "memory");
+        tells(&rt, &line, "!Limit");
+    }
+}
+
+fn is_line(rt: &impl AllocGlobal, line: &[u8]) -> bool {
+    matches!(read_line(rt.alloc(), line), Ok(Some(_)))
+}
+
+#[test]
+fn lines_end_and_are_short(rt: HostRuntime) {
+    for (line, answer) in &ENDS {
+        tells(&rt, line.as_bytes(), answer);
+    }
+    for (front, count, octet, end, answer) in &LENGTHS {
+        let line = padded(rt.alloc(), front, *count, *octet, end).expect(&rt, "memory");
+        tells(&rt, &line, answer);
+    }
+}
+
+fn padded(
+    alloc: Global,
+    front: &str,
+    count: usize,
+    octet: u8,
+    end: &str,
+) -> Result<Vec<u8>, AllocError> {
+    let mut line = Vec::from_slice(alloc, front.as_bytes())?;
+    line.extend_from_slice(vec![in alloc; octet; count]?.as_slice())?;
+    line.extend_from_slice(end.as_bytes())?;
+    Ok(line)
+}
+
+// Scripts, their lines separated by semicolons, and how the last is refused.
+const SCRIPTS: &str = "\
+summary => NoGroup
+member a /a 61 => NoGroup
+claim nobody 1 => NoGroup
+group /g;group /h => Duplicate
+group /g;summary;group /h => Duplicate
+group /g;summary;member a /a 61 => Late
+group /g;member a /a 61;vector a;member a /b 61 => Late
+group /g;member a /a 61;member a /b 61 => Duplicate
+group /g;member a /a 61;member b /a 61 => Duplicate
+group /g;member a /a 61;client a /b 61 => Duplicate
+group /g;client c /c 61;member m /c 61 => Duplicate
+group /g;client c /c 61;member m /%63 61 => Duplicate
+group /g;member a /g 61 => taken
+group /g;member a /a 61;claim b 1 => UnknownLabel
+group /g;client c /c 61;claim c 1 => UnknownLabel
+group /g;member a /a 61;answer a 1 b => UnknownLabel
+group /g;member a /a 61;dump a b 1 0 => UnknownLabel
+group /g;member a /a 61;status a a 1 => UnknownLabel
+group /g;member a /a 61;client c /c 61;status c a 1 => UnknownLabel
+group /g;member a /a 61;client c /c 61;status a c 1 => taken
+group /g;member a /a 61;client c /c 61;insert a c /i 1 2;delete a c /i;order a 00 => taken
+group /g;deliver 1 a => UnknownLabel
+group /g;sync 9;advance 1;settle 1;summary;traffic => taken";
+
+#[test]
+fn lines_are_taken_or_refused(rt: HostRuntime) {
+    for row in SCRIPTS.split('\n') {
+        let (script, answer) = row.split_once(" => ").expect(&rt, "an answer");
+        let mut words = Words::new(rt.alloc());
+        comes_to(&rt, &mut words, script, answer);
+    }
+}
+
+// Each line of a script is taken but the last, of which this comes.
+fn comes_to(rt: &(impl Abort + AllocGlobal), words: &mut Words, script: &str, answer: &str) {
+    let (before, last) = script.rsplit_once(';').unwrap_or(("", script));
+    for line in before.split(';') {
+        assert!(rt;
+            line.is_empty() || taken(rt.alloc(), words, line) == "taken",
+            "{line}"
+        );
+    }
+    let came = taken(rt.alloc(), words, last);
+    assert!(rt; came == answer, "{script}: {came}");
+}
+
+// What comes of a line.
+fn taken(alloc: Global, words: &mut Words, line: &str) -> &'static str {
+    match read_line(alloc, line.as_bytes()) {
+        Ok(Some(line)) => checked(words.check(&line)),
+        _ => "no line",
+    }
+}
+
+fn checked(answer: Result<(), CheckFault>) -> &'static str {
+    match answer {
+        Ok(()) => "taken",
+        Err(CheckFault::NoGroup) => "NoGroup",
+        Err(CheckFault::Late) => "Late",
+        Err(CheckFault::UnknownLabel) => "UnknownLabel",
+        Err(CheckFault::Duplicate) => "Duplicate",
+        Err(CheckFault::Limit) => "Limit",
+        Err(CheckFault::TooLarge) => "TooLarge",
+        Err(CheckFault::NoMemory) => "NoMemory",
+    }
+}
+
+// Lines behind a group, a member and a client, each so often, and what comes of the last: totals that are reached are
+// not passed.
+const TOTALS: [(&str, u32, &str, &str, &str); 4] = [
+    ("settle 1", 1_000, "summary", "settle 1", "TooLarge"),
+    (
+        "publish a /x 8000 fill:1600000:1",
+        41,
+        "publish a /x 8000 fill:1508864:1",
+        "block a 1 1 text:x",
+        "TooLarge",
+    ),
+    (
+        "publish a /x 1 fill:200:1",
+        497,
+        "publish a /x 1 fill:102:1",
+        "order a 00",
+        "TooLarge",
+    ),
+    (
+        "insert a c /x 1 1",
+        1_000,
+        "publish a /x 1 fill:200:1",
+        "settle 1",
+        "taken",
+    ),
+];
+
+#[test]
+fn totals_are_passed_by_one(rt: HostRuntime) {
+    for (line, count, reaches, behind, answer) in &TOTALS {
+        let mut words = Words::new(rt.alloc());
+        comes_to(
+            &rt,
+            &mut words,
+            "group /g;member a /a 61;client c /c 61",
+            "taken",
+        );
+        for _ in 0..*count {
+            comes_to(&rt, &mut words, line, "taken");
+        }
+        comes_to(&rt, &mut words, reaches, "taken");
+        comes_to(&rt, &mut words, behind, answer);
+    }
+}
+
+#[test]
+fn members_and_clients_are_numbered(rt: HostRuntime) {
+    let mut words = Words::new(rt.alloc());
+    declares_sixteen(&rt, &mut words);
+    are_numbered(&rt, &words);
+}
+
+// 16 of each kind, and no more.
+fn declares_sixteen(rt: &(impl Abort + AllocGlobal), words: &mut Words) {
+    comes_to(rt, words, "group /g", "taken");
+    for i in 0..16u32 {
+        let lines = format!(in rt.alloc(); "member m{i} /m/{i} 61;client c{i} /c/{i} 61");
+        comes_to(rt, words, &lines.expect(rt, "memory"), "taken");
+    }
+    comes_to(rt, words, "member m16 /m/16 61", "Limit");
+    comes_to(rt, words, "client c16 /c/16 61", "Limit");
+    comes_to(rt, words, "client m3 /c/16 61", "Duplicate");
+}
+
+fn are_numbered(rt: &impl Abort, words: &Words) {
+    assert!(rt; words.member("m15") == Some(15));
+    assert!(rt; words.member("c0").is_none());
+    assert!(rt; words.client("c7") == Some(7));
+    assert!(rt; words.client("m7").is_none());
+    let member = words.member("m9").expect(rt, "m9");
+    assert!(rt; words.label(member) == "m9");
+}
