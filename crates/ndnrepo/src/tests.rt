@@ -27,6 +27,40 @@ const PRE: &str = "group /g\nmember alice /alice 6b31\nmember bob /bob 6b32\n";
 // What is printed stands so behind the line that prints it.
 const PRINTED: &str = "> ";
 
+// An insertion is begun, filled and deleted.
+const INSERTION: &str = "group /g\n\
+    member alice /alice 6b31\n\
+    member bob /bob 6b32\n\
+    client carl /carl 6b34\n\
+    insert alice carl /in 5 6\n\
+    > insert alice 100 process 1\n\
+    status alice carl 1\n\
+    > status alice 300 inserted 0\n\
+    block alice 1 5 text:ab\n\
+    > block alice 300\n\
+    status alice carl 1\n\
+    > status alice 300 inserted 1\n\
+    block alice 1 6 text:c\n\
+    > block alice 200 published 1 sync 1\n\
+    status alice carl 1\n\
+    > status alice 200 inserted 2\n\
+    status alice carl 9\n\
+    > status alice 404\n\
+    settle 1\n\
+    > settle syncs 2 kept 3\n\
+    delete alice carl /in\n\
+    > delete alice 200 packets 3\n\
+    delete alice carl /in\n\
+    > delete alice 404\n\
+    settle 1\n\
+    > settle syncs 2 kept 0\n\
+    catalogue alice\n\
+    > catalogue alice 0\n\
+    catalogue bob\n\
+    > catalogue bob 1\n\
+    > entry alice 1 /in segments 2 octets 3 sha256 \
+    ba7816bf8f01cfea414140de5dae2223b00361a396177a9cb410ff61f20015ad\n";
+
 // The words that the command line has.
 fn words_of(rt: &(impl Abort + AllocGlobal), text: &str) -> Vec<String> {
     let mut words = Vec::new(rt.alloc());

@@ -1,4 +1,4 @@
-use super::{PRINTED, call_alone, expect_from, put, report_of, script_of, status_of};
+use super::{INSERTION, PRINTED, call_alone, expect_from, put, report_of, script_of, status_of};
 use repo_top::*;
 use std::process::Abort;
 use std::test::*;
@@ -15,39 +15,6 @@ const FIRST: &str = "group /g\n\
     catalogue bob\n\
     > catalogue bob 1\n\
     > entry alice 1 /doc segments 1 octets 3 sha256 \
-    ba7816bf8f01cfea414140de5dae2223b00361a396177a9cb410ff61f20015ad\n";
-
-const INSERTION: &str = "group /g\n\
-    member alice /alice 6b31\n\
-    member bob /bob 6b32\n\
-    client carl /carl 6b34\n\
-    insert alice carl /in 5 6\n\
-    > insert alice 100 process 1\n\
-    status alice carl 1\n\
-    > status alice 300 inserted 0\n\
-    block alice 1 5 text:ab\n\
-    > block alice 300\n\
-    status alice carl 1\n\
-    > status alice 300 inserted 1\n\
-    block alice 1 6 text:c\n\
-    > block alice 200 published 1 sync 1\n\
-    status alice carl 1\n\
-    > status alice 200 inserted 2\n\
-    status alice carl 9\n\
-    > status alice 404\n\
-    settle 1\n\
-    > settle syncs 2 kept 3\n\
-    delete alice carl /in\n\
-    > delete alice 200 packets 3\n\
-    delete alice carl /in\n\
-    > delete alice 404\n\
-    settle 1\n\
-    > settle syncs 2 kept 0\n\
-    catalogue alice\n\
-    > catalogue alice 0\n\
-    catalogue bob\n\
-    > catalogue bob 1\n\
-    > entry alice 1 /in segments 2 octets 3 sha256 \
     ba7816bf8f01cfea414140de5dae2223b00361a396177a9cb410ff61f20015ad\n";
 
 // What the lines print of which so many octets of the script have the whole.
