@@ -1,11 +1,11 @@
 -- A visit of an item keeps what a worker's seat knows.
-use Rattle.std.proofs.Common.{◌≡◌, ⊎_elim, ℕ, suc, ◌+◌, ◌<◌, ◌≤◌, eqb, ◌&&◌, Bool, true, false, List, [], ◌∷◌, length}
+use Rattle.std.proofs.Common.{◌≡◌, ⊎_elim, ℕ, ◌<◌, ◌≤◌, eqb, ◌&&◌, Bool, true, false, List, [], ◌∷◌, length}
 use Rattle.std.proofs.Common.{refl, sym, ap, subst, ◌∙◌, arith, ne_eqb}
 use Rattle.std.specs.Prelude.{Option, Some, None}
 use Rattle.std.proofs.lemmas.Bool.{cases_eq, true≢false}
 use Rattle.fetch_board.specs.declared.taken.Taken.{Taken}
 use Rattle.fetch_board.specs.declared.taken.Taken.TheVariants as taken
-use Rattle.fetch_board.specs.Counts.{one, items, pairs, triples, paid, released, keep_unless, Has}
+use Rattle.fetch_board.specs.Counts.{one, items, pairs, triples, paid, released, keep_unless}
 use Rattle.fetch_board.specs.Seats.{SeatData, claimed, finished, forgone, returned}
 use Rattle.fetch_board.specs.Answers.{known, met, after_claim}
 use Rattle.fetch_board.proofs.Marks.{mine, own, other, item_own, newest, newest_item, paid_own, paid_less, pair_own}

@@ -1,5 +1,5 @@
 -- What a worker's seat knows between its turns.
-use Rattle.std.specs.Prelude.{◌≡◌, ℕ, ◌+◌, ◌<◌, ◌≤◌, Bool, true, false, [], length, Option, Some, None}
+use Rattle.std.specs.Prelude.{◌≡◌, ℕ, ◌<◌, ◌≤◌, Bool, true, false, [], length, Option, Some, None}
 use Rattle.fetch_board.specs.Counts.{items, pairs, triples, Has}
 use Rattle.fetch_board.specs.Seats.{SeatData}
 

@@ -11,7 +11,7 @@ use Rattle.svs_vector.specs.Vectors.{covers}
 use Rattle.svs_sync.specs.declared.fired.Fired.{Fired}
 use Rattle.svs_sync.specs.declared.fired.Fired.TheVariants.{Early, Quiet, Send}
 use Rattle.svs_sync.specs.Suppression
-use Rattle.svs_sync.specs.Suppression.{periodic, fires}
+use Rattle.svs_sync.specs.Suppression.{periodic}
 use Rattle.svs_sync.specs.Suppression.SyncEvent.{published, heard, fired, reset}
 use Rattle.svs_sync.specs.KeptVector.{Keeper, kept, steady_kept, due_kept, fires_kept, after_kept, after_all_kept}
 use Rattle.svs_sync.proofs.KeptLemmas.{after_all_same, fires_same}

@@ -9,7 +9,7 @@ use Rattle.repo_plan.specs.declared.part.Part.{Part}
 use Rattle.repo_plan.specs.SortedList.{contains, value_of}
 use Rattle.repo_plan.specs.Parts.{Pair, Shape, pair_cmp, part_cmp, pair_of, part_of, record_of}
 use Rattle.repo_plan.specs.Plan
-use Rattle.repo_plan.specs.Plan.{is_wanted, is_asked, shape_of, can_be_asked}
+use Rattle.repo_plan.specs.Plan.{is_wanted, shape_of, can_be_asked}
 use Rattle.repo_plan.proofs.Orders.{exact_parts, exact_pairs}
 use Rattle.repo_plan.proofs.Sets.{eq_same, eq_itself}
 use Rattle.repo_plan.proofs.Changes

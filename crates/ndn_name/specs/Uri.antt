@@ -1,6 +1,6 @@
 -- The texts of names: which texts a name has, and which of them is printed (the NDN URI scheme of
 -- NDN Packet Format 0.3, "Name", with an optional "ndn:", no trailing slash, and no hints).
-use Rattle.std.specs.Prelude.{◌≡◌, ℕ, ◌+◌, ◌*◌, ◌/◌, ◌%◌, ◌^◌, ◌<◌, ◌≤◌, Bool, true, false, ◌||◌, List, [], ◌∷◌, ◌++◌}
+use Rattle.std.specs.Prelude.{◌≡◌, ℕ, ◌+◌, ◌*◌, ◌/◌, ◌%◌, ◌<◌, ◌≤◌, Bool, true, false, ◌||◌, List, [], ◌∷◌, ◌++◌}
 use Rattle.std.specs.Prelude.{length, map, codes, Option, Some, None, ◌==◌, ◌⊎◌, if◌then◌else◌}
 use Rattle.std.specs.Char.{digit_value, is_ascii_alphanumeric}
 use Rattle.std.specs.Fmt.{decimal, digit_glyph}

@@ -27,7 +27,7 @@ use Rattle.repo_member.specs.Deleting as alone
 use Rattle.repo_member.specs.Deleting.{catalogued_named, alone_deletes}
 use Rattle.repo_member.specs.Commanded.{alone_starts, alone_obeys, start_answer, answer_to}
 use Rattle.repo_member.specs.Blocks as own
-use Rattle.repo_member.specs.Blocks.{alone_block, alone_keeps, alone_blocks}
+use Rattle.repo_member.specs.Blocks.{alone_block, alone_keeps}
 use Rattle.repo_member.specs.InGroup.{in_group, StartsAlike, KeepsAlike}
 use Rattle.repo_member.specs.InEvents.{IsMemberOf, IsTrueIn, OrderIsEvent, OrderIsAnswered, IssueIsEvent}
 use Rattle.repo_member.specs.InEvents.{IssueIsAnswered, BlockStatesAlike, BlockIsEvent}

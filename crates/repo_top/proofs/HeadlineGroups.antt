@@ -2,7 +2,7 @@
 -- before the first event.
 use Rattle.std.proofs.Common.{◌≡◌, ◌∙◌, ℕ, ◌+◌, Bool, true, false, not, ◌||◌, nat_le, List, [], ◌∷◌, ◌++◌, length}
 use Rattle.std.proofs.Common.{length-append, map, Option, Some, None, unwrap_or, Result, Ok, Err, refl, sym, ap, subst}
-use Rattle.std.proofs.Common.{arith, if◌then◌else◌}
+use Rattle.std.proofs.Common.{if◌then◌else◌}
 use Rattle.std.specs.List.{IsDistinct, list_any}
 use Rattle.std.specs.Str.{bytes_eq}
 use Rattle.std.proofs.lemmas.Bool.{or_parts, true≢false}
@@ -20,7 +20,7 @@ use Rattle.group_model.proofs.PublicLaws.{sound_opening, sound_after}
 use Rattle.group_model.proofs.Lasting.{lasts}
 use Rattle.repo_plan.specs.Parts.{numbers_from}
 use Rattle.repo_process.proofs.ProcessLemmas.{length-numbers}
-use Rattle.repo_member.specs.Groups.{GroupKeys, no_nodes, with_node}
+use Rattle.repo_member.specs.Groups.{no_nodes, with_node}
 use Rattle.bench_world.specs.EventValues.{EventValue, group_event, telling}
 use Rattle.bench_world.specs.Worlds.{drawing}
 use Rattle.bench_world.proofs.EventRuns.{named_ready}

@@ -16,7 +16,7 @@ use Rattle.script_lang.specs.Kinds.{Value, Text, Number, Octets}
 use Rattle.script_lang.specs.Forms.{Stated, said}
 use Rattle.script_lang.specs.Lines.{line_of}
 use Rattle.script_lang.specs.Checking as checking
-use Rattle.script_lang.specs.Checking.{Declared, Party, after_by, party_label}
+use Rattle.script_lang.specs.Checking.{Declared, after_by, party_label}
 use Rattle.script_lang.proofs.Conditions.{and_left, and_right}
 use Rattle.bench_world.specs.EventValues.{EventValue, group_event}
 use Rattle.repo_top.specs.SaidEvents.{party_number, said_by, said_event}

@@ -25,7 +25,7 @@ use Rattle.repo_top.specs.declared.ending.Ending.{Ending}
 use Rattle.repo_top.specs.declared.ending.Ending.TheVariants.{Done, Refused, Foreign}
 use Rattle.repo_top.specs.Refusals.{refusal_number, refusal_text}
 use Rattle.repo_top.specs.ToldTexts.{label_at, publisher_label}
-use Rattle.repo_top.specs.Judging.{Given, State, Verdict, says, foreign, found_world}
+use Rattle.repo_top.specs.Judging.{Given, Verdict, says, foreign, found_world}
 use Rattle.repo_top.specs.Judging as verdict
 use Rattle.repo_top.specs.Story.{Reached, Story, reached_behind, behind_text, judged_next, nothing_reached, story_from}
 

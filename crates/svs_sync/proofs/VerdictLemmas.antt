@@ -1,5 +1,5 @@
 -- The verdict on a sync Interest that was made.
-use Rattle.std.proofs.Common.{◌≡◌, ℕ, ◌≤◌, true, List, [], ◌∷◌, ◌++◌, length, slice_get, Some, Result, Ok, refl, ap}
+use Rattle.std.proofs.Common.{◌≡◌, ℕ, ◌≤◌, List, [], ◌∷◌, length, slice_get, Some, Result, Ok, refl, ap}
 use Rattle.std.proofs.Common.{◌∙◌}
 use Rattle.std.specs.List.{All}
 use Rattle.sha2.specs.Sha256.{sha256}

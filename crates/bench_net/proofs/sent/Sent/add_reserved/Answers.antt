@@ -1,4 +1,4 @@
-use Rattle.std.proofs.Common.{◌≡◌, ◌++◌, ◌∷◌, [], ◌+◌, ◌<◌, length, length-append, refl, ap, ◌∙◌, arith}
+use Rattle.std.proofs.Common.{◌≡◌, ◌++◌, ◌∷◌, [], ◌+◌, length, length-append, refl, ap, ◌∙◌, arith}
 use Rattle.bench_net.specs.declared.sent.Packet.{Packet}
 use Rattle.bench_net.specs.SentList.{SentList, sent_packet}
 use Rattle.bench_net.specs.SentFields.{lists_of}

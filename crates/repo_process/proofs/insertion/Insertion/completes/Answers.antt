@@ -1,14 +1,13 @@
-use Rattle.std.proofs.Common.{◌≡◌, ◌+◌, ◌-◌, ◌<◌, ◌≤◌, inl, inr, ℕ, Bool, true, false, not, cond, eqb, leb, List, []}
-use Rattle.std.proofs.Common.{length, get_or, Some, refl, sym, ap, ◌∙◌, subst, arith}
+use Rattle.std.proofs.Common.{◌≡◌, ◌+◌, ◌-◌, inl, inr, ℕ, Bool, true, false, not, cond, eqb, leb, []}
+use Rattle.std.proofs.Common.{length, get_or, Some, refl, sym, ap, ◌∙◌, arith}
 use Rattle.std.proofs.lemmas.Bool.{cases_Bool}
 use Rattle.std.proofs.lemmas.List.{length-map}
-use Rattle.repo_object.specs.Objects.{IsContent}
-use Rattle.repo_process.specs.Processes.{Process, BlockState, has_index, is_whole, missing, with_block, with_it}
+use Rattle.repo_process.specs.Processes.{Process, has_index, is_whole, missing, with_block, with_it}
 use Rattle.repo_process.specs.Processes.{block_in}
 use Rattle.repo_process.specs.Processes.BlockState.{Unknown, Already, Waiting, Whole}
 use Rattle.repo_process.specs.Arrivals.{is_last}
 use Rattle.repo_process.specs.Fields.{contents_of}
-use Rattle.repo_process.proofs.ProcessLemmas.{of_contents, last_with}
+use Rattle.repo_process.proofs.ProcessLemmas.{last_with}
 use Rattle.repo_process.proofs.InsideLemmas.{items, opened, content_at, index_at}
 use Rattle.repo_process.proofs.insertion.Insertion.completes.Goals as goal
 
