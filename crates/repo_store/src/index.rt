@@ -106,7 +106,10 @@ impl Index<'_> {
         ensures { result ≡ key_cmp (key_in self.now.order self.now.packets.now held.now)
             (pair_of key.now, part) }
     {
-        self.key(held).cmp(key).then(held.part.cmp(&part))
+        match self.key(held).cmp(key) {
+            Ordering::Equal => held.part.cmp(&part),
+            unequal => unequal,
+        }
     }
 
     // How much of what is held comes before this key and part.
