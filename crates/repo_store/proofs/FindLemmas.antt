@@ -26,11 +26,11 @@ use Rattle.repo_store.specs.declared.index.Order.TheVariants.{Names}
 use Rattle.repo_store.specs.Served.{satisfies}
 use Rattle.repo_store.specs.Kept.{packet_name, octets_at, entries_of}
 use Rattle.repo_store.specs.Places.{IsPacket}
-use Rattle.repo_store.specs.Indexes.{FullName, names_cmp, key_of, has_key, is_full_name, has_full_name, begins_with}
+use Rattle.repo_store.specs.Indexes.{KeyPair, pair_cmp, key_of, has_key, is_full_name, has_full_name, begins_with}
 use Rattle.repo_store.specs.Indexes.{lesser, satisfies_held, IsData, IsFirstOf, IsLeastOf}
 use Rattle.repo_store.proofs.NameLemmas.{satisfied, full-octets, octets-full}
 use Rattle.repo_store.proofs.Names.{name_of-read}
-use Rattle.repo_store.proofs.IndexLemmas.{exact_names}
+use Rattle.repo_store.proofs.IndexLemmas.{exact_pairs}
 
 -- ---- the lesser of two
 
@@ -165,19 +165,19 @@ module _ (name : List Component) (asked octets : List ℕ) (packet : IsPacket oc
       )
 
   -- the name itself
-  is_own : (is_eq (names_cmp (packet_name octets, []) (asked, [])) ≡ true → name ≡ packet.packet.name)
-      × (name ≡ packet.packet.name → is_eq (names_cmp (packet_name octets, []) (asked, [])) ≡ true)
+  is_own : (is_eq (pair_cmp (packet_name octets, []) (asked, [])) ≡ true → name ≡ packet.packet.name)
+      × (name ≡ packet.packet.name → is_eq (pair_cmp (packet_name octets, []) (asked, [])) ≡ true)
   is_own =
-      let own : FullName = (packet_name octets, []) in
-      let key : FullName = (asked, []) in (
+      let own : KeyPair = (packet_name octets, []) in
+      let key : KeyPair = (asked, []) in (
         λ t.
-            let same = exact_names.same own key (equal_from_is_eq _ t) in
+            let same = exact_pairs.same own key (equal_from_is_eq _ t) in
             encoding-same name packet.packet.name is_name packet.name
-            (sym spelled ∙ sym (ap (λ (k : FullName). k.0) same) ∙ own_is),
+            (sym spelled ∙ sym (ap (λ (k : KeyPair). k.0) same) ∙ own_is),
         λ e.
             let octets_same : asked ≡ packet_name octets = spelled ∙ ap encoding e ∙ sym own_is in
             let same : own ≡ key = λ i. (sym octets_same i, []) in
-            ap is_eq (ap (names_cmp own) (sym same) ∙ exact_names.itself own),
+            ap is_eq (ap (pair_cmp own) (sym same) ∙ exact_pairs.itself own),
       )
 
   -- a front of the name
@@ -193,10 +193,10 @@ module _ (name : List Component) (asked octets : List ℕ) (packet : IsPacket oc
             ∙ ap (λ (x : List ℕ). x ++ encoding (drop (length name) packet.packet.name)) (sym spelled)),
       )
 
-  pub test_plain : (is_eq (names_cmp (packet_name octets, []) (asked, [])) || is_full_name asked (Some octets))
+  pub test_plain : (is_eq (pair_cmp (packet_name octets, []) (asked, [])) || is_full_name asked (Some octets))
       ≡ satisfies name false octets
   test_plain = satisfied name false octets packet.packet _ packet.read (
-    λ t. elim (or_cases (is_eq (names_cmp (packet_name octets, []) (asked, []))) (is_full_name asked (Some octets)) t) [
+    λ t. elim (or_cases (is_eq (pair_cmp (packet_name octets, []) (asked, []))) (is_full_name asked (Some octets)) t) [
       | inl a ↦ inl (is_own.0 a)
       | inr b ↦ inr (inr (is_full.0 b))
     ],
@@ -204,7 +204,7 @@ module _ (name : List Component) (asked octets : List ℕ) (packet : IsPacket oc
       | inl a ↦ or_left _ (is_full_name asked (Some octets)) (is_own.1 a)
       | inr b ↦ elim b [
         | inl f ↦ absurd (true≢false (sym f.0))
-        | inr g ↦ or_right (is_eq (names_cmp (packet_name octets, []) (asked, []))) _ (is_full.1 g)
+        | inr g ↦ or_right (is_eq (pair_cmp (packet_name octets, []) (asked, []))) _ (is_full.1 g)
       ]
     ],
   )
@@ -234,7 +234,7 @@ module _ (packets : Slab (List ℕ)) (name : List Component) (asked : List ℕ) 
     (spelled : asked ≡ encoding name) (held : List Held)
     (datas : (h : Held) → In h held → IsData (get packets h.slot)) where
   agree_plain : (o : Option (List ℕ)) → IsData o
-      → (is_eq (names_cmp (key_of Names o) (asked, [])) || is_full_name asked o) ≡ satisfies name false (unwrap_or o [])
+      → (is_eq (pair_cmp (key_of Names o) (asked, [])) || is_full_name asked o) ≡ satisfies name false (unwrap_or o [])
   agree_plain None d = absurd d
   agree_plain (Some octets) d = test_plain name asked octets d is_name spelled
 

@@ -16,7 +16,7 @@ use Rattle.repo_plan.proofs.Sets.{In, each_before, before_each, in_append, appen
 use Rattle.repo_store.specs.declared.index.Held.{Held}
 use Rattle.repo_store.specs.declared.index.Order.{Order}
 use Rattle.repo_store.specs.declared.index.Index.{Index}
-use Rattle.repo_store.specs.Indexes.{FullName, key_cmp, key_in, keys_in, lesser, IsFirstOf, IsLeastOf, IsPlace}
+use Rattle.repo_store.specs.Indexes.{KeyPair, key_cmp, key_in, keys_in, lesser, IsFirstOf, IsLeastOf, IsPlace}
 use Rattle.repo_store.specs.Indexes.{IsSlotOf, GainsOne, LacksPart}
 use Rattle.repo_store.specs.Layers.{AreApart, IsMerged}
 use Rattle.repo_store.proofs.IndexLemmas.{exact_keys, in_take, in_drop}
@@ -125,7 +125,7 @@ gains_same h old mid new gains same = record {
 -- ---- what comes behind all
 
 module _ (order : Order) (packets : Slab (List ℕ)) where
-  abbrev key : Held → FullName × Part
+  abbrev key : Held → KeyPair × Part
   key h = key_in order packets h
 
   all_less : (xs : List Held) (n : ℕ) (last h : Held) → Rises key_cmp (keys_in order packets xs) → n + 1 ≡ length xs
@@ -150,11 +150,11 @@ module _ (order : Order) (packets : Slab (List ℕ)) where
     before = λ k i.
         let from : (x : Held) × (In x xs) × (k ≡ key x) =
         from_map key xs k (in_take (length xs) (keys_in order packets xs) k i) in
-        ap (λ (z : FullName × Part). key_cmp z (key h)) from.2 ∙ less from.0 from.1;
+        ap (λ (z : KeyPair × Part). key_cmp z (key h)) from.2 ∙ less from.0 from.1;
     behind = λ k i n. none (length xs) (keys_in order packets xs) (omega (arith, length-map xs key)) k i;
   }
     where
-      none : (n : ℕ) (ks : List (FullName × Part)) → length ks ≤ n → (k : FullName × Part) → In k (drop n ks) → ⊥
+      none : (n : ℕ) (ks : List (KeyPair × Part)) → length ks ≤ n → (k : KeyPair × Part) → In k (drop n ks) → ⊥
       none zero [] l k i = i
       none zero (x ∷ ks) l k i = absurd (omega arith)
       none (suc n) [] l k i = i
@@ -210,7 +210,7 @@ module _ (order : Order) (packets : Slab (List ℕ)) where
     rises_with front back x r.1 (λ h i. below h (inr i)) above,
   )
     where
-      before : (k : FullName × Part) → In k (keys_in order packets ((front ++ x ∷ []) ++ back))
+      before : (k : KeyPair × Part) → In k (keys_in order packets ((front ++ x ∷ []) ++ back))
           → key_cmp (key y) k ≡ Less
       before k i =
           let from : (h : Held) × (In h ((front ++ x ∷ []) ++ back)) × (k ≡ key h) =
@@ -353,7 +353,7 @@ module _ (order : Order) (packets : Slab (List ℕ)) where
           take_keys : (n : ℕ) (xs : List Held) → map key (take n xs) ≡ take n (map key xs)
           take_keys zero xs = refl
           take_keys (suc n) [] = refl
-          take_keys (suc n) (y ∷ ys) = ap (λ (ks : List (FullName × Part)). key y ∷ ks) (take_keys n ys)
+          take_keys (suc n) (y ∷ ys) = ap (λ (ks : List (KeyPair × Part)). key y ∷ ks) (take_keys n ys)
 
       above : (h : Held) → In h back → key_cmp (key x) (key h) ≡ Less
       above h j =
@@ -371,7 +371,7 @@ module _ (order : Order) (packets : Slab (List ℕ)) where
           other : In h settled ⊎ In h (take i recent) → key_cmp (key h) (key x) ≢ Less → key_cmp (key h) (key x) ≢ Equal
           other (inl u) n e =
               apart h x u (in_drop i recent x (at_drop recent i d low))
-              (ap (λ (k : FullName × Part). k.1) (exact_keys.same (key h) (key x) e))
+              (ap (λ (k : KeyPair × Part). k.1) (exact_keys.same (key h) (key x) e))
           other (inr u) n e = n (earlier recent i d low rises h u)
 
   pub settled_same : (settled recent merged after rest : List Held) → IsMerged order packets settled recent merged
@@ -439,7 +439,7 @@ module _ (order : Order) (packets : Slab (List ℕ)) where
       (whole (length settled) (keys_in order packets settled) (omega (arith, length-map settled key)) (key x)
       (in_map key settled x i))) (λ x i. absurd i))
     where
-      whole : (n : ℕ) (ks : List (FullName × Part)) → length ks ≤ n → (k : FullName × Part) → In k ks → In k (take n ks)
+      whole : (n : ℕ) (ks : List (KeyPair × Part)) → length ks ≤ n → (k : KeyPair × Part) → In k ks → In k (take n ks)
       whole n [] l k i = absurd i
       whole zero (x ∷ ks) l k i = absurd (omega arith)
       whole (suc n) (x ∷ ks) l k (inl e) = inl e

@@ -17,13 +17,14 @@ use Rattle.repo_plan.specs.SortedList.{Rises}
 use Rattle.repo_plan.proofs.Orders.{equal_from_is_eq}
 use Rattle.repo_plan.proofs.Sets.{In}
 use Rattle.repo_store.specs.declared.index.Held.{Held}
+use Rattle.repo_store.specs.declared.index.Key.{Key}
 use Rattle.repo_store.specs.declared.index.Order.{Order}
 use Rattle.repo_store.specs.declared.index.Order.TheVariants.{FullNames}
 use Rattle.repo_store.specs.Kept.{packet_name}
-use Rattle.repo_store.specs.Indexes.{FullName, digest_behind, names_cmp, key_cmp, key_of, key_in, keys_in, has_key}
+use Rattle.repo_store.specs.Indexes.{KeyPair, packet_key, pair_of, pair_cmp, key_cmp, key_of, key_in, keys_in, has_key}
 use Rattle.repo_store.specs.Indexes.{is_full_name, has_full_name, IsFrom, IsFirstOf, IsSlotOf}
 use Rattle.repo_store.proofs.NameLemmas.{digest_element, append-same}
-use Rattle.repo_store.proofs.IndexLemmas.{exact_names, rises_drop, in_split, in_at, lacks_before, lack_behind}
+use Rattle.repo_store.proofs.IndexLemmas.{exact_pairs, rises_drop, in_split, in_at, lacks_before, lack_behind}
 
 -- ---- the slot of a packet
 
@@ -51,19 +52,21 @@ drop_past [] (suc i) l = refl
 drop_past (y ∷ ys) zero l = absurd (omega arith)
 drop_past (y ∷ ys) (suc i) l = drop_past ys i (omega arith)
 
+-- a key is what its two parts are
+pub key_same : (key : Key) (pair : KeyPair) → key.first.now ≡ pair.0 → key.second.now ≡ pair.1 → pair_of key ≡ pair
+key_same key pair first second = λ i. (first i, second i)
+
 -- nothing of these has the octets
 abbrev pub NoneHas : Slab (List ℕ) → List ℕ → List Held → Type 0
 NoneHas packets octets held = (h : Held) → In h held → get packets h.slot ≢ Some octets
 
-module _ (order : Order) (packets : Slab (List ℕ)) (octets name digest : List ℕ) (named : name ≡ packet_name octets)
-    (digested : digest ≡ digest_behind order octets) where
-  key_there : (h : Held) → get packets h.slot ≡ Some octets → has_key order packets (name, digest) h ≡ true
+module _ (order : Order) (packets : Slab (List ℕ)) (octets : List ℕ) (key : KeyPair)
+    (same : key ≡ packet_key order octets) where
+  key_there : (h : Held) → get packets h.slot ≡ Some octets → has_key order packets key h ≡ true
   key_there h e =
-      let key : FullName = (name, digest) in
-      let own : FullName = (packet_name octets, digest_behind order octets) in
-      let same : key ≡ own = λ i. (named i, digested i) in
-      ap is_eq (ap (λ (o : Option (List ℕ)). names_cmp (key_of order o) key) e ∙ ap (names_cmp own) same
-      ∙ exact_names.itself own)
+      let own : KeyPair = packet_key order octets in
+      ap is_eq (ap (λ (o : Option (List ℕ)). pair_cmp (key_of order o) key) e ∙ ap (pair_cmp own) same
+      ∙ exact_pairs.itself own)
 
   pub none_more : (rest : List Held) (i : ℕ) (d : Held) → i < length rest
       → (get packets (get_or rest i d).slot ≡ Some octets → ⊥) → NoneHas packets octets (take i rest)
@@ -73,15 +76,15 @@ module _ (order : Order) (packets : Slab (List ℕ)) (octets name digest : List 
     | inr b ↦ lacks (ap (λ (o : Held). get packets o.slot) (sym b) ∙ e)
   ]
 
-  others_lack : (held rest : List Held) → IsFrom order packets held (name, digest) rest → NoneHas packets octets rest
+  others_lack : (held rest : List Held) → IsFrom order packets held key rest → NoneHas packets octets rest
       → NoneHas packets octets held
   others_lack held rest from none h i e = elim (from.others h i) [
     | inl a ↦ none h a e
-    | inr b ↦ true≢false (sym (key_there h e) ∙ lacks_before order packets (name, digest) h b)
+    | inr b ↦ true≢false (sym (key_there h e) ∙ lacks_before order packets key h b)
   ]
 
-  pub none_lacks : (held rest : List Held) (i : ℕ) (d : Held) → IsFrom order packets held (name, digest) rest
-      → i < length rest → has_key order packets (name, digest) (get_or rest i d) ≡ false
+  pub none_lacks : (held rest : List Held) (i : ℕ) (d : Held) → IsFrom order packets held key rest
+      → i < length rest → has_key order packets key (get_or rest i d) ≡ false
       → NoneHas packets octets (take i rest) → NoneHas packets octets held
   none_lacks held rest i d from l lacks none = others_lack held rest from go where
     is : drop i rest ≡ get_or rest i d ∷ drop (suc i) rest
@@ -96,17 +99,17 @@ module _ (order : Order) (packets : Slab (List ℕ)) (octets name digest : List 
           (subst (Rises key_cmp) (drop-map (key_in order packets) i rest)
           (rises_drop key_cmp i (keys_in order packets rest) from.in_order)) in
           true≢false (sym (key_there h e)
-          ∙ lack_behind order packets (name, digest) (get_or rest i d) (drop (suc i) rest) rises
+          ∙ lack_behind order packets key (get_or rest i d) (drop (suc i) rest) rises
           (from.behind (get_or rest i d) (in_at rest i d l)) lacks h (subst (In h) is b))
     ]
 
-  pub none_all : (held rest : List Held) (i : ℕ) → IsFrom order packets held (name, digest) rest → length rest ≤ i
+  pub none_all : (held rest : List Held) (i : ℕ) → IsFrom order packets held key rest → length rest ≤ i
       → NoneHas packets octets (take i rest) → NoneHas packets octets held
   none_all held rest i from l none =
       others_lack held rest from
       (λ h j e. elim (in_split i rest h j) [ inl a ↦ none h a e | inr b ↦ subst (In h) (drop_past rest i l) b ])
 
-  pub slot_found : (held rest : List Held) (i : ℕ) (d : Held) → IsFrom order packets held (name, digest) rest
+  pub slot_found : (held rest : List Held) (i : ℕ) (d : Held) → IsFrom order packets held key rest
       → i < length rest → get packets (get_or rest i d).slot ≡ Some octets
       → IsSlotOf held packets octets (Some (get_or rest i d).slot)
   slot_found held rest i d from l e = (get_or rest i d, from.held_only (get_or rest i d) (in_at rest i d l), refl, e)
@@ -187,21 +190,21 @@ other_lacks held packets asked name last is l other h i =
     other (sha256 octets) both.1) (get packets h.slot)
 
 full_key : (asked name digest : List ℕ) → asked ≡ name ++ ((1 ∷ 32 ∷ []) ++ digest) → length digest ≡ 32
-    → (o : Option (List ℕ)) → is_eq (names_cmp (key_of FullNames o) (name, digest)) ≡ is_full_name asked o
+    → (o : Option (List ℕ)) → is_eq (pair_cmp (key_of FullNames o) (digest, name)) ≡ is_full_name asked o
 full_key asked name digest is l None =
     false_where _
     (λ t. absurd (omega
-    (arith, l, ap (λ (k : FullName). length k.1) (exact_names.same ([], []) (name, digest) (equal_from_is_eq _ t)))))
+    (arith, l, ap (λ (k : KeyPair). length k.0) (exact_pairs.same ([], []) (digest, name) (equal_from_is_eq _ t)))))
 full_key asked name digest is l (Some octets) =
-    let own : FullName = (packet_name octets, sha256 octets) in
-    let key : FullName = (name, digest) in
+    let own : KeyPair = (sha256 octets, packet_name octets) in
+    let key : KeyPair = (digest, name) in
     let spelled = digest_element (sha256 octets) (length-sha256 octets) in
     let decides = is_full-Decides asked octets in
-    same_from_decides (is_eq (names_cmp own key)) (is_full_name asked (Some octets)) (
+    same_from_decides (is_eq (pair_cmp own key)) (is_full_name asked (Some octets)) (
       λ t.
-          let same = exact_names.same own key (equal_from_is_eq _ t) in
+          let same = exact_pairs.same own key (equal_from_is_eq _ t) in
           is
-          ∙ sym (ap (λ (k : FullName). k.0 ++ ((1 ∷ 32 ∷ []) ++ k.1)) same)
+          ∙ sym (ap (λ (k : KeyPair). k.1 ++ ((1 ∷ 32 ∷ []) ++ k.0)) same)
           ∙ ap (λ (x : List ℕ). packet_name octets ++ x) (sym spelled),
       λ e.
           let full = sym is ∙ e ∙ ap (λ (x : List ℕ). packet_name octets ++ x) spelled in
@@ -216,13 +219,13 @@ full_key asked name digest is l (Some octets) =
           )) full in
           let p : packet_name octets ≡ name = sym both.0 in
           let q : sha256 octets ≡ digest = sym (append-same (1 ∷ 32 ∷ []) digest (sha256 octets) both.1) in
-          let same : own ≡ key = λ i. (p i, q i) in
-          ap is_eq (ap (names_cmp own) (sym same) ∙ exact_names.itself own),
+          let same : own ≡ key = λ i. (q i, p i) in
+          ap is_eq (ap (pair_cmp own) (sym same) ∙ exact_pairs.itself own),
     ) decides
 
 pub full_found : (held : List Held) (packets : Slab (List ℕ)) (asked name digest : List ℕ)
     → asked ≡ name ++ ((1 ∷ 32 ∷ []) ++ digest) → length digest ≡ 32 → (r : Option Held)
-    → IsFirstOf held (has_key FullNames packets (name, digest)) r → IsFirstOf held (has_full_name packets asked) r
+    → IsFirstOf held (has_key FullNames packets (digest, name)) r → IsFirstOf held (has_full_name packets asked) r
 full_found held packets asked name digest is l r first =
-    first_of_test held (has_key FullNames packets (name, digest)) (has_full_name packets asked)
+    first_of_test held (has_key FullNames packets (digest, name)) (has_full_name packets asked)
     (λ h. full_key asked name digest is l (get packets h.slot)) r first

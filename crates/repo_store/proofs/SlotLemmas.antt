@@ -17,7 +17,7 @@ use Rattle.repo_plan.proofs.Sets.{In, eq_same, in_filter, in_append, append_left
 use Rattle.repo_store.specs.declared.index.Held.{Held}
 use Rattle.repo_store.specs.declared.index.Order.{Order}
 use Rattle.repo_store.specs.declared.index.Order.TheVariants.{FullNames}
-use Rattle.repo_store.specs.Indexes.{FullName, key_cmp, key_of, key_in, keys_in, IsData, IsSlotOf, GainsOne}
+use Rattle.repo_store.specs.Indexes.{KeyPair, key_cmp, key_of, key_in, keys_in, IsData, IsSlotOf, GainsOne}
 use Rattle.repo_store.specs.declared.layers.Layers.{Layers}
 use Rattle.repo_store.specs.Layers.{all_of, AreInOrder, HasSame, IsIndexOf}
 use Rattle.repo_store.specs.Places.{IsPacket}
@@ -36,7 +36,7 @@ pub keys_same : (order : Order) (old new : Slab (List ℕ)) (held : List Held)
 keys_same order old new [] same = refl
 keys_same order old new (h ∷ held) same =
     ap (λ (o : Option (List ℕ)). (key_of order o, h.part) ∷ keys_in order new held) (same h (inl refl))
-    ∙ ap (λ (ks : List (FullName × Part)). key_in order old h ∷ ks)
+    ∙ ap (λ (ks : List (KeyPair × Part)). key_in order old h ∷ ks)
     (keys_same order old new held (λ o i. same o (inr i)))
 
 -- ---- one more
@@ -273,7 +273,7 @@ dropped_all old now held pair small slots dropping = record {
           (subst (λ (n : ℕ). IsSome (get now n)) (sym by.at) k))
       go false out = record { by = by.by; there = in_outside pair held by.by by.there out; at = by.at }
 
-before_outside : (order : Order) (packets : Slab (List ℕ)) (pair : Pair) (k : FullName × Part) (xs : List Held)
+before_outside : (order : Order) (packets : Slab (List ℕ)) (pair : Pair) (k : KeyPair × Part) (xs : List Held)
     → IsBefore key_cmp k (keys_in order packets xs) → IsBefore key_cmp k (keys_in order packets (held_outside pair xs))
 before_outside order packets pair k [] b = tt
 before_outside order packets pair k (x ∷ xs) b =

@@ -26,70 +26,69 @@ use Rattle.repo_store.specs.Kept.{packet_name, octets_at}
 
 -- ---- orders
 
--- A name and the digest behind it, by which an index is in order.
-abbrev pub FullName : Type 0
-FullName = List ℕ × List ℕ
+-- What a packet is found by: its name alone, or its digest and then its name.
+abbrev pub KeyPair : Type 0
+KeyPair = List ℕ × List ℕ
 
--- The digest behind a packet's name: none in an order of names alone.
-abbrev pub digest_behind : Order → List ℕ → List ℕ
-digest_behind Names octets = []
-digest_behind FullNames octets = sha256 octets
+abbrev pub packet_key : Order → List ℕ → KeyPair
+packet_key Names octets = (packet_name octets, [])
+packet_key FullNames octets = (sha256 octets, packet_name octets)
 
--- What a packet is found by.
-abbrev pub key_of : Order → Option (List ℕ) → FullName
+-- The same, where there may be no packet.
+abbrev pub key_of : Order → Option (List ℕ) → KeyPair
 key_of order None = ([], [])
-key_of order (Some octets) = (packet_name octets, digest_behind order octets)
+key_of order (Some octets) = packet_key order octets
 
--- By name, then by digest, as octets.
-abbrev pub names_cmp : FullName → FullName → Ordering
-names_cmp a b = ordering_then (slice_cmp nat_cmp a.0 b.0) (slice_cmp nat_cmp a.1 b.1)
+-- By the first, then by the second, as octets.
+abbrev pub pair_cmp : KeyPair → KeyPair → Ordering
+pair_cmp a b = ordering_then (slice_cmp nat_cmp a.0 b.0) (slice_cmp nat_cmp a.1 b.1)
 
 -- By what packets are found by, then by part.
-abbrev pub key_cmp : FullName × Part → FullName × Part → Ordering
-key_cmp a b = ordering_then (names_cmp a.0 b.0) (part_cmp a.1 b.1)
+abbrev pub key_cmp : KeyPair × Part → KeyPair × Part → Ordering
+key_cmp a b = ordering_then (pair_cmp a.0 b.0) (part_cmp a.1 b.1)
 
 -- What is held, as an index is in order of it.
-abbrev pub key_in : Order → Slab (List ℕ) → Held → FullName × Part
+abbrev pub key_in : Order → Slab (List ℕ) → Held → KeyPair × Part
 key_in order packets h = (key_of order (get packets h.slot), h.part)
 
-abbrev pub keys_in : Order → Slab (List ℕ) → List Held → List (FullName × Part)
+abbrev pub keys_in : Order → Slab (List ℕ) → List Held → List (KeyPair × Part)
 keys_in order packets held = map (key_in order packets) held
 
 -- The keys of an index, and that they rise.
-abbrev pub keys_of : Index → List (FullName × Part)
+abbrev pub keys_of : Index → List (KeyPair × Part)
 keys_of i = keys_in i.order i.packets.now i.held.now
 
 abbrev pub IndexIsInOrder : Index → Type 0
 IndexIsInOrder i = Rises key_cmp (keys_of i)
 
 -- What is searched for.
-abbrev pub as_full_name : Key → FullName
-as_full_name key = (key.name.now, key.digest.now)
+abbrev pub pair_of : Key → KeyPair
+pair_of key = (key.first.now, key.second.now)
 
 -- ---- searches
 
 -- As many keys come before this one.
-pub record IsPlace (keys : List (FullName × Part)) (key : FullName × Part) (place : ℕ) : Type 0 where
+pub record IsPlace (keys : List (KeyPair × Part)) (key : KeyPair × Part) (place : ℕ) : Type 0 where
   pub within : place ≤ length keys
-  pub before : (k : FullName × Part) → In k (take place keys) → key_cmp k key ≡ Less
-  pub behind : (k : FullName × Part) → In k (drop place keys) → key_cmp k key ≢ Less
+  pub before : (k : KeyPair × Part) → In k (take place keys) → key_cmp k key ≡ Less
+  pub behind : (k : KeyPair × Part) → In k (drop place keys) → key_cmp k key ≢ Less
 
 -- No part comes before it.
 abbrev pub first_part : Part
 first_part = record { publisher = 0; seq = 0; part = 0 }
 
--- What is held from a full name on: the others come before it.
-pub record IsFrom (order : Order) (packets : Slab (List ℕ)) (held : List Held) (name : FullName) (rest : List Held)
+-- What is held from a key on: the others come before it.
+pub record IsFrom (order : Order) (packets : Slab (List ℕ)) (held : List Held) (key : KeyPair) (rest : List Held)
     : Type 0 where
   pub in_order : Rises key_cmp (keys_in order packets rest)
   pub held_only : (h : Held) → In h rest → In h held
-  pub behind : (h : Held) → In h rest → key_cmp (key_in order packets h) (name, first_part) ≢ Less
+  pub behind : (h : Held) → In h rest → key_cmp (key_in order packets h) (key, first_part) ≢ Less
   pub others : (h : Held) → In h held
-      → In h rest ⊎ (key_cmp (key_in order packets h) (name, first_part) ≡ Less)
+      → In h rest ⊎ (key_cmp (key_in order packets h) (key, first_part) ≡ Less)
 
 -- Whether what is held is found by this.
-abbrev pub has_key : Order → Slab (List ℕ) → FullName → Held → Bool
-has_key order packets key h = eq_by_cmp names_cmp (key_of order (get packets h.slot)) key
+abbrev pub has_key : Order → Slab (List ℕ) → KeyPair → Held → Bool
+has_key order packets key h = eq_by_cmp pair_cmp (key_of order (get packets h.slot)) key
 
 -- It passes a test, and nothing else of a lesser part does.
 pub record IsLeastOf (held : List Held) (test : Held → Bool) (h : Held) : Type 0 where

@@ -1,13 +1,13 @@
--- Where octets stand in others.
-use Rattle.std.specs.Prelude.{◌≡◌, ℕ, ◌≤◌, List, ◌++◌, length, slice_range, Ok}
+-- Where the name of a Data packet stands in its octets.
+use Rattle.std.specs.Prelude.{◌≡◌, ℕ, ◌≤◌, ◌==◌, List, Option, length, slice_range, Ok}
+use Rattle.std.specs.List.{find}
+use Rattle.ndn_tlv.specs.Elements.{Item}
 use Rattle.ndn_name.specs.Names.{IsName, encoding}
 use Rattle.ndn_data.specs.Data.{Data, data_of}
 
--- The octets stand in others, with some before them and some behind.
-pub record StandsIn (part octets : List ℕ) : Type 0 where
-  pub before : List ℕ
-  pub behind : List ℕ
-  pub parts : octets ≡ before ++ (part ++ behind)
+-- The first of some elements that is of this type.
+abbrev pub first_of_type : ℕ → List Item → Option Item
+first_of_type typ items = find (λ e. e.typ == typ) items
 
 -- The octets read as a Data packet, which has a name.
 pub record IsPacket (octets : List ℕ) : Type 0 where

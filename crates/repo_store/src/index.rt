@@ -3,9 +3,8 @@ ghost use Rattle.std.specs.Prelude.{vec_capacity};
 ghost use Rattle.repo_store.specs.declared.index.Order.TheVariants.{Names, FullNames};
 ghost use Rattle.slab.specs.Slab.{get};
 ghost use Rattle.repo_plan.specs.SortedList.{Rises};
-ghost use Rattle.repo_store.specs.Kept.{packet_name};
-ghost use Rattle.repo_store.specs.Indexes.{digest_behind, key_of, names_cmp, key_cmp, key_in, keys_in, keys_of};
-ghost use Rattle.repo_store.specs.Indexes.{as_full_name, has_key, has_full_name, begins_with, lesser, IndexIsInOrder};
+ghost use Rattle.repo_store.specs.Indexes.{packet_key, key_of, pair_of, pair_cmp, key_cmp, key_in, keys_in, keys_of};
+ghost use Rattle.repo_store.specs.Indexes.{has_key, has_full_name, begins_with, lesser, IndexIsInOrder};
 ghost use Rattle.repo_store.specs.Indexes.{IsPlace, IsFrom, IsBehind, IsFirstOf, IsSlotOf, GainsOne, LacksPart};
 
 use crate::packet::{Packet, Packets};
@@ -19,19 +18,20 @@ pub(crate) struct Held {
     pub(crate) slot: usize,
 }
 
-// What comes before the parts in the order of an index: the names of the packets alone, or the names
-// and the digests behind them.
+// What comes before the parts in the order of an index: the names of the packets alone, or their full
+// names, the digests first.
 #[derive(Clone, Copy)]
 pub(crate) enum Order {
     Names,
     FullNames,
 }
 
-// A name and the digest behind it, which is empty in an order of names alone.
+// A name and nothing, or a digest and a name. Digests differ in their first octets, and stand beside
+// the places of the octets, so few names are read.
 #[derive(Clone, Copy)]
 pub(crate) struct Key<'k> {
-    name: &'k [u8],
-    digest: &'k [u8],
+    first: &'k [u8],
+    second: &'k [u8],
 }
 
 // What is held, in order of the names or full names of the packets, and then of the parts.
@@ -51,65 +51,71 @@ const FIRST: Part = Part {
 
 impl Order {
     fn key(self, packet: &Packet) -> Key<'_>
-        ensures name { result.name.now ≡ packet_name packet.now }
-        ensures digest { result.digest.now ≡ digest_behind self packet.now }
+        ensures first { result.first.now ≡ (packet_key self packet.now).0 }
+        ensures second { result.second.now ≡ (packet_key self packet.now).1 }
     {
-        let digest: &[u8] = match self {
-            Order::Names => &[],
-            Order::FullNames => packet.digest(),
-        };
-        Key {
-            name: packet.name(),
-            digest,
+        match self {
+            Order::Names => Key {
+                first: packet.name(),
+                second: &[],
+            },
+            Order::FullNames => Key {
+                first: packet.digest(),
+                second: packet.name(),
+            },
         }
     }
 }
 
 impl Key<'_> {
-    // By name, then by digest.
+    // The second parts are compared only where the first ones are the same.
     fn cmp(&self, other: &Key<'_>) -> Ordering
-        ensures { result ≡ names_cmp (as_full_name self.now) (as_full_name other.now) }
+        ensures { result ≡ pair_cmp (pair_of self.now) (pair_of other.now) }
     {
-        self.name
-            .cmp(&other.name)
-            .then(self.digest.cmp(&other.digest))
+        match self.first.cmp(&other.first) {
+            Ordering::Equal => self.second.cmp(&other.second),
+            unequal => unequal,
+        }
     }
 }
 
 impl Index<'_> {
     fn key(&self, held: &Held) -> Key<'_>
-        ensures name { result.name.now
+        ensures first { result.first.now
             ≡ (key_of self.now.order (get self.now.packets.now held.now.slot)).0 }
-        ensures digest { result.digest.now
+        ensures second { result.second.now
             ≡ (key_of self.now.order (get self.now.packets.now held.now.slot)).1 }
     {
         match self.packets.get(held.slot) {
             Some(packet) => self.order.key(packet),
             None => Key {
-                name: &[],
-                digest: &[],
+                first: &[],
+                second: &[],
             },
         }
     }
 
     fn has(&self, held: &Held, key: &Key<'_>) -> bool
         ensures { result
-            ≡ has_key self.now.order self.now.packets.now (as_full_name key.now) held.now }
+            ≡ has_key self.now.order self.now.packets.now (pair_of key.now) held.now }
     {
         self.key(held).cmp(key).is_eq()
     }
 
     fn cmp(&self, held: &Held, key: &Key<'_>, part: Part) -> Ordering
         ensures { result ≡ key_cmp (key_in self.now.order self.now.packets.now held.now)
-            (as_full_name key.now, part) }
+            (pair_of key.now, part) }
     {
-        self.key(held).cmp(key).then(held.part.cmp(&part))
+        match self.key(held).cmp(key) {
+            Ordering::Equal => held.part.cmp(&part),
+            unequal => unequal,
+        }
     }
 
     // How much of what is held comes before this key and part.
     fn place(&self, key: &Key<'_>, part: Part) -> usize
         requires { IndexIsInOrder self.now }
-        ensures { IsPlace (keys_of self.now) (as_full_name key.now, part) result }
+        ensures { IsPlace (keys_of self.now) (pair_of key.now, part) result }
     {
         self.held
             .partition_point(|held| self.cmp(held, key, part).is_lt())
@@ -136,7 +142,7 @@ impl Index<'_> {
     fn from(&self, key: &Key<'_>) -> &[Held]
         requires { IndexIsInOrder self.now }
         ensures { IsFrom self.now.order self.now.packets.now self.now.held.now
-            (as_full_name key.now) result.now }
+            (pair_of key.now) result.now }
     {
         let (_, rest) = self.held.split_at(self.place(key, FIRST));
         rest
@@ -146,7 +152,7 @@ impl Index<'_> {
     fn first(&self, key: &Key<'_>) -> Option<Held>
         requires { IndexIsInOrder self.now }
         ensures { IsFirstOf self.now.held.now
-            (has_key self.now.order self.now.packets.now (as_full_name key.now)) result }
+            (has_key self.now.order self.now.packets.now (pair_of key.now)) result }
     {
         let first = self.from(key).first()?;
         if self.has(first, key) {
@@ -163,8 +169,8 @@ impl Index<'_> {
             (has_key self.now.order self.now.packets.now (asked.now, [])) result }
     {
         self.first(&Key {
-            name: asked,
-            digest: &[],
+            first: asked,
+            second: &[],
         })
     }
 
@@ -178,7 +184,10 @@ impl Index<'_> {
     {
         let (name, last) = asked.split_last_chunk::<34>()?;
         let digest = last.as_slice().strip_prefix(&[0x01, 0x20])?;
-        self.first(&Key { name, digest })
+        self.first(&Key {
+            first: digest,
+            second: name,
+        })
     }
 
     // What has a name that begins with these octets, of the least part. Of each name the first is
@@ -190,13 +199,13 @@ impl Index<'_> {
             (begins_with self.now.packets.now front.now) result }
     {
         let key = Key {
-            name: front,
-            digest: &[],
+            first: front,
+            second: &[],
         };
         let mut rest = self.from(&key);
         let mut least = None;
         while let Some(first) = rest.first() {
-            let name = self.key(first).name;
+            let name = self.key(first).first;
             if !name.starts_with(front) {
                 return least;
             }
@@ -214,7 +223,7 @@ impl Index<'_> {
             (λ h. (key_of Names (get self.now.packets.now h.slot)).0 ≡ name.now) }
         ensures { IsBehind self.now.packets.now held.now name.now result.now }
     {
-        let place = held.partition_point(|held| self.key(held).name == name);
+        let place = held.partition_point(|held| self.key(held).first == name);
         let (_, rest) = held.split_at(place);
         rest
     }

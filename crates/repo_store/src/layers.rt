@@ -15,7 +15,7 @@ use std::alloc::{AllocError, Global};
 use std::mem;
 
 // How much may be recent.
-const RECENT_LIMIT: usize = 1_024;
+const RECENT_LIMIT: usize = 256;
 
 // What is held, in order of an index: most of it settled, and what came last in front of others until it is
 // merged with those. So few others are moved for each, in whatever order they come.

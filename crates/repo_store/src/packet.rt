@@ -1,10 +1,12 @@
-ghost use Rattle.std.specs.Prelude.{◌≡◌, ◌+◌, ◌≤◌, length, IsOk, slice_range};
+ghost use Rattle.std.specs.Prelude.{◌≡◌, IsOk, option_map};
 ghost use Rattle.sha2.specs.Sha256.{sha256};
+ghost use Rattle.ndn_tlv.specs.Elements.{item};
 ghost use Rattle.ndn_data.specs.Data.{data_of};
-ghost use Rattle.repo_store.specs.Places.{StandsIn, IsNamed, IsPacket};
+ghost use Rattle.repo_store.specs.Places.{first_of_type, IsNamed, IsPacket};
 ghost use Rattle.repo_store.specs.Kept.{packet_name, octets_at};
 
-use ndn_data::DataView;
+use ndn_packet::outer_element;
+use ndn_tlv::{Element, Reader, types};
 use slab::Slab;
 use std::marker::Model;
 
@@ -80,26 +82,26 @@ pub(crate) fn octets_at(packets: &Packets, slot: usize) -> &[u8]
     }
 }
 
-// Where the name of a Data packet stands in its octets.
+// Where the name of a Data packet stands in its octets: it is the first element of its type.
 fn name_place(octets: &[u8]) -> (usize, usize)
     requires { IsOk (data_of octets.now) }
     ensures { IsNamed octets.now result.0 result.1 }
 {
-    let packet = DataView::read(octets).unwrap();
-    let name = packet.name.octets();
-    let start = place_of(name, octets);
-    (start, start + name.len())
+    let packet = outer_element(octets, types::DATA).unwrap();
+    let elements = Reader::new(packet.value, packet.value_start);
+    let name = first_of_type(types::NAME, elements).unwrap();
+    (name.value_start, name.end)
 }
 
-// Where some octets first stand in others.
-fn place_of(part: &[u8], octets: &[u8]) -> usize
-    requires { StandsIn part.now octets.now }
-    ensures within { result + length part.now ≤ length octets.now }
-    ensures there { slice_range octets.now result (result + length part.now) ≡ part.now }
+// The first of some elements that is of this type.
+fn first_of_type<'p>(typ: u32, elements: Reader<'p>) -> Option<Element<'p>>
+    ensures { option_map item result ≡ first_of_type typ elements.entry.items }
 {
-    let mut place = 0;
-    while !octets[place..].starts_with(part) {
-        place += 1;
+    let mut rest = elements;
+    while let Ok(Some(element)) = rest.next() {
+        if element.typ == typ {
+            return Some(element);
+        }
     }
-    place
+    None
 }

@@ -22,7 +22,7 @@ returns-then-not-starts_with c =
     let index = c.args.self.now in
     let rest = c.loop-first.rest.now in
     let name =
-    c.key.ensures.name
+    c.key.ensures.first
     ∙ ap (λ (o : Order). (key_of o (get index.packets.now c.in-Some.first.now.slot)).0) c.requires.order in
     walk_lacks index.packets.now index.held.now c.args.front.now rest (drop 1 rest) c.in-Some.first.now
     c.loop-first.least (some_first rest c.in-Some.first.now c.in-Some.ensures.value) c.loop-first.invariant
@@ -37,8 +37,8 @@ pub behind-rest-requires-clause-first : goal.behind-rest-requires-clause-first
 behind-rest-requires-clause-first c =
     let packets = c.args.self.now.packets.now in
     let name =
-    c.key.ensures.name ∙ ap (λ (o : Order). (key_of o (get packets c.in-Some.first.now.slot)).0) c.requires.order in
-    subst (λ (o : Option Held). IfSome o (λ h. name_at packets h ≡ c.key.result.name.now)) c.in-Some.ensures.value
+    c.key.ensures.first ∙ ap (λ (o : Order). (key_of o (get packets c.in-Some.first.now.slot)).0) c.requires.order in
+    subst (λ (o : Option Held). IfSome o (λ h. name_at packets h ≡ c.key.result.first.now)) c.in-Some.ensures.value
     (sym name)
 
 pub loop-first-smaller : goal.loop-first-smaller
@@ -53,12 +53,12 @@ loop-first-preserved c =
     let index = c.args.self.now in
     let rest = c.loop-first.rest.now in
     let name =
-    c.key.ensures.name
+    c.key.ensures.first
     ∙ ap (λ (o : Order). (key_of o (get index.packets.now c.in-Some.first.now.slot)).0) c.requires.order in
     let begins = rw name at (sym c.starts_with.ensures.value ∙ c.if-not-starts_with.false) in
     rw c.lesser-least.ensures
     (walk_more index.packets.now index.held.now c.args.front.now rest (drop 1 rest) c.behind-rest.result.now
-    c.in-Some.first.now c.loop-first.least c.key.result.name.now
+    c.in-Some.first.now c.loop-first.least c.key.result.first.now
     (some_first rest c.in-Some.first.now c.in-Some.ensures.value) name c.loop-first.invariant begins
     c.behind-rest.ensures)
 

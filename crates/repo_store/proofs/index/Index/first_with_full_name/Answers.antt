@@ -36,7 +36,7 @@ returns c =
     let order = c.requires.order in
     let first =
     subst (λ (o : Order). IsFirstOf c.args.self.now.held.now
-    (has_key o c.args.self.now.packets.now (c.in_ok-name.name.now, digest)) c.first.result) order c.first.ensures in
+    (has_key o c.args.self.now.packets.now (digest, c.in_ok-name.name.now)) c.first.result) order c.first.ensures in
     full_found c.args.self.now.held.now c.args.self.now.packets.now asked c.in_ok-name.name.now digest
     (is ∙ ap (λ (x : List ℕ). c.in_ok-name.name.now ++ x) last_is)
     (omega (arith, parts.2, ap length is, ap length last_is, length-append c.in_ok-name.name.now last)) c.first.result
