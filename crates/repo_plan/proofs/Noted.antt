@@ -7,15 +7,10 @@ use Rattle.std.specs.Ordering.{eq_by_cmp}
 use Rattle.repo_plan.specs.Parts.{Pair, pair_cmp, numbers_from}
 use Rattle.repo_plan.specs.Runs.{Number, number_cmp}
 use Rattle.repo_plan.proofs.Orders.{exact_pairs}
-use Rattle.repo_plan.proofs.Sets.{In, eq_same, eq_itself}
+use Rattle.repo_plan.proofs.Sets.{In, or_swap, eq_same, eq_itself}
 use Rattle.repo_plan.proofs.Known.{in_numbers}
 use Rattle.repo_plan.proofs.Whole.{all_in, each_all}
 use Rattle.repo_plan.proofs.Numbers.{exact_numbers}
-
-or_swap : (a b c : Bool) → (a || (b || c)) ≡ (b || (a || c))
-or_swap true true c = refl
-or_swap true false c = refl
-or_swap false b c = refl
 
 or_between : (a b c : Bool) → (b || c) ≡ true → (b || (a || c)) ≡ true
 or_between a true c h = refl

@@ -2,6 +2,7 @@
 //! wants, and which of those its fetchers claim.
 #![tactic(auto)]
 
+mod block;
 mod laws;
 mod part;
 mod plan;

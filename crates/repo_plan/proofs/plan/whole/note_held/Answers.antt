@@ -1,7 +1,8 @@
-use Rattle.std.proofs.Common.{arith}
-use Rattle.std.specs.Ordering.{nat_cmp}
+use Rattle.std.proofs.Common.{arith, ap, ◌∙◌, ◌||◌}
+use Rattle.std.specs.Ordering.{nat_cmp, eq_by_cmp}
 use Rattle.repo_plan.specs.Parts.{pair_cmp}
-use Rattle.repo_plan.specs.Runs.{has_number}
+use Rattle.repo_plan.specs.Runs.{has_number, number_cmp}
+use Rattle.repo_plan.proofs.Sets.{or_swap}
 use Rattle.repo_plan.proofs.Noted.{noted_whole, whole_done, kept_whole, not_whole}
 use Rattle.repo_plan.proofs.plan.whole.note_held.Goals as goal
 
@@ -26,6 +27,12 @@ returns-then-gap_from-from-clause-kept c =
     (has_number pair_cmp c.args.held.now) (has_number pair_cmp c.insert.new.self) c.insert.ensures.numbers
     (has_number nat_cmp c.insert-then-gap_from-from.new.self) (has_number pair_cmp c.remove_all.new.self)
     c.insert-then-gap_from-from.ensures.numbers c.remove_all.ensures.numbers
+
+pub returns-else-gap_from-from-clause-noted : goal.returns-else-gap_from-from-clause-noted
+returns-else-gap_from-from-clause-noted c = λ q l.
+    ap (λ h. has_number nat_cmp c.args.done.now q.0 || h) (c.insert.ensures.numbers q)
+    ∙ or_swap (has_number nat_cmp c.args.done.now q.0) (eq_by_cmp (number_cmp pair_cmp) q c.args.number)
+    (has_number pair_cmp c.args.held.now q)
 
 pub returns-else-gap_from-from-clause-whole : goal.returns-else-gap_from-from-clause-whole
 returns-else-gap_from-from-clause-whole c =
