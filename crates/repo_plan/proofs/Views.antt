@@ -1,5 +1,5 @@
 -- What a plan's fields say, and what they say after a change.
-use Rattle.std.proofs.Common.{◌≡◌, ◌⊎◌, inl, inr, ℕ, ◌+◌, ◌≤◌, ◌<◌, Bool, true, false, not, ◌&&◌, ◌||◌, cond, List, []}
+use Rattle.std.proofs.Common.{◌≡◌, ◌⊎◌, inl, inr, ℕ, ◌+◌, ◌≤◌, Bool, true, false, not, ◌&&◌, ◌||◌, cond, List, []}
 use Rattle.std.proofs.Common.{◌∷◌, map, Option, Some, None, refl, sym, ap, ◌∙◌, subst, arith}
 use Rattle.std.proofs.lemmas.Bool.{true≢false, and_parts, or_left, or_right, or_cases, false_from_ne_true, leb-true}
 use Rattle.std.proofs.lemmas.Bool.{le-leb}
@@ -10,9 +10,9 @@ use Rattle.repo_plan.specs.declared.part.Part.{Part}
 use Rattle.repo_plan.specs.declared.plan.Plan.TheInside.{Inside}
 use Rattle.repo_plan.specs.declared.runs.Runs.{Runs}
 use Rattle.repo_plan.specs.SortedList.{keys, Rises, contains, insert_key, value_of, in_order}
-use Rattle.repo_plan.specs.Parts.{Pair, Shape, pair_cmp, part_cmp, part_of, pair_of, record_of, numbers_from, parts_of}
+use Rattle.repo_plan.specs.Parts.{Pair, Shape, pair_cmp, part_cmp, part_of, pair_of, numbers_from, parts_of}
 use Rattle.repo_plan.specs.Parts.{parts_told}
-use Rattle.repo_plan.specs.Plan.{Holdings, holds, hides, shape_of, is_done, is_complete, is_in, with_shape}
+use Rattle.repo_plan.specs.Plan.{holds, hides, shape_of, is_done, is_complete, is_in, with_shape}
 use Rattle.repo_plan.specs.Sound.{PlanIsSound, CanBeHeld}
 use Rattle.repo_plan.specs.Runs.{Run, Number, IsRuns, runs_of, has, has_number, number_cmp}
 use Rattle.repo_plan.specs.PlanFields.{holdings, is_noted, are_noted, held_parts, hidden_pairs, IsRoomy, IsPlan}
@@ -24,7 +24,6 @@ use Rattle.repo_plan.proofs.Known.{from_numbers, counted}
 use Rattle.repo_plan.proofs.Whole.{no_shape}
 use Rattle.repo_plan.proofs.Changes.{with_part, sound_as, sound_part, keeps_part}
 use Rattle.repo_plan.proofs.Done.{done_same, other_shape}
-use Rattle.repo_plan.proofs.Numbers.{exact_numbers}
 use Rattle.repo_plan.proofs.Held.{number_of, same_part, tells, held_has, held_rise, hidden_has, hidden_rise}
 
 -- the lists of the records that are held

@@ -1,4 +1,4 @@
-use Rattle.std.proofs.Common.{◌∙◌, ◌≡◌, ◌<◌, ◌≤◌, ◌+◌, List, [], length, set, get_or, ap, sym, subst, arith}
+use Rattle.std.proofs.Common.{◌∙◌, ◌<◌, ◌+◌, length, set, ap, sym, subst, arith}
 use Rattle.std.proofs.lemmas.Bool.{eqb-true}
 use Rattle.std.proofs.Common.{get_or-set_same, length-set}
 use Rattle.std.specs.List.{remove}
@@ -107,8 +107,12 @@ returns-then-is_empty-clause-entries g c =
     let same = get_or-set_same blocks.items place new new within in
     let empty =
     none_of new.items
-    (omega (arith, eqb-true c.index.result.now.len 0 (sym c.if-is_empty.ensures), new.ok.0,
-    ap (λ b. b.len) (c.index.ensures ∙ get_or-set_same blocks.items place new _ within))) in
+    (omega (
+      arith,
+      eqb-true c.index.result.now.len 0 (sym c.if-is_empty.ensures),
+      new.ok.0,
+      ap (λ b. b.len) (c.index.ensures ∙ get_or-set_same blocks.items place new _ within),
+    )) in
     ap joined c.remove-then-is_empty.ensures.items
     ∙ joined_remove now place new (omega (arith, within, length-set blocks.items place new))
     (ap (λ b. b.items) same ∙ empty)
