@@ -23,3 +23,5 @@ mod process;
 mod store;
 #[cfg(test)]
 mod work;
+#[cfg(test)]
+mod worked;

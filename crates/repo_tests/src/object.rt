@@ -3,8 +3,8 @@ ghost use Rattle.ndn_name.specs.Names.{encoding};
 
 mod contents;
 mod hostile;
-mod worked;
 
+use crate::worked::{FULL_ASKED, RECORD, RECORD_ASKED, RECORD_DIGEST, SEGMENT};
 use contents::CONTENTS;
 use hostile::{FOR_THE_RECORD, FOR_THE_SEGMENT};
 use ndn_data::DataView;
@@ -15,7 +15,6 @@ use repo_plan::Part;
 use std::process::Abort;
 use std::str;
 use std::test::*;
-use worked::{RECORD, RECORD_DIGEST, RECORD_INTEREST, SEGMENT, SEGMENT_INTEREST};
 
 const KEY: &[u8] = b"k1";
 
@@ -160,7 +159,7 @@ fn worked_record_is_checked(rt: HostRuntime) {
     let group = short_name(&rt, "/g");
     let ring = ring_of(&rt, &alice, KEY);
     let want = record_want(&rt, 1, &alice, &group);
-    assert!(rt; want.interest() == RECORD_INTEREST.as_slice());
+    assert!(rt; want.interest() == RECORD_ASKED.as_slice());
     check_all(&rt, &want, &ring, FOR_THE_RECORD);
 }
 
@@ -171,7 +170,7 @@ fn worked_segment_is_checked(rt: HostRuntime) {
     let listing = listing_of(&rt, &RECORD);
     record_is_written(&rt, &listing, &alice);
     let want = segment_want(&rt, 1, 1, &listing);
-    assert!(rt; want.interest() == SEGMENT_INTEREST.as_slice());
+    assert!(rt; want.interest() == FULL_ASKED.as_slice());
     check_all(&rt, &want, &ring, FOR_THE_SEGMENT);
 }
 

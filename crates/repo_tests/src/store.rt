@@ -1,12 +1,10 @@
-mod worked;
-
+use crate::worked::*;
 use ndn_data::{DataView, write_signed};
 use ndn_name::{Field, Name, PacketFault};
 use repo_plan::Part;
 use repo_store::*;
 use std::alloc::Global;
 use std::test::*;
-use worked::*;
 
 fn part(publisher: u32, seq: u16, part: u8) -> Part {
     Part {
