@@ -31,6 +31,8 @@ pub fn phase<'p, L: Link + Sync, R: Threads + Sync>(
     ensures first { IfOk result (λ o.
         AreFirst (L.answer link.now) ring.now tries jobs.now o.parts.items o.attempts.items) }
 {
+    // No thread is started without a job for it.
+    let workers = workers.min(jobs.len().max(1) as u32);
     let trial = LinkTrial { link, jobs, ring };
     let outcome = team::run(rt, alloc, &trial, jobs.len(), tries, workers)?;
     Ok(PhaseOutcome {
