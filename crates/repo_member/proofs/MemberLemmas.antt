@@ -3,10 +3,8 @@ use Rattle.std.proofs.Common.{◌≡◌, ℕ, ◌+◌, ◌-◌, ◌≤◌, ◌<�
 use Rattle.std.proofs.Common.{Option, Some, None, refl, sym, ap, ◌∙◌, subst, List}
 use Rattle.std.specs.Prelude.{IsSome, slice_index, nat_le, Result, Ok, Err, IfOk, OnOk, IsErr, ◌↔◌}
 use Rattle.std.proofs.lemmas.Bool.{false_from_ne_true, eqb-true, and_parts, and_from, leb-true, le-leb}
-use Rattle.std.specs.Option.{option_and_then}
 use Rattle.repo_plan.specs.declared.part.Part.{Part}
-use Rattle.repo_plan.specs.Parts.{Pair, part_cmp, pair_of, part_of}
-use Rattle.repo_plan.specs.SortedList.{value_of}
+use Rattle.repo_plan.specs.Parts.{Pair, pair_of}
 use Rattle.repo_plan.specs.Plan.{is_asked, is_wanted, knows, claim_of, with_claim}
 use Rattle.repo_plan.specs.Sound.{PlanIsSound, CanBeHeld}
 use Rattle.repo_plan.specs.declared.plan.claims.FetcherIdle.{FetcherIdle}
@@ -15,11 +13,12 @@ use Rattle.svs_vector.proofs.JoinLemmas.{length-join, join-at}
 use Rattle.svs_sync.specs.Suppression.{suppression}
 use Rattle.svs_sync.specs.KeptVector.{Keeper, steady_kept, hears_kept}
 use Rattle.repo_object.specs.Publication.{Listed}
-use Rattle.repo_object.specs.Verdict.{listing_in}
 use Rattle.repo_plan.specs.Plan.{Holdings}
 use Rattle.repo_plan.proofs.Changes.{same_holdings}
 use Rattle.repo_member.specs.declared.member.Member.TheInside.{Inside}
+use Rattle.repo_member.specs.declared.member.stored_record.StoredRecord.{StoredRecord}
 use Rattle.repo_member.specs.Listed.{listing_at, listed_shape}
+use Rattle.repo_member.specs.StoredRecords.{IsStored, IsListedIn}
 use Rattle.repo_object.specs.Wants.{want_record, want_segment}
 use Rattle.repo_member.specs.Records.{Packet}
 use Rattle.repo_member.specs.Groups.{GroupKeys, HaveKeys, node_at}
@@ -54,20 +53,8 @@ segment_of m a t is view asked segment =
 pub not_zero : (n : ℕ) → (n ≡ 0 → ⊥) → (n == 0) ≡ false
 not_zero n h = false_from_ne_true (n == 0) (λ e. h (eqb-true n 0 e))
 
-some_is : (o : Option Listed) (l : Listed) → o ≡ Some l → IsSome o
+pub some_is : (o : Option Listed) (l : Listed) → o ≡ Some l → IsSome o
 some_is o l h = subst (λ (x : Option Listed). IsSome x) (sym h) refl
-
-pub stored_lists : (m : Inside) (t : Part) (octets : List ℕ) → IsListedSegment m.store.packets t
-    → value_of part_cmp m.store.packets (part_of (pair_of t) 0) ≡ Some octets → IsSome (listing_in octets)
-stored_lists m t octets segment there =
-    some_is (listing_in octets) segment.listing (sym (ap (option_and_then listing_in) there) ∙ segment.listed)
-
-pub stored_somewhere : (m : Inside) (t : Part) → IsListedSegment m.store.packets t
-    → value_of part_cmp m.store.packets (part_of (pair_of t) 0) ≡ None → ⊥
-stored_somewhere m t segment missing =
-    no_listing segment.listing (sym (ap (option_and_then listing_in) missing) ∙ segment.listed) where
-      no_listing : (l : Listed) → let n : Option Listed = None in n ≡ Some l → ⊥
-      no_listing l h = cc
 
 -- it counts the segment, whichever way it was read
 pub counted_by : (m : Inside) (t : Part) (l : Listed) → IsListedSegment m.store.packets t
@@ -76,6 +63,18 @@ counted_by m t l segment listed =
     let both : Some segment.listing ≡ Some l = sym segment.listed ∙ listed in
     let same : segment.listing ≡ l = cc in
     subst (λ (x : Listed). t.part ≤ listed_shape x) same segment.counted
+
+-- the record of such a segment, as it was read
+pub listed_in : (m : Inside) (a : Alone) (t : Part) (r : StoredRecord) → IsMember m → alone m ≡ a
+    → is_asked (alone_plan a) t ≡ true → (t.part ≡ 0 → ⊥) → pair_of r.part ≡ pair_of t → IsStored a.store r
+    → IsListedIn a.store t r
+listed_in m a t r is view asked segment same stored =
+    let there : listing_at a.store (pair_of t) ≡ Some r.view = ap (listing_at a.store) (sym same) ∙ stored in
+    let here = ap (λ (x : Alone). listing_at x.store (pair_of t)) view ∙ there in record {
+      segment = omega (arith, segment);
+      stored = there;
+      counted = counted_by m t r.view (segment_of m a t is view asked (not_zero t.part segment)) here;
+    }
 
 -- ---- what is learnt
 

@@ -36,6 +36,7 @@ pub mod Alone
 pub mod Verdicts
 pub mod Fires
 pub mod Gaining
+pub mod StoredRecords
 pub mod Publishing
 pub mod Outcomes
 pub mod Deleting

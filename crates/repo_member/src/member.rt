@@ -11,6 +11,7 @@ mod command;
 mod fetching;
 mod outcome;
 mod publishing;
+mod stored_record;
 mod syncing;
 
 use crate::group::Group;

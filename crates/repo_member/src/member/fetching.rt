@@ -1,8 +1,7 @@
-ghost use Rattle.std.specs.Prelude.{◌≡◌, ◌<◌, ◌≤◌, ◌⊎◌, ◌↔◌, Ok, Err, Some, None, IsSome, IsOk, IsErr, IsSomeAnd};
-ghost use Rattle.std.specs.Prelude.{IfSome, IfOk, IfErr, OnOk, OnErr, true, length, map, take};
+ghost use Rattle.std.specs.Prelude.{◌≡◌, ◌⊎◌, ◌↔◌, Ok, Err, Some, None, IsSome, IsOk, IsErr, IsSomeAnd};
+ghost use Rattle.std.specs.Prelude.{IfSome, IfOk, IfErr, OnOk, OnErr, true, map, take};
 ghost use Rattle.std.specs.List.{All, filter};
 ghost use Rattle.repo_plan.specs.Plan.{claim_of, unclaimed, first, is_after, is_asked, is_wanted};
-ghost use Rattle.repo_plan.specs.Parts.{pair_of};
 ghost use Rattle.repo_plan.specs.Calls.{IsFetcher};
 ghost use Rattle.sha2.specs.Sha256.{sha256};
 ghost use Rattle.ndn_data.specs.Data.{data_of};
@@ -10,17 +9,16 @@ ghost use Rattle.repo_object.specs.Verdict.{listing_in, ring_verdict};
 ghost use Rattle.repo_member.specs.Alone.{IsOfGroup, alone_plan, alone_claims, want_of, alone_accepts};
 ghost use Rattle.repo_member.specs.Verdicts.{passed, accept_verdict};
 ghost use Rattle.repo_member.specs.Gaining.{IsArrival};
-ghost use Rattle.repo_member.specs.Listed.{listing_at};
+ghost use Rattle.repo_member.specs.StoredRecords.{IsListedIn};
 ghost use Rattle.repo_member.specs.Outcomes.{job_for, IsCheckedFor};
 
 use super::Member;
+use super::stored_record::StoredRecord;
 use crate::gaining::{Arrival, gain_listed, make_room};
 use crate::group::Group;
 use crate::listing::owned_name;
 use crate::refusals::{AcceptRefusal, WantFault};
-use repo_object::{
-    Checked, Digested, Expected, Job, RecordView, Want, expect_record, expect_segment,
-};
+use repo_object::{Checked, Digested, Expected, Job, RecordView, Want, expect_record};
 use repo_plan::{FetcherBusy, FetcherIdle, Part};
 use std::alloc::{AllocError, Global};
 
@@ -60,7 +58,8 @@ impl Member {
         let Some(part) = self.claimed(f) else {
             return Err(WantFault::FetcherIdle);
         };
-        Ok(self.want_of(alloc, g, part)?)
+        let stored = self.record_for(part, None);
+        Ok(self.want_of(alloc, g, part, stored.as_ref())?)
     }
 
     /// The octets are taken for the part that the fetcher claims, if they pass for it: the part is held from now on,
@@ -104,7 +103,8 @@ impl Member {
         let Some(part) = self.claimed(f) else {
             return Err(AcceptRefusal::FetcherIdle);
         };
-        let arrival = self.arrived(part, checked.octets(), checked.digest())?;
+        let stored = self.record_for(part, None);
+        let arrival = self.arrived(part, stored.as_ref(), checked.octets(), checked.digest())?;
         self.gain_claimed(f, part, arrival)?;
         Ok(part)
     }
@@ -166,51 +166,50 @@ impl Member {
         ensures { IfOk result (λ jobs. jobs.items ≡ map (job_for g.now self.now) parts.now) }
     {
         let mut jobs = Vec::with_capacity(alloc, parts.len())?;
+        let mut stored = None;
         for part in parts {
-            let want = self.want_of(alloc, g, *part)?;
+            stored = self.record_for(*part, stored);
+            let want = self.want_of(alloc, g, *part, stored.as_ref())?;
             let base = self.plan.attempts(*part);
             jobs.push(Job { want, base })?;
         }
         Ok(jobs)
     }
 
-    // The want of a part that is asked for.
-    fn want_of(&self, alloc: Global, g: &Group, part: Part) -> Result<Want, AllocError>
+    // The want of a part that is asked for, and that `stored` lists, if it is a segment.
+    fn want_of(
+        &self,
+        alloc: Global,
+        g: &Group,
+        part: Part,
+        stored: Option<&StoredRecord<'_>>,
+    ) -> Result<Want, AllocError>
         requires group { IsOfGroup g.now self.now }
         requires asked { is_asked (alone_plan self.now) part ≡ true }
+        requires listed { IfSome stored (λ r. IsListedIn self.now.store part r.now) }
+        requires none { stored ≡ None → part.part ≡ 0 }
         ensures { IfOk result (λ want. want ≡ want_of g.now self.now.store part) }
     {
-        Want::new(alloc, self.expected(alloc, g, part)?)
+        Want::new(alloc, self.expected(alloc, g, part, stored)?)
     }
 
-    // What is expected for a part that is asked for: of a segment the stored record tells it.
-    fn expected(&self, alloc: Global, g: &Group, part: Part) -> Result<Expected, AllocError>
+    // What is expected for such a part: of a segment the record tells it.
+    fn expected(
+        &self,
+        alloc: Global,
+        g: &Group,
+        part: Part,
+        stored: Option<&StoredRecord<'_>>,
+    ) -> Result<Expected, AllocError>
         requires group { IsOfGroup g.now self.now }
         requires asked { is_asked (alone_plan self.now) part ≡ true }
+        requires listed { IfSome stored (λ r. IsListedIn self.now.store part r.now) }
+        requires none { stored ≡ None → part.part ≡ 0 }
         ensures { IfOk result (λ expected. expected ≡ want_of g.now self.now.store part) }
     {
-        if part.part == 0 {
-            return expect_record(part, g.roster().name(part.publisher), g.name());
-        }
-        let record = self.record_of(part);
-        match record.digest(usize::from(part.part - 1)) {
-            Some(digest) => expect_segment(alloc, part, record.name(), digest),
-            None => unreachable!(),
-        }
-    }
-
-    // The stored record of the publication of a segment that is asked for.
-    fn record_of(&self, segment: Part) -> RecordView<'_>
-        requires asked { is_asked (alone_plan self.now) segment ≡ true }
-        requires segment { 0 < segment.part }
-        ensures listed { listing_at self.now.store (pair_of segment) ≡ Some result }
-        ensures counted { segment.part ≤ length result.digests }
-    {
-        let store = &self.store;
-        let record = Part { part: 0, ..segment };
-        match store.get(record) {
-            Some(octets) => RecordView::in_packet(octets),
-            None => unreachable!(),
+        match stored {
+            Some(stored) => stored.view.expect_segment(alloc, part),
+            None => expect_record(part, g.roster().name(part.publisher), g.name()),
         }
     }
 
@@ -227,41 +226,46 @@ impl Member {
             ⊎ (passed part (ring_verdict (want_of g.now self.now.store part)
             g.now.members.ring octets.now) ≡ Err refusal)) }
     {
-        let expected = self.expected(*self.log.allocator(), g, part)?;
+        let stored = self.record_for(part, None);
+        let expected = self.expected(*self.log.allocator(), g, part, stored.as_ref())?;
         expected.check(octets, g.members())?;
-        Ok(self.arrived(part, octets, expected.digest())?)
+        Ok(self.arrived(part, stored.as_ref(), octets, expected.digest())?)
     }
 
-    // The packet that came for a part and passed for it, with its digest, if that is known.
+    // The packet that came for a part and passed for it, with its digest, if that is known. `stored` lists the part, if
+    // it is a segment.
     pub(super) fn arrived(
         &self,
         part: Part,
+        stored: Option<&StoredRecord<'_>>,
         octets: &[u8],
         digest: Option<&[u8; 32]>,
     ) -> Result<Arrival, AllocError>
         requires data { IsOk (data_of octets.now) }
         requires digest { IfSome digest (λ digest. digest.now ≡ sha256 octets.now) }
         requires record_part { part.part ≡ 0 → IsSome (listing_in octets.now) }
-        requires asked { is_asked (alone_plan self.now) part ≡ true }
+        requires listed { IfSome stored (λ r. IsListedIn self.now.store part r.now) }
+        requires none { stored ≡ None → part.part ≡ 0 }
         ensures octets { IfOk result (λ arrival. arrival.packet ≡ octets.now) }
         ensures arrival { IfOk result (λ arrival.
             IsArrival self.now.store part arrival.packet arrival.segments arrival.name) }
     {
         let alloc = *self.log.allocator();
-        let copy = Digested::new(octets.to_vec(alloc)?, digest);
-        if part.part == 0 {
-            let record = RecordView::in_packet(octets);
-            return Ok(Arrival {
-                packet: copy,
-                segments: Some(record.segments()),
-                name: owned_name(alloc, record.name())?,
-            });
+        let packet = Digested::new(octets.to_vec(alloc)?, digest);
+        match stored {
+            Some(stored) => Ok(Arrival {
+                packet,
+                segments: None,
+                name: owned_name(alloc, stored.view.name())?,
+            }),
+            None => {
+                let record = RecordView::in_packet(octets);
+                Ok(Arrival {
+                    packet,
+                    segments: Some(record.segments()),
+                    name: owned_name(alloc, record.name())?,
+                })
+            }
         }
-        let record = self.record_of(part);
-        Ok(Arrival {
-            packet: copy,
-            segments: None,
-            name: owned_name(alloc, record.name())?,
-        })
     }
 }

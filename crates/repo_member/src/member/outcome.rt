@@ -78,10 +78,17 @@ impl Member {
         prove!(members <= MEMBER_LIMIT);
         let alloc = *self.log.allocator();
         let mut all = Vec::with_capacity(alloc, jobs.len())?;
+        let mut stored = None;
         for ((job, checked), tries) in jobs.iter().zip(parts).zip(attempts) {
             let part = job.want.part();
+            stored = self.record_for(part, stored);
             let arrival = match checked {
-                Some(checked) => Some(self.arrived(part, checked.octets(), checked.digest())?),
+                Some(checked) => Some(self.arrived(
+                    part,
+                    stored.as_ref(),
+                    checked.octets(),
+                    checked.digest(),
+                )?),
                 None => None,
             };
             all.push(Tried {

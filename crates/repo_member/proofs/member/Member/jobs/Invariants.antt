@@ -1,8 +1,11 @@
 use Rattle.std.proofs.Common.{◌≡◌, map, take}
+use Rattle.std.specs.Prelude.{IfSome}
+use Rattle.repo_member.specs.StoredRecords.{IsStored}
 use Rattle.repo_member.specs.Outcomes.{job_for}
 use Rattle.repo_member.proofs.member.Member.jobs.Given as goal
 
 abbrev pub invariant-loop-part : goal.invariant-loop-part
 invariant-loop-part l = record {
   made : l.jobs.items ≡ map (job_for l.g l.self) (take l.part-index l.parts);
+  stored : IfSome l.stored (IsStored l.self.store);
 }

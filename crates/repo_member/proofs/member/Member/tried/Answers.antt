@@ -34,8 +34,8 @@ arrived c = elim c.match-checked.branch [
   | in-None-checked w ↦ rw w.arrival-is tt
 ]
 
-pub arrived-requires-clause-asked : goal.arrived-requires-clause-asked
-arrived-requires-clause-asked c =
+pub record_for-stored-requires-clause-asked : goal.record_for-stored-requires-clause-asked
+record_for-stored-requires-clause-asked c =
     let steps = c.in-Some.ensures.steps in
     let is =
     first_fetched c.args.g.now c.args.self.now c.in-Some.job.now c.in-Some.checked.now c.in-Some.tries.now _ _ _ _ _ _
@@ -74,6 +74,7 @@ loop-job-preserved c =
           (All-push (λ (x : Tried). IsSmallPart x.part) c.loop-job.all.items one inv.small
           (record { seq = omega (arith, c.part-part.type_inv); part = omega (arith, c.part-part.type_inv) }));
       rest = is.1;
+      stored = c.record_for-stored.ensures.stored;
     }
 
 came_all : (c : goal.In-None)

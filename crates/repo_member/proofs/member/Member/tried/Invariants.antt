@@ -1,9 +1,11 @@
 use Rattle.std.proofs.Common.{◌≡◌, ◌++◌, map}
+use Rattle.std.specs.Prelude.{IfSome}
 use Rattle.std.specs.List.{All}
 use Rattle.std.specs.Slice.Iter.{iter_rest}
 use Rattle.std.specs.Iterator.Adapters.{zip_first, zip_second}
 use Rattle.repo_member.specs.declared.member.outcome.Tried.{Tried}
 use Rattle.repo_member.specs.Alone.{alone_plan}
+use Rattle.repo_member.specs.StoredRecords.{IsStored}
 use Rattle.repo_member.specs.Outcomes.{AreFetched, outcome_of, came, CanBeTaken}
 use Rattle.repo_member.proofs.OutcomeLemmas.{IsSmallPart}
 use Rattle.repo_member.proofs.member.Member.tried.Given as goal
@@ -17,4 +19,5 @@ invariant-loop-job l =
       can : All (CanBeTaken (alone_plan l.self) l.self.store) l.all.items;
       small : All (λ (x : Tried). IsSmallPart x.part) l.all.items;
       rest : AreFetched l.g l.self jobs parts attempts;
+      stored : IfSome l.stored (IsStored l.self.store);
     }
