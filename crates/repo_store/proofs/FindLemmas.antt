@@ -31,6 +31,7 @@ use Rattle.repo_store.specs.Indexes.{lesser, satisfies_held, IsData, IsFirstOf, 
 use Rattle.repo_store.proofs.NameLemmas.{satisfied, full-octets, octets-full}
 use Rattle.repo_store.proofs.Names.{name_of-read}
 use Rattle.repo_store.proofs.IndexLemmas.{exact_pairs}
+use Rattle.repo_store.proofs.SearchLemmas.{first_of_held}
 
 -- ---- the lesser of two
 
@@ -79,16 +80,6 @@ module _ (held : List Held) (p q : Held → Bool) where
     go false le =
         or_least a first.there (or_left (p a) (q a) first.passes) first.least
         (λ o i y. not_before o b a (second.least o i y) le)
-
--- tests that agree on what is held find the same
-pub first_of_held : (held : List Held) (p q : Held → Bool) → ((h : Held) → In h held → p h ≡ q h) → (r : Option Held)
-    → IsFirstOf held p r → IsFirstOf held q r
-first_of_held held p q same None first = λ h i. sym (same h i) ∙ first h i
-first_of_held held p q same (Some m) first = record {
-  there = first.there;
-  passes = sym (same m first.there) ∙ first.passes;
-  least = λ o i passes. first.least o i (same o i ∙ passes);
-}
 
 -- lists that hold the same find the same
 pub first_of_same : (held others : List Held) (p : Held → Bool) → ((h : Held) → In h held → In h others)
@@ -243,12 +234,12 @@ module _ (packets : Slab (List ℕ)) (name : List Component) (asked : List ℕ) 
   agree_front None d = absurd d
   agree_front (Some octets) d = test_front name asked octets d is_name spelled
 
-  pub plain_found : (a b : Option Held) → IsFirstOf held (has_key Names packets (asked, [])) a
+  pub plain_found : (a b : Option Held) → IsFirstOf held (has_key Names packets (0, (asked, []))) a
       → IsFirstOf held (has_full_name packets asked) b → IsFirstOf held (satisfies_held packets name false) (lesser a b)
   plain_found a b first second =
-      first_of_held held (λ h. has_key Names packets (asked, []) h || has_full_name packets asked h)
+      first_of_held held (λ h. has_key Names packets (0, (asked, [])) h || has_full_name packets asked h)
       (satisfies_held packets name false) (λ h i. agree_plain (get packets h.slot) (datas h i)) (lesser a b)
-      (lesser_first held (has_key Names packets (asked, [])) (has_full_name packets asked) a b first second)
+      (lesser_first held (has_key Names packets (0, (asked, []))) (has_full_name packets asked) a b first second)
 
   pub front_found : (a b : Option Held) → IsFirstOf held (begins_with packets asked) a
       → IsFirstOf held (has_full_name packets asked) b → IsFirstOf held (satisfies_held packets name true) (lesser a b)

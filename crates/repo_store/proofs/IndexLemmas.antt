@@ -11,20 +11,20 @@ use Rattle.std.specs.declared.cmp.Ordering.{Ordering}
 use Rattle.std.specs.declared.cmp.Ordering.TheVariants.{Less, Equal, Greater}
 use Rattle.std.proofs.lemmas.Bool.{true≢false, cases_lt}
 use Rattle.std.proofs.lemmas.Bool.Decides.{nat_tests}
-use Rattle.std.proofs.lemmas.Cmp.{nat_list_cmp_total, on_total, then_total, tied_itself}
+use Rattle.std.proofs.lemmas.Cmp.{nat_cmp_total, nat_list_cmp_total, on_total, then_total, tied_itself}
 use Rattle.std.proofs.lemmas.List.{map-append, take-map, drop-map, length-map}
 use Rattle.std.proofs.lemmas.Map.Lookups.{exact_bytes}
-use Rattle.slab.specs.Slab.{Slab, get}
+use Rattle.slab.specs.Slab.{Slab}
 use Rattle.repo_plan.specs.declared.part.Part.{Part}
 use Rattle.repo_plan.specs.SortedList.{IsBefore, Rises}
 use Rattle.repo_plan.specs.Parts.{part_cmp}
-use Rattle.repo_plan.proofs.Orders.{Exact, exact_parts, equal_from_is_eq, less_back, greater_back}
+use Rattle.repo_plan.proofs.Orders.{Exact, exact_parts, equal_from_is_eq, less_back, greater_back, nat_same}
 use Rattle.repo_plan.proofs.Sets.{In, each_before, before_each, rises_append, in_append, append_left, append_right}
 use Rattle.repo_plan.proofs.Sets.{in_map, from_map}
 use Rattle.repo_store.specs.declared.index.Held.{Held}
 use Rattle.repo_store.specs.declared.index.Order.{Order}
-use Rattle.repo_store.specs.Indexes.{KeyPair, pair_cmp, key_cmp, key_of, key_in, keys_in, has_key, first_part}
-use Rattle.repo_store.specs.Indexes.{IsPlace, IsFrom, IsFirstOf, IsLeastOf, LacksPart, GainsOne}
+use Rattle.repo_store.specs.Indexes.{KeyPair, KeyTriple, pair_cmp, triple_cmp, key_cmp, key_at, key_in, keys_in}
+use Rattle.repo_store.specs.Indexes.{has_key, first_part, IsPlace, IsFrom, IsFirstOf, IsLeastOf, LacksPart, GainsOne}
 
 -- ---- orders
 
@@ -51,18 +51,34 @@ exact_pairs = record {
       (on_total (λ (p : KeyPair). p.1) nat_list_cmp_total));
 }
 
+triples_total : IsTotalOrder triple_cmp
+triples_total =
+    then_total (on_total (λ (t : KeyTriple). t.0) nat_cmp_total) (on_total (λ (t : KeyTriple). t.1) exact_pairs.total)
+
+pub exact_triples : Exact triple_cmp
+exact_triples = record {
+  total = triples_total;
+  same = λ a b e.
+      let both : (nat_cmp a.0 b.0 ≡ Equal) × (pair_cmp a.1 b.1 ≡ Equal) = then_equal _ _ e in
+      let p : a.0 ≡ b.0 = nat_same a.0 b.0 both.0 in
+      let q : a.1 ≡ b.1 = exact_pairs.same a.1 b.1 both.1 in
+      λ i. (p i, q i);
+  itself = tied_itself triples_total;
+}
+
 abbrev Key : Type 0
-Key = KeyPair × Part
+Key = KeyTriple × Part
 
 keys_total : IsTotalOrder key_cmp
-keys_total = then_total (on_total (λ (k : Key). k.0) exact_pairs.total) (on_total (λ (k : Key). k.1) exact_parts.total)
+keys_total =
+    then_total (on_total (λ (k : Key). k.0) exact_triples.total) (on_total (λ (k : Key). k.1) exact_parts.total)
 
 pub exact_keys : Exact key_cmp
 exact_keys = record {
   total = keys_total;
   same = λ a b e.
-      let both : (pair_cmp a.0 b.0 ≡ Equal) × (part_cmp a.1 b.1 ≡ Equal) = then_equal _ _ e in
-      let p : a.0 ≡ b.0 = exact_pairs.same a.0 b.0 both.0 in
+      let both : (triple_cmp a.0 b.0 ≡ Equal) × (part_cmp a.1 b.1 ≡ Equal) = then_equal _ _ e in
+      let p : a.0 ≡ b.0 = exact_triples.same a.0 b.0 both.0 in
       let q : a.1 ≡ b.1 = exact_parts.same a.1 b.1 both.1 in
       λ i. (p i, q i);
   itself = tied_itself keys_total;
@@ -201,7 +217,7 @@ module _ {A : Type 0} (key : A → Key) where
 
 -- ---- from a key on
 
-pub from_place : (order : Order) (packets : Slab (List ℕ)) (held : List Held) (name : KeyPair) (place : ℕ)
+pub from_place : (order : Order) (packets : Slab (List ℕ)) (held : List Held) (name : KeyTriple) (place : ℕ)
     → Rises key_cmp (keys_in order packets held) → IsPlace (keys_in order packets held) (name, first_part) place
     → IsFrom order packets held name (drop place held)
 from_place order packets held name place rises at =
@@ -220,7 +236,7 @@ from_place order packets held name place rises at =
       ];
     }
 
-module _ (order : Order) (packets : Slab (List ℕ)) (name : KeyPair) where
+module _ (order : Order) (packets : Slab (List ℕ)) (name : KeyTriple) where
   not_both : (x p q : Ordering) → ordering_then x p ≢ Less → is_eq x ≡ false → ordering_then x q ≡ Less → ⊥
   not_both Less p q n e l = n refl
   not_both Equal p q n e l = true≢false e
@@ -242,11 +258,11 @@ module _ (order : Order) (packets : Slab (List ℕ)) (name : KeyPair) where
   same_rise : (h o : Held) → key_cmp (key_in order packets h) (key_in order packets o) ≡ Less
       → has_key order packets name h ≡ true → has_key order packets name o ≡ true → part_cmp o.part h.part ≢ Less
   same_rise h o less a b l =
-      let p : key_of order (get packets h.slot) ≡ name = exact_pairs.same _ name (equal_from_is_eq _ a) in
-      let q : key_of order (get packets o.slot) ≡ name = exact_pairs.same _ name (equal_from_is_eq _ b) in
-      let tied : pair_cmp (key_of order (get packets h.slot)) (key_of order (get packets o.slot)) ≡ Equal =
-      ap (pair_cmp (key_of order (get packets h.slot))) (q ∙ sym p)
-      ∙ exact_pairs.itself (key_of order (get packets h.slot)) in
+      let p : key_at order packets h ≡ name = exact_triples.same _ name (equal_from_is_eq _ a) in
+      let q : key_at order packets o ≡ name = exact_triples.same _ name (equal_from_is_eq _ b) in
+      let tied : triple_cmp (key_at order packets h) (key_at order packets o) ≡ Equal =
+      ap (triple_cmp (key_at order packets h)) (q ∙ sym p)
+      ∙ exact_triples.itself (key_at order packets h) in
       let parts : part_cmp h.part o.part ≡ Less =
       sym (ap (λ (x : Ordering). ordering_then x (part_cmp h.part o.part)) tied) ∙ less in
       let back = less_back exact_parts.total h.part o.part parts in
@@ -263,11 +279,11 @@ module _ (order : Order) (packets : Slab (List ℕ)) (name : KeyPair) where
       let less =
       each_before exact_keys.total (key h) (keys_in order packets rest) rises.0 (key o) (in_map key rest o i) in
       false_where _ (λ has.
-      let q : key_of order (get packets o.slot) ≡ name = exact_pairs.same _ name (equal_from_is_eq _ has) in
-      not_both (pair_cmp (key_of order (get packets h.slot)) name) (part_cmp h.part first_part)
+      let q : key_at order packets o ≡ name = exact_triples.same _ name (equal_from_is_eq _ has) in
+      not_both (triple_cmp (key_at order packets h) name) (part_cmp h.part first_part)
       (part_cmp h.part o.part) behind lacks
       (sym (ap
-      (λ (n : KeyPair). ordering_then (pair_cmp (key_of order (get packets h.slot)) n) (part_cmp h.part o.part)) q)
+      (λ (n : KeyTriple). ordering_then (triple_cmp (key_at order packets h) n) (part_cmp h.part o.part)) q)
       ∙ less))
 
   pub first_none : (held rest : List Held) → IsFrom order packets held name rest → rest ≡ []

@@ -7,7 +7,7 @@ use Rattle.std.specs.declared.cmp.Ordering.{Ordering}
 use Rattle.std.specs.declared.cmp.Ordering.TheVariants.{Less, Equal, Greater}
 use Rattle.std.proofs.lemmas.Bool.{true≢false}
 use Rattle.std.proofs.lemmas.List.{take-append-drop, append-nil, length-map}
-use Rattle.slab.specs.Slab.{Slab}
+use Rattle.slab.specs.Slab.{Slab, get}
 use Rattle.repo_plan.specs.declared.part.Part.{Part}
 use Rattle.repo_plan.specs.SortedList.{Rises}
 use Rattle.repo_plan.specs.Parts.{part_cmp}
@@ -16,8 +16,8 @@ use Rattle.repo_plan.proofs.Sets.{In, each_before, before_each, in_append, appen
 use Rattle.repo_store.specs.declared.index.Held.{Held}
 use Rattle.repo_store.specs.declared.index.Order.{Order}
 use Rattle.repo_store.specs.declared.index.Index.{Index}
-use Rattle.repo_store.specs.Indexes.{KeyPair, key_cmp, key_in, keys_in, lesser, IsFirstOf, IsLeastOf, IsPlace}
-use Rattle.repo_store.specs.Indexes.{IsSlotOf, GainsOne, LacksPart}
+use Rattle.repo_store.specs.Indexes.{KeyTriple, key_cmp, key_in, keys_in, lesser, IsFirstOf, IsLeastOf, IsPlace}
+use Rattle.repo_store.specs.Indexes.{AreFronts, IsSlotOf, GainsOne, LacksPart}
 use Rattle.repo_store.specs.Layers.{AreApart, IsMerged}
 use Rattle.repo_store.proofs.IndexLemmas.{exact_keys, in_take, in_drop}
 use Rattle.repo_store.proofs.SearchLemmas.{in_one_more}
@@ -88,6 +88,13 @@ slot_in order packets held octets i r is at =
     subst (λ (h : List Held). IsSlotOf h packets octets r) is.2
     (subst (λ (p : Slab (List ℕ)). IsSlotOf i.held.now p octets r) is.1 at)
 
+-- an index of some of what has right fronts
+pub fronts_in : (order : Order) (packets : Slab (List ℕ)) (held whole : List Held) (i : Index)
+    → IsIndex order packets held i → ((h : Held) → In h held → In h whole) → AreFronts packets whole
+    → AreFronts i.packets.now i.held.now
+fronts_in order packets held whole i is among fronts h octets j e =
+    fronts h octets (among h (subst (In h) is.2 j)) (ap (λ (p : Slab (List ℕ)). get p h.slot) (sym is.1) ∙ e)
+
 -- the first that passes a test in both layers
 pub first_in_layers : (order : Order) (packets : Slab (List ℕ)) (a b : List Held)
     (test : Order → Slab (List ℕ) → Held → Bool) (i j : Index) (x y : Option Held)
@@ -125,7 +132,7 @@ gains_same h old mid new gains same = record {
 -- ---- what comes behind all
 
 module _ (order : Order) (packets : Slab (List ℕ)) where
-  abbrev key : Held → KeyPair × Part
+  abbrev key : Held → KeyTriple × Part
   key h = key_in order packets h
 
   all_less : (xs : List Held) (n : ℕ) (last h : Held) → Rises key_cmp (keys_in order packets xs) → n + 1 ≡ length xs
@@ -150,11 +157,11 @@ module _ (order : Order) (packets : Slab (List ℕ)) where
     before = λ k i.
         let from : (x : Held) × (In x xs) × (k ≡ key x) =
         from_map key xs k (in_take (length xs) (keys_in order packets xs) k i) in
-        ap (λ (z : KeyPair × Part). key_cmp z (key h)) from.2 ∙ less from.0 from.1;
+        ap (λ (z : KeyTriple × Part). key_cmp z (key h)) from.2 ∙ less from.0 from.1;
     behind = λ k i n. none (length xs) (keys_in order packets xs) (omega (arith, length-map xs key)) k i;
   }
     where
-      none : (n : ℕ) (ks : List (KeyPair × Part)) → length ks ≤ n → (k : KeyPair × Part) → In k (drop n ks) → ⊥
+      none : (n : ℕ) (ks : List (KeyTriple × Part)) → length ks ≤ n → (k : KeyTriple × Part) → In k (drop n ks) → ⊥
       none zero [] l k i = i
       none zero (x ∷ ks) l k i = absurd (omega arith)
       none (suc n) [] l k i = i
@@ -210,7 +217,7 @@ module _ (order : Order) (packets : Slab (List ℕ)) where
     rises_with front back x r.1 (λ h i. below h (inr i)) above,
   )
     where
-      before : (k : KeyPair × Part) → In k (keys_in order packets ((front ++ x ∷ []) ++ back))
+      before : (k : KeyTriple × Part) → In k (keys_in order packets ((front ++ x ∷ []) ++ back))
           → key_cmp (key y) k ≡ Less
       before k i =
           let from : (h : Held) × (In h ((front ++ x ∷ []) ++ back)) × (k ≡ key h) =
@@ -353,7 +360,7 @@ module _ (order : Order) (packets : Slab (List ℕ)) where
           take_keys : (n : ℕ) (xs : List Held) → map key (take n xs) ≡ take n (map key xs)
           take_keys zero xs = refl
           take_keys (suc n) [] = refl
-          take_keys (suc n) (y ∷ ys) = ap (λ (ks : List (KeyPair × Part)). key y ∷ ks) (take_keys n ys)
+          take_keys (suc n) (y ∷ ys) = ap (λ (ks : List (KeyTriple × Part)). key y ∷ ks) (take_keys n ys)
 
       above : (h : Held) → In h back → key_cmp (key x) (key h) ≡ Less
       above h j =
@@ -371,7 +378,7 @@ module _ (order : Order) (packets : Slab (List ℕ)) where
           other : In h settled ⊎ In h (take i recent) → key_cmp (key h) (key x) ≢ Less → key_cmp (key h) (key x) ≢ Equal
           other (inl u) n e =
               apart h x u (in_drop i recent x (at_drop recent i d low))
-              (ap (λ (k : KeyPair × Part). k.1) (exact_keys.same (key h) (key x) e))
+              (ap (λ (k : KeyTriple × Part). k.1) (exact_keys.same (key h) (key x) e))
           other (inr u) n e = n (earlier recent i d low rises h u)
 
   pub settled_same : (settled recent merged after rest : List Held) → IsMerged order packets settled recent merged
@@ -439,7 +446,8 @@ module _ (order : Order) (packets : Slab (List ℕ)) where
       (whole (length settled) (keys_in order packets settled) (omega (arith, length-map settled key)) (key x)
       (in_map key settled x i))) (λ x i. absurd i))
     where
-      whole : (n : ℕ) (ks : List (KeyPair × Part)) → length ks ≤ n → (k : KeyPair × Part) → In k ks → In k (take n ks)
+      whole : (n : ℕ) (ks : List (KeyTriple × Part)) → length ks ≤ n → (k : KeyTriple × Part) → In k ks
+          → In k (take n ks)
       whole n [] l k i = absurd i
       whole zero (x ∷ ks) l k i = absurd (omega arith)
       whole (suc n) (x ∷ ks) l k (inl e) = inl e

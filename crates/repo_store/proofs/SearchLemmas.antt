@@ -20,11 +20,12 @@ use Rattle.repo_store.specs.declared.index.Held.{Held}
 use Rattle.repo_store.specs.declared.index.Key.{Key}
 use Rattle.repo_store.specs.declared.index.Order.{Order}
 use Rattle.repo_store.specs.declared.index.Order.TheVariants.{FullNames}
-use Rattle.repo_store.specs.Kept.{packet_name}
-use Rattle.repo_store.specs.Indexes.{KeyPair, packet_key, pair_of, pair_cmp, key_cmp, key_of, key_in, keys_in, has_key}
-use Rattle.repo_store.specs.Indexes.{is_full_name, has_full_name, IsFrom, IsFirstOf, IsSlotOf}
+use Rattle.repo_store.specs.Kept.{packet_name, front_of}
+use Rattle.repo_store.specs.Indexes.{KeyTriple, packet_key, front_in, triple_of, triple_cmp, key_cmp, key_of}
+use Rattle.repo_store.specs.Indexes.{key_in, keys_in, has_key, is_full_name, has_full_name, AreFronts, IsFrom}
+use Rattle.repo_store.specs.Indexes.{IsFirstOf, IsSlotOf}
 use Rattle.repo_store.proofs.NameLemmas.{digest_element, append-same}
-use Rattle.repo_store.proofs.IndexLemmas.{exact_pairs, rises_drop, in_split, in_at, lacks_before, lack_behind}
+use Rattle.repo_store.proofs.IndexLemmas.{exact_triples, rises_drop, in_split, in_at, lacks_before, lack_behind}
 
 -- ---- the slot of a packet
 
@@ -52,21 +53,32 @@ drop_past [] (suc i) l = refl
 drop_past (y ∷ ys) zero l = absurd (omega arith)
 drop_past (y ∷ ys) (suc i) l = drop_past ys i (omega arith)
 
--- a key is what its two parts are
-pub key_same : (key : Key) (pair : KeyPair) → key.first.now ≡ pair.0 → key.second.now ≡ pair.1 → pair_of key ≡ pair
-key_same key pair first second = λ i. (first i, second i)
+-- the key of a packet of these octets
+abbrev pub own_key : Order → List ℕ → KeyTriple
+own_key order octets = (front_in order (front_of (sha256 octets)), packet_key order octets)
+
+-- a key is what its three parts are
+pub key_same : (order : Order) (octets : List ℕ) (key : Key) (front : ℕ) → front ≡ front_of (sha256 octets)
+    → key.front ≡ front_in order front → key.first.now ≡ (packet_key order octets).0
+    → key.second.now ≡ (packet_key order octets).1 → triple_of key ≡ own_key order octets
+key_same order octets key front own is first second =
+    let front_is = is ∙ ap (front_in order) own in
+    λ i. (front_is i, (first i, second i))
 
 -- nothing of these has the octets
 abbrev pub NoneHas : Slab (List ℕ) → List ℕ → List Held → Type 0
 NoneHas packets octets held = (h : Held) → In h held → get packets h.slot ≢ Some octets
 
-module _ (order : Order) (packets : Slab (List ℕ)) (octets : List ℕ) (key : KeyPair)
-    (same : key ≡ packet_key order octets) where
-  key_there : (h : Held) → get packets h.slot ≡ Some octets → has_key order packets key h ≡ true
-  key_there h e =
-      let own : KeyPair = packet_key order octets in
-      ap is_eq (ap (λ (o : Option (List ℕ)). pair_cmp (key_of order o) key) e ∙ ap (pair_cmp own) same
-      ∙ exact_pairs.itself own)
+module _ (order : Order) (packets : Slab (List ℕ)) (octets : List ℕ) (key : KeyTriple)
+    (same : key ≡ own_key order octets) where
+  key_there : (h : Held) → h.front ≡ front_of (sha256 octets) → get packets h.slot ≡ Some octets
+      → has_key order packets key h ≡ true
+  key_there h front e =
+      let own : KeyTriple = own_key order octets in
+      ap is_eq (ap (λ (o : Option (List ℕ)). triple_cmp (front_in order h.front, key_of order o) key) e
+      ∙ ap (λ (f : ℕ). triple_cmp (front_in order f, packet_key order octets) key) front
+      ∙ ap (triple_cmp own) same
+      ∙ exact_triples.itself own)
 
   pub none_more : (rest : List Held) (i : ℕ) (d : Held) → i < length rest
       → (get packets (get_or rest i d).slot ≡ Some octets → ⊥) → NoneHas packets octets (take i rest)
@@ -76,17 +88,17 @@ module _ (order : Order) (packets : Slab (List ℕ)) (octets : List ℕ) (key : 
     | inr b ↦ lacks (ap (λ (o : Held). get packets o.slot) (sym b) ∙ e)
   ]
 
-  others_lack : (held rest : List Held) → IsFrom order packets held key rest → NoneHas packets octets rest
-      → NoneHas packets octets held
-  others_lack held rest from none h i e = elim (from.others h i) [
+  others_lack : (held rest : List Held) → AreFronts packets held → IsFrom order packets held key rest
+      → NoneHas packets octets rest → NoneHas packets octets held
+  others_lack held rest fronts from none h i e = elim (from.others h i) [
     | inl a ↦ none h a e
-    | inr b ↦ true≢false (sym (key_there h e) ∙ lacks_before order packets key h b)
+    | inr b ↦ true≢false (sym (key_there h (fronts h octets i e) e) ∙ lacks_before order packets key h b)
   ]
 
-  pub none_lacks : (held rest : List Held) (i : ℕ) (d : Held) → IsFrom order packets held key rest
-      → i < length rest → has_key order packets key (get_or rest i d) ≡ false
+  pub none_lacks : (held rest : List Held) (i : ℕ) (d : Held) → AreFronts packets held
+      → IsFrom order packets held key rest → i < length rest → has_key order packets key (get_or rest i d) ≡ false
       → NoneHas packets octets (take i rest) → NoneHas packets octets held
-  none_lacks held rest i d from l lacks none = others_lack held rest from go where
+  none_lacks held rest i d fronts from l lacks none = others_lack held rest fronts from go where
     is : drop i rest ≡ get_or rest i d ∷ drop (suc i) rest
     is = drop_one rest i d l
 
@@ -98,15 +110,15 @@ module _ (order : Order) (packets : Slab (List ℕ)) (octets : List ℕ) (key : 
           subst (λ (xs : List Held). Rises key_cmp (keys_in order packets xs)) is
           (subst (Rises key_cmp) (drop-map (key_in order packets) i rest)
           (rises_drop key_cmp i (keys_in order packets rest) from.in_order)) in
-          true≢false (sym (key_there h e)
+          true≢false (sym (key_there h (fronts h octets (from.held_only h j) e) e)
           ∙ lack_behind order packets key (get_or rest i d) (drop (suc i) rest) rises
           (from.behind (get_or rest i d) (in_at rest i d l)) lacks h (subst (In h) is b))
     ]
 
-  pub none_all : (held rest : List Held) (i : ℕ) → IsFrom order packets held key rest → length rest ≤ i
-      → NoneHas packets octets (take i rest) → NoneHas packets octets held
-  none_all held rest i from l none =
-      others_lack held rest from
+  pub none_all : (held rest : List Held) (i : ℕ) → AreFronts packets held → IsFrom order packets held key rest
+      → length rest ≤ i → NoneHas packets octets (take i rest) → NoneHas packets octets held
+  none_all held rest i fronts from l none =
+      others_lack held rest fronts from
       (λ h j e. elim (in_split i rest h j) [ inl a ↦ none h a e | inr b ↦ subst (In h) (drop_past rest i l) b ])
 
   pub slot_found : (held rest : List Held) (i : ℕ) (d : Held) → IsFrom order packets held key rest
@@ -116,14 +128,14 @@ module _ (order : Order) (packets : Slab (List ℕ)) (octets : List ℕ) (key : 
 
 -- ---- full names
 
--- tests that agree find the same
-pub first_of_test : (held : List Held) (p q : Held → Bool) → ((h : Held) → p h ≡ q h) → (r : Option Held)
+-- tests that agree on what is held find the same
+pub first_of_held : (held : List Held) (p q : Held → Bool) → ((h : Held) → In h held → p h ≡ q h) → (r : Option Held)
     → IsFirstOf held p r → IsFirstOf held q r
-first_of_test held p q same None first = λ h i. sym (same h) ∙ first h i
-first_of_test held p q same (Some m) first = record {
+first_of_held held p q same None first = λ h i. sym (same h i) ∙ first h i
+first_of_held held p q same (Some m) first = record {
   there = first.there;
-  passes = sym (same m) ∙ first.passes;
-  least = λ o i passes. first.least o i (same o ∙ passes);
+  passes = sym (same m first.there) ∙ first.passes;
+  least = λ o i passes. first.least o i (same o i ∙ passes);
 }
 
 append_both : (a b c d : List ℕ) → length b ≡ length d → a ++ b ≡ c ++ d → (a ≡ c) × (b ≡ d)
@@ -189,22 +201,24 @@ other_lacks held packets asked name last is l other h i =
     (omega (arith, length-append (1 ∷ 32 ∷ []) (sha256 octets), length-sha256 octets)) (sym is ∙ full) in
     other (sha256 octets) both.1) (get packets h.slot)
 
-full_key : (asked name digest : List ℕ) → asked ≡ name ++ ((1 ∷ 32 ∷ []) ++ digest) → length digest ≡ 32
-    → (o : Option (List ℕ)) → is_eq (pair_cmp (key_of FullNames o) (digest, name)) ≡ is_full_name asked o
-full_key asked name digest is l None =
-    false_where _
-    (λ t. absurd (omega
-    (arith, l, ap (λ (k : KeyPair). length k.0) (exact_pairs.same ([], []) (digest, name) (equal_from_is_eq _ t)))))
-full_key asked name digest is l (Some octets) =
-    let own : KeyPair = (sha256 octets, packet_name octets) in
-    let key : KeyPair = (digest, name) in
+full_key : (asked name digest : List ℕ) → asked ≡ name ++ ((1 ∷ 32 ∷ []) ++ digest) → length digest ≡ 32 → (f : ℕ)
+    (o : Option (List ℕ)) → ((octets : List ℕ) → o ≡ Some octets → f ≡ front_of (sha256 octets))
+    → is_eq (triple_cmp (f, key_of FullNames o) (front_of digest, (digest, name))) ≡ is_full_name asked o
+full_key asked name digest is l f None front =
+    let none : KeyTriple = (f, ([], [])) in
+    let key : KeyTriple = (front_of digest, (digest, name)) in
+    false_where _ (λ t. absurd (omega
+    (arith, l, ap (λ (k : KeyTriple). length k.1.0) (exact_triples.same none key (equal_from_is_eq _ t)))))
+full_key asked name digest is l f (Some octets) front =
+    let own : KeyTriple = (f, (sha256 octets, packet_name octets)) in
+    let key : KeyTriple = (front_of digest, (digest, name)) in
     let spelled = digest_element (sha256 octets) (length-sha256 octets) in
     let decides = is_full-Decides asked octets in
-    same_from_decides (is_eq (pair_cmp own key)) (is_full_name asked (Some octets)) (
+    same_from_decides (is_eq (triple_cmp own key)) (is_full_name asked (Some octets)) (
       λ t.
-          let same = exact_pairs.same own key (equal_from_is_eq _ t) in
+          let same = exact_triples.same own key (equal_from_is_eq _ t) in
           is
-          ∙ sym (ap (λ (k : KeyPair). k.1 ++ ((1 ∷ 32 ∷ []) ++ k.0)) same)
+          ∙ sym (ap (λ (k : KeyTriple). k.1.1 ++ ((1 ∷ 32 ∷ []) ++ k.1.0)) same)
           ∙ ap (λ (x : List ℕ). packet_name octets ++ x) (sym spelled),
       λ e.
           let full = sym is ∙ e ∙ ap (λ (x : List ℕ). packet_name octets ++ x) spelled in
@@ -219,13 +233,15 @@ full_key asked name digest is l (Some octets) =
           )) full in
           let p : packet_name octets ≡ name = sym both.0 in
           let q : sha256 octets ≡ digest = sym (append-same (1 ∷ 32 ∷ []) digest (sha256 octets) both.1) in
-          let same : own ≡ key = λ i. (q i, p i) in
-          ap is_eq (ap (pair_cmp own) (sym same) ∙ exact_pairs.itself own),
+          let r : f ≡ front_of digest = front octets refl ∙ ap front_of q in
+          let same : own ≡ key = λ i. (r i, (q i, p i)) in
+          ap is_eq (ap (triple_cmp own) (sym same) ∙ exact_triples.itself own),
     ) decides
 
 pub full_found : (held : List Held) (packets : Slab (List ℕ)) (asked name digest : List ℕ)
-    → asked ≡ name ++ ((1 ∷ 32 ∷ []) ++ digest) → length digest ≡ 32 → (r : Option Held)
-    → IsFirstOf held (has_key FullNames packets (digest, name)) r → IsFirstOf held (has_full_name packets asked) r
-full_found held packets asked name digest is l r first =
-    first_of_test held (has_key FullNames packets (digest, name)) (has_full_name packets asked)
-    (λ h. full_key asked name digest is l (get packets h.slot)) r first
+    → asked ≡ name ++ ((1 ∷ 32 ∷ []) ++ digest) → length digest ≡ 32 → AreFronts packets held → (r : Option Held)
+    → IsFirstOf held (has_key FullNames packets (front_of digest, (digest, name))) r
+    → IsFirstOf held (has_full_name packets asked) r
+full_found held packets asked name digest is l fronts r first =
+    first_of_held held (has_key FullNames packets (front_of digest, (digest, name))) (has_full_name packets asked)
+    (λ h i. full_key asked name digest is l h.front (get packets h.slot) (λ octets e. fronts h octets i e)) r first

@@ -4,20 +4,23 @@ use Rattle.std.proofs.Common.{Option, Some, None, refl, sym, ap, subst, ◌∙�
 use Rattle.std.specs.Prelude.{IsSome, is_some, OnSome, IfNone}
 use Rattle.std.specs.List.{All, filter}
 use Rattle.std.proofs.lemmas.Bool.{true≢false, cases_eq}
+use Rattle.sha2.specs.Sha256.{sha256}
 use Rattle.slab.specs.Slab.{Slab, get, slab_len, ContainsKey, HasRoomFor, Updates}
 use Rattle.repo_plan.specs.declared.part.Part.{Part}
 use Rattle.std.proofs.lemmas.List.Elements.{All-head, All-tail}
 use Rattle.repo_plan.specs.SortedList.{IsBefore, Rises, keys, value_of}
 use Rattle.repo_plan.specs.Parts.{Pair, part_cmp, pair_of}
 use Rattle.repo_plan.proofs.Orders.{exact_pairs}
-use Rattle.repo_store.specs.Kept.{held_list}
-use Rattle.repo_store.proofs.SlotMaps.{slot_is, nothing_of}
+use Rattle.repo_store.specs.Kept.{front_of, held_list}
+use Rattle.repo_store.proofs.SlotMaps.{kept_at, slot_is, nothing_of}
 use Rattle.repo_plan.specs.Plan.{is_in}
 use Rattle.repo_plan.proofs.Sets.{In, eq_same, in_filter, in_append, append_left, append_right}
 use Rattle.repo_store.specs.declared.index.Held.{Held}
+use Rattle.repo_store.specs.declared.store.Kept.{Kept}
 use Rattle.repo_store.specs.declared.index.Order.{Order}
 use Rattle.repo_store.specs.declared.index.Order.TheVariants.{FullNames}
-use Rattle.repo_store.specs.Indexes.{KeyPair, key_cmp, key_of, key_in, keys_in, IsData, IsSlotOf, GainsOne}
+use Rattle.repo_store.specs.Indexes.{KeyTriple, front_in, key_cmp, key_of, key_in, keys_in, AreFronts, IsData}
+use Rattle.repo_store.specs.Indexes.{IsSlotOf, GainsOne}
 use Rattle.repo_store.specs.declared.layers.Layers.{Layers}
 use Rattle.repo_store.specs.Layers.{all_of, AreInOrder, HasSame, IsIndexOf}
 use Rattle.repo_store.specs.Places.{IsPacket}
@@ -27,6 +30,12 @@ pub some_or_none : (o : Option (List ℕ)) → IsSome o → o ≡ None → ⊥
 some_or_none None h e = true≢false (sym h)
 some_or_none (Some x) h e = absurd cc
 
+abbrev some_octets : List ℕ → Option (List ℕ)
+some_octets o = Some o
+
+some_same : (a b : List ℕ) → some_octets a ≡ some_octets b → a ≡ b
+some_same a b e = cc
+
 some_as : (o p : Option (List ℕ)) → o ≡ p → IsSome p → IsSome o
 some_as o p e h = subst IsSome (sym e) h
 
@@ -35,8 +44,9 @@ pub keys_same : (order : Order) (old new : Slab (List ℕ)) (held : List Held)
     → ((h : Held) → In h held → get new h.slot ≡ get old h.slot) → keys_in order new held ≡ keys_in order old held
 keys_same order old new [] same = refl
 keys_same order old new (h ∷ held) same =
-    ap (λ (o : Option (List ℕ)). (key_of order o, h.part) ∷ keys_in order new held) (same h (inl refl))
-    ∙ ap (λ (ks : List (KeyPair × Part)). key_in order old h ∷ ks)
+    ap (λ (o : Option (List ℕ)). ((front_in order h.front, key_of order o), h.part) ∷ keys_in order new held)
+    (same h (inl refl))
+    ∙ ap (λ (ks : List (KeyTriple × Part)). key_in order old h ∷ ks)
     (keys_same order old new held (λ o i. same o (inr i)))
 
 -- ---- one more
@@ -59,12 +69,18 @@ keep_new held old new octets slot none vacant updates = record {
 }
 
 pub slots_more : (old new : Slab (List ℕ)) (octets : List ℕ) (held more : List Held) (index : Layers) (h : Held)
-    → IsPacket octets → AreSlots old held → IsIndexOf FullNames old held index
+    → IsPacket octets → h.front ≡ front_of (sha256 octets) → AreSlots old held → IsIndexOf FullNames old held index
     → KeepsOne (all_of index) octets old new h.slot → GainsOne h held more → AreSlots new more
-slots_more old new octets held more index h packet slots indexed keeps gains = record {
+slots_more old new octets held more index h packet front slots indexed keeps gains = record {
   kept = λ o i. elim (gains.only o i) [
     | inl e ↦ subst (λ (x : Held). IsSome (get new x.slot)) (sym e) new_there
     | inr j ↦ some_as (get new o.slot) (get old o.slot) (keeps.others o.slot (slots.kept o j)) (slots.kept o j)
+  ];
+  fronts = λ o x i e. elim (gains.only o i) [
+    | inl own ↦
+        let is : octets ≡ x = some_same octets x (sym keeps.there ∙ ap (λ (y : Held). get new y.slot) (sym own) ∙ e) in
+        ap (λ (y : Held). y.front) own ∙ front ∙ ap (λ (y : List ℕ). front_of (sha256 y)) is
+    | inr j ↦ slots.fronts o x j (sym (keeps.others o.slot (slots.kept o j)) ∙ e)
   ];
   named = λ s k. elim (keeps.only s k) [
     | inl e ↦ subst IsData (sym (ap (get new) e ∙ keeps.there)) packet
@@ -169,7 +185,7 @@ dropping_none old held pair = record {
   room = λ n h. h;
 }
 
-module _ (old now : Slab (List ℕ)) (es : List (Part × ℕ)) (index : Layers) (pair : Pair) (x : ℕ)
+module _ (old now : Slab (List ℕ)) (es : List (Part × Kept)) (index : Layers) (pair : Pair) (x : ℕ)
     (rises : Rises part_cmp (keys es)) (slots : AreSlots old (held_list es))
     (indexed : IsIndexOf FullNames old (held_outside pair (held_list es)) index)
     (dropping : Dropping old now (held_list es) pair x) where
@@ -191,15 +207,18 @@ module _ (old now : Slab (List ℕ)) (es : List (Part × ℕ)) (index : Layers) 
   pub none_stays : value_of part_cmp es (part_at pair x) ≡ None → Dropping old now (held_list es) pair (x + 1)
   none_stays none = dropping_stays (λ h i is k. absurd (nothing_of es (part_at pair x) rises none h i is))
 
-  module _ (slot : ℕ) (there : value_of part_cmp es (part_at pair x) ≡ Some slot) where
+  module _ (at : Kept) (there : value_of part_cmp es (part_at pair x) ≡ Some at) where
+    abbrev slot : ℕ
+    slot = at.slot
+
     slot_of_part : (h : Held) → In h (held_list es) → h.part ≡ part_at pair x → h.slot ≡ slot
     slot_of_part h i is =
-        same_slot h.slot slot (sym (slot_is es h rises i) ∙ ap (value_of part_cmp es) is ∙ there) where
-          some_slot : ℕ → Option ℕ
-          some_slot n = Some n
+        same_slot (kept_at h) at (sym (slot_is es h rises i) ∙ ap (value_of part_cmp es) is ∙ there) where
+          some_kept : Kept → Option Kept
+          some_kept k = Some k
 
-          same_slot : (a b : ℕ) → some_slot a ≡ some_slot b → a ≡ b
-          same_slot a b e = cc
+          same_slot : (a b : Kept) → some_kept a ≡ some_kept b → a.slot ≡ b.slot
+          same_slot a b e = let same : a ≡ b = cc in ap (λ (k : Kept). k.slot) same
 
     -- what is used stays
     pub used_stays : IsUsed now (all_of index) slot true → Dropping old now (held_list es) pair (x + 1)
@@ -249,6 +268,7 @@ pub dropped_all : (old now : Slab (List ℕ)) (held : List Held) (pair : Pair)
 dropped_all old now held pair small slots dropping = record {
   kept =
       λ h j. some_as (get now h.slot) (get old h.slot) (dropping.kept h j) (slots.kept h (from_outside pair held h j));
+  fronts = λ h o j e. slots.fronts h o (from_outside pair held h j) (sym (dropping.kept h j) ∙ e);
   named =
       λ s k. subst IsData (sym (dropping.only s k))
       (slots.named s (some_as (get old s) (get now s) (sym (dropping.only s k)) k));
@@ -273,7 +293,7 @@ dropped_all old now held pair small slots dropping = record {
           (subst (λ (n : ℕ). IsSome (get now n)) (sym by.at) k))
       go false out = record { by = by.by; there = in_outside pair held by.by by.there out; at = by.at }
 
-before_outside : (order : Order) (packets : Slab (List ℕ)) (pair : Pair) (k : KeyPair × Part) (xs : List Held)
+before_outside : (order : Order) (packets : Slab (List ℕ)) (pair : Pair) (k : KeyTriple × Part) (xs : List Held)
     → IsBefore key_cmp k (keys_in order packets xs) → IsBefore key_cmp k (keys_in order packets (held_outside pair xs))
 before_outside order packets pair k [] b = tt
 before_outside order packets pair k (x ∷ xs) b =
@@ -353,6 +373,14 @@ index_same order old new held index same indexed = record {
   held_only = indexed.held_only;
   all_held = indexed.all_held;
 }
+
+-- the fronts of what an index holds are right, also where slots lost their packets
+pub index_fronts : (order : Order) (packets now : Slab (List ℕ)) (held outer : List Held) (index : Layers)
+    → ((h : Held) → In h held → In h outer) → ((h : Held) → In h held → get now h.slot ≡ get packets h.slot)
+    → AreFronts packets outer → IsIndexOf order packets held index → AreFronts now (all_of index)
+index_fronts order packets now held outer index among same fronts indexed h octets i e =
+    let j = indexed.held_only h i in
+    fronts h octets (among h j) (sym (same h j) ∙ e)
 
 -- an index whose layers have the same
 pub index_moved : (order : Order) (packets : Slab (List ℕ)) (held : List Held) (index moved : Layers)

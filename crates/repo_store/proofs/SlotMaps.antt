@@ -15,28 +15,36 @@ use Rattle.repo_plan.specs.Plan.{is_in}
 use Rattle.repo_plan.proofs.Orders.{exact_parts}
 use Rattle.repo_plan.proofs.Sets.{In, each_before, eq_same, eq_itself, rises_with_value, value_of-with_value}
 use Rattle.repo_store.specs.declared.index.Held.{Held}
+use Rattle.repo_store.specs.declared.store.Kept.{Kept}
 use Rattle.repo_store.specs.StoreList.{with_packet}
 use Rattle.repo_store.specs.Kept.{octets_at, entries_of, held_list}
 use Rattle.repo_store.specs.Indexes.{GainsOne, LacksPart}
 use Rattle.repo_store.specs.Slots.{held_outside}
 
 abbrev Slotted : Type 0
-Slotted = List (Part × ℕ)
+Slotted = List (Part × Kept)
 
-not_both : (o : Option ℕ) (s : ℕ) → o ≡ Some s → o ≡ None → ⊥
+not_both : (o : Option Kept) (s : Kept) → o ≡ Some s → o ≡ None → ⊥
 not_both o s a b = cc
 
-pub none_where : (o : Option ℕ) → is_some o ≡ false → o ≡ None
+pub none_where : (o : Option Kept) → is_some o ≡ false → o ≡ None
 none_where None h = refl
 none_where (Some s) h = absurd cc
+
+-- where the packet of what is held is kept, and what is held of a part
+abbrev pub kept_at : Held → Kept
+kept_at h = record { slot = h.slot; front = h.front }
+
+abbrev pub held_at : Part → Kept → Held
+held_at t s = record { part = t; slot = s.slot; front = s.front }
 
 -- ---- what is held of a part
 
 pub slot_is : (es : Slotted) (h : Held) → Rises part_cmp (keys es) → In h (held_list es)
-    → value_of part_cmp es h.part ≡ Some h.slot
+    → value_of part_cmp es h.part ≡ Some (kept_at h)
 slot_is [] h rises i = absurd i
 slot_is (e ∷ es) h rises (inl same) =
-    subst (λ (x : Held). value_of part_cmp (e ∷ es) x.part ≡ Some x.slot) (sym same)
+    subst (λ (x : Held). value_of part_cmp (e ∷ es) x.part ≡ Some (kept_at x)) (sym same)
     (ap (λ (b : Bool). cond b (Some e.1) (value_of part_cmp es e.0)) (eq_itself exact_parts e.0))
 slot_is (e ∷ es) h rises (inr i) = go (slot_is es h rises.1 i) (eq_by_cmp part_cmp h.part e.0) refl where
   key_in : (es : Slotted) → In h (held_list es) → In h.part (keys es)
@@ -44,8 +52,8 @@ slot_is (e ∷ es) h rises (inr i) = go (slot_is es h rises.1 i) (eq_by_cmp part
   key_in (e ∷ es) (inl same) = inl (ap (λ (x : Held). x.part) same)
   key_in (e ∷ es) (inr i) = inr (key_in es i)
 
-  go : value_of part_cmp es h.part ≡ Some h.slot → (b : Bool) → eq_by_cmp part_cmp h.part e.0 ≡ b
-      → cond b (Some e.1) (value_of part_cmp es h.part) ≡ Some h.slot
+  go : value_of part_cmp es h.part ≡ Some (kept_at h) → (b : Bool) → eq_by_cmp part_cmp h.part e.0 ≡ b
+      → cond b (Some e.1) (value_of part_cmp es h.part) ≡ Some (kept_at h)
   go rest true same =
       let less = each_before exact_parts.total e.0 (keys es) rises.0 h.part (key_in es i) in
       let tied : part_cmp e.0 e.0 ≡ Less = ap (part_cmp e.0) (sym (eq_same exact_parts h.part e.0 same)) ∙ less in
@@ -53,35 +61,32 @@ slot_is (e ∷ es) h rises (inr i) = go (slot_is es h rises.1 i) (eq_by_cmp part
       absurd cc
   go rest false other = rest
 
-pub held_there : (es : Slotted) (t : Part) (s : ℕ) → value_of part_cmp es t ≡ Some s
-    → In (record { part = t; slot = s }) (held_list es)
+pub held_there : (es : Slotted) (t : Part) (s : Kept) → value_of part_cmp es t ≡ Some s
+    → In (held_at t s) (held_list es)
 held_there [] t s is = absurd cc
 held_there (e ∷ es) t s is = go (eq_by_cmp part_cmp t e.0) refl is (held_there es t s) where
-  held : Part → ℕ → Held
-  held t s = record { part = t; slot = s }
-
   go : (b : Bool) → eq_by_cmp part_cmp t e.0 ≡ b → cond b (Some e.1) (value_of part_cmp es t) ≡ Some s
-      → (value_of part_cmp es t ≡ Some s → In (held t s) (held_list es)) → In (held t s) (held_list (e ∷ es))
-  go true same is rest = let slot : e.1 ≡ s = cc in inl (λ i. held (eq_same exact_parts t e.0 same i) (sym slot i))
+      → (value_of part_cmp es t ≡ Some s → In (held_at t s) (held_list es)) → In (held_at t s) (held_list (e ∷ es))
+  go true same is rest = let at : e.1 ≡ s = cc in inl (λ i. held_at (eq_same exact_parts t e.0 same i) (sym at i))
   go false other is rest = inr (rest is)
 
 pub nothing_of : (es : Slotted) (t : Part) → Rises part_cmp (keys es) → value_of part_cmp es t ≡ None
     → LacksPart t (held_list es)
 nothing_of es t rises none h i same =
-    not_both (value_of part_cmp es h.part) h.slot (slot_is es h rises i) (ap (value_of part_cmp es) same ∙ none)
+    not_both (value_of part_cmp es h.part) (kept_at h) (slot_is es h rises i) (ap (value_of part_cmp es) same ∙ none)
 
 -- ---- the packets
 
 pub packet_of_part : (packets : Slab (List ℕ)) (es : Slotted) (t : Part)
     → value_of part_cmp (entries_of packets (held_list es)) t
-    ≡ option_map (λ (s : ℕ). octets_at packets s) (value_of part_cmp es t)
+    ≡ option_map (λ (s : Kept). octets_at packets s.slot) (value_of part_cmp es t)
 packet_of_part packets [] t = refl
 packet_of_part packets (e ∷ es) t = go (eq_by_cmp part_cmp t e.0) (packet_of_part packets es t) where
   go : (b : Bool)
       → value_of part_cmp (entries_of packets (held_list es)) t
-      ≡ option_map (λ (s : ℕ). octets_at packets s) (value_of part_cmp es t)
-      → cond b (Some (octets_at packets e.1)) (value_of part_cmp (entries_of packets (held_list es)) t)
-      ≡ option_map (λ (s : ℕ). octets_at packets s) (cond b (Some e.1) (value_of part_cmp es t))
+      ≡ option_map (λ (s : Kept). octets_at packets s.slot) (value_of part_cmp es t)
+      → cond b (Some (octets_at packets e.1.slot)) (value_of part_cmp (entries_of packets (held_list es)) t)
+      ≡ option_map (λ (s : Kept). octets_at packets s.slot) (cond b (Some e.1) (value_of part_cmp es t))
   go true rest = refl
   go false rest = rest
 
@@ -95,25 +100,27 @@ part_there packets (e ∷ es) t = go (eq_by_cmp part_cmp t e.0) (part_there pack
   go true rest = refl
   go false rest = rest
 
-with_slot : (packets : Slab (List ℕ)) (es : Slotted) (t : Part) (s : ℕ)
+with_slot : (packets : Slab (List ℕ)) (es : Slotted) (t : Part) (s : Kept)
     → entries_of packets (held_list (with_value part_cmp t s es))
-    ≡ with_value part_cmp t (octets_at packets s) (entries_of packets (held_list es))
+    ≡ with_value part_cmp t (octets_at packets s.slot) (entries_of packets (held_list es))
 with_slot packets [] t s = refl
 with_slot packets (e ∷ es) t s = go (part_cmp t e.0) (with_slot packets es t s) where
   rest : List (Part × List ℕ)
   rest = entries_of packets (held_list es)
 
   go : (o : Ordering)
-      → entries_of packets (held_list (with_value part_cmp t s es)) ≡ with_value part_cmp t (octets_at packets s) rest
+      → entries_of packets (held_list (with_value part_cmp t s es))
+      ≡ with_value part_cmp t (octets_at packets s.slot) rest
       → entries_of packets (held_list (by_order o ((t, s) ∷ e ∷ es) ((t, s) ∷ es) (e ∷ with_value part_cmp t s es)))
-      ≡ by_order o ((t, octets_at packets s) ∷ (e.0, octets_at packets e.1) ∷ rest) ((t, octets_at packets s) ∷ rest)
-      ((e.0, octets_at packets e.1) ∷ with_value part_cmp t (octets_at packets s) rest)
+      ≡ by_order o ((t, octets_at packets s.slot) ∷ (e.0, octets_at packets e.1.slot) ∷ rest)
+      ((t, octets_at packets s.slot) ∷ rest)
+      ((e.0, octets_at packets e.1.slot) ∷ with_value part_cmp t (octets_at packets s.slot) rest)
   go Less same = refl
   go Equal same = refl
-  go Greater same = ap (λ (xs : List (Part × List ℕ)). (e.0, octets_at packets e.1) ∷ xs) same
+  go Greater same = ap (λ (xs : List (Part × List ℕ)). (e.0, octets_at packets e.1.slot) ∷ xs) same
 
-pub put_there : (packets : Slab (List ℕ)) (es : Slotted) (t : Part) (s : ℕ) (octets : List ℕ)
-    → get packets s ≡ Some octets
+pub put_there : (packets : Slab (List ℕ)) (es : Slotted) (t : Part) (s : Kept) (octets : List ℕ)
+    → get packets s.slot ≡ Some octets
     → entries_of packets (held_list (with_value part_cmp t s es))
     ≡ with_value part_cmp t octets (entries_of packets (held_list es))
 put_there packets es t s octets there =
@@ -139,15 +146,16 @@ with_there packets es t octets some =
 
 -- ---- one more, and those of other publications
 
-pub gains_slot : (es : Slotted) (t : Part) (s : ℕ) → Rises part_cmp (keys es) → value_of part_cmp es t ≡ None
-    → GainsOne (record { part = t; slot = s }) (held_list es) (held_list (with_value part_cmp t s es))
+pub gains_slot : (es : Slotted) (t : Part) (s : Kept) → Rises part_cmp (keys es) → value_of part_cmp es t ≡ None
+    → GainsOne (held_at t s) (held_list es) (held_list (with_value part_cmp t s es))
 gains_slot es t s rises none = record {
   there =
       held_there more t s
       (found t ∙ ap (λ (b : Bool). cond b (Some s) (value_of part_cmp es t)) (eq_itself exact_parts t));
   kept =
       λ o i.
-      held_there more o.part o.slot (found o.part ∙ kept o (slot_is es o rises i) (eq_by_cmp part_cmp o.part t) refl);
+      held_there more o.part (kept_at o)
+      (found o.part ∙ kept o (slot_is es o rises i) (eq_by_cmp part_cmp o.part t) refl);
   only =
       λ o i. only o (sym (found o.part) ∙ slot_is more o (rises_with_value exact_parts t s es rises) i)
       (eq_by_cmp part_cmp o.part t) refl;
@@ -156,33 +164,30 @@ gains_slot es t s rises none = record {
     more : Slotted
     more = with_value part_cmp t s es
 
-    held : Part → ℕ → Held
-    held t s = record { part = t; slot = s }
-
     found : (q : Part) → value_of part_cmp more q ≡ cond (eq_by_cmp part_cmp q t) (Some s) (value_of part_cmp es q)
     found q = value_of-with_value exact_parts t s es q
 
-    kept : (o : Held) → value_of part_cmp es o.part ≡ Some o.slot → (b : Bool) → eq_by_cmp part_cmp o.part t ≡ b
-        → cond (eq_by_cmp part_cmp o.part t) (Some s) (value_of part_cmp es o.part) ≡ Some o.slot
+    kept : (o : Held) → value_of part_cmp es o.part ≡ Some (kept_at o) → (b : Bool) → eq_by_cmp part_cmp o.part t ≡ b
+        → cond (eq_by_cmp part_cmp o.part t) (Some s) (value_of part_cmp es o.part) ≡ Some (kept_at o)
     kept o some true same =
-        absurd (not_both (value_of part_cmp es o.part) o.slot some
+        absurd (not_both (value_of part_cmp es o.part) (kept_at o) some
         (ap (value_of part_cmp es) (eq_same exact_parts o.part t same) ∙ none))
     kept o some false other = ap (λ (b : Bool). cond b (Some s) (value_of part_cmp es o.part)) other ∙ some
 
-    only : (o : Held) → cond (eq_by_cmp part_cmp o.part t) (Some s) (value_of part_cmp es o.part) ≡ Some o.slot
-        → (b : Bool) → eq_by_cmp part_cmp o.part t ≡ b → (o ≡ held t s) ⊎ In o (held_list es)
+    only : (o : Held) → cond (eq_by_cmp part_cmp o.part t) (Some s) (value_of part_cmp es o.part) ≡ Some (kept_at o)
+        → (b : Bool) → eq_by_cmp part_cmp o.part t ≡ b → (o ≡ held_at t s) ⊎ In o (held_list es)
     only o some true same =
-        let slot : s ≡ o.slot =
-        same_some s o.slot (sym (ap (λ (b : Bool). cond b (Some s) (value_of part_cmp es o.part)) same) ∙ some) in
-        inl (λ i. held (eq_same exact_parts o.part t same i) (sym slot i))
+        let at : s ≡ kept_at o =
+        same_some s (kept_at o) (sym (ap (λ (b : Bool). cond b (Some s) (value_of part_cmp es o.part)) same) ∙ some) in
+        inl (λ i. held_at (eq_same exact_parts o.part t same i) (sym at i))
       where
-        some_slot : ℕ → Option ℕ
-        some_slot n = Some n
+        some_kept : Kept → Option Kept
+        some_kept k = Some k
 
-        same_some : (a b : ℕ) → some_slot a ≡ some_slot b → a ≡ b
+        same_some : (a b : Kept) → some_kept a ≡ some_kept b → a ≡ b
         same_some a b e = cc
     only o some false other =
-        inr (held_there es o.part o.slot
+        inr (held_there es o.part (kept_at o)
         (sym (ap (λ (b : Bool). cond b (Some s) (value_of part_cmp es o.part)) other) ∙ some))
 
 pub held_left : (pair : Pair) (es : Slotted)
@@ -190,7 +195,7 @@ pub held_left : (pair : Pair) (es : Slotted)
 held_left pair [] = refl
 held_left pair (e ∷ es) = go (not (is_in pair e.0)) (held_left pair es) where
   held : Held
-  held = record { part = e.0; slot = e.1 }
+  held = held_at e.0 e.1
 
   go : (b : Bool) → held_list (filter (λ e. not (is_in pair e.0)) es) ≡ held_outside pair (held_list es)
       → held_list (cond b (e ∷ filter (λ e. not (is_in pair e.0)) es) (filter (λ e. not (is_in pair e.0)) es))
@@ -199,4 +204,4 @@ held_left pair (e ∷ es) = go (not (is_in pair e.0)) (held_left pair es) where
   go false same = same
 
 pub length-held : (es : Slotted) → length (held_list es) ≡ length es
-length-held es = length-map es (λ (e : Part × ℕ). let h : Held = record { part = e.0; slot = e.1 } in h)
+length-held es = length-map es (λ (e : Part × Kept). held_at e.0 e.1)

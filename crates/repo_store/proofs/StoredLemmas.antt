@@ -10,6 +10,7 @@ use Rattle.std.specs.HashMap.{spare}
 use Rattle.slab.specs.Slab.{Slab, get, ContainsKey, HasRoomFor}
 use Rattle.repo_plan.proofs.Sets.{In, in_append}
 use Rattle.repo_store.specs.declared.index.Held.{Held}
+use Rattle.repo_store.specs.declared.store.Kept.{Kept}
 use Rattle.repo_store.specs.declared.index.Order.{Order}
 use Rattle.repo_store.specs.declared.index.Order.TheVariants.{Names, FullNames}
 use Rattle.repo_store.specs.declared.store.Store.TheInside.{Inside}
@@ -27,6 +28,7 @@ slots_same : (old new : Slab (List ℕ)) (held : List Held) → ((s : ℕ) → g
     → AreSlots new held
 slots_same old new held same slots = record {
   kept = λ h i. subst IsSome (sym (same h.slot)) (slots.kept h i);
+  fronts = λ h o i e. slots.fronts h o i (sym (same h.slot) ∙ e);
   named = λ s k. subst IsData (sym (same s)) (slots.named s (subst IsSome (same s) k));
   used = λ s k. slots.used s (subst IsSome (same s) k);
   different =
@@ -110,13 +112,14 @@ pub stored_none : (s : Inside) → s.slots.entries ≡ [] → s.packets.slots �
     → s.names.recent.items ≡ [] → HasRoom s.names s.spare → s.full_names.settled.items ≡ []
     → s.full_names.recent.items ≡ [] → HasRoom s.full_names s.spare → IsStored s
 stored_none s none empty no_spare names named room full_names full_named full_room =
-    let held : held_of s.slots.entries ≡ [] = ap (λ (es : List (Part × ℕ)). held_of es) none in
+    let held : held_of s.slots.entries ≡ [] = ap (λ (es : List (Part × Kept)). held_of es) none in
     let entries : entries_of s.packets (held_of s.slots.entries) ≡ [] = ap (entries_of s.packets) held in
     record {
       sound = subst StoreIsSound (sym entries) (record { in_order = tt; are_data = All-nil (λ e. IsOk (data_of e.1)) });
       small = subst ArePartsSmall (sym entries) (All-nil (λ e. e.0.part < 2 ^ 8));
       slots = subst (AreSlots s.packets) (sym held) (record {
         kept = λ h i. absurd i;
+        fronts = λ h o i e. absurd i;
         named = λ slot k. absurd (nothing slot k);
         used = λ slot k. absurd (nothing slot k);
         different = λ a b p q e. absurd (nothing a p);

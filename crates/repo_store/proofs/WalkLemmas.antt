@@ -92,7 +92,7 @@ module _ (packets : Slab (List ℕ)) where
   by_name a b = then_then (slice_cmp nat_cmp (name_at a) (name_at b)) _ (part_cmp a.part b.part) (names_tied a b)
 
   by_front : (a : Held) (front : List ℕ)
-      → key_cmp (key_in Names packets a) ((front, []), first_part)
+      → key_cmp (key_in Names packets a) ((0, (front, [])), first_part)
       ≡ ordering_then (slice_cmp nat_cmp (name_at a) front) (part_cmp a.part first_part)
   by_front a front =
       then_then (slice_cmp nat_cmp (name_at a) front) _ (part_cmp a.part first_part)
@@ -133,7 +133,7 @@ pub record Walk (packets : Slab (List ℕ)) (held : List Held) (front : List ℕ
 
 module _ (packets : Slab (List ℕ)) (held : List Held) (front : List ℕ) where
   -- what is before a front does not begin with it
-  lacks_front : (h : Held) → key_cmp (key_in Names packets h) ((front, []), first_part) ≡ Less
+  lacks_front : (h : Held) → key_cmp (key_in Names packets h) ((0, (front, [])), first_part) ≡ Less
       → begins_with packets front h ≡ false
   lacks_front h less =
       let before =
@@ -143,7 +143,8 @@ module _ (packets : Slab (List ℕ)) (held : List Held) (front : List ℕ) where
       (λ begins. not_before_front front (drop (length front) (name_at packets h))
       (ap (λ (n : List ℕ). slice_cmp nat_cmp n front) (sym ((begins_is front (name_at packets h)).0 begins)) ∙ before))
 
-  pub walk_start : (rest : List Held) → IsFrom Names packets held (front, []) rest → Walk packets held front rest None
+  pub walk_start : (rest : List Held) → IsFrom Names packets held (0, (front, [])) rest
+      → Walk packets held front rest None
   walk_start rest from = record {
     in_order = from.in_order;
     held_only = from.held_only;

@@ -22,11 +22,11 @@ use Rattle.repo_store.specs.declared.index.Order.{Order}
 use Rattle.repo_store.specs.declared.index.Order.TheVariants.{Names, FullNames}
 use Rattle.repo_store.specs.Served.{satisfies}
 use Rattle.repo_store.specs.Places.{IsPacket}
-use Rattle.repo_store.specs.Kept.{packet_name, octets_at}
+use Rattle.repo_store.specs.Kept.{packet_name, front_of, octets_at}
 
 -- ---- orders
 
--- What a packet is found by: its name alone, or its digest and then its name.
+-- The octets that a packet is found by: its name alone, or its digest and then its name.
 abbrev pub KeyPair : Type 0
 KeyPair = List ℕ × List ℕ
 
@@ -43,42 +43,66 @@ key_of order (Some octets) = packet_key order octets
 abbrev pub pair_cmp : KeyPair → KeyPair → Ordering
 pair_cmp a b = ordering_then (slice_cmp nat_cmp a.0 b.0) (slice_cmp nat_cmp a.1 b.1)
 
+-- What a packet is found by: the front of its digest, and octets. Among names the front is 0.
+abbrev pub KeyTriple : Type 0
+KeyTriple = ℕ × KeyPair
+
+abbrev pub front_in : Order → ℕ → ℕ
+front_in Names front = 0
+front_in FullNames front = front
+
+-- By the front, as a number, then by the octets.
+abbrev pub triple_cmp : KeyTriple → KeyTriple → Ordering
+triple_cmp a b = ordering_then (nat_cmp a.0 b.0) (pair_cmp a.1 b.1)
+
 -- By what packets are found by, then by part.
-abbrev pub key_cmp : KeyPair × Part → KeyPair × Part → Ordering
-key_cmp a b = ordering_then (pair_cmp a.0 b.0) (part_cmp a.1 b.1)
+abbrev pub key_cmp : KeyTriple × Part → KeyTriple × Part → Ordering
+key_cmp a b = ordering_then (triple_cmp a.0 b.0) (part_cmp a.1 b.1)
 
--- What is held, as an index is in order of it.
-abbrev pub key_in : Order → Slab (List ℕ) → Held → KeyPair × Part
-key_in order packets h = (key_of order (get packets h.slot), h.part)
+-- What is held, as it is found: by the front beside its slot, and the octets of the packet in the slot.
+abbrev pub key_at : Order → Slab (List ℕ) → Held → KeyTriple
+key_at order packets h = (front_in order h.front, key_of order (get packets h.slot))
 
-abbrev pub keys_in : Order → Slab (List ℕ) → List Held → List (KeyPair × Part)
+-- The same, as an index is in order of it.
+abbrev pub key_in : Order → Slab (List ℕ) → Held → KeyTriple × Part
+key_in order packets h = (key_at order packets h, h.part)
+
+abbrev pub keys_in : Order → Slab (List ℕ) → List Held → List (KeyTriple × Part)
 keys_in order packets held = map (key_in order packets) held
 
+-- Each front that is held is that of the packet's digest.
+abbrev pub AreFronts : Slab (List ℕ) → List Held → Type 0
+AreFronts packets held =
+    (h : Held) (octets : List ℕ) → In h held → get packets h.slot ≡ Some octets → h.front ≡ front_of (sha256 octets)
+
 -- The keys of an index, and that they rise.
-abbrev pub keys_of : Index → List (KeyPair × Part)
+abbrev pub keys_of : Index → List (KeyTriple × Part)
 keys_of i = keys_in i.order i.packets.now i.held.now
 
 abbrev pub IndexIsInOrder : Index → Type 0
 IndexIsInOrder i = Rises key_cmp (keys_of i)
 
--- What is searched for.
+-- What is searched for: its octets, and all of it.
 abbrev pub pair_of : Key → KeyPair
 pair_of key = (key.first.now, key.second.now)
+
+abbrev pub triple_of : Key → KeyTriple
+triple_of key = (key.front, pair_of key)
 
 -- ---- searches
 
 -- As many keys come before this one.
-pub record IsPlace (keys : List (KeyPair × Part)) (key : KeyPair × Part) (place : ℕ) : Type 0 where
+pub record IsPlace (keys : List (KeyTriple × Part)) (key : KeyTriple × Part) (place : ℕ) : Type 0 where
   pub within : place ≤ length keys
-  pub before : (k : KeyPair × Part) → In k (take place keys) → key_cmp k key ≡ Less
-  pub behind : (k : KeyPair × Part) → In k (drop place keys) → key_cmp k key ≢ Less
+  pub before : (k : KeyTriple × Part) → In k (take place keys) → key_cmp k key ≡ Less
+  pub behind : (k : KeyTriple × Part) → In k (drop place keys) → key_cmp k key ≢ Less
 
 -- No part comes before it.
 abbrev pub first_part : Part
 first_part = record { publisher = 0; seq = 0; part = 0 }
 
 -- What is held from a key on: the others come before it.
-pub record IsFrom (order : Order) (packets : Slab (List ℕ)) (held : List Held) (key : KeyPair) (rest : List Held)
+pub record IsFrom (order : Order) (packets : Slab (List ℕ)) (held : List Held) (key : KeyTriple) (rest : List Held)
     : Type 0 where
   pub in_order : Rises key_cmp (keys_in order packets rest)
   pub held_only : (h : Held) → In h rest → In h held
@@ -87,8 +111,8 @@ pub record IsFrom (order : Order) (packets : Slab (List ℕ)) (held : List Held)
       → In h rest ⊎ (key_cmp (key_in order packets h) (key, first_part) ≡ Less)
 
 -- Whether what is held is found by this.
-abbrev pub has_key : Order → Slab (List ℕ) → KeyPair → Held → Bool
-has_key order packets key h = eq_by_cmp pair_cmp (key_of order (get packets h.slot)) key
+abbrev pub has_key : Order → Slab (List ℕ) → KeyTriple → Held → Bool
+has_key order packets key h = eq_by_cmp triple_cmp (key_at order packets h) key
 
 -- It passes a test, and nothing else of a lesser part does.
 pub record IsLeastOf (held : List Held) (test : Held → Bool) (h : Held) : Type 0 where

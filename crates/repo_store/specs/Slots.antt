@@ -6,7 +6,7 @@ use Rattle.repo_plan.specs.Parts.{Pair}
 use Rattle.repo_plan.specs.Plan.{is_in}
 use Rattle.repo_plan.proofs.Sets.{In}
 use Rattle.repo_store.specs.declared.index.Held.{Held}
-use Rattle.repo_store.specs.Indexes.{IsData}
+use Rattle.repo_store.specs.Indexes.{AreFronts, IsData}
 
 -- A part is held, and its packet is in this slot.
 pub record IsHeldIn (held : List Held) (slot : ℕ) : Type 0 where
@@ -14,9 +14,11 @@ pub record IsHeldIn (held : List Held) (slot : ℕ) : Type 0 where
   pub there : In by held
   pub at : by.slot ≡ slot
 
--- What is held has a Data packet each, each slot is some part's, and no two have the same octets.
+-- What is held has a Data packet each, with the front of its digest; each slot is some part's, and no two
+-- have the same octets.
 pub record AreSlots (packets : Slab (List ℕ)) (held : List Held) : Type 0 where
   pub kept : (h : Held) → In h held → ContainsKey packets h.slot
+  pub fronts : AreFronts packets held
   pub named : (slot : ℕ) → ContainsKey packets slot → IsData (get packets slot)
   pub used : (slot : ℕ) → ContainsKey packets slot → IsHeldIn held slot
   pub different : (a b : ℕ) → ContainsKey packets a → ContainsKey packets b

@@ -3,33 +3,36 @@ ghost use Rattle.std.specs.Prelude.{vec_capacity};
 ghost use Rattle.repo_store.specs.declared.index.Order.TheVariants.{Names, FullNames};
 ghost use Rattle.slab.specs.Slab.{get};
 ghost use Rattle.repo_plan.specs.SortedList.{Rises};
-ghost use Rattle.repo_store.specs.Indexes.{packet_key, key_of, pair_of, pair_cmp, key_cmp, key_in, keys_in, keys_of};
-ghost use Rattle.repo_store.specs.Indexes.{has_key, has_full_name, begins_with, lesser, IndexIsInOrder};
-ghost use Rattle.repo_store.specs.Indexes.{IsPlace, IsFrom, IsBehind, IsFirstOf, IsSlotOf, GainsOne, LacksPart};
+ghost use Rattle.repo_store.specs.Indexes.{packet_key, key_of, front_in, key_at, pair_of, triple_of, pair_cmp};
+ghost use Rattle.repo_store.specs.Indexes.{triple_cmp, key_cmp, key_in, keys_in, keys_of, has_key, has_full_name};
+ghost use Rattle.repo_store.specs.Indexes.{begins_with, lesser, AreFronts, IndexIsInOrder, IsPlace, IsFrom, IsBehind};
+ghost use Rattle.repo_store.specs.Indexes.{IsFirstOf, IsSlotOf, GainsOne, LacksPart};
 
-use crate::packet::{Packet, Packets};
+use crate::packet::{Packet, Packets, front_of};
 use repo_plan::Part;
 use std::cmp::Ordering;
 
-// A part, and the slot of its packet.
+// A part, with the slot of its packet and the front of the packet's digest.
 #[derive(Clone, Copy)]
 pub(crate) struct Held {
     pub(crate) part: Part,
     pub(crate) slot: usize,
+    pub(crate) front: u64,
 }
 
-// What comes before the parts in the order of an index: the names of the packets alone, or their full
-// names, the digests first.
+// What comes before the parts in the order of an index: the names of the packets alone; or the fronts of
+// their digests, the digests and then the names.
 #[derive(Clone, Copy)]
 pub(crate) enum Order {
     Names,
     FullNames,
 }
 
-// A name and nothing, or a digest and a name. Digests differ in their first octets, and stand beside
-// the places of the octets, so few names are read.
+// What a packet is found by: 0, its name and nothing; or the front of its digest, the digest and its name.
+// The front stands beside the slot in what is held, so a packet is read only where the fronts are the same.
 #[derive(Clone, Copy)]
 pub(crate) struct Key<'k> {
+    front: u64,
     first: &'k [u8],
     second: &'k [u8],
 }
@@ -50,16 +53,31 @@ const FIRST: Part = Part {
 };
 
 impl Order {
-    fn key(self, packet: &Packet) -> Key<'_>
+    // The front by which a packet is found: among names all have the same.
+    fn front(self, front: u64) -> u64
+        ensures { result ≡ front_in self front }
+    {
+        match self {
+            Order::Names => 0,
+            Order::FullNames => front,
+        }
+    }
+
+    // The key of a packet whose digest has this front.
+    fn key(self, front: u64, packet: &Packet) -> Key<'_>
+        ensures front { result.front ≡ front_in self front }
         ensures first { result.first.now ≡ (packet_key self packet.now).0 }
         ensures second { result.second.now ≡ (packet_key self packet.now).1 }
     {
+        let front = self.front(front);
         match self {
             Order::Names => Key {
+                front,
                 first: packet.name(),
                 second: &[],
             },
             Order::FullNames => Key {
+                front,
                 first: packet.digest(),
                 second: packet.name(),
             },
@@ -68,8 +86,8 @@ impl Order {
 }
 
 impl Key<'_> {
-    // The second parts are compared only where the first ones are the same.
-    fn cmp(&self, other: &Key<'_>) -> Ordering
+    // Of keys with the same front. The second octets are compared only where the first ones are the same.
+    fn cmp_octets(&self, other: &Key<'_>) -> Ordering
         ensures { result ≡ pair_cmp (pair_of self.now) (pair_of other.now) }
     {
         match self.first.cmp(&other.first) {
@@ -81,32 +99,45 @@ impl Key<'_> {
 
 impl Index<'_> {
     fn key(&self, held: &Held) -> Key<'_>
+        ensures front { result.front ≡ front_in self.now.order held.now.front }
         ensures first { result.first.now
             ≡ (key_of self.now.order (get self.now.packets.now held.now.slot)).0 }
         ensures second { result.second.now
             ≡ (key_of self.now.order (get self.now.packets.now held.now.slot)).1 }
     {
         match self.packets.get(held.slot) {
-            Some(packet) => self.order.key(packet),
+            Some(packet) => self.order.key(held.front, packet),
             None => Key {
+                front: self.order.front(held.front),
                 first: &[],
                 second: &[],
             },
         }
     }
 
+    // The packet is read only where the fronts are the same.
+    fn cmp_key(&self, held: &Held, key: &Key<'_>) -> Ordering
+        ensures { result ≡ triple_cmp (key_at self.now.order self.now.packets.now held.now)
+            (triple_of key.now) }
+    {
+        match self.order.front(held.front).cmp(&key.front) {
+            Ordering::Equal => self.key(held).cmp_octets(key),
+            unequal => unequal,
+        }
+    }
+
     fn has(&self, held: &Held, key: &Key<'_>) -> bool
         ensures { result
-            ≡ has_key self.now.order self.now.packets.now (pair_of key.now) held.now }
+            ≡ has_key self.now.order self.now.packets.now (triple_of key.now) held.now }
     {
-        self.key(held).cmp(key).is_eq()
+        self.cmp_key(held, key).is_eq()
     }
 
     fn cmp(&self, held: &Held, key: &Key<'_>, part: Part) -> Ordering
         ensures { result ≡ key_cmp (key_in self.now.order self.now.packets.now held.now)
-            (pair_of key.now, part) }
+            (triple_of key.now, part) }
     {
-        match self.key(held).cmp(key) {
+        match self.cmp_key(held, key) {
             Ordering::Equal => held.part.cmp(&part),
             unequal => unequal,
         }
@@ -115,7 +146,7 @@ impl Index<'_> {
     // How much of what is held comes before this key and part.
     fn place(&self, key: &Key<'_>, part: Part) -> usize
         requires { IndexIsInOrder self.now }
-        ensures { IsPlace (keys_of self.now) (pair_of key.now, part) result }
+        ensures { IsPlace (keys_of self.now) (triple_of key.now, part) result }
     {
         self.held
             .partition_point(|held| self.cmp(held, key, part).is_lt())
@@ -142,7 +173,7 @@ impl Index<'_> {
     fn from(&self, key: &Key<'_>) -> &[Held]
         requires { IndexIsInOrder self.now }
         ensures { IsFrom self.now.order self.now.packets.now self.now.held.now
-            (pair_of key.now) result.now }
+            (triple_of key.now) result.now }
     {
         let (_, rest) = self.held.split_at(self.place(key, FIRST));
         rest
@@ -152,7 +183,7 @@ impl Index<'_> {
     fn first(&self, key: &Key<'_>) -> Option<Held>
         requires { IndexIsInOrder self.now }
         ensures { IsFirstOf self.now.held.now
-            (has_key self.now.order self.now.packets.now (pair_of key.now)) result }
+            (has_key self.now.order self.now.packets.now (triple_of key.now)) result }
     {
         let first = self.from(key).first()?;
         if self.has(first, key) {
@@ -166,9 +197,10 @@ impl Index<'_> {
     pub(crate) fn first_named(&self, asked: &[u8]) -> Option<Held>
         requires { IndexIsInOrder self.now }
         ensures { IsFirstOf self.now.held.now
-            (has_key self.now.order self.now.packets.now (asked.now, [])) result }
+            (has_key self.now.order self.now.packets.now (0, (asked.now, []))) result }
     {
         self.first(&Key {
+            front: 0,
             first: asked,
             second: &[],
         })
@@ -179,12 +211,14 @@ impl Index<'_> {
     pub(crate) fn first_with_full_name(&self, asked: &[u8]) -> Option<Held>
         requires in_order { IndexIsInOrder self.now }
         requires order { self.now.order ≡ FullNames }
+        requires fronts { AreFronts self.now.packets.now self.now.held.now }
         ensures { IsFirstOf self.now.held.now
             (has_full_name self.now.packets.now asked.now) result }
     {
         let (name, last) = asked.split_last_chunk::<34>()?;
         let digest = last.as_slice().strip_prefix(&[0x01, 0x20])?;
         self.first(&Key {
+            front: front_of(digest),
             first: digest,
             second: name,
         })
@@ -199,6 +233,7 @@ impl Index<'_> {
             (begins_with self.now.packets.now front.now) result }
     {
         let key = Key {
+            front: 0,
             first: front,
             second: &[],
         };
@@ -228,12 +263,13 @@ impl Index<'_> {
         rest
     }
 
-    // The slot of the packet that has these octets. Only packets of one digest are looked at.
+    // The slot of the packet that has these octets. Only packets whose digests have one front are read.
     pub(crate) fn slot_of(&self, packet: &Packet) -> Option<usize>
-        requires { IndexIsInOrder self.now }
+        requires in_order { IndexIsInOrder self.now }
+        requires fronts { AreFronts self.now.packets.now self.now.held.now }
         ensures { IsSlotOf self.now.held.now self.now.packets.now packet.now result }
     {
-        let key = self.order.key(packet);
+        let key = self.order.key(packet.front(), packet);
         for held in self.from(&key) {
             if !self.has(held, &key) {
                 return None;

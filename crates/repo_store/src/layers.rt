@@ -4,8 +4,8 @@ ghost use Rattle.repo_plan.specs.SortedList.{Rises};
 ghost use Rattle.repo_plan.proofs.Sets.{In};
 ghost use Rattle.repo_store.specs.declared.index.Held as declared_held;
 ghost use Rattle.repo_store.specs.declared.index.Order.TheVariants.{Names, FullNames};
-ghost use Rattle.repo_store.specs.Indexes.{key_cmp, key_in, keys_in, has_key, has_full_name, begins_with, IsFirstOf};
-ghost use Rattle.repo_store.specs.Indexes.{IsPlace, IsSlotOf, GainsOne, LacksPart};
+ghost use Rattle.repo_store.specs.Indexes.{key_cmp, key_in, keys_in, has_key, has_full_name, begins_with, AreFronts};
+ghost use Rattle.repo_store.specs.Indexes.{IsFirstOf, IsPlace, IsSlotOf, GainsOne, LacksPart};
 ghost use Rattle.repo_store.specs.Slots.{held_outside};
 ghost use Rattle.repo_store.specs.Layers.{all_of, AreInOrder, AreApart, HasRoom, HasSame, IsMerged};
 
@@ -65,7 +65,7 @@ impl Layers {
     // What has this name, of the least part.
     pub(crate) fn first_named(&self, packets: &Packets, asked: &[u8]) -> Option<Held>
         requires { AreInOrder Names packets.now self.now }
-        ensures { IsFirstOf (all_of self.now) (has_key Names packets.now (asked.now, [])) result }
+        ensures { IsFirstOf (all_of self.now) (has_key Names packets.now (0, (asked.now, []))) result }
     {
         let (settled, recent) = self.indexes(Order::Names, packets);
         lesser(settled.first_named(asked), recent.first_named(asked))
@@ -82,7 +82,8 @@ impl Layers {
 
     // What has this full name, of the least part.
     pub(crate) fn first_with_full_name(&self, packets: &Packets, asked: &[u8]) -> Option<Held>
-        requires { AreInOrder FullNames packets.now self.now }
+        requires in_order { AreInOrder FullNames packets.now self.now }
+        requires fronts { AreFronts packets.now (all_of self.now) }
         ensures { IsFirstOf (all_of self.now) (has_full_name packets.now asked.now) result }
     {
         let (settled, recent) = self.indexes(Order::FullNames, packets);
@@ -94,7 +95,8 @@ impl Layers {
 
     // The slot of the packet that has these octets.
     pub(crate) fn slot_of(&self, packets: &Packets, packet: &Packet) -> Option<usize>
-        requires { AreInOrder FullNames packets.now self.now }
+        requires in_order { AreInOrder FullNames packets.now self.now }
+        requires fronts { AreFronts packets.now (all_of self.now) }
         ensures { IsSlotOf (all_of self.now) packets.now packet.now result }
     {
         let (settled, recent) = self.indexes(Order::FullNames, packets);

@@ -1,9 +1,9 @@
-ghost use Rattle.std.specs.Prelude.{◌≡◌, IsOk, option_map};
+ghost use Rattle.std.specs.Prelude.{◌≡◌, ◌≤◌, length, IsOk, option_map};
 ghost use Rattle.sha2.specs.Sha256.{sha256};
 ghost use Rattle.ndn_tlv.specs.Elements.{item};
 ghost use Rattle.ndn_data.specs.Data.{data_of};
 ghost use Rattle.repo_store.specs.Places.{first_of_type, IsNamed, IsPacket};
-ghost use Rattle.repo_store.specs.Kept.{packet_name, octets_at};
+ghost use Rattle.repo_store.specs.Kept.{packet_name, front_of, octets_at};
 
 use ndn_packet::outer_element;
 use ndn_tlv::{Element, Reader, types};
@@ -67,6 +67,21 @@ impl Packet {
     {
         &self.digest
     }
+
+    pub(crate) fn front(&self) -> u64
+        ensures { result ≡ front_of (sha256 self.now) }
+    {
+        front_of(&self.digest)
+    }
+}
+
+// The first eight octets of a digest, as a number.
+#[tactic(auto, unfolding(crate::specs::Kept::front_of))]
+pub(crate) fn front_of(digest: &[u8]) -> u64
+    requires { 8 ≤ length digest.now }
+    ensures { result ≡ front_of digest.now }
+{
+    u64::from_be_bytes(*digest.first_chunk().unwrap())
 }
 
 // Packets, each different one once, in slots that the slab picks.

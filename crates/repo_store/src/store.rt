@@ -11,7 +11,7 @@ ghost use Rattle.repo_plan.proofs.Sets.{In};
 ghost use Rattle.repo_store.specs.declared.index.Held as declared_held;
 ghost use Rattle.repo_store.specs.declared.index.Order.TheVariants.{Names, FullNames};
 ghost use Rattle.repo_store.specs.StoreList.{with_packet, packets_in, packets_outside, different_octets, StoreIsSound};
-ghost use Rattle.repo_store.specs.Indexes.{satisfies_held, IsData, IsFirstOf};
+ghost use Rattle.repo_store.specs.Indexes.{satisfies_held, AreFronts, IsData, IsFirstOf};
 ghost use Rattle.repo_store.specs.Layers.{all_of, AreInOrder, IsIndexOf};
 ghost use Rattle.repo_store.specs.Slots.{AreSlots, KeepsOne, IsUsed, held_outside};
 ghost use Rattle.repo_store.specs.Kept.{held_of};
@@ -29,12 +29,19 @@ use std::alloc::{AllocError, Global};
 use std::collections::HashMap;
 use std::marker::Model;
 
+// Where a packet is kept: its slot, with the front of its digest.
+#[derive(Clone, Copy)]
+struct Kept {
+    slot: usize,
+    front: u64,
+}
+
 /// The packets of parts, each part once, and room for more. Packets of the same octets are kept once.
 #[derive(Drop)]
 pub struct Store {
     packets: Packets,
-    // By part, the slot of its packet.
-    slots: HashMap<Part, usize>,
+    // By part, where its packet is kept.
+    slots: HashMap<Part, Kept>,
     // The same in order of the packets' names and of their full names.
     names: Layers,
     full_names: Layers,
@@ -92,8 +99,8 @@ impl Store {
             ≡ value_of part_cmp self.now.packets part }
         ensures sound { StoreIsSound self.now.packets }
     {
-        let slot = table::value_of(&self.slots, part)?;
-        Some(octets_at(&self.packets, slot))
+        let kept = table::value_of(&self.slots, part)?;
+        Some(octets_at(&self.packets, kept.slot))
     }
 
     /// Puts a packet that reads as Data under its part. What is spare stays so.
@@ -172,11 +179,12 @@ impl Store {
             return false;
         }
         let packet = Packet::of_data(octets, digest);
+        let front = packet.front();
         let slot = keep(&mut self.packets, &self.full_names, packet);
-        let held = Held { part, slot };
+        let held = Held { part, slot, front };
         self.names.add(Order::Names, &self.packets, held);
         self.full_names.add(Order::FullNames, &self.packets, held);
-        table::set_value(&mut self.slots, part, slot);
+        table::set_value(&mut self.slots, part, Kept { slot, front });
         true
     }
 
@@ -232,6 +240,7 @@ fn first_for(
 ) -> Option<Held>
     requires names { AreInOrder Names packets.now names.now }
     requires full_names { AreInOrder FullNames packets.now full_names.now }
+    requires fronts { AreFronts packets.now (all_of full_names.now) }
     requires same { (h : declared_held.Held) → In h (all_of names.now) ↔ In h (all_of full_names.now) }
     requires are_data { (h : declared_held.Held) → In h (all_of names.now) → IsData (get packets.now h.slot) }
     ensures { IsFirstOf (all_of names.now) (satisfies_held packets.now name.now can_be_prefix) result }
@@ -248,6 +257,7 @@ fn first_for(
 // The slot of a packet, which is put into one where none has its octets.
 fn keep(packets: &mut Packets, full_names: &Layers, packet: Packet) -> usize
     requires in_order { AreInOrder FullNames packets.old full_names.now }
+    requires fronts { AreFronts packets.old (all_of full_names.now) }
     requires kept { (h : declared_held.Held) → In h (all_of full_names.now) → ContainsKey packets.old h.slot }
     requires room { HasRoomFor packets.old 1 }
     ensures kept { KeepsOne (all_of full_names.now) packet packets.old packets.new result }
@@ -261,7 +271,8 @@ fn keep(packets: &mut Packets, full_names: &Layers, packet: Packet) -> usize
 
 // Whether what an index holds has the packet in this slot.
 fn is_used(packets: &Packets, full_names: &Layers, slot: usize) -> bool
-    requires { AreInOrder FullNames packets.now full_names.now }
+    requires in_order { AreInOrder FullNames packets.now full_names.now }
+    requires fronts { AreFronts packets.now (all_of full_names.now) }
     ensures { IsUsed packets.now (all_of full_names.now) slot result }
 {
     let Some(packet) = packets.get(slot) else {
@@ -273,7 +284,7 @@ fn is_used(packets: &Packets, full_names: &Layers, slot: usize) -> bool
 // Drops the packets of a publication's parts that no other part uses.
 fn drop_unused(
     packets: &mut Packets,
-    slots: &HashMap<Part, usize>,
+    slots: &HashMap<Part, Kept>,
     full_names: &Layers,
     pair: (u32, u16),
 )
@@ -291,16 +302,16 @@ fn drop_unused(
             seq: pair.1,
             part: x as u8,
         };
-        if let Some(slot) = table::value_of(slots, part) {
-            if !is_used(packets, full_names, slot) {
-                let _ = packets.try_remove(slot);
+        if let Some(kept) = table::value_of(slots, part) {
+            if !is_used(packets, full_names, kept.slot) {
+                let _ = packets.try_remove(kept.slot);
             }
         }
     }
 }
 
 // Drops a publication's parts, and gives their number.
-fn drop_slots(slots: &mut HashMap<Part, usize>, pair: (u32, u16)) -> usize
+fn drop_slots(slots: &mut HashMap<Part, Kept>, pair: (u32, u16)) -> usize
     ensures number { result + length (held_of slots.new.entries) ≡ length (held_of slots.old.entries) }
     ensures dropped { held_of slots.new.entries ≡ held_outside pair (held_of slots.old.entries) }
     ensures room { spare slots.old ≤ spare slots.new }

@@ -25,7 +25,7 @@ loop-held-preserved c =
     let extended_len : vec_len c.extend_from_slice.new.self
     ≡ vec_len c.loop-held.merged + length c.split_at.result.0.now =
     rw c.unwrap.ensures at c.extend_from_slice.ensures.len in
-    let none : Held = record { part = first_part; slot = 0 } in
+    let none : Held = record { part = first_part; slot = 0; front = 0 } in
     let held = get_or recent i none in
     let pushed : c.push.new.self.items ≡ c.extend_from_slice.new.self.items ++ held ∷ [] =
     rw c.unwrap-in-loop-held.ensures at c.push.ensures.items in

@@ -13,7 +13,7 @@ pub loop-first-init : goal.loop-first-init
 loop-first-init c =
     let index = c.args.self.now in
     let from =
-    subst (λ (o : Order). IsFrom o index.packets.now index.held.now (c.args.front.now, []) c.from-rest.result.now)
+    subst (λ (o : Order). IsFrom o index.packets.now index.held.now (0, (c.args.front.now, [])) c.from-rest.result.now)
     c.requires.order c.from-rest.ensures in
     walk_start index.packets.now index.held.now c.args.front.now c.from-rest.result.now from
 

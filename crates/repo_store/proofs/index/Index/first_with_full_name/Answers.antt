@@ -2,6 +2,7 @@ use Rattle.std.proofs.Common.{ℕ, List, [], ◌∷◌, ◌++◌, ◌-◌, lengt
 use Rattle.std.specs.Cmp.{unsigned_Decides}
 use Rattle.std.proofs.lemmas.Slice.Eq.{strip_prefix_is}
 use Rattle.repo_store.specs.declared.index.Order.{Order}
+use Rattle.repo_store.specs.declared.index.Order.TheVariants.{FullNames}
 use Rattle.repo_store.specs.Indexes.{has_key, IsFirstOf}
 use Rattle.repo_store.proofs.SearchLemmas.{taken_and_rest, short_lacks, other_lacks, full_found}
 use Rattle.repo_store.proofs.index.Index.first_with_full_name.Goals as goal
@@ -33,11 +34,14 @@ returns c =
     taken_and_rest (length asked - 34) asked c.in_ok-name.name.now last parts.0 (c.as_slice.ensures ∙ parts.1) in
     let last_is =
     strip_prefix_is unsigned_Decides last (1 ∷ 32 ∷ []) (Some c.in_ok-digest.digest) c.in_ok-digest.ensures.cases in
-    let order = c.requires.order in
+    let First =
+    λ (o : Order) (front : ℕ).
+    IsFirstOf c.args.self.now.held.now (has_key o c.args.self.now.packets.now (front, (digest, c.in_ok-name.name.now)))
+    c.first.result in
     let first =
-    subst (λ (o : Order). IsFirstOf c.args.self.now.held.now
-    (has_key o c.args.self.now.packets.now (digest, c.in_ok-name.name.now)) c.first.result) order c.first.ensures in
+    subst (First FullNames) c.front_of.ensures
+    (subst (λ (o : Order). First o c.front_of.result) c.requires.order c.first.ensures) in
     full_found c.args.self.now.held.now c.args.self.now.packets.now asked c.in_ok-name.name.now digest
     (is ∙ ap (λ (x : List ℕ). c.in_ok-name.name.now ++ x) last_is)
-    (omega (arith, parts.2, ap length is, ap length last_is, length-append c.in_ok-name.name.now last)) c.first.result
-    first
+    (omega (arith, parts.2, ap length is, ap length last_is, length-append c.in_ok-name.name.now last))
+    c.requires.fronts c.first.result first

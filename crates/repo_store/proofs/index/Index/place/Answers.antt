@@ -3,7 +3,7 @@ use Rattle.std.specs.Ordering.{is_lt}
 use Rattle.std.proofs.lemmas.List.Sorted.{IsPartitionPoint-from_clause}
 use Rattle.repo_plan.specs.declared.part.Part.{Part}
 use Rattle.repo_store.specs.declared.index.Held.{Held}
-use Rattle.repo_store.specs.Indexes.{KeyPair, key_cmp, key_in}
+use Rattle.repo_store.specs.Indexes.{KeyTriple, triple_of, key_cmp, key_in}
 use Rattle.repo_store.proofs.IndexLemmas.{parted, placed}
 use Rattle.repo_store.proofs.index.Index.place.Goals as goal
 
@@ -12,7 +12,7 @@ returns c =
     let index = c.args.self.now in
     let held = index.held.now in
     let key = key_in index.order index.packets.now in
-    let asked : KeyPair × Part = ((c.args.key.now.first.now, c.args.key.now.second.now), c.args.part) in
+    let asked : KeyTriple × Part = (triple_of c.args.key.now, c.args.part) in
     let point =
     IsPartitionPoint-from_clause (λ (h : Held). is_lt (key_cmp (key h) asked)) held c.partition_point.result
     c.partition_point.ensures.partitioned (parted key held asked c.requires) (λ a r f called. search rules) in

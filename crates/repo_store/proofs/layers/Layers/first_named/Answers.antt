@@ -9,7 +9,7 @@ use Rattle.repo_store.proofs.layers.Layers.first_named.Goals as goal
 
 pub returns : goal.returns
 returns c =
-    let test : Order → Slab (List ℕ) → Held → Bool = λ o p h. has_key o p (c.args.asked.now, []) h in
+    let test : Order → Slab (List ℕ) → Held → Bool = λ o p h. has_key o p (0, (c.args.asked.now, [])) h in
     rw c.lesser.ensures
     (first_in_layers Names c.args.packets.now c.args.self.now.settled.items c.args.self.now.recent.items test
     c.indexes.result.0 c.indexes.result.1 c.first_named.result c.first_named-2.result c.indexes.ensures.settled

@@ -1,7 +1,21 @@
 use Rattle.std.proofs.Common.{Some, None}
+use Rattle.repo_plan.proofs.Sets.{append_left, append_right}
 use Rattle.repo_store.specs.declared.index.Order.TheVariants.{FullNames}
-use Rattle.repo_store.proofs.LayerLemmas.{slot_in, slot_in_settled, slot_in_recent}
+use Rattle.repo_store.specs.Layers.{all_of}
+use Rattle.repo_store.proofs.LayerLemmas.{fronts_in, slot_in, slot_in_settled, slot_in_recent}
 use Rattle.repo_store.proofs.layers.Layers.slot_of.Goals as goal
+
+pub slot_of-requires-clause-fronts : goal.slot_of-requires-clause-fronts
+slot_of-requires-clause-fronts c =
+    let l = c.args.self.now in
+    fronts_in FullNames c.args.packets.now l.settled.items (all_of l) c.indexes.result.0 c.indexes.ensures.settled
+    (append_left l.settled.items l.recent.items) c.requires.fronts
+
+pub slot_of-requires-in-None-clause-fronts : goal.slot_of-requires-in-None-clause-fronts
+slot_of-requires-in-None-clause-fronts c =
+    let l = c.args.self.now in
+    fronts_in FullNames c.args.packets.now l.recent.items (all_of l) c.indexes.result.1 c.indexes.ensures.recent
+    (append_right l.settled.items l.recent.items) c.requires.fronts
 
 pub returns-in-Some : goal.returns-in-Some
 returns-in-Some c =

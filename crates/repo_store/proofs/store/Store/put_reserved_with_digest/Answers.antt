@@ -1,4 +1,5 @@
-use Rattle.std.proofs.Common.{◌≡◌, ℕ, ◌-◌, ◌<◌, true, List, not, is_some, subst, sym, ap, ◌∙◌, arith}
+use Rattle.std.proofs.Common.{◌≡◌, ℕ, ◌-◌, ◌<◌, true, List, not, is_some, refl, subst, sym, ap, ◌∙◌, arith}
+use Rattle.sha2.specs.Sha256.{sha256}
 use Rattle.slab.specs.Slab.{get}
 use Rattle.repo_plan.specs.declared.part.Part.{Part}
 use Rattle.repo_plan.specs.SortedList.{keys, contains, with_value, value_of, in_order}
@@ -7,17 +8,18 @@ use Rattle.repo_plan.proofs.Orders.{exact_parts}
 use Rattle.repo_plan.proofs.Entries.{order_rises}
 use Rattle.repo_plan.proofs.Sets.{In}
 use Rattle.repo_store.specs.declared.index.Held.{Held}
+use Rattle.repo_store.specs.declared.store.Kept.{Kept}
 use Rattle.repo_store.specs.declared.index.Order.TheVariants.{Names, FullNames}
 use Rattle.repo_store.specs.StoreList.{StoreList, StoreIsSound, with_packet}
 use Rattle.repo_store.specs.StoreFields.{ArePartsSmall}
-use Rattle.repo_store.specs.Kept.{entries_of, held_list, held_of}
+use Rattle.repo_store.specs.Kept.{front_of, entries_of, held_list, held_of}
 use Rattle.repo_store.specs.Indexes.{GainsOne}
 use Rattle.repo_store.specs.Layers.{all_of}
 use Rattle.repo_store.specs.Slots.{KeepsOne}
 use Rattle.repo_store.proofs.StoreLemmas.{entries_same, sound_more, small_more}
 use Rattle.repo_store.proofs.SlotMaps.{part_there, nothing_of, put_there, with_missing, with_there, gains_slot}
-use Rattle.repo_store.proofs.SlotMaps.{none_where}
-use Rattle.repo_store.proofs.SlotLemmas.{slots_more, index_more, index_same}
+use Rattle.repo_store.proofs.SlotMaps.{none_where, held_at}
+use Rattle.repo_store.proofs.SlotLemmas.{slots_more, index_more, index_same, index_fronts}
 use Rattle.repo_store.proofs.StoredLemmas.{more_room, some_room}
 use Rattle.repo_store.proofs.store.Store.put_reserved_with_digest.Goals as goal
 
@@ -44,6 +46,12 @@ returns-then-is_some-clause-put c =
 
 pub keep-slot-requires-clause-kept : goal.keep-slot-requires-clause-kept
 keep-slot-requires-clause-kept c h i = c.self.invariant.slots.kept h (c.self.invariant.full_names.held_only h i)
+
+pub keep-slot-requires-clause-fronts : goal.keep-slot-requires-clause-fronts
+keep-slot-requires-clause-fronts c =
+    let held = held_of c.self.inside.slots.entries in
+    index_fronts FullNames c.self.inside.packets c.self.inside.packets held held c.self.inside.full_names (λ h i. i)
+    (λ h i. refl) c.self.invariant.slots.fronts c.self.invariant.full_names
 
 pub add-requires-clause-in_order : goal.add-requires-clause-in_order
 add-requires-clause-in_order c =
@@ -106,19 +114,22 @@ invariant_of-self-2 c =
     c.of_data-packet.ensures.octets c.keep-slot.ensures.kept in
     let same : (h : Held) → In h before → get new h.slot ≡ get old h.slot =
     λ h i. keeps.others h.slot (c.self.invariant.slots.kept h i) in
-    let held : Held = record { part = c.args.part; slot = c.keep-slot.result } in
+    let kept : Kept = record { slot = c.keep-slot.result; front = c.front-front.result } in
+    let held : Held = held_at c.args.part kept in
     let after = held_of c.set_value.new.map.entries in
-    let items : after ≡ held_list (with_value part_cmp c.args.part c.keep-slot.result slots) =
+    let items : after ≡ held_list (with_value part_cmp c.args.part kept slots) =
     ap held_list c.set_value.ensures.entries in
     let gains =
     subst (GainsOne held before) (sym items)
-    (gains_slot slots c.args.part c.keep-slot.result (order_rises exact_parts c.self.inside.slots.entries) none) in
+    (gains_slot slots c.args.part kept (order_rises exact_parts c.self.inside.slots.entries) none) in
     let put =
     ap (entries_of new) items
-    ∙ put_there new slots c.args.part c.keep-slot.result octets keeps.there
+    ∙ put_there new slots c.args.part kept octets keeps.there
     ∙ ap (with_value part_cmp c.args.part octets) (entries_same old new before same) in
     let names = index_same Names old new before c.self.inside.names same c.self.invariant.names in
     let full_names = index_same FullNames old new before c.self.inside.full_names same c.self.invariant.full_names in
+    let front : c.front-front.result ≡ front_of (sha256 octets) =
+    c.front-front.ensures ∙ ap (λ (o : List ℕ). front_of (sha256 o)) c.of_data-packet.ensures.octets in
     let spare : 0 < c.self.inside.spare =
     omega (arith, c.requires.spare, ap (λ (s : StoreList). s.spare) c.self.view_is) in
     record {
@@ -130,7 +141,7 @@ invariant_of-self-2 c =
           (small_more c.args.part octets (entries_of old before) (omega arith) c.self.invariant.small);
       slots =
           slots_more old new octets before after c.self.inside.full_names held c.of_data-packet.ensures.named
-          c.self.invariant.slots c.self.invariant.full_names keeps gains;
+          front c.self.invariant.slots c.self.invariant.full_names keeps gains;
       names =
           index_more Names new before after c.self.inside.names c.add.new.self held c.add.ensures.in_order
           names.held_only names.all_held gains c.add.ensures.gains;
@@ -167,12 +178,13 @@ returns-clause-put c =
     c.of_data-packet.ensures.octets c.keep-slot.ensures.kept in
     let same : (h : Held) → In h before → get new h.slot ≡ get old h.slot =
     λ h i. keeps.others h.slot (c.self.invariant.slots.kept h i) in
+    let kept : Kept = record { slot = c.keep-slot.result; front = c.front-front.result } in
     let items : held_of c.set_value.new.map.entries
-    ≡ held_list (with_value part_cmp c.args.part c.keep-slot.result slots) =
+    ≡ held_list (with_value part_cmp c.args.part kept slots) =
     ap held_list c.set_value.ensures.entries in
     let put =
     ap (entries_of new) items
-    ∙ put_there new slots c.args.part c.keep-slot.result octets keeps.there
+    ∙ put_there new slots c.args.part kept octets keeps.there
     ∙ ap (with_value part_cmp c.args.part octets) (entries_same old new before same)
     ∙ with_missing old slots c.args.part octets missing in
     ap (λ (p : List (Part × List ℕ)). let s : StoreList = record { packets = p; spare = c.self.inside.spare - 1 } in s)

@@ -1,7 +1,8 @@
-use Rattle.std.proofs.Common.{ℕ, List, Option, Some, None, Ok, Result, option_map, sym, ap, ◌∙◌}
+use Rattle.std.proofs.Common.{ℕ, List, Option, Some, None, Ok, Result, option_map, refl, sym, ap, ◌∙◌}
 use Rattle.std.specs.List.{find}
 use Rattle.repo_plan.specs.declared.part.Part.{Part}
 use Rattle.ndn_name.specs.declared.fault.PacketFault.{PacketFault}
+use Rattle.repo_store.specs.declared.index.Order.TheVariants.{FullNames}
 use Rattle.repo_store.specs.Served.{satisfies}
 use Rattle.repo_store.specs.Kept.{held_of}
 use Rattle.repo_store.specs.StoreList.{StoreList}
@@ -10,6 +11,7 @@ use Rattle.repo_store.specs.Layers.{all_of}
 use Rattle.repo_store.proofs.StoreLemmas.{parts_rise}
 use Rattle.repo_store.proofs.ServedLemmas.{served_found}
 use Rattle.repo_store.proofs.FindLemmas.{first_of_same, found_is}
+use Rattle.repo_store.proofs.SlotLemmas.{index_fronts}
 use Rattle.repo_store.proofs.store.Store.serve.Goals as goal
 
 pub first_for-found-requires-clause-same : goal.first_for-found-requires-clause-same
@@ -17,6 +19,12 @@ first_for-found-requires-clause-same c h =
     let names = c.self.invariant.names in
     let full_names = c.self.invariant.full_names in
     (λ i. full_names.all_held h (names.held_only h i), λ i. names.all_held h (full_names.held_only h i))
+
+pub first_for-found-requires-clause-fronts : goal.first_for-found-requires-clause-fronts
+first_for-found-requires-clause-fronts c =
+    let held = held_of c.self.inside.slots.entries in
+    index_fronts FullNames c.self.inside.packets c.self.inside.packets held held c.self.inside.full_names (λ h i. i)
+    (λ h i. refl) c.self.invariant.slots.fronts c.self.invariant.full_names
 
 pub first_for-found-requires-clause-are_data : goal.first_for-found-requires-clause-are_data
 first_for-found-requires-clause-are_data c h i =
