@@ -1,6 +1,7 @@
 -- What searches of an index find, and that it stays in order.
 use Rattle.std.proofs.Common.{◌≡◌, ◌≢◌, ℕ, zero, suc, ◌<◌, ◌≤◌, Bool, true, false, ◌⊎◌, inl, inr, List, [], ◌∷◌, ◌++◌}
-use Rattle.std.proofs.Common.{map, length, get_or, take, drop, Some, None, refl, sym, ap, subst, ◌∙◌, arith}
+use Rattle.std.proofs.Common.{map, length, length-append, get_or, take, drop, Some, None, refl, sym, ap, subst, ◌∙◌}
+use Rattle.std.proofs.Common.{arith}
 use Rattle.std.specs.Prelude.{slice_get}
 use Rattle.std.specs.List.{AllWithin, insert}
 use Rattle.std.specs.List.Sorted.{IsPartitionedBy, IsPartitionPoint}
@@ -12,7 +13,8 @@ use Rattle.std.specs.declared.cmp.Ordering.TheVariants.{Less, Equal, Greater}
 use Rattle.std.proofs.lemmas.Bool.{true≢false, cases_lt}
 use Rattle.std.proofs.lemmas.Bool.Decides.{nat_tests}
 use Rattle.std.proofs.lemmas.Cmp.{nat_cmp_total, nat_list_cmp_total, on_total, then_total, tied_itself}
-use Rattle.std.proofs.lemmas.List.{map-append, take-map, drop-map, length-map}
+use Rattle.std.proofs.lemmas.List.{map-append, take-map, drop-map, length-map, take-append-drop, take-append-le}
+use Rattle.std.proofs.lemmas.List.{drop-append-le}
 use Rattle.std.proofs.lemmas.Map.Lookups.{exact_bytes}
 use Rattle.slab.specs.Slab.{Slab}
 use Rattle.repo_plan.specs.declared.part.Part.{Part}
@@ -214,6 +216,47 @@ module _ {A : Type 0} (key : A → Key) where
         not_less_where _ (in_back (λ x. is_lt (key_cmp (key x) k) ≡ false) xs place point.1 from.0 from.1)
         (ap (λ (z : Key). key_cmp z k) (sym from.2) ∙ less);
   }
+
+  -- what stands from a place on is what stands there, or comes after that
+  from_there : (xs : List A) (i : ℕ) (x : A) → slice_get xs i ≡ Some x → Rises key_cmp (map key xs) → (k : Key)
+      → In k (drop i (map key xs)) → (k ≡ key x) ⊎ (key_cmp (key x) k ≡ Less)
+  from_there [] i x is r k j = absurd cc
+  from_there (y ∷ xs) zero x is r k (inl e) = let same : y ≡ x = cc in inl (e ∙ ap key same)
+  from_there (y ∷ xs) zero x is r k (inr j) =
+      let same : y ≡ x = cc in
+      inr
+      (ap (λ (z : A). key_cmp (key z) k) (sym same) ∙ each_before exact_keys.total (key y) (map key xs) r.0 k j)
+  from_there (y ∷ xs) (suc i) x is r k j = from_there xs i x is r.1 k j
+
+  pub rises_front : (xs : List A) (n : ℕ) → Rises key_cmp (map key xs) → Rises key_cmp (map key (take n xs))
+  rises_front xs n r = subst (Rises key_cmp) (take-map key n xs) (rises_take key_cmp n (map key xs) r)
+
+  place_before : (front back : List Key) (k : Key) (place : ℕ) → ((x : Key) → In x back → key_cmp x k ≢ Less)
+      → IsPlace front k place → IsPlace (front ++ back) k place
+  place_before front back k place not_less at = record {
+    within = omega (arith, at.within, length-append front back);
+    before = λ x i. at.before x (subst (In x) (take-append-le place front back at.within) i);
+    behind = λ x i.
+        elim (in_append (drop place front) back x (subst (In x) (drop-append-le place front back at.within) i)) [
+          | inl j ↦ at.behind x j
+          | inr j ↦ not_less x j
+        ];
+  }
+
+  -- a key has its place in front of what does not come before it
+  pub place_in_front : (xs : List A) (k : Key) (i place : ℕ) (x : A) → Rises key_cmp (map key xs)
+      → slice_get xs i ≡ Some x → is_lt (key_cmp (key x) k) ≡ false → IsPlace (map key (take i xs)) k place
+      → IsPlace (map key xs) k place
+  place_in_front xs k i place x r is not_less at =
+      subst (λ (ks : List Key). IsPlace ks k place) (take-append-drop i (map key xs))
+      (place_before (take i (map key xs)) (drop i (map key xs)) k place behind
+      (subst (λ (ks : List Key). IsPlace ks k place) (sym (take-map key i xs)) at))
+    where
+      behind : (z : Key) → In z (drop i (map key xs)) → key_cmp z k ≢ Less
+      behind z j less = not_less_where _ not_less (elim (from_there xs i x is r z j) [
+        | inl e ↦ ap (λ (y : Key). key_cmp y k) (sym e) ∙ less
+        | inr after ↦ exact_keys.total.trans (key x) z k after less
+      ])
 
 -- ---- from a key on
 

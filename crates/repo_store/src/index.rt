@@ -169,6 +169,30 @@ impl Index<'_> {
         self.place(&self.key(held), held.part)
     }
 
+    // The same, where it is mostly little. What stands at 0, 1, 3, 7 and so on is compared until something does
+    // not come before this; then what stands in front of that is searched.
+    pub(crate) fn place_near_front(&self, held: &Held) -> usize
+        requires { IndexIsInOrder self.now }
+        ensures { IsPlace (keys_of self.now)
+            (key_in self.now.order self.now.packets.now held.now) result }
+    {
+        let key = self.key(held);
+        let mut end = 0;
+        while let Some(next) = self.held.get(end) {
+            if !self.cmp(next, &key, held.part).is_lt() {
+                let (front, _) = self.held.split_at(end);
+                return Index {
+                    order: self.order,
+                    held: front,
+                    packets: self.packets,
+                }
+                .place(&key, held.part);
+            }
+            end = 2 * end + 1;
+        }
+        self.place(&key, held.part)
+    }
+
     // What is held from this key on.
     fn from(&self, key: &Key<'_>) -> &[Held]
         requires { IndexIsInOrder self.now }

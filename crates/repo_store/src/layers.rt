@@ -205,7 +205,8 @@ fn is_behind(index: &[Held], order: Order, packets: &Packets, held: &Held) -> bo
     index.cmp_held(last, held).is_lt()
 }
 
-// Two indexes are merged into one, for which there is room.
+// Two indexes are merged into one, for which there is room. Names that come one after the other mostly stand
+// close together, so most places are near the front of the rest.
 fn merge(merged: &mut Vec<Held>, settled: &[Held], recent: &[Held], order: Order, packets: &Packets)
     requires empty { merged.old.items ≡ [] }
     requires settled { Rises key_cmp (keys_in order packets.now settled.now) }
@@ -223,7 +224,7 @@ fn merge(merged: &mut Vec<Held>, settled: &[Held], recent: &[Held], order: Order
             held: rest,
             packets,
         };
-        let (before, behind) = rest.split_at(index.place_of(held));
+        let (before, behind) = rest.split_at(index.place_near_front(held));
         merged.extend_from_slice(before).unwrap();
         merged.push(*held).unwrap();
         rest = behind;

@@ -5,8 +5,8 @@ use Rattle.repo_store.specs.Layers.{IsMerged}
 use Rattle.repo_store.proofs.LayerLemmas.{Merging, rises_behind, merging_more, merging_all}
 use Rattle.repo_store.proofs.layers.merge.Goals as goal
 
-pub place_of-requires : goal.place_of-requires
-place_of-requires c =
+pub place_near_front-requires : goal.place_near_front-requires
+place_near_front-requires c =
     rises_behind c.args.order c.args.packets.now c.loop-held.merged.items c.loop-held.rest.now
     c.loop-held.invariant.merging.in_order
 
@@ -19,7 +19,7 @@ loop-held-preserved c =
     let merged = c.loop-held.merged.items in
     let rest = c.loop-held.rest.now in
     let i = c.loop-held.held-index in
-    let place = c.place_of.result in
+    let place = c.place_near_front.result in
     let extended : c.extend_from_slice.new.self.items ≡ merged ++ c.split_at.result.0.now =
     rw c.unwrap.ensures at c.extend_from_slice.ensures.items in
     let extended_len : vec_len c.extend_from_slice.new.self
@@ -37,7 +37,7 @@ loop-held-preserved c =
     (extended ∙ ap (λ (xs : List Held). merged ++ xs) c.split_at.ensures.front) in
     let more =
     merging_more order packets settled recent merged rest i place none c.loop-held-test.true c.requires.recent
-    c.requires.apart c.place_of.ensures c.loop-held.invariant.merging in
+    c.requires.apart c.place_near_front.ensures c.loop-held.invariant.merging in
     record {
       merging =
           subst (λ (r : List Held). Merging order packets settled recent c.push.new.self.items r (i + 1))
@@ -52,7 +52,7 @@ loop-held-preserved c =
             pushed_len,
             c.split_at.ensures.front_len,
             c.split_at.ensures.back_len,
-            c.place_of.ensures.within,
+            c.place_near_front.ensures.within,
           );
       capacity =
           omega (arith, c.loop-held.invariant.capacity, c.extend_from_slice.ensures.capacity, c.push.ensures.capacity);
