@@ -42,5 +42,4 @@ returns c =
     c.key-key.ensures.first c.key-key.ensures.second in
     none_all index.order index.packets.now c.args.packet.now (triple_of c.key-key.result) same index.held.now
     c.from-held-items.result.now c.loop-held.held-index c.requires.fronts c.from-held-items.ensures
-    c.loop-held-test.false
-    c.loop-held.invariant
+    c.loop-held-test.false c.loop-held.invariant
