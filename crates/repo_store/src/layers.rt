@@ -14,9 +14,6 @@ use crate::packet::{Packet, Packets};
 use std::alloc::{AllocError, Global};
 use std::mem;
 
-// How much may be recent.
-const RECENT_LIMIT: usize = 256;
-
 // What is held, in order of an index: most of it settled, and what came last in front of others until it is
 // merged with those. So few others are moved for each, in whatever order they come.
 #[derive(Drop)]
@@ -140,9 +137,15 @@ impl Layers {
             return;
         }
         self.add_recent(order, packets, held);
-        if self.recent.len() > RECENT_LIMIT {
+        if self.has_many_recent() {
             self.settle(order, packets);
         }
+    }
+
+    // Whether more is recent than the root of what is settled. What is added moves the one, and what is merged the
+    // other.
+    fn has_many_recent(&self) -> bool {
+        self.recent.len().saturating_mul(self.recent.len()) > self.settled.len()
     }
 
     // The same, among what is recent.

@@ -35,10 +35,10 @@ returns-then-is_behind-clause-gains c =
     subst (λ (xs : List Held). GainsOne c.args.held (all_of l) (xs ++ l.recent.items)) (sym items)
     (more_settled c.args.order c.args.packets.now l.settled.items l.recent.items c.args.held)
 
-pub returns-then-len-gt-RECENT_LIMIT-clause-gains : goal.returns-then-len-gt-RECENT_LIMIT-clause-gains
-returns-then-len-gt-RECENT_LIMIT-clause-gains c =
+pub returns-then-has_many_recent-clause-gains : goal.returns-then-has_many_recent-clause-gains
+returns-then-has_many_recent-clause-gains c =
     gains_same c.args.held (all_of c.args.self.now) (all_of c.add_recent.new.self) (all_of c.settle.new.self)
     c.add_recent.ensures.gains c.settle.ensures.same
 
-pub returns-then-len-gt-RECENT_LIMIT-clause-room : goal.returns-then-len-gt-RECENT_LIMIT-clause-room
-returns-then-len-gt-RECENT_LIMIT-clause-room c n room = c.settle.ensures.room n (c.add_recent.ensures.room n room)
+pub returns-then-has_many_recent-clause-room : goal.returns-then-has_many_recent-clause-room
+returns-then-has_many_recent-clause-room c n room = c.settle.ensures.room n (c.add_recent.ensures.room n room)
