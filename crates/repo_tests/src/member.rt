@@ -1,16 +1,13 @@
-ghost use Rattle.std.specs.Prelude.{◌≡◌, length};
-ghost use Rattle.repo_member.specs.Groups.{IsPlainNodeName, IsKey};
+ghost use Rattle.std.specs.Prelude.{◌≡◌, ◌<◌, length};
+ghost use Rattle.repo_member.specs.Alone.{IsOfGroup};
+ghost use Rattle.repo_member.specs.Groups.{HaveKeys, IsKey, IsPlainNodeName};
 
 mod commands;
-mod peer;
-mod play;
 mod worked;
 
 use ndn_name::Name;
-use peer::Peer;
 use repo_member::*;
 use repo_object::{NODE_NAME_LIMIT, PartRefusal, is_object_name};
-use repo_plan::Part;
 use std::fmt::Display;
 use std::process::Abort;
 use std::test::*;
@@ -23,7 +20,11 @@ const BOB: u32 = 1;
 
 const CAROL: u32 = 2;
 
+// The draw that each call is given. Each is made at moment 0.
+const DRAW: u32 = 100;
+
 // The name of a group or a node.
+#[tactic(auto, using(crate::proofs::NodeNames::plain))]
 fn node_name(rt: &(impl Abort + AllocGlobal), text: &str) -> Name
     ensures { IsPlainNodeName result }
 {
@@ -62,60 +63,81 @@ fn three_members(rt: &(impl Abort + AllocGlobal)) -> Group
     g
 }
 
-// A part of a publication.
-fn part(publisher: u32, seq: u16, part: u8) -> Part {
-    Part {
-        publisher,
-        seq,
-        part,
-    }
+// A member of this number that knows of nothing.
+fn member(rt: &(impl Abort + AllocGlobal), g: &Group, number: u32) -> Member
+    requires { number < length g.now.members.names }
+{
+    Member::new(rt.alloc(), g, number, 0, DRAW).expect(rt, "memory")
+}
+
+// What calls ask for: the group is the member's, and few draws were used.
+fn ready(rt: &impl Abort, g: &Group, member: &Member)
+    ensures group { IsOfGroup g.now member.now }
+    ensures keys { HaveKeys g.now.members }
+    ensures draws { member.now.machine.draws < 100000 }
+{
+    assert!(rt; member.vector().members() == g.roster().len());
+    assert!(rt; member.next_draw() < 100_000);
 }
 
 #[test]
 fn nobody_tells_of_more_than_was_published(rt: HostRuntime) {
     let g = three_members(&rt);
-    let mut bob = Peer::new(&rt, &g, BOB);
-    refuses_five_of_its_own(&rt, &mut bob);
+    let mut bob = member(&rt, &g, BOB);
+    refuses_five_of_its_own(&rt, &g, &mut bob);
     is_unchanged(&rt, &bob);
 }
 
-fn refuses_five_of_its_own(rt: &impl Abort, bob: &mut Peer<'_>) {
+fn refuses_five_of_its_own(rt: &impl Abort, g: &Group, bob: &mut Member) {
     let ahead = HearRefusal::OwnNumberAhead { own: 0, told: 5 };
-    assert_eq!(rt; bob.hear(rt, &FIVE_OF_BOB, 10), Err(ahead));
-    assert_eq!(rt; bob.join_from(rt, &FIVE_OF_BOB), Err(ahead));
+    ready(rt, g, bob);
+    assert_eq!(rt; bob.hear(g, &FIVE_OF_BOB, 0, DRAW), Err(ahead));
+    ready(rt, g, bob);
+    assert_eq!(rt; bob.join_from(g, &FIVE_OF_BOB), Err(ahead));
 }
 
-fn is_unchanged(rt: &impl Abort, bob: &Peer<'_>) {
-    assert_eq!(rt; bob.numbers(rt), (0, 0, 0));
+fn is_unchanged(rt: &impl Abort, bob: &Member) {
+    let vector = bob.vector();
+    assert_eq!(rt; vector.members(), 3);
     assert_eq!(rt;
-        (bob.member.log_len(), bob.member.mode()),
-        (0, Mode::Steady)
+        (vector.get(ALICE), vector.get(BOB), vector.get(CAROL)),
+        (0, 0, 0)
     );
-    assert_eq!(rt; bob.member.next_draw(), 1);
-    assert!(rt; bob.member.catalogue().entries().is_empty());
+    assert_eq!(rt; (bob.log_len(), bob.mode()), (0, Mode::Steady));
+    assert_eq!(rt; bob.next_draw(), 1);
+    assert!(rt; bob.catalogue().entries().is_empty());
 }
 
 #[test]
 fn numbers_are_spent(rt: HostRuntime) {
     let g = three_members(&rt);
-    let mut alice = Peer::new(&rt, &g, ALICE);
-    spend_all(&rt, &mut alice);
+    let mut alice = member(&rt, &g, ALICE);
+    spend_all(&rt, &g, &mut alice);
+    assert_eq!(rt; (alice.log_len(), alice.next_draw()), (65_535, 65_536));
+    assert_eq!(rt; alice.catalogue().entries().len(), 65_535);
 }
 
 // Publishes an object without contents under each number.
-fn spend_all(rt: &(impl Abort + AllocGlobal), alice: &mut Peer<'_>) {
-    let name = Name::from_uri(rt.alloc(), "/e").expect(rt, "a name");
+fn spend_all(rt: &(impl Abort + AllocGlobal), g: &Group, alice: &mut Member) {
+    let name = node_name(rt, "/e");
     for seq in 0..u16::MAX {
-        let published = alice.publish(rt, &name, &[], 0).expect(rt, "a number");
+        let published = publish(rt, g, alice, &name).expect(rt, "a number");
         assert!(rt; published.seq == seq + 1);
     }
     let spent = PublishRefusal::NumbersSpent { log: 65_535 };
-    assert_eq!(rt; alice.publish(rt, &name, &[], 0).err(), Some(spent));
-    assert_eq!(rt;
-        (alice.member.log_len(), alice.member.next_draw()),
-        (65_535, 65_536)
-    );
-    assert_eq!(rt; alice.member.catalogue().entries().len(), 65_535);
+    assert_eq!(rt; publish(rt, g, alice, &name).err(), Some(spent));
+}
+
+// Publishes an object without contents.
+fn publish(
+    rt: &impl Abort,
+    g: &Group,
+    alice: &mut Member,
+    name: &Name,
+) -> Result<Published, PublishRefusal> {
+    assert!(rt; is_object_name(&name.view()));
+    ready(rt, g, alice);
+    alice.publish(g, name, &[], 0, DRAW)
 }
 
 #[test]

@@ -1,5 +1,4 @@
 use bench_net::*;
-use std::alloc::{AllocError, Global};
 use std::test::*;
 
 // Shared by threads, so that a proof that these can be is owed here.
@@ -84,40 +83,4 @@ fn seeded_passes(rt: HostRuntime) {
     }
     assert!(rt; Seeded::new(COUNTED).passes(15, 15, 65_535, 65_535, 2_097_151, 135));
     assert!(rt; passed(&Seeded::new([0; 32])) && passed(&TableNet::new(1)));
-}
-
-// Two packets that tell of one vector.
-fn two(alloc: Global) -> Result<Sent, AllocError> {
-    let mut sent = Sent::new(alloc);
-    let vector = [1, 0].to_vec(alloc)?;
-    sent.add(0, &vector, b"a")?;
-    sent.reserve(1)?;
-    let octets = b"b".to_vec(alloc)?;
-    sent.add_reserved(3, vector, octets);
-    Ok(sent)
-}
-
-#[test]
-fn what_was_sent_is_found_by_number(rt: HostRuntime) -> Result<(), Fail> {
-    let sent = two(rt.alloc())?;
-    assert_eq!(rt; sent.len(), 2);
-    assert_eq!(rt; sent.octets(0), None);
-    assert_eq!(rt; sent.octets(1).ok_or("a first packet")?, b"a".as_slice());
-    assert_eq!(rt; sent.octets(2).ok_or("a second packet")?, b"b".as_slice());
-    assert_eq!(rt; sent.octets(3), None);
-    Ok(())
-}
-
-#[test]
-fn what_was_sent_is_found_by_sender_and_vector(rt: HostRuntime) -> Result<(), Fail> {
-    let sent = two(rt.alloc())?;
-    let found = [sent.has(0, &[1, 0]), sent.has(3, &[1, 0])];
-    assert_eq!(rt; found, [true, true]);
-    let others = [
-        sent.has(1, &[1, 0]),
-        sent.has(0, &[1, 1]),
-        sent.has(0, &[1]),
-    ];
-    assert_eq!(rt; others, [false, false, false]);
-    Ok(())
 }
