@@ -1,14 +1,11 @@
-ghost use Rattle.std.specs.Prelude.{◌≤◌, length};
-
 mod hostile;
 mod worked;
 
 use hostile::HOSTILE;
 use ndn_data::*;
-use ndn_name::{Field, Name, NameFault, NameView, PacketFault};
+use ndn_name::{Name, NameView};
 use ndn_sign::{digest, hmac};
-use ndn_tlv::TlvFault;
-use std::alloc::Global;
+use std::process::Abort;
 use std::test::*;
 use worked::{FULL, LONGER, OTHER, RECORD, SEGMENT};
 
@@ -26,49 +23,61 @@ const ALICE_KEY: &[u8] = &[
 ];
 
 // A name of these components.
-fn name(alloc: Global, value: &[u8]) -> Result<Name, NameFault>
-    requires { length value.now ≤ 1000 }
-{
-    Name::from_view(alloc, &NameView::read(value, 0)?)
+fn name(rt: &(impl Abort + AllocGlobal), value: &[u8]) -> Name {
+    let view = NameView::read(value, 0).expect(rt, "a name");
+    Name::from_view(rt.alloc(), &view).expect(rt, "memory")
 }
 
 #[test]
-fn worked_segment_is_read(rt: HostRuntime) -> Result<(), Fail> {
-    let data = DataView::read(&SEGMENT)?;
-    assert_eq!(rt; data.name.octets(), DOC);
-    assert_eq!(rt; data.content, b"abc".as_slice());
-    assert_eq!(rt; data.content_type, 0);
-    let last = data.last.ok_or("a last segment")?;
-    assert_eq!(rt; (last.typ, last.value.len()), (0x32, 1));
-    assert_eq!(rt; data.signature_type, 4);
-    let locator = data.locator.as_ref().ok_or("a locator")?;
-    assert_eq!(rt; locator.octets(), ALICE_KEY);
-    assert_eq!(rt; data.signature, &SEGMENT[47..]);
-    assert_eq!(rt; data.signed_portion(), &SEGMENT[2..45]);
-    assert_eq!(rt;
-        hmac(KEY, data.signed_portion(), &[]).as_slice(),
-        data.signature
-    );
+fn worked_segment_is_read(rt: HostRuntime) {
+    let data = DataView::read(&SEGMENT).expect(&rt, "a packet");
+    is_the_segment(&rt, &data);
+    is_signed_by_alice(&rt, &data);
     assert!(rt; data.all_signed());
-    Ok(())
+}
+
+fn is_the_segment(rt: &impl Abort, data: &DataView<'_>) {
+    assert!(rt; data.name.octets() == DOC);
+    assert!(rt; data.content == b"abc".as_slice());
+    assert!(rt; data.content_type == 0);
+    let last = data.last.expect(rt, "a last segment");
+    assert!(rt; last.typ == 0x32 && last.value.len() == 1);
+}
+
+fn is_signed_by_alice(rt: &impl Abort, data: &DataView<'_>) {
+    assert!(rt; data.signature_type == 4);
+    let locator = data.locator.as_ref().expect(rt, "a locator");
+    assert!(rt; locator.octets() == ALICE_KEY);
+    assert!(rt; data.signature == &SEGMENT[47..]);
+    assert!(rt; data.signed_portion() == &SEGMENT[2..45]);
+    assert!(rt; hmac(KEY, data.signed_portion(), &[]).as_slice() == data.signature);
 }
 
 #[test]
-fn worked_packets_are_written(rt: HostRuntime) -> Result<(), Fail> {
-    let alloc = rt.alloc();
-    let key_name = name(alloc, ALICE_KEY)?;
-    let segment = write_signed(alloc, &name(alloc, DOC)?, Some(0), b"abc", &key_name, KEY)?;
-    assert_eq!(rt; segment.as_slice(), SEGMENT.as_slice());
-    let record = name(alloc, ALICE_1)?;
-    let record = write_signed(alloc, &record, None, &RECORD[19..63], &key_name, KEY)?;
-    assert_eq!(rt; record.as_slice(), RECORD.as_slice());
-    Ok(())
+fn worked_packets_are_written(rt: HostRuntime) {
+    let key_name = name(&rt, ALICE_KEY);
+    is_written(&rt, DOC, Some(0), b"abc", &key_name, &SEGMENT);
+    is_written(&rt, ALICE_1, None, &RECORD[19..63], &key_name, &RECORD);
+}
+
+fn is_written(
+    rt: &(impl Abort + AllocGlobal),
+    value: &[u8],
+    last: Option<u64>,
+    content: &[u8],
+    key_name: &Name,
+    octets: &[u8],
+) {
+    let name = name(rt, value);
+    let packet = write_signed(rt.alloc(), &name, last, content, key_name, KEY);
+    assert!(rt; packet.expect(rt, "memory").as_slice() == octets);
 }
 
 #[test]
 fn hostile_packets(rt: HostRuntime) {
     for (octets, fault) in HOSTILE {
-        assert_eq!(rt; DataView::read(octets).err(), Some(fault), "{octets:?}");
+        let refused = DataView::read(octets).err();
+        assert!(rt; refused == Some(fault), "{refused:?}: {octets:?}");
     }
 }
 
@@ -149,14 +158,17 @@ const STRANGERS: [(&[u8], usize, usize, bool); 5] = [
 ];
 
 #[test]
-fn strangers_are_passed_over_and_signed(rt: HostRuntime) -> Result<(), Fail> {
+fn strangers_are_passed_over_and_signed(rt: HostRuntime) {
     for (octets, start, end, all_signed) in STRANGERS {
-        let data = DataView::read(octets)?;
-        assert_eq!(rt; Some(data.signed_portion()), octets.get(start..end));
-        assert_eq!(rt; data.all_signed(), all_signed);
-        assert_eq!(rt; data.content, b"abc".as_slice());
+        let data = DataView::read(octets).expect(&rt, "a packet");
+        signs(&rt, &data, octets.get(start..end).expect(&rt, "octets"));
+        assert!(rt; data.all_signed() == all_signed, "{octets:?}");
     }
-    Ok(())
+}
+
+fn signs(rt: &impl Abort, data: &DataView<'_>, octets: &[u8]) {
+    assert!(rt; data.signed_portion() == octets, "{octets:?}");
+    assert!(rt; data.content == b"abc".as_slice());
 }
 
 // Signature infos that are read: each with the octets of the key's name, where it has one.
@@ -218,14 +230,18 @@ const INFOS: [(&[u8], u64, Option<&[u8]>); 6] = [
 ];
 
 #[test]
-fn signature_infos(rt: HostRuntime) -> Result<(), Fail> {
+fn signature_infos(rt: HostRuntime) {
     for (octets, signature_type, locator) in INFOS {
-        let data = DataView::read(octets)?;
-        assert_eq!(rt; data.signature_type, signature_type);
-        assert_eq!(rt; data.locator.as_ref().map(|name| name.octets()), locator);
-        assert!(rt; data.content.is_empty() && data.last.is_none());
+        let data = DataView::read(octets).expect(&rt, "a packet");
+        assert!(rt; data.signature_type == signature_type, "{octets:?}");
+        has_locator(&rt, &data, locator);
     }
-    Ok(())
+}
+
+fn has_locator(rt: &impl Abort, data: &DataView<'_>, locator: Option<&[u8]>) {
+    let found = data.locator.as_ref().map(|name| name.octets());
+    assert!(rt; found == locator, "{locator:?}");
+    assert!(rt; data.content.is_empty() && data.last.is_none());
 }
 
 // Packets with a MetaInfo: the content type, and the type of the last segment's component.
@@ -261,35 +277,37 @@ const META_INFOS: [(&[u8], u64, Option<u16>); 3] = [
 ];
 
 #[test]
-fn meta_infos(rt: HostRuntime) -> Result<(), Fail> {
+fn meta_infos(rt: HostRuntime) {
     for (octets, content_type, last) in META_INFOS {
-        let data = DataView::read(octets)?;
-        assert_eq!(rt; data.content_type, content_type);
-        assert_eq!(rt; data.last.map(|component| component.typ), last);
+        let data = DataView::read(octets).expect(&rt, "a packet");
+        assert!(rt; data.content_type == content_type, "{octets:?}");
+        assert!(rt;
+            data.last.map(|component| component.typ) == last,
+            "{octets:?}"
+        );
     }
-    Ok(())
 }
 
+// Values of names, and whether an Interest of each asks for the segment, exactly and by a prefix.
+const ASKED: [(&[u8], bool, bool); 8] = [
+    (DOC, true, true),
+    (&[0x08, 0x03, 0x64, 0x6f, 0x63], false, true),
+    (&[], false, true),
+    (&[8, 3, 0x64, 0x6f, 0x64], false, false),
+    (&[8, 2, 0x64, 0x6f], false, false),
+    // The full name, the same of another packet, and one that goes on from the full name.
+    (&FULL, true, true),
+    (&OTHER, false, false),
+    (&LONGER, false, false),
+];
+
 #[test]
-fn names_that_a_packet_satisfies(rt: HostRuntime) -> Result<(), Fail> {
-    let data = DataView::read(&SEGMENT)?;
+fn names_that_a_packet_satisfies(rt: HostRuntime) {
+    let data = DataView::read(&SEGMENT).expect(&rt, "a packet");
     let id = digest(&SEGMENT);
-    let asked: [(&[u8], bool, bool); 8] = [
-        (DOC, true, true),
-        (&DOC[..5], false, true),
-        (&[], false, true),
-        (&[8, 3, 0x64, 0x6f, 0x64], false, false),
-        (&[8, 2, 0x64, 0x6f], false, false),
-        // The full name, the same of another packet, and one that goes on from the full name.
-        (&FULL, true, true),
-        (&OTHER, false, false),
-        (&LONGER, false, false),
-    ];
-    for (value, exactly, by_prefix) in asked {
-        assert!(rt; value.len() <= 1_000);
-        let name = NameView::read(value, 0)?;
-        assert_eq!(rt; data.satisfies(&name, false, &id), exactly, "{value:?}");
-        assert_eq!(rt; data.satisfies(&name, true, &id), by_prefix, "{value:?}");
+    for (value, exactly, by_prefix) in ASKED {
+        let name = NameView::read(value, 0).expect(&rt, "a name");
+        assert!(rt; data.satisfies(&name, false, &id) == exactly, "{value:?}");
+        assert!(rt; data.satisfies(&name, true, &id) == by_prefix, "{value:?}");
     }
-    Ok(())
 }

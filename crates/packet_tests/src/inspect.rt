@@ -1,4 +1,6 @@
 use ndn_inspect::*;
+use std::process::Abort;
+use std::str;
 use std::test::*;
 
 // An Interest for a record, and one with a field of most kinds.
@@ -51,41 +53,54 @@ const DATA_LINES: &str = "06 Data 77
   17 SignatureValue 32 375b6af5bb89153f9e9f217bcff08bb4e94a9c19f2ab42636d6eaa822dd3fcfa
 ";
 
+// Digits of octets, the text that is printed of them, and whether they are elements to their end.
+const TEXTS: [(&str, &str, bool); 10] = [
+    (INTEREST, INTEREST_LINES, true),
+    (FULL_INTEREST, FULL_INTEREST_LINES, true),
+    (DATA, DATA_LINES, true),
+    ("", "", true),
+    (
+        "0706080161320100",
+        "07 Name 6\n  08 GenericNameComponent 1 61\n  32 SegmentNameComponent 1 00\n",
+        true,
+    ),
+    // Values that hold elements of their own kind, and one whose element is not whole.
+    (
+        "0708070607040702fd00",
+        "07 Name 8\n  07 Name 6\n    07 Name 4\n      07 Name 2\nfault Truncated 8\n",
+        false,
+    ),
+    ("07fd0006", "fault NotShortest 1\n", false),
+    (
+        "08000000",
+        "08 GenericNameComponent 0\nfault ZeroType 2\n",
+        false,
+    ),
+    (
+        "0604 0602 0601 07",
+        "06 Data 4\n  06 Data 2\nfault Truncated 4\n",
+        false,
+    ),
+    ("ff000000010000000000", "fault TypeTooLarge 0\n", false),
+];
+
 #[test]
-fn texts(rt: HostRuntime) -> Result<(), Fail> {
-    for (digits, text, sound) in [
-        (INTEREST, INTEREST_LINES, true),
-        (FULL_INTEREST, FULL_INTEREST_LINES, true),
-        (DATA, DATA_LINES, true),
-        ("", "", true),
-        (
-            "0706080161320100",
-            "07 Name 6\n  08 GenericNameComponent 1 61\n  32 SegmentNameComponent 1 00\n",
-            true,
-        ),
-        // Values that hold elements of their own kind, and one whose element is not whole.
-        (
-            "0708070607040702fd00",
-            "07 Name 8\n  07 Name 6\n    07 Name 4\n      07 Name 2\nfault Truncated 8\n",
-            false,
-        ),
-        ("07fd0006", "fault NotShortest 1\n", false),
-        (
-            "08000000",
-            "08 GenericNameComponent 0\nfault ZeroType 2\n",
-            false,
-        ),
-        (
-            "0604 0602 0601 07",
-            "06 Data 4\n  06 Data 2\nfault Truncated 4\n",
-            false,
-        ),
-        ("ff000000010000000000", "fault TypeTooLarge 0\n", false),
-    ] {
-        let digits = digits.replace(rt.alloc(), " ", "")?;
-        let octets = hex::decode(rt.alloc(), digits.as_str())?;
-        let (told, free) = inspect(rt.alloc(), &octets)?;
-        assert_eq!(rt; (std::str::from_utf8(&told)?, free), (text, sound));
+fn texts(rt: HostRuntime) {
+    for (digits, text, sound) in TEXTS {
+        let octets = octets_of(&rt, digits);
+        is_inspected(&rt, &octets, text, sound);
     }
-    Ok(())
+}
+
+fn octets_of(rt: &(impl Abort + AllocGlobal), digits: &str) -> Vec<u8> {
+    let digits = digits.replace(rt.alloc(), " ", "").expect(rt, "memory");
+    hex::decode(rt.alloc(), digits.as_str()).expect(rt, "digits")
+}
+
+fn is_inspected(rt: &(impl Abort + AllocGlobal), octets: &[u8], text: &str, sound: bool) {
+    let (told, free) = inspect(rt.alloc(), octets).expect(rt, "memory");
+    assert!(rt;
+        str::from_utf8(&told) == Ok(text) && free == sound,
+        "{text}"
+    );
 }

@@ -1,13 +1,10 @@
-ghost use Rattle.std.specs.Prelude.{◌≤◌, length};
-
 mod hostile;
 
 use hostile::HOSTILE;
 use ndn_interest::*;
-use ndn_name::{Name, NameFault, NameView, PacketFault};
+use ndn_name::{Name, NameView};
 use ndn_sign::{KeyRing, digest, hmac};
-use ndn_tlv::TlvFault;
-use std::alloc::Global;
+use std::process::Abort;
 use std::test::*;
 
 const KEY: &[u8] = b"k1";
@@ -47,84 +44,98 @@ const SYNC: [u8; 117] = [
 ];
 
 // A name of these components.
-fn name(alloc: Global, value: &[u8]) -> Result<Name, NameFault>
-    requires { length value.now ≤ 1000 }
-{
-    Name::from_view(alloc, &NameView::read(value, 0)?)
+fn name(rt: &(impl Abort + AllocGlobal), value: &[u8]) -> Name {
+    let view = NameView::read(value, 0).expect(rt, "a name");
+    Name::from_view(rt.alloc(), &view).expect(rt, "memory")
 }
 
 #[test]
-fn plain_interest_is_read(rt: HostRuntime) -> Result<(), Fail> {
-    let interest = InterestView::read(&PLAIN)?;
-    assert_eq!(rt; interest.name.octets(), ALICE_1);
+fn plain_interest_is_read(rt: HostRuntime) {
+    let interest = InterestView::read(&PLAIN).expect(&rt, "an Interest");
+    assert!(rt; interest.name.octets() == ALICE_1);
+    has_no_other_field(&rt, &interest);
+    is_unsigned(&rt, &interest);
+}
+
+fn has_no_other_field(rt: &impl Abort, interest: &InterestView<'_>) {
     assert!(rt; !interest.can_be_prefix && !interest.must_be_fresh);
     assert!(rt; interest.nonce.is_none() && interest.lifetime.is_none());
     assert!(rt; interest.hop_limit.is_none() && interest.parameters.is_none());
+}
+
+fn is_unsigned(rt: &impl Abort, interest: &InterestView<'_>) {
     assert!(rt; interest.signature_type.is_none() && interest.locator.is_none());
     assert!(rt; interest.signature.is_none() && interest.signed_portion().is_none());
     assert!(rt; !interest.params_digest_matches());
-    Ok(())
 }
 
 #[test]
-fn sync_interest_is_read(rt: HostRuntime) -> Result<(), Fail> {
-    let interest = InterestView::read(&SYNC)?;
-    assert_eq!(rt; interest.name.octets(), &SYNC[4..44]);
-    assert_eq!(rt; interest.parameters, Some(VECTOR));
-    assert_eq!(rt; interest.signature_type, Some(4));
-    let locator = interest.locator.as_ref().ok_or("a locator")?;
-    assert_eq!(rt; locator.octets(), ALICE_KEY);
-    assert_eq!(rt; interest.signature, Some(&SYNC[85..]));
-    let (first, second) = interest.signed_portion().ok_or("a signed portion")?;
-    assert_eq!(rt; (first, second), (SYNC_2, &SYNC[44..83]));
-    assert_eq!(rt;
-        Some(hmac(KEY, first, second).as_slice()),
-        interest.signature
-    );
+fn sync_interest_is_read(rt: HostRuntime) {
+    let interest = InterestView::read(&SYNC).expect(&rt, "an Interest");
+    has_the_vector(&rt, &interest);
+    is_signed(&rt, &interest);
     assert!(rt; interest.params_digest_matches());
-    assert_eq!(rt; digest(&SYNC[44..]).as_slice(), &SYNC[12..44]);
-    Ok(())
+    assert!(rt; digest(&SYNC[44..]).as_slice() == &SYNC[12..44]);
+}
+
+fn has_the_vector(rt: &impl Abort, interest: &InterestView<'_>) {
+    assert!(rt; interest.name.octets() == &SYNC[4..44]);
+    assert!(rt; interest.parameters == Some(VECTOR));
+    assert!(rt; interest.signature_type == Some(4));
+    let locator = interest.locator.as_ref().expect(rt, "a locator");
+    assert!(rt; locator.octets() == ALICE_KEY);
+}
+
+fn is_signed(rt: &impl Abort, interest: &InterestView<'_>) {
+    assert!(rt; interest.signature == Some(&SYNC[85..]));
+    let (first, second) = interest.signed_portion().expect(rt, "a signed portion");
+    assert!(rt; first == SYNC_2 && second == &SYNC[44..83]);
+    assert!(rt; Some(hmac(KEY, first, second).as_slice()) == interest.signature);
 }
 
 #[test]
-fn worked_interests_are_written(rt: HostRuntime) -> Result<(), Fail> {
-    let alloc = rt.alloc();
-    let record = name(alloc, ALICE_1)?;
-    assert!(rt; record.view().len() > 0);
-    let plain = write_plain(alloc, &record, false)?;
-    assert_eq!(rt; plain.as_slice(), PLAIN.as_slice());
-    let short = name(alloc, &[8, 1, 0x61])?;
-    assert!(rt; short.view().len() > 0);
-    let prefix = write_plain(alloc, &short, true)?;
-    assert_eq!(rt;
-        prefix.as_slice(),
-        [5, 7, 7, 3, 8, 1, 0x61, 0x21, 0].as_slice()
-    );
-    let key_name = name(alloc, ALICE_KEY)?;
-    let sync = write_signed(alloc, &name(alloc, SYNC_2)?, VECTOR, &key_name, KEY)?;
-    assert_eq!(rt; sync.as_slice(), SYNC.as_slice());
-    Ok(())
+fn worked_interests_are_written(rt: HostRuntime) {
+    is_written(&rt, ALICE_1, false, &PLAIN);
+    is_written(&rt, &[8, 1, 0x61], true, &[5, 7, 7, 3, 8, 1, 0x61, 0x21, 0]);
+    let group = name(&rt, SYNC_2);
+    let key_name = name(&rt, ALICE_KEY);
+    let sync = write_signed(rt.alloc(), &group, VECTOR, &key_name, KEY);
+    assert!(rt; sync.expect(&rt, "memory").as_slice() == SYNC.as_slice());
+}
+
+// Sees how the plain Interest in a name is written.
+fn is_written(rt: &(impl Abort + AllocGlobal), value: &[u8], can_be_prefix: bool, octets: &[u8]) {
+    let name = name(rt, value);
+    assert!(rt; name.view().len() > 0);
+    let plain = write_plain(rt.alloc(), &name, can_be_prefix).expect(rt, "memory");
+    assert!(rt; plain.as_slice() == octets);
 }
 
 #[test]
 fn hostile_packets(rt: HostRuntime) {
     for (octets, fault) in HOSTILE {
-        assert_eq!(rt; InterestView::read(octets).err(), Some(fault), "{octets:?}");
+        let refused = InterestView::read(octets).err();
+        assert!(rt; refused == Some(fault), "{refused:?}: {octets:?}");
     }
 }
 
+// The name "/a" and each plain field.
+const FIELDS: [u8; 28] = [
+    0x05, 0x1a, 0x07, 0x03, 0x08, 0x01, 0x61, 0x21, 0x00, 0x12, 0x00, 0x1e, 0x02, 0x00, 0x00, 0x0a,
+    0x04, 0x01, 0x02, 0x03, 0x04, 0x0c, 0x02, 0x0f, 0xa0, 0x22, 0x01, 0xff,
+];
+
 #[test]
-fn plain_fields(rt: HostRuntime) -> Result<(), Fail> {
-    let octets = [
-        0x05, 0x1a, 0x07, 0x03, 0x08, 0x01, 0x61, 0x21, 0x00, 0x12, 0x00, 0x1e, 0x02, 0x00, 0x00,
-        0x0a, 0x04, 0x01, 0x02, 0x03, 0x04, 0x0c, 0x02, 0x0f, 0xa0, 0x22, 0x01, 0xff,
-    ];
-    let interest = InterestView::read(&octets)?;
+fn plain_fields(rt: HostRuntime) {
+    let interest = InterestView::read(&FIELDS).expect(&rt, "an Interest");
+    has_the_fields(&rt, &interest);
+}
+
+fn has_the_fields(rt: &impl Abort, interest: &InterestView<'_>) {
     assert!(rt; interest.can_be_prefix && interest.must_be_fresh);
-    assert_eq!(rt; interest.nonce, Some(16_909_060));
-    assert_eq!(rt; interest.lifetime, Some(4_000));
-    assert_eq!(rt; interest.hop_limit, Some(255));
-    Ok(())
+    assert!(rt; interest.nonce == Some(16_909_060));
+    assert!(rt; interest.lifetime == Some(4_000));
+    assert!(rt; interest.hop_limit == Some(255));
 }
 
 // Interests that count as unsigned.
@@ -158,14 +169,11 @@ const UNSIGNED: [&[u8]; 5] = [
 ];
 
 #[test]
-fn lenient_forms_count_as_unsigned(rt: HostRuntime) -> Result<(), Fail> {
+fn lenient_forms_count_as_unsigned(rt: HostRuntime) {
     for octets in UNSIGNED {
-        assert!(rt;
-            InterestView::read(octets)?.signed_portion().is_none(),
-            "{octets:?}"
-        );
+        let interest = InterestView::read(octets).expect(&rt, "an Interest");
+        assert!(rt; interest.signed_portion().is_none(), "{octets:?}");
     }
-    Ok(())
 }
 
 // Signed Interests with strangers: where the second piece of the signed portion begins and ends.
@@ -229,53 +237,59 @@ const STRANGERS: [(&[u8], usize, usize); 5] = [
 ];
 
 #[test]
-fn strangers_are_passed_over_and_signed(rt: HostRuntime) -> Result<(), Fail> {
+fn strangers_are_passed_over_and_signed(rt: HostRuntime) {
     for (octets, start, end) in STRANGERS {
-        let interest = InterestView::read(octets)?;
-        let (first, second) = interest.signed_portion().ok_or("a signed portion")?;
-        assert_eq!(rt; first, SYNC_2);
-        assert_eq!(rt; Some(second), octets.get(start..end), "{octets:?}");
-        assert_eq!(rt; interest.signature, Some([0].as_slice()));
-        assert!(rt; !interest.params_digest_matches());
+        let interest = InterestView::read(octets).expect(&rt, "an Interest");
+        signs(&rt, &interest, octets.get(start..end).expect(&rt, "octets"));
     }
-    Ok(())
+}
+
+fn signs(rt: &impl Abort, interest: &InterestView<'_>, octets: &[u8]) {
+    let (first, second) = interest.signed_portion().expect(rt, "a signed portion");
+    assert!(rt; first == SYNC_2);
+    assert!(rt; second == octets, "{octets:?}");
+    assert!(rt; interest.signature == Some([0].as_slice()));
+    assert!(rt; !interest.params_digest_matches());
 }
 
 // A ring in which alice's key has the number 1.
-fn ring(alloc: Global, key: &[u8]) -> Result<KeyRing, Fail> {
-    let mut ring = KeyRing::new(alloc);
-    ring.add(SYNC_2, KEY)?;
-    ring.add(ALICE_KEY, key)?;
-    Ok(ring)
-}
-
-// Who signed these octets, by a ring with this key.
-fn signer(alloc: Global, octets: &[u8], key: &[u8]) -> Result<Result<u32, SignatureRefusal>, Fail> {
-    let interest = InterestView::read(octets)?;
-    let ring = ring(alloc, key)?;
-    Ok(signer_of(&interest, &ring))
+fn ring(rt: &(impl Abort + AllocGlobal), key: &[u8]) -> KeyRing {
+    let mut ring = KeyRing::new(rt.alloc());
+    ring.add(SYNC_2, KEY).expect(rt, "memory");
+    ring.add(ALICE_KEY, key).expect(rt, "memory");
+    ring
 }
 
 #[test]
-fn signers_of_interests(rt: HostRuntime) -> Result<(), Fail> {
-    let alloc = rt.alloc();
+fn signers_of_interests(rt: HostRuntime) {
     let mut changed = SYNC;
     changed[59] = 2;
-    assert_eq!(rt; signer(alloc, &SYNC, KEY)?, Ok(1));
-    assert_eq!(rt;
-        signer(alloc, &SYNC, b"k2")?,
-        Err(SignatureRefusal::BadSignature)
+    let ring_of_alice = ring(&rt, KEY);
+    is_signed_by(&rt, &SYNC, &ring_of_alice, Ok(1));
+    is_signed_by(
+        &rt,
+        &changed,
+        &ring_of_alice,
+        Err(SignatureRefusal::ParamsDigest),
     );
-    assert_eq!(rt;
-        signer(alloc, &changed, KEY)?,
-        Err(SignatureRefusal::ParamsDigest)
-    );
-    assert_eq!(rt;
-        signer(alloc, &PLAIN, KEY)?,
-        Err(SignatureRefusal::Unsigned)
-    );
-    let interest = InterestView::read(&SYNC)?;
-    let none = signer_of(&interest, &KeyRing::new(alloc));
-    assert_eq!(rt; none, Err(SignatureRefusal::UnknownKey));
-    Ok(())
+    is_signed_by(&rt, &PLAIN, &ring_of_alice, Err(SignatureRefusal::Unsigned));
+    others_do_not_know_the_signer(&rt);
+}
+
+fn others_do_not_know_the_signer(rt: &(impl Abort + AllocGlobal)) {
+    let other = ring(rt, b"k2");
+    is_signed_by(rt, &SYNC, &other, Err(SignatureRefusal::BadSignature));
+    let empty = KeyRing::new(rt.alloc());
+    is_signed_by(rt, &SYNC, &empty, Err(SignatureRefusal::UnknownKey));
+}
+
+fn is_signed_by(
+    rt: &impl Abort,
+    octets: &[u8],
+    ring: &KeyRing,
+    signer: Result<u32, SignatureRefusal>,
+) {
+    let interest = InterestView::read(octets).expect(rt, "an Interest");
+    let found = signer_of(&interest, ring);
+    assert!(rt; found == signer, "{found:?}, and not {signer:?}");
 }

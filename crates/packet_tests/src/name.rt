@@ -2,6 +2,8 @@ ghost use Rattle.std.specs.Prelude.{◌<◌, ◌^◌, length};
 
 use ndn_name::*;
 use ndn_tlv::TlvFault;
+use std::process::Abort;
+use std::str;
 use std::test::*;
 
 // SHA-256 of nothing (FIPS 180-4).
@@ -43,13 +45,21 @@ const TEXTS: [(&str, &[u8], &str); 24] = [
 ];
 
 #[test]
-fn texts_are_read_and_printed(rt: HostRuntime) -> Result<(), Fail> {
+fn texts_are_read_and_printed(rt: HostRuntime) {
     for (text, octets, printed) in TEXTS {
-        let name = Name::from_uri(rt.alloc(), text)?;
-        assert_eq!(rt; name.octets(), octets, "{text}");
-        assert_eq!(rt; name.to_uri(rt.alloc())?.as_str(), printed, "{text}");
+        let name = name_of(&rt, text);
+        assert!(rt; name.octets() == octets, "{text}");
+        is_printed(&rt, &name, printed);
     }
-    Ok(())
+}
+
+fn name_of(rt: &(impl Abort + AllocGlobal), text: &str) -> Name {
+    Name::from_uri(rt.alloc(), text).expect(rt, "a name")
+}
+
+fn is_printed(rt: &(impl Abort + AllocGlobal), name: &Name, text: &str) {
+    let printed = name.to_uri(rt.alloc()).expect(rt, "memory");
+    assert!(rt; printed.as_str() == text, "{printed}, and not {text}");
 }
 
 // Texts that leave the form of a URI, and where.
@@ -105,41 +115,56 @@ const LEAVES: [(&str, usize); 46] = [
 #[test]
 fn texts_leave_the_form(rt: HostRuntime) {
     for (text, place) in LEAVES {
-        let fault = Name::from_uri(rt.alloc(), text).err();
-        assert_eq!(rt; fault, Some(NameFault::BadUri { place }), "{text}");
+        is_refused(&rt, text, NameFault::BadUri { place });
     }
 }
 
+fn is_refused(rt: &(impl Abort + AllocGlobal), text: &str, fault: NameFault) {
+    let refused = Name::from_uri(rt.alloc(), text).err();
+    assert!(rt; refused == Some(fault), "{refused:?}: {text}");
+}
+
+// The full name of "/a", and as it is read too.
+const FULL: &str =
+    "/a/sha256digest=e3b0c44298fc1c149afbf4c8996fb92427ae41e4649b934ca495991b7852b855";
+
+const FULL_IN_CAPITALS: &str =
+    "/a/sha256digest=E3B0C44298FC1C149AFBF4C8996FB92427AE41E4649B934CA495991B7852B855";
+
+// A digest of one digit too many.
+const LONG_DIGEST: &str =
+    "/params-sha256=e3b0c44298fc1c149afbf4c8996fb92427ae41e4649b934ca495991b7852b8550";
+
 #[test]
-fn digests_and_long_names(rt: HostRuntime) -> Result<(), Fail> {
-    let alloc = rt.alloc();
-    let digits = "e3b0c44298fc1c149afbf4c8996fb92427ae41e4649b934ca495991b7852b855";
-    let upper = "E3B0C44298FC1C149AFBF4C8996FB92427AE41E4649B934CA495991B7852B855";
-    let mut name = Name::new(alloc);
-    name.push(8, b"a")?;
-    let full = full_name(alloc, &name, &DIGEST)?;
-    let text = format!(in alloc; "/a/sha256digest={digits}")?;
-    assert_eq!(rt; full.to_uri(alloc)?.as_str(), text.as_str());
-    let text = format!(in alloc; "/a/sha256digest={upper}")?;
-    assert!(rt; Name::from_uri(alloc, text.as_str())? == full);
-    let text = format!(in alloc; "/params-sha256={digits}0")?;
-    let fault = Name::from_uri(alloc, text.as_str()).err();
-    assert_eq!(rt; fault, Some(NameFault::BadUri { place: 79 }));
-    let text = format!(in alloc; "/b/2=abc/1=x")?;
-    let fault = Name::from_uri(alloc, text.as_str()).err();
-    assert_eq!(rt; fault, Some(NameFault::BadDigestLength { at: 3 }));
-    let letters = vec![in alloc; b'a'; 996]?;
-    let mut long = Name::new(alloc);
-    assert_eq!(rt; long.push(8, &letters).err(), None);
-    assert_eq!(rt; long.octets().len(), NAME_LIMIT);
-    assert_eq!(rt; long.push(8, &[]).err(), Some(NameFault::NameTooLong));
-    let text = format!(in alloc; "{}/a", long.to_uri(alloc)?)?;
-    let fault = Name::from_uri(alloc, text.as_str()).err();
-    assert_eq!(rt; fault, Some(NameFault::NameTooLong));
-    let text = format!(in alloc; "{}/1=a", long.to_uri(alloc)?)?;
-    let fault = Name::from_uri(alloc, text.as_str()).err();
-    assert_eq!(rt; fault, Some(NameFault::BadDigestLength { at: 998 }));
-    Ok(())
+fn digests_and_long_names(rt: HostRuntime) {
+    digests_are_read_and_printed(&rt);
+    is_refused(&rt, LONG_DIGEST, NameFault::BadUri { place: 79 });
+    is_refused(&rt, "/b/2=abc/1=x", NameFault::BadDigestLength { at: 3 });
+    let long = longest(&rt);
+    goes_no_further(&rt, &long, "/a", NameFault::NameTooLong);
+    goes_no_further(&rt, &long, "/1=a", NameFault::BadDigestLength { at: 998 });
+}
+
+fn digests_are_read_and_printed(rt: &(impl Abort + AllocGlobal)) {
+    let full = full_name(rt.alloc(), &name_of(rt, "/a"), &DIGEST).expect(rt, "memory");
+    is_printed(rt, &full, FULL);
+    assert!(rt; name_of(rt, FULL_IN_CAPITALS) == full);
+}
+
+// A name that has no room for a further component.
+fn longest(rt: &(impl Abort + AllocGlobal)) -> Name {
+    let letters = vec![in rt.alloc(); b'a'; 996].expect(rt, "memory");
+    let mut long = Name::new(rt.alloc());
+    long.push(8, &letters).expect(rt, "a component");
+    assert!(rt; long.octets().len() == NAME_LIMIT);
+    assert!(rt; long.push(8, &[]) == Err(NameFault::NameTooLong));
+    long
+}
+
+fn goes_no_further(rt: &(impl Abort + AllocGlobal), name: &Name, end: &str, fault: NameFault) {
+    let mut text = name.to_uri(rt.alloc()).expect(rt, "memory");
+    text.push_str(end).expect(rt, "memory");
+    is_refused(rt, text.as_str(), fault);
 }
 
 // What is wrong first with a value at offset 100.
@@ -149,28 +174,40 @@ fn fault_of(octets: &[u8]) -> Option<NameFault>
     NameView::read(octets, 100).err()
 }
 
+// Octets that are no value of a name, and the fault at offset 100.
+const BROKEN: [(&[u8], NameFault); 3] = [
+    (
+        &[8, 0, 254, 0, 1, 0, 0, 0],
+        NameFault::BadComponent { at: 102 },
+    ),
+    (&[1, 1, 0, 8], NameFault::BadDigestLength { at: 100 }),
+    (
+        &[8, 0, 8, 2, 0],
+        NameFault::Tlv(TlvFault::Truncated { at: 102 }),
+    ),
+];
+
 #[test]
-fn values_are_read(rt: HostRuntime) -> Result<(), Fail> {
-    let view = NameView::read(&[8, 1, 97, 50, 1, 0], 2)?;
-    assert_eq!(rt; view.len(), 2);
+fn values_are_read(rt: HostRuntime) {
+    let view = NameView::read(&[8, 1, 97, 50, 1, 0], 2).expect(&rt, "a name");
+    is_read(&rt, &view);
+    is_copied(&rt, &view);
+    assert!(rt; fault_of(&[]).is_none());
+    for (octets, fault) in BROKEN {
+        assert!(rt; octets.len() < 1000);
+        assert!(rt; fault_of(octets) == Some(fault), "{octets:?}");
+    }
+}
+
+fn is_read(rt: &impl Abort, view: &NameView<'_>) {
+    assert!(rt; view.len() == 2);
     let second = view.component(1);
-    assert_eq!(rt; (second.typ, second.value), (50, [0].as_slice()));
-    let name = Name::from_view(rt.alloc(), &view)?;
-    assert!(rt; name.clone()? == name);
-    assert_eq!(rt; fault_of(&[]), None);
-    assert_eq!(rt;
-        fault_of(&[8, 0, 254, 0, 1, 0, 0, 0]),
-        Some(NameFault::BadComponent { at: 102 })
-    );
-    assert_eq!(rt;
-        fault_of(&[1, 1, 0, 8]),
-        Some(NameFault::BadDigestLength { at: 100 })
-    );
-    assert_eq!(rt;
-        fault_of(&[8, 0, 8, 2, 0]),
-        Some(NameFault::Tlv(TlvFault::Truncated { at: 102 }))
-    );
-    Ok(())
+    assert!(rt; second.typ == 50 && second.value == [0].as_slice());
+}
+
+fn is_copied(rt: &(impl Abort + AllocGlobal), view: &NameView<'_>) {
+    let name = Name::from_view(rt.alloc(), view).expect(rt, "memory");
+    assert!(rt; name.clone().expect(rt, "memory") == name);
 }
 
 // Names in canonical order.
@@ -179,24 +216,27 @@ const ORDER: [&str; 10] = [
 ];
 
 #[test]
-fn names_are_in_order(rt: HostRuntime) -> Result<(), Fail> {
-    for (i, first) in ORDER.iter().enumerate() {
-        for (k, second) in ORDER.iter().enumerate() {
-            let (a, b) = (
-                Name::from_uri(rt.alloc(), first)?,
-                Name::from_uri(rt.alloc(), second)?,
-            );
-            assert_eq!(rt; a.view().compare(&b.view()), i.cmp(&k), "{first} {second}");
-            assert_eq!(rt; a < b, i < k, "{first} {second}");
-            let prefix = i == k || i == 0 || (i == 2 && (k == 3 || k == 4));
-            assert_eq!(rt;
-                a.view().is_prefix_of(&b.view()),
-                prefix,
-                "{first} {second}"
-            );
-        }
+fn names_are_in_order(rt: HostRuntime) {
+    for (i, text) in ORDER.iter().enumerate() {
+        let name = name_of(&rt, text);
+        stands_at(&rt, &name, i);
     }
-    Ok(())
+}
+
+// Sees that a name stands at this place, by each name of the order.
+fn stands_at(rt: &(impl Abort + AllocGlobal), name: &Name, i: usize) {
+    for (k, text) in ORDER.iter().enumerate() {
+        let other = name_of(rt, text);
+        compares(rt, name, &other, (i, k));
+    }
+}
+
+// Sees that two names compare as their places do.
+fn compares(rt: &impl Abort, a: &Name, b: &Name, (i, k): (usize, usize)) {
+    assert!(rt; a.view().compare(&b.view()) == i.cmp(&k), "{i} {k}");
+    assert!(rt; (a < b) == (i < k), "{i} {k}");
+    let prefix = i == k || i == 0 || (i == 2 && (k == 3 || k == 4));
+    assert!(rt; a.view().is_prefix_of(&b.view()) == prefix, "{i} {k}");
 }
 
 // Texts, and how many octets the value has of the plain name whose URI each is.
@@ -225,19 +265,29 @@ const SIZES: [(&str, Option<usize>); 22] = [
     ("/2=%00/b", None),
 ];
 
+// What stands behind a component of 70,000 letters, and the size of the whole.
+const ENDS: [(&str, Option<usize>); 3] = [
+    ("/b", Some(70_009)),
+    ("/params-sha256=00", None),
+    (
+        "/sha256digest=e3b0c44298fc1c149afbf4c8996fb92427ae41e4649b934ca495991b7852b855",
+        None,
+    ),
+];
+
 #[test]
-fn plain_texts_tell_their_size(rt: HostRuntime) -> Result<(), Fail> {
+fn plain_texts_tell_their_size(rt: HostRuntime) {
     for (text, len) in SIZES {
-        assert_eq!(rt; plain_uri_len(text), len, "{text}");
+        assert!(rt; plain_uri_len(text) == len, "{text}");
     }
-    let letters = vec![in rt.alloc(); b'a'; 70_000]?;
-    let long = String::from_utf8(letters).ok().ok_or("letters")?;
-    let text = format!(in rt.alloc(); "/{long}/b")?;
-    assert_eq!(rt; plain_uri_len(text.as_str()), Some(70_009));
-    let text = format!(in rt.alloc(); "/{long}/params-sha256=00")?;
-    assert_eq!(rt; plain_uri_len(text.as_str()), None);
-    let digits = "e3b0c44298fc1c149afbf4c8996fb92427ae41e4649b934ca495991b7852b855";
-    let text = format!(in rt.alloc(); "/{long}/sha256digest={digits}")?;
-    assert_eq!(rt; plain_uri_len(text.as_str()), None);
-    Ok(())
+    for (end, len) in ENDS {
+        let text = long_text(&rt, end);
+        assert!(rt; plain_uri_len(text.as_str()) == len, "{end}");
+    }
+}
+
+fn long_text(rt: &(impl Abort + AllocGlobal), end: &str) -> String {
+    let letters = vec![in rt.alloc(); b'a'; 70_000].expect(rt, "memory");
+    let letters = str::from_utf8(&letters).expect(rt, "letters");
+    format!(in rt.alloc(); "/{letters}{end}").expect(rt, "memory")
 }

@@ -1,15 +1,22 @@
+ghost use Rattle.std.specs.Prelude.{◌≡◌, length};
+
 use hex::encode;
 use ndn_sign::*;
+use std::process::Abort;
 use std::test::*;
 
 #[test]
-fn digests(rt: HostRuntime) -> Result<(), Fail> {
-    let text = encode(rt.alloc(), digest(b"abc"))?;
-    assert_eq!(rt;
-        text.as_str(),
-        "ba7816bf8f01cfea414140de5dae2223b00361a396177a9cb410ff61f20015ad"
+fn digests(rt: HostRuntime) {
+    is_printed(
+        &rt,
+        &digest(b"abc"),
+        "ba7816bf8f01cfea414140de5dae2223b00361a396177a9cb410ff61f20015ad",
     );
-    Ok(())
+}
+
+fn is_printed(rt: &(impl Abort + AllocGlobal), octets: &[u8; 32], text: &str) {
+    let printed = encode(rt.alloc(), octets).expect(rt, "memory");
+    assert!(rt; printed.as_str() == text, "{printed}, and not {text}");
 }
 
 // The cases 1, 2, 3, 4, 6 and 7 of RFC 4231, section 4: key, message and HMAC-SHA-256.
@@ -51,37 +58,45 @@ const PUBLISHED: [(&[u8], &[u8], &str); 6] = [
 ];
 
 #[test]
-fn macs_as_published(rt: HostRuntime) -> Result<(), Fail> {
+fn macs_as_published(rt: HostRuntime) {
     for (key, message, mac) in PUBLISHED {
         let (first, second) = message.split_at(message.len() / 2);
-        let text = encode(rt.alloc(), hmac(key, first, second))?;
-        assert_eq!(rt; text.as_str(), mac);
+        is_printed(&rt, &hmac(key, first, second), mac);
     }
-    Ok(())
 }
 
 #[test]
 fn a_long_key_counts_as_its_digest(rt: HostRuntime) {
     let key = [7; 65];
     let short = digest(&key);
-    assert_eq!(rt; hmac(&key, b"a", b"b"), hmac(&short, b"a", b"b"));
+    assert!(rt; hmac(&key, b"a", b"b") == hmac(&short, b"a", b"b"));
 }
 
 #[test]
-fn rings(rt: HostRuntime) -> Result<(), Fail> {
+fn rings(rt: HostRuntime) {
     let mut ring = KeyRing::new(rt.alloc());
-    assert_eq!(rt; ring.add(b"alice", b"k1")?, 0);
-    assert_eq!(rt; ring.add(b"bob", b"Jefe")?, 1);
-    assert_eq!(rt; ring.find(b"bob"), Some(1));
-    assert_eq!(rt; ring.find(b"carol"), None);
-    assert_eq!(rt; ring.name(1), b"bob".as_slice());
-    assert_eq!(rt; ring.key(0), b"k1".as_slice());
+    assert!(rt; ring.add(b"alice", b"k1") == Ok(0));
+    assert!(rt; ring.add(b"bob", b"Jefe") == Ok(1));
+    has_both(&rt, &ring);
+    checks_macs(&rt, &ring);
+    assert!(rt; ring.add(b"alice", b"k3") == Err(RingFault::Duplicate { number: 0 }));
+}
+
+fn has_both(rt: &impl Abort, ring: &KeyRing)
+    requires { length ring.now ≡ 2 }
+{
+    assert!(rt; ring.find(b"bob") == Some(1));
+    assert!(rt; ring.find(b"carol").is_none());
+    assert!(rt; ring.name(1) == b"bob".as_slice());
+    assert!(rt; ring.key(0) == b"k1".as_slice());
+}
+
+fn checks_macs(rt: &impl Abort, ring: &KeyRing)
+    requires { length ring.now ≡ 2 }
+{
     let mac = hmac(b"Jefe", b"what do ya want ", b"for nothing?");
-    let front = mac.get(..31).ok_or("a front")?;
     assert!(rt; ring.check_mac(1, b"what do ya want ", b"for nothing?", &mac));
     assert!(rt; !ring.check_mac(0, b"what do ya want ", b"for nothing?", &mac));
+    let front = mac.get(..31).expect(rt, "a front");
     assert!(rt; !ring.check_mac(1, b"what do ya want ", b"for nothing?", front));
-    let refused = ring.add(b"alice", b"k3").err();
-    assert_eq!(rt; refused, Some(RingFault::Duplicate { number: 0 }));
-    Ok(())
 }

@@ -1,7 +1,10 @@
+ghost use Rattle.std.specs.Prelude.{◌≡◌, ◌<◌, ◌^◌, length};
+
 mod hostile;
 mod interests;
 
-use std::test::Fail;
+use std::process::Abort;
+use std::test::*;
 use svs_sync::*;
 use svs_vector::Vector;
 
@@ -14,64 +17,96 @@ const PERIODIC: [(u32, u64); 4] = [
 ];
 
 #[test]
-fn periods(rt: HostRuntime) -> Result<(), Fail> {
+fn periods(rt: HostRuntime) {
     for (draw, due) in PERIODIC {
-        let machine = Machine::new(rt.alloc(), 1, 5, draw)?;
-        assert_eq!(rt; machine.deadline(), due);
-        assert_eq!(rt; (machine.mode(), machine.next_draw()), (Mode::Steady, 1));
+        let machine = Machine::new(rt.alloc(), 1, 5, draw).expect(&rt, "memory");
+        is_steady(&rt, &machine, due, 1);
     }
-    Ok(())
+}
+
+// Sees that a member is Steady, when it is due and what its next draw is.
+fn is_steady(rt: &impl Abort, machine: &Machine, due: u64, next_draw: u64) {
+    assert!(rt; machine.mode() == Mode::Steady);
+    assert!(rt; machine.deadline() == due, "{}", machine.deadline());
+    assert!(rt; machine.next_draw() == next_draw);
+}
+
+// What a member of two knows, or is told, of publications of the first.
+fn vector(rt: &(impl Abort + AllocGlobal), seq: u16) -> Vector
+    ensures { length result ≡ 2 }
+{
+    let mut vector = Vector::new(rt.alloc(), 2).expect(rt, "memory");
+    vector.raise(0, seq);
+    vector
 }
 
 // A member that knows of one publication is told of none at moment 10, with draw 302.
 #[test]
-fn a_member_that_others_do_not_tell_for_sends(rt: HostRuntime) -> Result<(), Fail> {
-    let mut known = Vector::new(rt.alloc(), 2)?;
-    known.raise(0, 1);
-    let told = Vector::new(rt.alloc(), 2)?;
-    let mut machine = Machine::new(rt.alloc(), 2, 0, 0)?;
-    assert_eq!(rt; machine.heard(10, &told, &known, 302), Mode::Suppressed);
-    assert_eq!(rt; (machine.deadline(), machine.next_draw()), (111, 2));
-    assert_eq!(rt; machine.fired(110, &known, 0), Fired::Early);
-    assert_eq!(rt; machine.fired(111, &known, 0), Fired::Send);
-    assert_eq!(rt;
-        (machine.mode(), machine.deadline()),
-        (Mode::Steady, 27_111)
-    );
-    assert_eq!(rt; machine.next_draw(), 3);
-    Ok(())
+fn a_member_that_others_do_not_tell_for_sends(rt: HostRuntime) {
+    let known = vector(&rt, 1);
+    let mut machine = Machine::new(rt.alloc(), 2, 0, 0).expect(&rt, "memory");
+    is_told_of_none(&rt, &mut machine, &known);
+    sends(&rt, &mut machine, &known);
+    is_steady(&rt, &machine, 27_111, 3);
+}
+
+fn is_told_of_none(rt: &(impl Abort + AllocGlobal), machine: &mut Machine, known: &Vector)
+    requires few { machine.old.draws < 2 ^ 61 }
+    requires known { length known.now ≡ machine.old.members }
+    requires two { machine.old.members ≡ 2 }
+    ensures { machine.new.members ≡ 2 }
+{
+    let told = vector(rt, 0);
+    assert!(rt; machine.heard(10, &told, known, 302) == Mode::Suppressed);
+    assert!(rt; machine.deadline() == 111 && machine.next_draw() == 2);
+}
+
+fn sends(rt: &impl Abort, machine: &mut Machine, known: &Vector)
+    requires { length known.now ≡ machine.old.members }
+{
+    assert!(rt; machine.next_draw() == 2);
+    assert!(rt; machine.fired(110, known, 0) == Fired::Early);
+    assert!(rt; machine.fired(111, known, 0) == Fired::Send);
 }
 
 // A member that knows of two publications is told of one at moment 0, and then of both. Each draw
 // is 100.
 #[test]
-fn a_member_that_others_tell_for_is_quiet(rt: HostRuntime) -> Result<(), Fail> {
-    let mut known = Vector::new(rt.alloc(), 2)?;
-    known.raise(0, 2);
-    let mut told = Vector::new(rt.alloc(), 2)?;
-    told.raise(0, 1);
-    let mut machine = Machine::new(rt.alloc(), 2, 0, 100)?;
-    assert_eq!(rt; machine.fired(27_099, &known, 100), Fired::Early);
-    assert_eq!(rt; machine.heard(0, &told, &known, 100), Mode::Suppressed);
-    assert_eq!(rt; machine.deadline(), 100);
-    assert_eq!(rt; machine.heard(0, &known, &known, 100), Mode::Suppressed);
-    assert_eq!(rt; machine.deadline(), 100);
-    assert_eq!(rt; machine.fired(99, &known, 100), Fired::Early);
-    assert_eq!(rt; machine.fired(100, &known, 100), Fired::Quiet);
-    assert_eq!(rt;
-        (machine.mode(), machine.deadline()),
-        (Mode::Steady, 27_200)
-    );
-    assert_eq!(rt; machine.next_draw(), 3);
-    Ok(())
+fn a_member_that_others_tell_for_is_quiet(rt: HostRuntime) {
+    let known = vector(&rt, 2);
+    let mut machine = Machine::new(rt.alloc(), 2, 0, 100).expect(&rt, "memory");
+    is_told_of_both(&rt, &mut machine, &known);
+    is_quiet(&rt, &mut machine, &known);
+    is_steady(&rt, &machine, 27_200, 3);
+}
+
+fn is_told_of_both(rt: &(impl Abort + AllocGlobal), machine: &mut Machine, known: &Vector)
+    requires few { machine.old.draws < 2 ^ 61 }
+    requires known { length known.now ≡ machine.old.members }
+    requires two { machine.old.members ≡ 2 }
+    ensures { machine.new.members ≡ 2 }
+{
+    let told = vector(rt, 1);
+    assert!(rt; machine.fired(27_099, known, 100) == Fired::Early);
+    assert!(rt; machine.heard(0, &told, known, 100) == Mode::Suppressed);
+    assert!(rt; machine.deadline() == 100);
+    assert!(rt; machine.heard(0, known, known, 100) == Mode::Suppressed);
+    assert!(rt; machine.deadline() == 100);
+}
+
+fn is_quiet(rt: &impl Abort, machine: &mut Machine, known: &Vector)
+    requires { length known.now ≡ machine.old.members }
+{
+    assert!(rt; machine.next_draw() == 2);
+    assert!(rt; machine.fired(99, known, 100) == Fired::Early);
+    assert!(rt; machine.fired(100, known, 100) == Fired::Quiet);
 }
 
 #[test]
-fn publishing_and_starting_again_begin_anew(rt: HostRuntime) -> Result<(), Fail> {
-    let mut machine = Machine::new(rt.alloc(), 1, 0, 0)?;
+fn publishing_and_starting_again_begin_anew(rt: HostRuntime) {
+    let mut machine = Machine::new(rt.alloc(), 1, 0, 0).expect(&rt, "memory");
     machine.published(7, 1);
-    assert_eq!(rt; (machine.deadline(), machine.next_draw()), (27_008, 2));
+    is_steady(&rt, &machine, 27_008, 2);
     machine.reset(9, 2);
-    assert_eq!(rt; (machine.deadline(), machine.next_draw()), (27_011, 3));
-    Ok(())
+    is_steady(&rt, &machine, 27_011, 3);
 }

@@ -1,30 +1,34 @@
 ghost use Rattle.std.specs.Prelude.{◌<◌, length};
 
 use ndn_tlv::*;
+use std::process::Abort;
 use std::test::*;
 
 // The value of a name with the components "a" and segment number 0, in an element of type 7.
 const NAME: [u8; 8] = [0x07, 0x06, 0x08, 0x01, 0x61, 0x32, 0x01, 0x00];
 
 #[test]
-fn elements_in_order(rt: HostRuntime) -> Result<(), Fail> {
+fn elements_in_order(rt: HostRuntime) {
     let mut outer = Reader::new(&NAME, 0);
-    let name = outer.next()?.ok_or("a name")?;
-    assert_eq!(rt;
-        (name.typ, name.start, name.value_start, name.end),
-        (7, 0, 2, 8)
-    );
-    assert_eq!(rt; outer.next()?, None);
-    let mut components = Reader::new(name.value, 2);
-    let first = components.next()?.ok_or("a first component")?;
-    assert_eq!(rt; (first.typ, first.start, first.end), (8, 2, 5));
-    let second = components.next()?.ok_or("a second component")?;
-    assert_eq!(rt;
-        (second.typ, second.start, second.value_start),
-        (0x32, 5, 7)
-    );
-    assert_eq!(rt; second.value, [0].as_slice());
-    Ok(())
+    let name = next_of(&rt, &mut outer);
+    assert!(rt; name.typ == 7 && name.start == 0);
+    assert!(rt; name.value_start == 2 && name.end == 8);
+    assert!(rt; outer.next() == Ok(None));
+    components_in_order(&rt, name.value);
+}
+
+fn next_of<'p>(rt: &impl Abort, reader: &mut Reader<'p>) -> Element<'p> {
+    let element = reader.next().expect(rt, "elements");
+    element.expect(rt, "an element")
+}
+
+fn components_in_order(rt: &impl Abort, value: &[u8]) {
+    let mut components = Reader::new(value, 2);
+    let first = next_of(rt, &mut components);
+    assert!(rt; first.typ == 8 && first.start == 2 && first.end == 5);
+    let second = next_of(rt, &mut components);
+    assert!(rt; second.typ == 0x32 && second.start == 5 && second.value_start == 7);
+    assert!(rt; second.value == [0].as_slice());
 }
 
 // What `next` answers first about octets at offset 100.
@@ -34,27 +38,34 @@ fn first_fault(octets: &[u8]) -> Option<TlvFault>
     Reader::new(octets, 100).next().err()
 }
 
+// Octets at offset 100, and the fault of the first element, where there is one.
+const FAULTS: [(&[u8], Option<TlvFault>); 9] = [
+    (&[], None),
+    (&[253, 1], Some(TlvFault::Truncated { at: 100 })),
+    (&[7], Some(TlvFault::Truncated { at: 101 })),
+    (&[7, 254, 0, 1], Some(TlvFault::Truncated { at: 101 })),
+    (&[7, 2, 0], Some(TlvFault::Truncated { at: 100 })),
+    (
+        &[7, 0xfd, 0x00, 0x06],
+        Some(TlvFault::NotShortest { at: 101 }),
+    ),
+    (
+        &[0xfd, 0x00, 0x07, 0x00],
+        Some(TlvFault::NotShortest { at: 100 }),
+    ),
+    (&[0, 0], Some(TlvFault::ZeroType { at: 100 })),
+    (
+        &[255, 0, 0, 0, 1, 0, 0, 0, 0, 0],
+        Some(TlvFault::TypeTooLarge { at: 100 }),
+    ),
+];
+
 #[test]
 fn faults(rt: HostRuntime) {
-    let at = |at| Some(TlvFault::Truncated { at });
-    assert_eq!(rt; first_fault(&[]), None);
-    assert_eq!(rt; first_fault(&[253, 1]), at(100));
-    assert_eq!(rt; first_fault(&[7]), at(101));
-    assert_eq!(rt; first_fault(&[7, 254, 0, 1]), at(101));
-    assert_eq!(rt; first_fault(&[7, 2, 0]), at(100));
-    assert_eq!(rt;
-        first_fault(&[7, 0xfd, 0x00, 0x06]),
-        Some(TlvFault::NotShortest { at: 101 })
-    );
-    assert_eq!(rt;
-        first_fault(&[0xfd, 0x00, 0x07, 0x00]),
-        Some(TlvFault::NotShortest { at: 100 })
-    );
-    assert_eq!(rt; first_fault(&[0, 0]), Some(TlvFault::ZeroType { at: 100 }));
-    assert_eq!(rt;
-        first_fault(&[255, 0, 0, 0, 1, 0, 0, 0, 0, 0]),
-        Some(TlvFault::TypeTooLarge { at: 100 })
-    );
+    for (octets, fault) in FAULTS {
+        assert!(rt; octets.len() < 1000);
+        assert!(rt; first_fault(octets) == fault, "{octets:?}");
+    }
 }
 
 #[derive(Clone, Copy, Debug, PartialEq, Eq)]
@@ -82,26 +93,27 @@ const TABLE: [Place<Field>; 3] = [
     },
 ];
 
+// A stranger of type 240 is passed over; a second name is critical.
+const FIELDS: [u8; 13] = [240, 0, 129, 1, 2, 131, 0, 240, 0, 131, 0, 7, 0];
+
 #[test]
-fn fields_of_a_table(rt: HostRuntime) -> Result<(), Fail> {
-    // A stranger of type 240 is passed over; a second name is critical.
-    let octets = [240, 0, 129, 1, 2, 131, 0, 240, 0, 131, 0, 7, 0];
-    let mut fields = FieldReader::new(Reader::new(&octets, 10), &TABLE);
-    let (field, count) = fields.next()?.ok_or("a count")?;
-    assert_eq!(rt; (field, count.start), (Field::Count, 12));
-    let (field, digest) = fields.next()?.ok_or("a digest")?;
-    assert_eq!(rt; (field, digest.start), (Field::Digest, 15));
-    let (field, digest) = fields.next()?.ok_or("a second digest")?;
-    assert_eq!(rt; (field, digest.start), (Field::Digest, 19));
-    assert_eq!(rt;
-        fields.next().err(),
-        Some(FieldFault::Critical { typ: 7, at: 21 })
-    );
-    assert_eq!(rt;
-        fields.next().err(),
-        Some(FieldFault::Critical { typ: 7, at: 21 })
-    );
-    Ok(())
+fn fields_of_a_table(rt: HostRuntime) {
+    let mut fields = FieldReader::new(Reader::new(&FIELDS, 10), &TABLE);
+    comes_next(&rt, &mut fields, Field::Count, 12);
+    comes_next(&rt, &mut fields, Field::Digest, 15);
+    comes_next(&rt, &mut fields, Field::Digest, 19);
+    is_critical_at(&rt, &mut fields, 7, 21);
+    is_critical_at(&rt, &mut fields, 7, 21);
+}
+
+fn comes_next(rt: &impl Abort, fields: &mut FieldReader<'_, Field>, field: Field, start: usize) {
+    let next = fields.next().expect(rt, "fields");
+    let (found, element) = next.expect(rt, "a field");
+    assert!(rt; found == field && element.start == start);
+}
+
+fn is_critical_at(rt: &impl Abort, fields: &mut FieldReader<'_, Field>, typ: u32, at: usize) {
+    assert!(rt; fields.next().err() == Some(FieldFault::Critical { typ, at }));
 }
 
 // Each type or length at an edge of its spelling, and its octets.
@@ -125,37 +137,51 @@ const EDGES: [(u32, usize, &[u8]); 8] = [
 ];
 
 #[test]
-fn heads_at_the_edges(rt: HostRuntime) -> Result<(), Fail> {
+fn heads_at_the_edges(rt: HostRuntime) {
     for (typ, len, octets) in EDGES {
-        let mut writer = Writer::with_capacity(rt.alloc(), head_len(typ, len))?;
-        writer.put_head(typ, len)?;
-        assert_eq!(rt; writer.octets(), octets);
-        assert_eq!(rt; head_len(typ, len), octets.len());
+        assert!(rt; typ > 0 && head_len(typ, len) == octets.len());
+        is_spelled(&rt, typ, len, octets);
     }
-    Ok(())
 }
 
-#[test]
-fn spellings(rt: HostRuntime) -> Result<(), Fail> {
-    let mut writer = Writer::new(rt.alloc());
-    writer.put(7, &NAME[2..])?;
-    writer.put_number(0x1b, 4)?;
-    writer.put_number(300, 65_536)?;
-    let octets = writer.finish();
-    let spelled = [
-        7, 6, 8, 1, 0x61, 0x32, 1, 0, 0x1b, 1, 4, 0xfd, 1, 0x2c, 4, 0, 1, 0, 0,
-    ];
-    assert_eq!(rt; octets.as_slice(), spelled.as_slice());
-    Ok(())
+fn is_spelled(rt: &(impl Abort + AllocGlobal), typ: u32, len: usize, octets: &[u8])
+    requires { 0 < typ }
+{
+    let made = Writer::with_capacity(rt.alloc(), head_len(typ, len));
+    let mut writer = made.expect(rt, "memory");
+    writer.put_head(typ, len).expect(rt, "memory");
+    assert!(rt; writer.octets() == octets, "{octets:?}");
 }
+
+// Elements of the types 7, 27 and 300.
+const SPELLED: [u8; 19] = [
+    7, 6, 8, 1, 0x61, 0x32, 1, 0, 0x1b, 1, 4, 0xfd, 1, 0x2c, 4, 0, 1, 0, 0,
+];
+
+#[test]
+fn spellings(rt: HostRuntime) {
+    let mut writer = Writer::new(rt.alloc());
+    writer.put(7, &NAME[2..]).expect(&rt, "memory");
+    writer.put_number(0x1b, 4).expect(&rt, "memory");
+    writer.put_number(300, 65_536).expect(&rt, "memory");
+    let octets = writer.finish();
+    assert!(rt; octets.as_slice() == SPELLED.as_slice());
+}
+
+// The octets of number fields, and the number that each is.
+const NUMBERS: [(&[u8], Option<u64>); 6] = [
+    (&[2], Some(2)),
+    (&[1, 2], Some(258)),
+    (&[0, 0, 1, 2], Some(258)),
+    (&[255; 8], Some(18_446_744_073_709_551_615)),
+    (&[], None),
+    (&[0, 1, 2], None),
+];
 
 #[test]
 fn number_fields(rt: HostRuntime) {
-    assert_eq!(rt; read_number(&[2]), Some(2));
-    assert_eq!(rt; read_number(&[1, 2]), Some(258));
-    assert_eq!(rt; read_number(&[0, 0, 1, 2]), Some(258));
-    assert_eq!(rt; read_number(&[255; 8]), Some(18_446_744_073_709_551_615));
-    assert_eq!(rt; read_number(&[]), None);
-    assert_eq!(rt; read_number(&[0, 1, 2]), None);
+    for (octets, number) in NUMBERS {
+        assert!(rt; read_number(octets) == number, "{octets:?}");
+    }
     assert!(rt; is_critical(31) && !is_critical(32) && is_critical(33));
 }

@@ -1,52 +1,25 @@
+ghost use Rattle.std.specs.Prelude.{◌≡◌, length};
+
 use ndn_name::{Name, NameView};
-use std::alloc::Global;
+use std::process::Abort;
 use std::test::*;
 use svs_vector::*;
-
-// What is known after a vector was told of, told of again, and an older one was.
-#[test]
-fn an_older_vector_changes_nothing(rt: HostRuntime) -> Result<(), Fail> {
-    let mut known = Vector::new(rt.alloc(), 2)?;
-    let mut first = Vector::new(rt.alloc(), 2)?;
-    first.raise(0, 1);
-    let mut second = first.copy(rt.alloc())?;
-    second.raise(0, 2);
-    second.raise(0, 1);
-    assert_eq!(rt; (second.get(0), second.get(1)), (2, 0));
-    assert!(rt; !known.covers(&second));
-    let changed = [known.join(&second), known.join(&first), known.join(&second)];
-    assert_eq!(rt; changed.as_slice(), [true, false, false].as_slice());
-    assert_eq!(rt; (known.get(0), known.get(1)), (2, 0));
-    assert!(rt; known.covers(&second) && known.covers(&first));
-    assert_eq!(rt; known.members(), 2);
-    Ok(())
-}
 
 // The node names /alice and /bob, as values of Name elements.
 const NAMES: [&[u8]; 2] = [&[8, 5, 97, 108, 105, 99, 101], &[8, 3, 98, 111, 98]];
 
-fn two_members(alloc: Global) -> Result<Roster, Fail> {
-    let mut roster = Roster::new(alloc);
+fn two_members(rt: &(impl Abort + AllocGlobal)) -> Roster {
+    let mut roster = Roster::new(rt.alloc());
     for octets in NAMES {
-        let name = Name::from_view(alloc, &NameView::read(octets, 0)?)?;
-        roster.add(&name)?;
+        add(rt, &mut roster, octets);
     }
-    Ok(roster)
+    roster
 }
 
-#[test]
-fn rosters(rt: HostRuntime) -> Result<(), Fail> {
-    let mut roster = two_members(rt.alloc())?;
-    assert_eq!(rt; roster.len(), 2);
-    let bob = NameView::read(NAMES[1], 0)?;
-    assert_eq!(rt; roster.find(&bob), Some(1));
-    assert_eq!(rt; roster.find(&NameView::read(&[], 0)?), None);
-    let again = Name::from_view(rt.alloc(), &bob)?;
-    assert_eq!(rt;
-        roster.add(&again).err(),
-        Some(RosterFault::Duplicate { member: 1 })
-    );
-    Ok(())
+fn add(rt: &(impl Abort + AllocGlobal), roster: &mut Roster, octets: &[u8]) {
+    let view = NameView::read(octets, 0).expect(rt, "a name");
+    let name = Name::from_view(rt.alloc(), &view).expect(rt, "memory");
+    roster.add(&name).expect(rt, "a new member");
 }
 
 // Alice at 3.
@@ -75,14 +48,18 @@ const TOLD: [(&[u8], u16, u16); 4] = [
 ];
 
 #[test]
-fn vectors_are_read(rt: HostRuntime) -> Result<(), Fail> {
-    let roster = two_members(rt.alloc())?;
+fn vectors_are_read(rt: HostRuntime) {
+    let roster = two_members(&rt);
     for (octets, alice, bob) in TOLD {
-        let vector = Vector::read(rt.alloc(), octets, &roster)?;
-        assert_eq!(rt; vector.members(), 2);
-        assert_eq!(rt; (vector.get(0), vector.get(1)), (alice, bob));
+        let vector = Vector::read(rt.alloc(), octets, &roster).expect(&rt, "a vector");
+        tells(&rt, &vector, alice, bob);
     }
-    Ok(())
+}
+
+fn tells(rt: &impl Abort, vector: &Vector, alice: u16, bob: u16) {
+    assert!(rt; vector.members() == 2);
+    let told = (vector.get(0), vector.get(1));
+    assert!(rt; told == (alice, bob), "{told:?}, and not {alice} {bob}");
 }
 
 // Bob, whose name is shorter, at 258 before alice at 255.
@@ -95,17 +72,28 @@ const BOTH: [u8; 29] = [
 const VECTORS: [(u16, u16, &[u8]); 3] = [(0, 0, &[0xc9, 0]), (3, 0, &WRITTEN), (255, 258, &BOTH)];
 
 #[test]
-fn vectors_are_written(rt: HostRuntime) -> Result<(), Fail> {
-    let roster = two_members(rt.alloc())?;
+fn vectors_are_written(rt: HostRuntime) {
+    let roster = two_members(&rt);
     for (alice, bob, octets) in VECTORS {
-        let mut vector = Vector::new(rt.alloc(), roster.len())?;
-        assert_eq!(rt; vector.members(), 2);
-        vector.raise(0, alice);
-        vector.raise(1, bob);
-        let written = vector.write(rt.alloc(), &roster)?;
-        assert_eq!(rt; written.as_slice(), octets);
+        let mut vector = Vector::new(rt.alloc(), roster.len()).expect(&rt, "memory");
+        raise(&rt, &mut vector, alice, bob);
+        is_written(&rt, &vector, &roster, octets);
     }
-    Ok(())
+}
+
+fn raise(rt: &impl Abort, vector: &mut Vector, alice: u16, bob: u16)
+    ensures { length vector.new ≡ length vector.old }
+{
+    assert!(rt; vector.members() == 2);
+    vector.raise(0, alice);
+    vector.raise(1, bob);
+}
+
+fn is_written(rt: &(impl Abort + AllocGlobal), vector: &Vector, roster: &Roster, octets: &[u8])
+    requires { length vector.now ≡ length roster.now }
+{
+    let written = vector.write(rt.alloc(), roster).expect(rt, "memory");
+    assert!(rt; written.as_slice() == octets, "{octets:?}");
 }
 
 // Octets that are no state vector of the two, and the offset of the element that breaks it.
@@ -130,13 +118,16 @@ const BROKEN: [(&[u8], usize); 12] = [
 ];
 
 #[test]
-fn broken_vectors(rt: HostRuntime) -> Result<(), Fail> {
-    let roster = two_members(rt.alloc())?;
+fn broken_vectors(rt: HostRuntime) {
+    let roster = two_members(&rt);
     for (octets, at) in BROKEN {
-        let fault = Vector::read(rt.alloc(), octets, &roster).err();
-        assert_eq!(rt; fault, Some(VectorFault::BadVector { at }));
+        is_refused(&rt, octets, &roster, VectorFault::BadVector { at });
     }
-    Ok(())
+}
+
+fn is_refused(rt: &(impl Abort + AllocGlobal), octets: &[u8], roster: &Roster, fault: VectorFault) {
+    let refused = Vector::read(rt.alloc(), octets, roster).err();
+    assert!(rt; refused == Some(fault), "{refused:?}: {octets:?}");
 }
 
 // Alice at the greatest number of eight octets.
@@ -157,15 +148,29 @@ const TOO_LARGE_AND_BROKEN: [u8; 32] = [
     0xcc, 4, 0, 1, 0, 0, 0xcb, 0,
 ];
 
+// The faults of these.
+const LARGE: [(&[u8], VectorFault); 3] = [
+    (
+        &GREATEST,
+        VectorFault::NumberTooLarge {
+            member: 0,
+            number: u64::MAX,
+        },
+    ),
+    (
+        &TOO_LARGE,
+        VectorFault::NumberTooLarge {
+            member: 1,
+            number: 65_536,
+        },
+    ),
+    (&TOO_LARGE_AND_BROKEN, VectorFault::BadVector { at: 30 }),
+];
+
 #[test]
-fn numbers_above_65535(rt: HostRuntime) -> Result<(), Fail> {
-    let roster = two_members(rt.alloc())?;
-    let large = |member, number| VectorFault::NumberTooLarge { member, number };
-    let greatest = Vector::read(rt.alloc(), &GREATEST, &roster).err();
-    assert_eq!(rt; greatest, Some(large(0, u64::MAX)));
-    let next = Vector::read(rt.alloc(), &TOO_LARGE, &roster).err();
-    assert_eq!(rt; next, Some(large(1, 65_536)));
-    let broken = Vector::read(rt.alloc(), &TOO_LARGE_AND_BROKEN, &roster).err();
-    assert_eq!(rt; broken, Some(VectorFault::BadVector { at: 30 }));
-    Ok(())
+fn numbers_above_65535(rt: HostRuntime) {
+    let roster = two_members(&rt);
+    for (octets, fault) in LARGE {
+        is_refused(&rt, octets, &roster, fault);
+    }
 }

@@ -1,11 +1,11 @@
-ghost use Rattle.std.specs.Prelude.{◌≡◌, ◌≤◌, length, IfOk};
+ghost use Rattle.std.specs.Prelude.{◌≡◌, ◌+◌, ◌<◌, ◌≤◌, length};
 ghost use Rattle.std.specs.List.{All};
 ghost use Rattle.svs_sync.specs.SyncInterest.{IsKeyName, IsNodeName};
 
 use super::hostile::HOSTILE;
 use ndn_name::{Name, NameView};
 use ndn_sign::KeyRing;
-use std::alloc::Global;
+use std::process::Abort;
 use std::test::*;
 use svs_sync::*;
 use svs_vector::{Roster, Vector};
@@ -39,51 +39,101 @@ const FROM_BOB: [u8; 116] = [
     0xfa, 0xf8, 3, 0x9b, 0x27, 0xba, 0x57, 0x31, 2, 0x2c,
 ];
 
-fn node(alloc: Global, value: &[u8]) -> Result<Name, Fail>
+// The group, its members alice and bob, and their keys.
+#[derive(Drop)]
+struct Group {
+    name: Name,
+    roster: Roster,
+    ring: KeyRing,
+}
+
+impl Group {
+    fn new(rt: &(impl Abort + AllocGlobal)) -> Group
+        ensures name { IsNodeName result.name }
+        ensures members { All IsNodeName result.roster }
+        ensures two { length result.roster ≡ 2 }
+    {
+        Group {
+            name: node(rt, GROUP),
+            roster: two_members(rt),
+            ring: two_keys(rt),
+        }
+    }
+}
+
+fn node(rt: &(impl Abort + AllocGlobal), value: &[u8]) -> Name
     requires some { 1 ≤ length value.now }
     requires short { length value.now ≤ 200 }
-    ensures { IfOk result (λ name. IsNodeName name) }
+    ensures { IsNodeName result }
 {
-    Ok(Name::from_view(alloc, &NameView::read(value, 0)?)?)
+    let view = NameView::read(value, 0).expect(rt, "a name");
+    Name::from_view(rt.alloc(), &view).expect(rt, "memory")
 }
 
-fn key_name(node: &Name) -> Result<Name, Fail>
-    requires { IsNodeName node.now }
-    ensures { IfOk result (λ name. IsKeyName name) }
+fn key_name(rt: &(impl Abort + AllocGlobal), value: &[u8]) -> Name
+    requires some { 1 ≤ length value.now }
+    requires short { length value.now ≤ 200 }
+    ensures { IsKeyName result }
 {
-    let mut name = node.clone()?;
-    name.push(8, b"KEY")?;
-    Ok(name)
+    let mut name = node(rt, value);
+    name.push(8, b"KEY").expect(rt, "memory");
+    name
 }
 
-fn two_members(alloc: Global) -> Result<Roster, Fail>
-    ensures members { IfOk result (λ roster. All IsNodeName roster) }
-    ensures two { IfOk result (λ roster. length roster ≡ 2) }
+fn two_members(rt: &(impl Abort + AllocGlobal)) -> Roster
+    ensures members { All IsNodeName result }
+    ensures two { length result ≡ 2 }
 {
-    let mut roster = Roster::new(alloc);
-    roster.add(&node(alloc, ALICE)?)?;
-    roster.add(&node(alloc, BOB)?)?;
-    Ok(roster)
+    let mut roster = Roster::new(rt.alloc());
+    add_member(rt, &mut roster, ALICE);
+    add_member(rt, &mut roster, BOB);
+    roster
 }
 
-fn two_keys(alloc: Global) -> Result<KeyRing, Fail> {
-    let mut ring = KeyRing::new(alloc);
-    ring.add(key_name(&node(alloc, ALICE)?)?.octets(), b"k1")?;
-    ring.add(key_name(&node(alloc, BOB)?)?.octets(), b"k2")?;
-    Ok(ring)
+fn add_member(rt: &(impl Abort + AllocGlobal), roster: &mut Roster, value: &[u8])
+    requires some { 1 ≤ length value.now }
+    requires short { length value.now ≤ 200 }
+    requires members { All IsNodeName roster.old }
+    ensures members { All IsNodeName roster.new }
+    ensures one { length roster.new ≡ length roster.old + 1 }
+{
+    let name = node(rt, value);
+    roster.add(&name).expect(rt, "a new member");
+}
+
+fn two_keys(rt: &(impl Abort + AllocGlobal)) -> KeyRing {
+    let mut ring = KeyRing::new(rt.alloc());
+    add_key(rt, &mut ring, ALICE, b"k1");
+    add_key(rt, &mut ring, BOB, b"k2");
+    ring
+}
+
+fn add_key(rt: &(impl Abort + AllocGlobal), ring: &mut KeyRing, value: &[u8], key: &[u8])
+    requires some { 1 ≤ length value.now }
+    requires short { length value.now ≤ 200 }
+    requires few { length ring.old < 2 }
+    ensures { length ring.new ≡ length ring.old + 1 }
+{
+    let name = key_name(rt, value);
+    ring.add(name.octets(), key).expect(rt, "memory");
 }
 
 #[test]
-fn alice_tells_of_her_first_publication(rt: HostRuntime) -> Result<(), Fail> {
-    let alloc = rt.alloc();
-    let roster = two_members(alloc)?;
-    let mut vector = Vector::new(alloc, roster.len())?;
+fn alice_tells_of_her_first_publication(rt: HostRuntime) {
+    let group = Group::new(&rt);
+    let mut vector = Vector::new(rt.alloc(), group.roster.len()).expect(&rt, "memory");
     vector.raise(0, 1);
-    let group = node(alloc, GROUP)?;
-    let name = key_name(&node(alloc, ALICE)?)?;
-    let octets = make_sync(alloc, &group, &vector, &roster, &name, b"k1")?;
-    assert_eq!(rt; octets.as_slice(), FROM_ALICE.as_slice());
-    Ok(())
+    is_told(&rt, &group, &vector);
+}
+
+fn is_told(rt: &(impl Abort + AllocGlobal), group: &Group, vector: &Vector)
+    requires name { IsNodeName group.now.name }
+    requires members { All IsNodeName group.now.roster }
+    requires width { length vector.now ≡ length group.now.roster }
+{
+    let name = key_name(rt, ALICE);
+    let made = make_sync(rt.alloc(), &group.name, vector, &group.roster, &name, b"k1");
+    assert!(rt; made.expect(rt, "memory").as_slice() == FROM_ALICE.as_slice());
 }
 
 // Sync Interests, and the number of the key that signed each. Both tell of alice's first
@@ -91,27 +141,30 @@ fn alice_tells_of_her_first_publication(rt: HostRuntime) -> Result<(), Fail> {
 const SENT: [(&[u8], u32); 2] = [(&FROM_ALICE, 0), (&FROM_BOB, 1)];
 
 #[test]
-fn the_signer_is_not_told_by_the_vector(rt: HostRuntime) -> Result<(), Fail> {
-    let alloc = rt.alloc();
-    let (roster, ring) = (two_members(alloc)?, two_keys(alloc)?);
-    let group = node(alloc, GROUP)?;
+fn the_signer_is_not_told_by_the_vector(rt: HostRuntime) {
+    let group = Group::new(&rt);
     for (octets, sender) in SENT {
-        let (signer, vector) = check_sync(alloc, octets, &group, &roster, &ring)?;
-        assert_eq!(rt; signer, sender);
-        assert_eq!(rt; vector.members(), 2);
-        assert_eq!(rt; (vector.get(0), vector.get(1)), (1, 0));
+        is_signed_by(&rt, &group, octets, sender);
     }
-    Ok(())
+}
+
+fn is_signed_by(rt: &(impl Abort + AllocGlobal), group: &Group, octets: &[u8], sender: u32) {
+    let checked = check_sync(rt.alloc(), octets, &group.name, &group.roster, &group.ring);
+    let (signer, vector) = checked.expect(rt, "a sync Interest");
+    assert!(rt; signer == sender);
+    assert!(rt; vector.members() == 2);
+    assert!(rt; vector.get(0) == 1 && vector.get(1) == 0);
 }
 
 #[test]
-fn hostile_sync_interests(rt: HostRuntime) -> Result<(), Fail> {
-    let alloc = rt.alloc();
-    let (roster, ring) = (two_members(alloc)?, two_keys(alloc)?);
-    let group = node(alloc, GROUP)?;
+fn hostile_sync_interests(rt: HostRuntime) {
+    let group = Group::new(&rt);
     for (octets, refusal) in HOSTILE {
-        let refused = check_sync(alloc, octets, &group, &roster, &ring).err();
-        assert_eq!(rt; refused, Some(refusal));
+        is_refused(&rt, &group, octets, refusal);
     }
-    Ok(())
+}
+
+fn is_refused(rt: &(impl Abort + AllocGlobal), group: &Group, octets: &[u8], refusal: SyncRefusal) {
+    let refused = check_sync(rt.alloc(), octets, &group.name, &group.roster, &group.ring).err();
+    assert!(rt; refused == Some(refusal), "{refused:?}: {octets:?}");
 }
