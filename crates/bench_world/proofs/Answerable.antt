@@ -20,7 +20,7 @@ use Rattle.ndn_interest.proofs.DigestLemmas.{IsOctets-sha256}
 use Rattle.ndn_data.specs.Data.{Data, data_of, Satisfies}
 use Rattle.svs_vector.specs.Rosters.{has_same_octets}
 use Rattle.repo_plan.specs.declared.part.Part.{Part}
-use Rattle.repo_plan.specs.SortedList.{keys, value_of, contains}
+use Rattle.sorted_lists.specs.SortedList.{keys, value_of, contains}
 use Rattle.repo_plan.specs.Parts.{Pair, part_cmp, pair_of}
 use Rattle.repo_plan.specs.Plan.{claim_of, is_wanted}
 use Rattle.repo_object.specs.Objects.{NamedContents, IsObject, IsPublisher, record_name, segment_name}

@@ -5,7 +5,7 @@ use Rattle.std.specs.Prelude.{is_some, unwrap_or, IsSomeAnd, Result, Ok, Err}
 use Rattle.std.proofs.lemmas.List.{map-set, set-get_or}
 use Rattle.ndn_data.specs.Data.{Data}
 use Rattle.repo_plan.specs.declared.part.Part.{Part}
-use Rattle.repo_plan.specs.SortedList.{contains}
+use Rattle.sorted_lists.specs.SortedList.{contains}
 use Rattle.repo_plan.specs.Parts.{part_cmp}
 use Rattle.repo_object.specs.declared.part_refusal.PartRefusal.{PartRefusal}
 use Rattle.repo_object.specs.Verdict.{ring_verdict}

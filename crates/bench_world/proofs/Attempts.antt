@@ -3,7 +3,7 @@ use Rattle.std.proofs.Common.{◌≡◌, ℕ, suc, zero, ◌+◌, ◌<◌, Bool,
 use Rattle.std.proofs.Common.{◌∙◌, arith}
 use Rattle.std.specs.Prelude.{is_some, unwrap_or, find}
 use Rattle.std.proofs.lemmas.Option.{none-some}
-use Rattle.repo_plan.specs.Parts.{numbers_from}
+use Rattle.sorted_lists.specs.Range.{numbers_from}
 use Rattle.fetch_work.specs.Teams.{IsFirst}
 
 -- ---- the first number that passes

@@ -9,9 +9,9 @@ use Rattle.std.proofs.lemmas.Cmp.{nat_cmp_total}
 use Rattle.std.proofs.lemmas.List.{length-map, length-set, map-set, set-set, set-get_or, get_or-set_same}
 use Rattle.std.proofs.lemmas.List.{get_or-set_other}
 use Rattle.bench_net.specs.SentList.{SentPacket}
-use Rattle.repo_plan.specs.SortedList.{value_of}
-use Rattle.repo_plan.proofs.Orders.{Exact, nat_same, nat_itself}
-use Rattle.repo_plan.proofs.Sets.{value_of-with_value}
+use Rattle.sorted_lists.specs.SortedList.{value_of}
+use Rattle.sorted_lists.proofs.Orders.{Exact, nat_same, nat_itself}
+use Rattle.sorted_lists.proofs.Sets.{value_of-with_value}
 use Rattle.repo_object.specs.Objects.{IsObject}
 use Rattle.repo_process.specs.Processes.{Process, BlockState, indexes, closed, object_of}
 use Rattle.repo_process.specs.Processes.BlockState.{Unknown, Already, Waiting, Whole}

@@ -9,10 +9,11 @@ use Rattle.std.proofs.lemmas.Bool.{true≢false}
 use Rattle.std.proofs.lemmas.Option.{none-some}
 use Rattle.ndn_data.specs.Data.{Data}
 use Rattle.repo_plan.specs.declared.part.Part.{Part}
-use Rattle.repo_plan.specs.SortedList.{value_of}
-use Rattle.repo_plan.specs.Parts.{part_cmp, pair_of, numbers_from}
+use Rattle.sorted_lists.specs.SortedList.{value_of}
+use Rattle.sorted_lists.specs.Range.{numbers_from}
+use Rattle.repo_plan.specs.Parts.{part_cmp, pair_of}
 use Rattle.repo_plan.specs.Plan.{is_wanted, attempts_of}
-use Rattle.repo_plan.proofs.Sets.{In}
+use Rattle.sorted_lists.proofs.Sets.{In}
 use Rattle.repo_object.specs.declared.job.Job.{Job}
 use Rattle.repo_object.specs.declared.part_refusal.PartRefusal.{PartRefusal}
 use Rattle.repo_object.specs.Wants.{WantedPart, want_record, want_segment}

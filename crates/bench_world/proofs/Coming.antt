@@ -11,10 +11,10 @@ use Rattle.ndn_name.specs.Names.{Component, encoding}
 use Rattle.ndn_data.specs.Data.{Data}
 use Rattle.ndn_sign.specs.Ring.{NamedKey}
 use Rattle.repo_plan.specs.declared.part.Part.{Part}
-use Rattle.repo_plan.specs.SortedList.{value_of}
+use Rattle.sorted_lists.specs.SortedList.{value_of}
 use Rattle.repo_plan.specs.Parts as parts
 use Rattle.repo_plan.specs.Parts.{part_cmp, pair_of, part_of}
-use Rattle.repo_plan.specs.Plan.{Holdings, claim_of, is_wanted}
+use Rattle.repo_plan.specs.Plan.{PlanState, claim_of, is_wanted}
 use Rattle.repo_object.specs.declared.part_refusal.PartRefusal.{PartRefusal}
 use Rattle.repo_object.specs.Wants.{WantedPart}
 use Rattle.repo_object.specs.Verdict.{ring_verdict, CheckedPart, checked_part}
@@ -138,7 +138,7 @@ module _ (g : GroupKeys) (logs : Logs) (a : Alone) (are : AreLogs g logs) (truly
     (t : Part) (claim : claim_of (alone_plan a) f ≡ Some t) where
   pub claim_wanted : is_wanted (alone_plan a) t ≡ true
   claim_wanted =
-      subst (λ (p : Holdings). is_wanted p t ≡ true) (sym (plans_alike g logs a are (true_stores g logs a truly)))
+      subst (λ (p : PlanState). is_wanted p t ≡ true) (sym (plans_alike g logs a are (true_stores g logs a truly)))
       (truly.sound.claimed (f - 1) t claim)
 
   pub claim_published : IsPublishedPart logs t

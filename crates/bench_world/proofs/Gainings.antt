@@ -6,7 +6,7 @@ use Rattle.std.specs.List.{All}
 use Rattle.std.proofs.lemmas.Bool.{cases_lt}
 use Rattle.std.proofs.lemmas.List.{length-map, map-append, get_or_past}
 use Rattle.std.specs.Ordering.{nat_cmp}
-use Rattle.repo_plan.specs.SortedList.{value_of}
+use Rattle.sorted_lists.specs.SortedList.{value_of}
 use Rattle.group_model.specs.Processes.{Process, indexes}
 use Rattle.std.proofs.lemmas.List.Elements.{All-append}
 use Rattle.bench_net.specs.SentList.{SentPacket}

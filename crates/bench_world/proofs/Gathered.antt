@@ -5,10 +5,10 @@ use Rattle.std.specs.Prelude.{is_some}
 use Rattle.std.specs.List.{list_any}
 use Rattle.std.proofs.lemmas.Bool.{true≢false, and_from, not_from_false, or_cases, or_right, cases_Bool}
 use Rattle.repo_plan.specs.declared.part.Part.{Part}
-use Rattle.repo_plan.specs.SortedList.{keys, value_of}
+use Rattle.sorted_lists.specs.SortedList.{keys, value_of}
 use Rattle.repo_plan.specs.Parts.{part_cmp, pair_of, record_of}
-use Rattle.repo_plan.specs.Plan.{Holdings, no_claims, is_wanted, is_unclaimed, is_claimed, is_claim_of}
-use Rattle.repo_plan.proofs.Sets.{in_filter}
+use Rattle.repo_plan.specs.Plan.{PlanState, no_claims, is_wanted, is_unclaimed, is_claimed, is_claim_of}
+use Rattle.sorted_lists.proofs.Sets.{in_filter}
 use Rattle.group_model.specs.Publications.{all_parts}
 use Rattle.group_model.specs.Member.{Member, member_holds, member_hides}
 use Rattle.group_model.specs.World.{World, no_member, member, logs, someone_holds}
@@ -169,7 +169,7 @@ module _ (g : GroupKeys) (w : World) (group : IsSoundGroup w) (are : AreLogs g (
     gathered t wanted = elim (cases_Bool (someone_holds w.members t)) [
       | inl someone_ ↦
           let want : is_wanted (alone_plan new) t ≡ true =
-          subst (λ (p : Holdings). is_wanted p t ≡ true)
+          subst (λ (p : PlanState). is_wanted p t ≡ true)
           (sym (plans_alike g (logs w) new are (true_stores g (logs w) new gains.truly))) wanted in
           let none : lends others t ≡ false = left t (unclaimed t want) in
           elim (or_cases (stores old t) (lends others t) (someones t ∙ someone_)) [

@@ -6,10 +6,10 @@ use Rattle.std.proofs.lemmas.Bool.{cases_eq}
 use Rattle.std.proofs.lemmas.List.{ext_get_or, get_or-map, get_or-set_other, length-map, length-set, take_all}
 use Rattle.std.proofs.lemmas.List.Sums.{sum_by_more, sum_by-cons}
 use Rattle.repo_plan.specs.declared.part.Part.{Part}
-use Rattle.repo_plan.specs.SortedList.{keys, Rises}
+use Rattle.sorted_lists.specs.SortedList.{keys, Rises}
 use Rattle.repo_plan.specs.Parts.{part_cmp}
 use Rattle.repo_plan.proofs.Orders.{exact_parts}
-use Rattle.repo_plan.proofs.Sets.{rises_filter}
+use Rattle.sorted_lists.proofs.Sets.{rises_filter}
 use Rattle.group_model.specs.Publications.{all_parts}
 use Rattle.group_model.specs.Member.{Member, member_holds, insert_keys}
 use Rattle.group_model.specs.World.{World, no_member, member, logs, someone_holds}

@@ -5,11 +5,11 @@ use Rattle.std.specs.Prelude.{is_some, unwrap_or, filter, sum_by, slice_index_or
 use Rattle.std.proofs.lemmas.Bool.{true≢false, and_parts, or_cases, or_right}
 use Rattle.std.proofs.lemmas.List.Sums.{sum_by-le}
 use Rattle.repo_plan.specs.declared.part.Part.{Part}
-use Rattle.repo_plan.specs.SortedList.{keys, contains, Rises}
+use Rattle.sorted_lists.specs.SortedList.{keys, contains, Rises}
 use Rattle.repo_plan.specs.Parts.{part_cmp, pair_of}
-use Rattle.repo_plan.specs.Plan.{Holdings, is_wanted, is_unclaimed, is_after, attempts_of}
+use Rattle.repo_plan.specs.Plan.{PlanState, is_wanted, is_unclaimed, is_after, attempts_of}
 use Rattle.repo_plan.proofs.Orders.{exact_parts}
-use Rattle.repo_plan.proofs.Sets.{In, from_map, contains_in, in_contains, rises_filter}
+use Rattle.sorted_lists.proofs.Sets.{In, from_map, contains_in, in_contains, rises_filter}
 use Rattle.group_model.specs.Publications.{Logs, all_parts}
 use Rattle.group_model.specs.Member.{Member, insert_keys}
 use Rattle.group_model.proofs.Lists.{from_filter, contains-insert_keys}
@@ -162,7 +162,7 @@ module _ (g : GroupKeys) (logs : Logs) (others : List Alone) (are : AreLogs g lo
     not_stored : (t : Part) → In t (filter (lends others) ts) → contains part_cmp (keys a.store) t ≡ false
     not_stored t i =
         (wanted_parts logs (in_group a) t
-        (subst (λ (p : Holdings). is_wanted p t ≡ true) (plans_alike g logs a are (true_stores g logs a truly))
+        (subst (λ (p : PlanState). is_wanted p t ≡ true) (plans_alike g logs a are (true_stores g logs a truly))
         (and_parts (is_wanted (alone_plan a) t) _ (came_open t i)).0)).not_held
 
     -- What is held grows by what came, however parts count.

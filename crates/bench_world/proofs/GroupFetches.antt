@@ -7,10 +7,11 @@ use Rattle.std.proofs.lemmas.Bool.{cases_eq}
 use Rattle.std.proofs.lemmas.List.{get_or-set_same, get_or-set_other, length-set, length-map, map-set}
 use Rattle.std.proofs.lemmas.List.Sums.{sum_by-cons}
 use Rattle.repo_plan.specs.declared.part.Part.{Part}
-use Rattle.repo_plan.specs.SortedList.{value_of}
-use Rattle.repo_plan.specs.Parts.{part_cmp, numbers_from}
+use Rattle.sorted_lists.specs.SortedList.{value_of}
+use Rattle.sorted_lists.specs.Range.{numbers_from}
+use Rattle.repo_plan.specs.Parts.{part_cmp}
 use Rattle.repo_plan.specs.Plan.{unclaimed, attempts_of}
-use Rattle.repo_plan.proofs.Sets.{In, from_map}
+use Rattle.sorted_lists.proofs.Sets.{In, from_map}
 use Rattle.repo_plan.proofs.Scans.{behind_none}
 use Rattle.group_model.specs.Member.{Member}
 use Rattle.group_model.specs.Events.{Event}

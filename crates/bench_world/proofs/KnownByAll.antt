@@ -6,7 +6,7 @@ use Rattle.svs_vector.specs.Vectors.{join, join_all}
 use Rattle.svs_vector.proofs.JoinLemmas.{join-[], join_assoc, join_zeros}
 use Rattle.group_model.proofs.Lists.{at_in}
 use Rattle.group_model.proofs.Settles.{length_join_all}
-use Rattle.repo_plan.proofs.Sets.{from_map}
+use Rattle.sorted_lists.proofs.Sets.{from_map}
 use Rattle.repo_member.specs.Alone.{Alone}
 use Rattle.bench_world.specs.Worlds.{nobody, alone_at}
 

@@ -8,11 +8,11 @@ use Rattle.std.specs.declared.cmp.Ordering.{Ordering}
 use Rattle.std.specs.declared.cmp.Ordering.TheVariants.{Less, Equal, Greater}
 use Rattle.std.proofs.lemmas.Bool.{true≢false, cases_Bool}
 use Rattle.repo_plan.specs.declared.part.Part.{Part}
-use Rattle.repo_plan.specs.SortedList.{contains, Rises}
+use Rattle.sorted_lists.specs.SortedList.{contains, Rises}
 use Rattle.repo_plan.specs.Parts.{part_cmp}
 use Rattle.repo_plan.specs.Plan.{is_unclaimed, unclaimed, is_after}
 use Rattle.repo_plan.proofs.Orders.{exact_parts}
-use Rattle.repo_plan.proofs.Sets.{In, in_filter, contains_in, in_contains, rises_filter}
+use Rattle.sorted_lists.proofs.Sets.{In, in_filter, contains_in, in_contains, rises_filter}
 use Rattle.repo_plan.proofs.Known.{unclaimed_rises, contains-unclaimed}
 use Rattle.group_model.proofs.Lists.{from_filter, in_at, in_take}
 use Rattle.group_model.proofs.Tries.{rises_take}

@@ -4,7 +4,7 @@ use Rattle.std.proofs.Common.{Some, None, refl, sym, ap, ◌∙◌, arith}
 use Rattle.std.specs.Prelude.{is_some}
 use Rattle.std.specs.Ordering.{eq_by_cmp}
 use Rattle.repo_plan.specs.declared.part.Part.{Part}
-use Rattle.repo_plan.specs.SortedList.{keys, value_of, contains}
+use Rattle.sorted_lists.specs.SortedList.{keys, value_of, contains}
 use Rattle.repo_plan.specs.Parts.{part_cmp}
 use Rattle.group_model.specs.Member.{Member, member_holds}
 use Rattle.group_model.specs.Events.{Event}

@@ -8,10 +8,11 @@ use Rattle.std.specs.Ordering.{eq_by_cmp, is_eq}
 use Rattle.std.specs.declared.cmp.Ordering.{Ordering}
 use Rattle.std.specs.declared.cmp.Ordering.TheVariants.{Less, Equal, Greater}
 use Rattle.repo_plan.specs.declared.part.Part.{Part}
-use Rattle.repo_plan.specs.SortedList.{by_order, Rises, contains, insert_key}
+use Rattle.sorted_lists.specs.SortedList.{by_order, Rises, contains, insert_key}
 use Rattle.repo_plan.specs.Parts.{part_cmp}
-use Rattle.repo_plan.proofs.Orders.{Exact, exact_parts, less_back}
-use Rattle.repo_plan.proofs.Sets.{In, each_before, rises_insert, contains-insert_key}
+use Rattle.sorted_lists.proofs.Orders.{Exact, less_back}
+use Rattle.repo_plan.proofs.Orders.{exact_parts}
+use Rattle.sorted_lists.proofs.Sets.{In, each_before, rises_insert, contains-insert_key}
 use Rattle.group_model.specs.Member.{insert_keys}
 use Rattle.bench_world.specs.Gathering.{one_each}
 

@@ -7,7 +7,7 @@ use Rattle.svs_vector.specs.Vectors.{join_all}
 use Rattle.repo_plan.specs.declared.part.Part.{Part}
 use Rattle.repo_plan.specs.Parts.{pair_of, record_of}
 use Rattle.repo_plan.specs.Plan.{no_claims, is_wanted}
-use Rattle.repo_plan.proofs.Sets.{In, in_map, from_map}
+use Rattle.sorted_lists.proofs.Sets.{In, in_map, from_map}
 use Rattle.group_model.specs.Publications.{Logs}
 use Rattle.group_model.specs.Member.{Member, member_holds, plan_of}
 use Rattle.group_model.specs.World.{World, no_member, member, logs, someone_holds}

@@ -7,8 +7,8 @@ use Rattle.std.proofs.lemmas.List.{ext_get_or, length-append, length-map, get_or
 use Rattle.std.proofs.lemmas.List.Elements.{All-head, All-tail}
 use Rattle.std.proofs.lemmas.Bool.{cases_lt}
 use Rattle.std.proofs.lemmas.List.Sums.{sum_by-le}
-use Rattle.repo_plan.specs.Parts.{numbers_from}
-use Rattle.repo_plan.proofs.Sets.{In, from_map}
+use Rattle.sorted_lists.specs.Range.{numbers_from}
+use Rattle.sorted_lists.proofs.Sets.{In, from_map}
 use Rattle.repo_object.specs.Objects.{IsObject, IsContent}
 use Rattle.repo_catalog.specs.declared.entry.Entry.{Entry}
 use Rattle.group_model.specs.Publications.{Logs, Publication, no_object, published, published_entry}

@@ -2,7 +2,7 @@
 use Rattle.std.specs.Prelude.{ℕ, List, [], length, Option, Some, None, unwrap_or, Result, Ok, Err}
 use Rattle.ndn_data.specs.Data.{Data}
 use Rattle.repo_plan.specs.declared.part.Part.{Part}
-use Rattle.repo_plan.specs.SortedList.{keys}
+use Rattle.sorted_lists.specs.SortedList.{keys}
 use Rattle.repo_plan.specs.Plan.{claim_of}
 use Rattle.repo_object.specs.declared.part_refusal.PartRefusal.{PartRefusal}
 use Rattle.repo_object.specs.Verdict.{ring_verdict}

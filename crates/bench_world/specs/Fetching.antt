@@ -1,7 +1,7 @@
 -- What a member fetches of others.
 use Rattle.std.specs.Prelude.{ℕ, ◌+◌, Bool, List, Option, None, is_some, unwrap_or, find, map, if◌then◌else◌}
 use Rattle.repo_plan.specs.declared.part.Part.{Part}
-use Rattle.repo_plan.specs.Parts.{numbers_from}
+use Rattle.sorted_lists.specs.Range.{numbers_from}
 use Rattle.repo_plan.specs.Plan.{attempts_of}
 use Rattle.repo_member.specs.Alone.{Alone, Fetched, alone_plan}
 use Rattle.bench_world.specs.Lending.{lent, lends}

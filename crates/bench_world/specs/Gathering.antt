@@ -1,7 +1,7 @@
 -- What a member gathers of others in a settle.
 use Rattle.std.specs.Prelude.{ℕ, ◌≡◌, ◌⊎◌, ◌+◌, true, false, List, [], map, filter, take, Option, Some, None, sum_by}
 use Rattle.repo_plan.specs.declared.part.Part.{Part}
-use Rattle.repo_plan.specs.SortedList.{keys, contains}
+use Rattle.sorted_lists.specs.SortedList.{keys, contains}
 use Rattle.repo_plan.specs.Parts.{part_cmp}
 use Rattle.repo_plan.specs.Plan.{unclaimed, is_unclaimed, is_after}
 use Rattle.group_model.specs.Publications.{Logs}

@@ -1,7 +1,7 @@
 -- Packets that members lend to one that asks for parts.
 use Rattle.std.specs.Prelude.{ℕ, Bool, true, false, List, [], ◌∷◌, Option, Some, None, is_some, slice_get}
 use Rattle.repo_plan.specs.declared.part.Part.{Part}
-use Rattle.repo_plan.specs.SortedList.{value_of}
+use Rattle.sorted_lists.specs.SortedList.{value_of}
 use Rattle.repo_plan.specs.Parts.{part_cmp}
 use Rattle.repo_object.specs.Wants.{WantedPart}
 use Rattle.repo_member.specs.Alone.{Alone}

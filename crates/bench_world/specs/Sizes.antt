@@ -1,7 +1,7 @@
 -- How many octets the packets of parts have.
 use Rattle.std.specs.Prelude.{ℕ, [], length, unwrap_or, sum_by, if◌then◌else◌}
 use Rattle.repo_plan.specs.declared.part.Part.{Part}
-use Rattle.repo_plan.specs.SortedList.{keys, contains}
+use Rattle.sorted_lists.specs.SortedList.{keys, contains}
 use Rattle.repo_plan.specs.Parts.{part_cmp}
 use Rattle.group_model.specs.Publications.{Logs, all_parts}
 use Rattle.repo_member.specs.Groups.{GroupKeys}

@@ -1,6 +1,6 @@
 -- When an event can be carried out, what comes of it, and lists of events.
 use Rattle.std.specs.Prelude.{ℕ, ◌≡◌, ◌+◌, ◌<◌, ◌≤◌, IsTrue, length, Option, Some, None}
-use Rattle.repo_plan.specs.Parts.{numbers_from}
+use Rattle.sorted_lists.specs.Range.{numbers_from}
 use Rattle.repo_plan.specs.Calls.{IsFetcher}
 use Rattle.repo_object.specs.Objects.{is_object_name, IsContent}
 use Rattle.repo_object.specs.Cuts.{pieces}

@@ -1,7 +1,7 @@
 -- What was published in a group, and members that were tried for few parts.
 use Rattle.std.specs.Prelude.{ℕ, ◌+◌, ◌<◌, ◌^◌, Bool, List, map, length}
 use Rattle.repo_plan.specs.declared.part.Part.{Part}
-use Rattle.repo_plan.specs.SortedList.{keys, contains}
+use Rattle.sorted_lists.specs.SortedList.{keys, contains}
 use Rattle.repo_plan.specs.Parts.{part_cmp}
 use Rattle.repo_plan.specs.Plan.{attempts_of}
 use Rattle.group_model.specs.Publications.{Logs, all_parts}

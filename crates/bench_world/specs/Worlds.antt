@@ -1,7 +1,7 @@
 -- A group with the packets of its members, and the group's world that it is.
 use Rattle.std.specs.Prelude.{ℕ, ◌≡◌, ◌≤◌, ◌<◌, true, List, [], map, length, slice_index_or, None}
 use Rattle.std.specs.List.{All, remove}
-use Rattle.repo_plan.specs.Parts.{numbers_from}
+use Rattle.sorted_lists.specs.Range.{numbers_from}
 use Rattle.repo_plan.specs.Plan.{no_claims}
 use Rattle.bench_net.specs.SentList.{SentPacket, sent_packet}
 use Rattle.group_model.specs.Publications.{Logs}

@@ -6,13 +6,14 @@ use Rattle.std.proofs.lemmas.Cmp.{on_total}
 use Rattle.std.specs.Prelude.{filter, find, is_some}
 use Rattle.std.specs.Ordering.{nat_cmp}
 use Rattle.std.specs.declared.cmp.Ordering.{Ordering}
-use Rattle.repo_plan.specs.SortedList.{Rises, IsBefore}
+use Rattle.sorted_lists.specs.SortedList.{Rises, IsBefore}
 use Rattle.repo_plan.specs.declared.part.Part.{Part}
 use Rattle.repo_plan.specs.Parts.{Pair, pair_cmp, part_of, pair_of}
-use Rattle.repo_plan.proofs.Orders.{exact_parts, exact_pairs, nat_less, nat_itself, first_less, then_second}
-use Rattle.repo_plan.proofs.Sets.{In, in_flat_map, contains_in, in_contains, in_append, append_left, append_right}
-use Rattle.repo_plan.proofs.Sets.{in_filter, in_map, from_map, before_each, rises_append, rises_filter, eq_same}
-use Rattle.repo_plan.proofs.Sets.{eq_itself}
+use Rattle.sorted_lists.proofs.Orders.{nat_less, nat_itself, first_less, then_second}
+use Rattle.repo_plan.proofs.Orders.{exact_parts, exact_pairs}
+use Rattle.sorted_lists.proofs.Sets.{In, in_flat_map, contains_in, in_contains, in_append, append_left, append_right}
+use Rattle.sorted_lists.proofs.Sets.{in_filter, in_map, from_map, before_each, rises_append, rises_filter, eq_same}
+use Rattle.sorted_lists.proofs.Sets.{eq_itself}
 use Rattle.repo_catalog.specs.declared.entry.Entry.{Entry}
 use Rattle.repo_catalog.specs.Entries.{publication_of, is_of, lists}
 use Rattle.repo_object.specs.Objects.{NamedContents}

@@ -8,8 +8,8 @@ use Rattle.repo_plan.specs.declared.part.Part.{Part}
 use Rattle.repo_plan.specs.Parts.{Pair, pair_cmp, pair_of, part_of, record_of}
 use Rattle.repo_plan.specs.Plan.{is_in}
 use Rattle.repo_plan.proofs.Orders.{exact_parts, exact_pairs}
-use Rattle.repo_plan.proofs.Sets.{In, eq_same, eq_itself, contains-insert_key, contains-filter, rises_insert}
-use Rattle.repo_plan.proofs.Sets.{rises_filter}
+use Rattle.sorted_lists.proofs.Sets.{In, eq_same, eq_itself, contains-insert_key, contains-filter, rises_insert}
+use Rattle.sorted_lists.proofs.Sets.{rises_filter}
 use Rattle.repo_object.specs.Objects.{NamedContents}
 use Rattle.group_model.specs.Publications.{Logs, Publication, pair_in, parts_in, published, count}
 use Rattle.group_model.specs.Commands.{is_equal_name}

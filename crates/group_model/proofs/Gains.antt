@@ -7,11 +7,11 @@ use Rattle.std.proofs.lemmas.List.{length-set, get_or-set_same}
 use Rattle.std.specs.Prelude.{◌==◌}
 use Rattle.std.specs.Ordering.{eq_by_cmp}
 use Rattle.repo_plan.specs.declared.part.Part.{Part}
-use Rattle.repo_plan.specs.SortedList.{contains, keys, value_of, with_value, Rises}
+use Rattle.sorted_lists.specs.SortedList.{contains, keys, value_of, with_value, Rises}
 use Rattle.repo_plan.specs.Parts.{Pair, pair_cmp, part_cmp, pair_of, part_of, record_of, parts_of}
 use Rattle.repo_plan.specs.Plan.{is_wanted, is_claimed}
 use Rattle.repo_plan.proofs.Orders.{exact_parts}
-use Rattle.repo_plan.proofs.Sets.{In, contains_in, in_contains, rises_with_value, value_of-with_value}
+use Rattle.sorted_lists.proofs.Sets.{In, contains_in, in_contains, rises_with_value, value_of-with_value}
 use Rattle.repo_plan.proofs.Known.{from_parts_of, in_parts_of}
 use Rattle.repo_plan.proofs.Changes.{unclaimed_at}
 use Rattle.repo_object.specs.Objects.{NamedContents}

@@ -8,10 +8,10 @@ use Rattle.std.proofs.lemmas.List.{length-set, get_or-map}
 use Rattle.std.specs.Ordering.{eq_by_cmp}
 use Rattle.repo_plan.specs.declared.part.Part.{Part}
 use Rattle.repo_plan.specs.Parts.{Pair, pair_cmp, part_cmp, pair_of, parts_of}
-use Rattle.repo_plan.specs.SortedList.{contains}
+use Rattle.sorted_lists.specs.SortedList.{contains}
 use Rattle.repo_plan.specs.Plan.{is_in}
 use Rattle.repo_plan.proofs.Orders.{exact_parts, exact_pairs}
-use Rattle.repo_plan.proofs.Sets.{eq_same, eq_itself, contains-insert_key, contains-filter}
+use Rattle.sorted_lists.proofs.Sets.{eq_same, eq_itself, contains-insert_key, contains-filter}
 use Rattle.repo_object.specs.Objects.{NamedContents}
 use Rattle.svs_sync.specs.declared.fired.Fired.{Fired}
 use Rattle.svs_sync.specs.declared.fired.Fired.TheVariants.{Early, Quiet, Send}

@@ -10,10 +10,11 @@ use Rattle.std.proofs.lemmas.Cmp.{nat_cmp_total}
 use Rattle.std.specs.Prelude.{find, sum_by}
 use Rattle.std.specs.Ordering.{nat_cmp, eq_by_cmp}
 use Rattle.repo_plan.specs.declared.part.Part.{Part}
-use Rattle.repo_plan.specs.SortedList.{value_of, with_value, Rises}
-use Rattle.repo_plan.specs.Parts.{part_cmp, numbers_from}
-use Rattle.repo_plan.proofs.Orders.{Exact, nat_same, nat_itself}
-use Rattle.repo_plan.proofs.Sets.{In, value_of-with_value}
+use Rattle.sorted_lists.specs.SortedList.{value_of, with_value, Rises}
+use Rattle.sorted_lists.specs.Range.{numbers_from}
+use Rattle.repo_plan.specs.Parts.{part_cmp}
+use Rattle.sorted_lists.proofs.Orders.{Exact, nat_same, nat_itself}
+use Rattle.sorted_lists.proofs.Sets.{In, value_of-with_value}
 use Rattle.repo_plan.proofs.Known.{unclaimed_rises}
 use Rattle.svs_sync.specs.declared.fired.Fired.{Fired}
 use Rattle.svs_sync.specs.declared.fired.Fired.TheVariants.{Early, Quiet, Send}

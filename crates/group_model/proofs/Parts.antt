@@ -6,10 +6,12 @@ use Rattle.std.proofs.lemmas.List.{length-map, get_or_past}
 use Rattle.std.specs.List.{flat_map}
 use Rattle.std.specs.Ordering.{nat_cmp}
 use Rattle.repo_plan.specs.declared.part.Part.{Part}
-use Rattle.repo_plan.specs.SortedList.{Rises}
-use Rattle.repo_plan.specs.Parts.{Pair, part_cmp, pair_of, part_of, record_of, parts_of, numbers_from}
-use Rattle.repo_plan.proofs.Orders.{exact_parts, nat_less, nat_itself, first_less, then_second}
-use Rattle.repo_plan.proofs.Sets.{In, in_append, in_flat_map, from_flat_map, from_map, before_each, rises_append}
+use Rattle.sorted_lists.specs.SortedList.{Rises}
+use Rattle.sorted_lists.specs.Range.{numbers_from}
+use Rattle.repo_plan.specs.Parts.{Pair, part_cmp, pair_of, part_of, record_of, parts_of}
+use Rattle.sorted_lists.proofs.Orders.{nat_less, nat_itself, first_less, then_second}
+use Rattle.repo_plan.proofs.Orders.{exact_parts}
+use Rattle.sorted_lists.proofs.Sets.{In, in_append, in_flat_map, from_flat_map, from_map, before_each, rises_append}
 use Rattle.repo_plan.proofs.Known.{from_numbers, from_parts_of, in_parts_of}
 use Rattle.repo_object.specs.Objects.{NamedContents}
 use Rattle.group_model.specs.Publications.{Logs, Publication, pair_in, numbered_publications, published, published_from}

@@ -6,12 +6,12 @@ use Rattle.std.proofs.lemmas.Bool.{leb-true, le-leb, eqb-true, eq-eqb}
 use Rattle.std.specs.Prelude.{nat_le, ◌==◌, filter}
 use Rattle.std.specs.Ordering.{eq_by_cmp}
 use Rattle.repo_plan.specs.declared.part.Part.{Part}
-use Rattle.repo_plan.specs.SortedList.{contains, value_of}
+use Rattle.sorted_lists.specs.SortedList.{contains, value_of}
 use Rattle.repo_plan.specs.Parts.{Pair, Shape, pair_cmp, part_cmp, pair_of, part_of, record_of}
 use Rattle.repo_plan.specs.Plan
 use Rattle.repo_plan.specs.Plan.{is_wanted, shape_of, can_be_asked}
 use Rattle.repo_plan.proofs.Orders.{exact_parts, exact_pairs}
-use Rattle.repo_plan.proofs.Sets.{eq_same, eq_itself}
+use Rattle.sorted_lists.proofs.Sets.{eq_same, eq_itself}
 use Rattle.repo_plan.proofs.Changes
 use Rattle.group_model.specs.Publications.{Logs, count}
 use Rattle.group_model.specs.Member.{Member, member_holds, member_hides, told_by, plan_of}

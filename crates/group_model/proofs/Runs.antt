@@ -5,10 +5,11 @@ use Rattle.std.proofs.Common.{Result, Ok, Err}
 use Rattle.std.proofs.lemmas.Bool.{true≢false, cases_eq, true_from_ne_false}
 use Rattle.std.proofs.lemmas.List.{length-set, get_or-set_same, get_or-map, length-map, length-replicate}
 use Rattle.repo_plan.specs.declared.part.Part.{Part}
-use Rattle.repo_plan.specs.SortedList.{contains}
-use Rattle.repo_plan.specs.Parts.{Pair, part_cmp, pair_cmp, pair_of, record_of, numbers_from}
+use Rattle.sorted_lists.specs.SortedList.{contains}
+use Rattle.sorted_lists.specs.Range.{numbers_from}
+use Rattle.repo_plan.specs.Parts.{Pair, part_cmp, pair_cmp, pair_of, record_of}
 use Rattle.repo_plan.specs.Plan.{no_claims, wanted}
-use Rattle.repo_plan.proofs.Sets.{In, in_map}
+use Rattle.sorted_lists.proofs.Sets.{In, in_map}
 use Rattle.repo_plan.proofs.Known.{contains-wanted}
 use Rattle.svs_vector.specs.Vectors.{join}
 use Rattle.svs_sync.specs.declared.fired.Fired.{Fired}

@@ -6,10 +6,10 @@ use Rattle.std.proofs.lemmas.Bool.{not_from_false, leb-true, le-leb}
 use Rattle.std.proofs.lemmas.List.{length-map, get_or-map}
 use Rattle.std.specs.Prelude.{nat_le}
 use Rattle.repo_plan.specs.declared.part.Part.{Part}
-use Rattle.repo_plan.specs.SortedList.{contains}
+use Rattle.sorted_lists.specs.SortedList.{contains}
 use Rattle.repo_plan.specs.Parts.{Pair, pair_cmp, pair_of, part_of, record_of}
 use Rattle.repo_plan.specs.Plan.{no_claims}
-use Rattle.repo_plan.proofs.Sets.{In, in_filter, in_flat_map, in_map, from_map}
+use Rattle.sorted_lists.proofs.Sets.{In, in_filter, in_flat_map, in_map, from_map}
 use Rattle.svs_vector.specs.Vectors.{join, join_all}
 use Rattle.svs_vector.proofs.JoinLemmas.{join-at, length-join, join-[]}
 use Rattle.repo_object.specs.Objects.{NamedContents}

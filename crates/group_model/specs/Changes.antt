@@ -4,7 +4,7 @@ use Rattle.std.specs.Prelude.{ℕ, ◌+◌, ◌-◌, List, [], ◌∷◌, ◌++�
 use Rattle.std.specs.Ordering.{nat_cmp}
 use Rattle.ndn_name.specs.Names.{Component}
 use Rattle.repo_plan.specs.declared.part.Part.{Part}
-use Rattle.repo_plan.specs.SortedList.{with_value}
+use Rattle.sorted_lists.specs.SortedList.{with_value}
 use Rattle.repo_plan.specs.Parts.{parts_of}
 use Rattle.svs_vector.specs.Vectors.{join}
 use Rattle.svs_sync.specs.KeptVector.{steady_kept, hears_kept}

@@ -1,7 +1,7 @@
 -- What holds of whole runs of events, wherever they begin.
 use Rattle.std.specs.Prelude.{ℕ, ◌<◌, ◌≡◌, ◌≢◌, ◌⊎◌, ◌↔◌, true, false, List, [], ◌∷◌, Some, length, slice_index}
 use Rattle.repo_plan.specs.declared.part.Part.{Part}
-use Rattle.repo_plan.specs.SortedList.{Rises, contains}
+use Rattle.sorted_lists.specs.SortedList.{Rises, contains}
 use Rattle.repo_plan.specs.Parts.{part_cmp}
 use Rattle.repo_plan.specs.Plan.{wanted}
 use Rattle.group_model.specs.Publications.{Logs, last_of, all_parts, join_of}

@@ -2,7 +2,7 @@
 use Rattle.std.specs.Prelude.{ℕ, ◌+◌, ◌*◌, ◌≤◌, ◌<◌, ◌≡◌, List, [], ◌∷◌, length, Some, Ok, slice_index_or}
 use Rattle.std.specs.Ordering.{nat_cmp}
 use Rattle.repo_plan.specs.declared.part.Part.{Part}
-use Rattle.repo_plan.specs.SortedList.{value_of}
+use Rattle.sorted_lists.specs.SortedList.{value_of}
 use Rattle.group_model.specs.Publications.{no_object, published, all_parts}
 use Rattle.repo_process.specs.Processes.{Process, indexes}
 use Rattle.repo_command.specs.declared.command.Command.{Command}

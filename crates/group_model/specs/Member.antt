@@ -3,9 +3,9 @@ use Rattle.std.specs.Prelude.{ℕ, ◌+◌, Bool, not, List, [], ◌∷◌, map,
 use Rattle.std.specs.List.{list_all}
 use Rattle.ndn_name.specs.Names.{Component}
 use Rattle.repo_plan.specs.declared.part.Part.{Part}
-use Rattle.repo_plan.specs.SortedList.{contains, insert_key, value_of, with_value}
+use Rattle.sorted_lists.specs.SortedList.{contains, insert_key, value_of, with_value}
 use Rattle.repo_plan.specs.Parts.{Pair, Shape, pair_cmp, part_cmp, pair_of}
-use Rattle.repo_plan.specs.Plan.{Holdings, no_claims, is_in}
+use Rattle.repo_plan.specs.Plan.{PlanState, no_claims, is_in}
 use Rattle.svs_sync.specs.KeptVector.{Keeper}
 use Rattle.repo_object.specs.Objects.{NamedContents}
 use Rattle.repo_catalog.specs.declared.entry.Entry.{Entry}
@@ -37,7 +37,7 @@ abbrev pub told_by : Logs → List Part → List (Pair × Shape)
 told_by logs held = map (λ t. (pair_of t, count logs (pair_of t))) (filter (λ t. t.part == 0) held)
 
 -- The fetch plan of a member. What it wants and what its fetchers claim is read there.
-abbrev pub plan_of : Logs → Member → Holdings
+abbrev pub plan_of : Logs → Member → PlanState
 plan_of logs m = record {
   known = m.known;
   held = m.held;

@@ -2,7 +2,7 @@
 use Rattle.std.specs.Prelude.{ℕ, ◌≤◌, ◌<◌, ◌≡◌, ◌⊎◌, true, false, List, Option, Some, None, length, slice_index}
 use Rattle.std.specs.Prelude.{slice_index_or}
 use Rattle.repo_plan.specs.declared.part.Part.{Part}
-use Rattle.repo_plan.specs.SortedList.{contains, keys, value_of, Rises}
+use Rattle.sorted_lists.specs.SortedList.{contains, keys, value_of, Rises}
 use Rattle.repo_plan.specs.Parts.{Pair, pair_cmp, part_cmp, pair_of, part_of, record_of}
 use Rattle.repo_plan.specs.Plan.{is_wanted}
 use Rattle.group_model.specs.Publications.{Logs, last_of, count}

@@ -4,8 +4,9 @@ use Rattle.std.specs.Prelude.{Some, None, is_some, unwrap_or, Result, Ok, Err, s
 use Rattle.std.specs.Prelude.{◌==◌, ◌&&◌, if◌then◌else◌, filter, find, sum_by}
 use Rattle.std.specs.Ordering.{nat_cmp}
 use Rattle.repo_plan.specs.declared.part.Part.{Part}
-use Rattle.repo_plan.specs.SortedList.{value_of}
-use Rattle.repo_plan.specs.Parts.{pair_of, record_of, numbers_from}
+use Rattle.sorted_lists.specs.SortedList.{value_of}
+use Rattle.sorted_lists.specs.Range.{numbers_from}
+use Rattle.repo_plan.specs.Parts.{pair_of, record_of}
 use Rattle.repo_plan.specs.Plan.{claim_of, unclaimed, first}
 use Rattle.svs_vector.specs.Vectors.{join_all}
 use Rattle.svs_sync.specs.declared.fired.Fired.{Fired}

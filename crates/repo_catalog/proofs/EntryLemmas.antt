@@ -8,11 +8,12 @@ use Rattle.std.specs.Ordering.{eq_by_cmp, is_eq}
 use Rattle.std.specs.declared.cmp.Ordering.{Ordering}
 use Rattle.std.specs.declared.cmp.Ordering.TheVariants.{Less, Equal, Greater}
 use Rattle.repo_plan.specs.Parts.{Pair, pair_cmp}
-use Rattle.repo_plan.specs.SortedList.{by_order, insert_key, IsBefore, Rises}
-use Rattle.repo_plan.proofs.Orders.{less_back, greater_back, equal_back, exact_pairs}
-use Rattle.repo_plan.proofs.Sets.{rises_insert, rises_filter}
-use Rattle.repo_plan.proofs.Search.{Found, found}
-use Rattle.repo_plan.proofs.Search.Found.{at_key, at_gap}
+use Rattle.sorted_lists.specs.SortedList.{by_order, insert_key, IsBefore, Rises}
+use Rattle.sorted_lists.proofs.Orders.{less_back, greater_back, equal_back}
+use Rattle.repo_plan.proofs.Orders.{exact_pairs}
+use Rattle.sorted_lists.proofs.Sets.{rises_insert, rises_filter}
+use Rattle.sorted_lists.proofs.Search.{Found, found}
+use Rattle.sorted_lists.proofs.Search.Found.{at_key, at_gap}
 use Rattle.repo_catalog.specs.declared.entry.Entry.{Entry}
 use Rattle.repo_catalog.specs.Entries.{publication_of, is_of, entry_of, with_entry, without, IsCatalogue}
 

@@ -11,9 +11,10 @@ use Rattle.ndn_name.specs.Names.{Component}
 use Rattle.ndn_name.specs.CanonicalOrder.{canonical_cmp, canonical_cmp_total}
 use Rattle.ndn_name.proofs.Prefixes.{canonical_cmp-equal}
 use Rattle.repo_plan.specs.Parts.{Pair, pair_cmp}
-use Rattle.repo_plan.specs.SortedList.{by_order, IsBefore}
-use Rattle.repo_plan.proofs.Orders.{less_back, greater_back, equal_from_is_eq, exact_pairs}
-use Rattle.repo_plan.proofs.Sets.{before_more, eq_same, eq_itself}
+use Rattle.sorted_lists.specs.SortedList.{by_order, IsBefore}
+use Rattle.sorted_lists.proofs.Orders.{less_back, greater_back, equal_from_is_eq}
+use Rattle.repo_plan.proofs.Orders.{exact_pairs}
+use Rattle.sorted_lists.proofs.Sets.{before_more, eq_same, eq_itself}
 use Rattle.repo_catalog.specs.declared.entry.Entry.{Entry}
 use Rattle.repo_catalog.specs.Entries.{publication_of, is_of, entry_has_name, entry_of, lists, first_named, with_entry}
 use Rattle.repo_catalog.specs.Entries.{without, IsCatalogue}

@@ -8,7 +8,7 @@ use Rattle.std.proofs.lemmas.Slice.Eq.{bytes_eq-Decides}
 use Rattle.std.specs.Str.{bytes_eq}
 use Rattle.ndn_name.specs.CanonicalOrder.{canonical_cmp, canonical_cmp_total}
 use Rattle.ndn_name.proofs.Prefixes.{canonical_cmp-equal}
-use Rattle.repo_plan.proofs.Orders.{equal_from_is_eq}
+use Rattle.sorted_lists.proofs.Orders.{equal_from_is_eq}
 use Rattle.repo_catalog.specs.declared.entry.Entry.{Entry}
 
 -- the comparison that the program makes

@@ -5,9 +5,9 @@ use Rattle.std.specs.Prelude.{nat_le, slice_index}
 use Rattle.std.proofs.lemmas.Bool.{true≢false, and_parts, or_cases, leb-true, cases_lt}
 use Rattle.std.proofs.lemmas.List.{get_or_past}
 use Rattle.repo_plan.specs.declared.part.Part.{Part}
-use Rattle.repo_plan.specs.SortedList.{contains, value_of}
+use Rattle.sorted_lists.specs.SortedList.{contains, value_of}
 use Rattle.repo_plan.specs.Parts.{Shape, pair_cmp, part_cmp, pair_of, parent}
-use Rattle.repo_plan.specs.Plan.{Holdings, can_be_asked, is_asked, knows, shape_of}
+use Rattle.repo_plan.specs.Plan.{PlanState, can_be_asked, is_asked, knows, shape_of}
 use Rattle.repo_object.specs.Publication.{Listed}
 use Rattle.repo_member.specs.Records.{Packet}
 use Rattle.repo_member.specs.Listed.{listing_at, listed_shape}
@@ -20,7 +20,7 @@ pub record IsListedSegment (packets : List Packet) (t : Part) : Type 0 where
   pub listed : listing_at packets (pair_of t) ≡ Some listing
   pub counted : t.part ≤ listed_shape listing
 
-pub asked_segment : (plan : Holdings) (packets : List Packet) (t : Part) → AreTied plan packets → is_asked plan t ≡ true
+pub asked_segment : (plan : PlanState) (packets : List Packet) (t : Part) → AreTied plan packets → is_asked plan t ≡ true
     → (t.part == 0) ≡ false → IsListedSegment packets t
 asked_segment plan packets t tied asked segment = go (listing_at packets (pair_of t)) refl where
   told : shape_of plan (pair_of t) ≡ option_map listed_shape (listing_at packets (pair_of t))
@@ -48,7 +48,7 @@ asked_segment plan packets t tied asked segment = go (listing_at packets (pair_o
       ]
 
 -- the publisher of a part that is asked for is a member
-pub asked_member : (plan : Holdings) (t : Part) → is_asked plan t ≡ true → t.publisher < length plan.known
+pub asked_member : (plan : PlanState) (t : Part) → is_asked plan t ≡ true → t.publisher < length plan.known
 asked_member plan t asked =
     let known = (and_parts (knows plan (pair_of t)) (can_be_asked plan.held (shape_of plan (pair_of t)) t) asked).0 in
     let both = and_parts (nat_le 1 t.seq) (nat_le t.seq (slice_index plan.known t.publisher)) known in

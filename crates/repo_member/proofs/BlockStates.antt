@@ -4,8 +4,8 @@ use Rattle.std.proofs.Common.{refl, sym, ap, ◌∙◌, subst}
 use Rattle.std.specs.Prelude.{IsSomeAnd, IsTrue}
 use Rattle.std.specs.Ordering.{nat_cmp, eq_by_cmp}
 use Rattle.std.proofs.lemmas.Bool.{true≢false}
-use Rattle.repo_plan.specs.SortedList.{Rises, keys, value_of, with_value}
-use Rattle.repo_plan.proofs.Sets.{value_of-with_value, rises_with_value, eq_same, eq_itself}
+use Rattle.sorted_lists.specs.SortedList.{Rises, keys, value_of, with_value}
+use Rattle.sorted_lists.proofs.Sets.{value_of-with_value, rises_with_value, eq_same, eq_itself}
 use Rattle.repo_object.specs.Objects.{NamedContents}
 use Rattle.repo_process.specs.declared.block_state.BlockState.TheVariants.{Kept, Complete}
 use Rattle.repo_process.specs.Processes.{Process, BlockState, has_block, with_block, without_block, is_whole, object_of}

@@ -5,11 +5,11 @@ use Rattle.std.specs.Prelude.{nat_lt}
 use Rattle.std.specs.Ordering.{eq_by_cmp}
 use Rattle.std.proofs.lemmas.Bool.{or_parts, or_right}
 use Rattle.repo_plan.specs.declared.part.Part.{Part}
-use Rattle.repo_plan.specs.SortedList.{keys, contains, value_of, with_value}
+use Rattle.sorted_lists.specs.SortedList.{keys, contains, value_of, with_value}
 use Rattle.repo_plan.specs.Parts.{Pair, pair_cmp, part_cmp, pair_of}
 use Rattle.repo_plan.specs.Plan.{hides, holds, is_asked, claim_of}
 use Rattle.repo_plan.proofs.Orders.{exact_pairs, exact_parts}
-use Rattle.repo_plan.proofs.Sets.{eq_same, contains-insert_key}
+use Rattle.sorted_lists.proofs.Sets.{eq_same, contains-insert_key}
 use Rattle.repo_object.specs.Objects.{NamedContents}
 use Rattle.ndn_name.specs.Names.{Component}
 use Rattle.repo_command.specs.declared.command.Command as commands

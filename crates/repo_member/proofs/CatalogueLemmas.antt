@@ -7,10 +7,11 @@ use Rattle.std.specs.Ordering.{eq_by_cmp, is_eq}
 use Rattle.std.specs.declared.cmp.Ordering.{Ordering}
 use Rattle.std.specs.declared.cmp.Ordering.TheVariants.{Less, Equal, Greater}
 use Rattle.sha2.specs.Sha256.{sha256}
-use Rattle.repo_plan.specs.SortedList.{by_order, keys, Rises, value_of, with_value}
-use Rattle.repo_plan.specs.Parts.{Pair, pair_cmp, part_cmp, numbers_from}
+use Rattle.sorted_lists.specs.SortedList.{by_order, keys, Rises, value_of, with_value}
+use Rattle.sorted_lists.specs.Range.{numbers_from}
+use Rattle.repo_plan.specs.Parts.{Pair, pair_cmp, part_cmp}
 use Rattle.repo_plan.proofs.Orders.{exact_pairs}
-use Rattle.repo_plan.proofs.Sets.{eq_same, rises_with_value, value_of-with_value}
+use Rattle.sorted_lists.proofs.Sets.{eq_same, rises_with_value, value_of-with_value}
 use Rattle.repo_object.specs.Publication.{Listed}
 use Rattle.repo_object.specs.Verdict.{listing_in}
 use Rattle.repo_catalog.specs.declared.entry.Entry.{Entry}

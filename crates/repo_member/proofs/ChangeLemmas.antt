@@ -7,10 +7,12 @@ use Rattle.std.specs.declared.cmp.Ordering.TheVariants.{Less, Equal, Greater}
 use Rattle.std.proofs.lemmas.List.Elements.{All-head, All-tail}
 use Rattle.svs_sync.specs.Suppression.{periodic}
 use Rattle.repo_plan.specs.declared.part.Part.{Part}
-use Rattle.repo_plan.specs.SortedList.{by_order, keys, Rises, contains, insert_key, with_value}
-use Rattle.repo_plan.specs.Parts.{Pair, part_cmp, part_of, parts_of, numbers_from}
-use Rattle.repo_plan.proofs.Orders.{Exact, exact_parts, less_back}
-use Rattle.repo_plan.proofs.Sets.{each_before, in_contains, keys-with_value, rises_insert}
+use Rattle.sorted_lists.specs.SortedList.{by_order, keys, Rises, contains, insert_key, with_value}
+use Rattle.sorted_lists.specs.Range.{numbers_from}
+use Rattle.repo_plan.specs.Parts.{Pair, part_cmp, part_of, parts_of}
+use Rattle.sorted_lists.proofs.Orders.{Exact, less_back}
+use Rattle.repo_plan.proofs.Orders.{exact_parts}
+use Rattle.sorted_lists.proofs.Sets.{each_before, in_contains, keys-with_value, rises_insert}
 use Rattle.repo_object.specs.Publication.{packets}
 use Rattle.repo_object.proofs.Publications.{packets-length}
 use Rattle.repo_store.specs.StoreList.{with_packet}

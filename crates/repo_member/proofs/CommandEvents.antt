@@ -6,7 +6,7 @@ use Rattle.std.specs.Ordering.{nat_cmp}
 use Rattle.std.proofs.lemmas.Bool.{leb-false, lt-ltb}
 use Rattle.std.proofs.lemmas.List.{length-map, length-set}
 use Rattle.ndn_name.specs.Names.{Component}
-use Rattle.repo_plan.specs.SortedList.{value_of}
+use Rattle.sorted_lists.specs.SortedList.{value_of}
 use Rattle.repo_command.specs.declared.command.Command.{Command}
 use Rattle.repo_command.specs.declared.command.Command.TheVariants.{Insert, Check, Delete}
 use Rattle.repo_command.specs.declared.answer.Answer.{Answer}

@@ -2,7 +2,8 @@
 use Rattle.std.proofs.Common.{Bor, Option, Some, None, option_map, unwrap_or, ◌≡◌, ℕ, ◌+◌, List, [], ◌∷◌, ◌++◌, refl}
 use Rattle.std.proofs.Common.{sym, ap, ◌∙◌, zero, suc, add-one, append_assoc, arith}
 use Rattle.std.specs.List.{flat_map}
-use Rattle.repo_plan.specs.Parts.{Pair, numbers_from}
+use Rattle.sorted_lists.specs.Range.{numbers_from}
+use Rattle.repo_plan.specs.Parts.{Pair}
 use Rattle.repo_member.specs.Records.{Packet}
 use Rattle.repo_member.specs.Listed.{stored_content, contents_joined}
 

@@ -3,7 +3,7 @@ use Rattle.std.proofs.Common.{◌≡◌, Bool, true, false, cond, List, [], ◌�
 use Rattle.std.specs.Prelude.{filter}
 use Rattle.ndn_name.specs.Names.{Component}
 use Rattle.repo_plan.specs.declared.part.Part.{Part}
-use Rattle.repo_plan.specs.SortedList.{insert_key}
+use Rattle.sorted_lists.specs.SortedList.{insert_key}
 use Rattle.repo_plan.specs.Parts.{Pair, pair_cmp}
 use Rattle.repo_catalog.specs.Entries.{publication_of, entry_has_name}
 use Rattle.group_model.specs.Publications.{Logs, Publication, pair_in, published_entry}

@@ -10,7 +10,7 @@ use Rattle.svs_vector.specs.Vectors.{covers, join_all}
 use Rattle.svs_vector.proofs.JoinLemmas.{join-[], join_assoc, join_all_same}
 use Rattle.svs_sync.specs.KeptVector.{steady_kept, due_kept, fires_kept}
 use Rattle.repo_plan.specs.declared.part.Part.{Part}
-use Rattle.repo_plan.specs.SortedList.{keys, contains, Rises}
+use Rattle.sorted_lists.specs.SortedList.{keys, contains, Rises}
 use Rattle.repo_plan.specs.Parts.{part_cmp}
 use Rattle.repo_plan.proofs.Orders.{exact_parts}
 use Rattle.repo_plan.specs.Plan.{claim_of, unclaimed, first, no_claims}

@@ -7,12 +7,12 @@ use Rattle.std.specs.Ordering.{eq_by_cmp}
 use Rattle.std.proofs.lemmas.Bool.{true≢false, and_parts, and_from, or_parts, not-true}
 use Rattle.std.proofs.lemmas.List.Elements.{All-head, All-tail}
 use Rattle.repo_plan.specs.declared.part.Part.{Part}
-use Rattle.repo_plan.specs.SortedList.{contains, value_of}
+use Rattle.sorted_lists.specs.SortedList.{contains, value_of}
 use Rattle.repo_plan.specs.Parts.{Pair, Shape, part_cmp}
 use Rattle.repo_plan.specs.Plan.{holds, shape_of, is_wanted, is_claimed, is_unclaimed}
 use Rattle.repo_plan.specs.Sound.{CanBeHeld}
 use Rattle.repo_plan.proofs.Orders.{exact_parts}
-use Rattle.repo_plan.proofs.Sets.{eq_same, eq_itself}
+use Rattle.sorted_lists.proofs.Sets.{eq_same, eq_itself}
 use Rattle.repo_plan.proofs.Changes.{Keeps, IsWanted, wanted_parts, wanted_from, asked_kept}
 use Rattle.repo_object.specs.declared.job.Job.{Job}
 use Rattle.repo_object.specs.Publication.{Listed}

@@ -11,14 +11,15 @@ use Rattle.std.specs.Ordering.{eq_by_cmp, is_eq}
 use Rattle.std.specs.declared.cmp.Ordering.TheVariants.{Less}
 use Rattle.ndn_name.specs.Names.{Component}
 use Rattle.repo_plan.specs.declared.part.Part.{Part}
-use Rattle.repo_plan.specs.SortedList.{keys, Rises, contains}
-use Rattle.repo_plan.specs.Parts.{Pair, pair_cmp, part_cmp, pair_of, part_of, parts_of, numbers_from}
-use Rattle.repo_plan.specs.Plan.{Holdings, holds, knows, is_in, is_asked, can_be_asked, shape_of, is_claim_in}
+use Rattle.sorted_lists.specs.SortedList.{keys, Rises, contains}
+use Rattle.sorted_lists.specs.Range.{numbers_from}
+use Rattle.repo_plan.specs.Parts.{Pair, pair_cmp, part_cmp, pair_of, part_of, parts_of}
+use Rattle.repo_plan.specs.Plan.{PlanState, holds, knows, is_in, is_asked, can_be_asked, shape_of, is_claim_in}
 use Rattle.repo_plan.specs.Plan.{claims_part_in, opening}
 use Rattle.repo_plan.specs.Sound.{PlanIsSound}
 use Rattle.repo_plan.proofs.Orders.{exact_pairs, exact_parts}
-use Rattle.repo_plan.proofs.Sets.{In, eq_same, eq_itself, keys-filter, rises_filter, in_filter, contains_in}
-use Rattle.repo_plan.proofs.Sets.{in_contains, from_map, in_map, each_before}
+use Rattle.sorted_lists.proofs.Sets.{In, eq_same, eq_itself, keys-filter, rises_filter, in_filter, contains_in}
+use Rattle.sorted_lists.proofs.Sets.{in_contains, from_map, in_map, each_before}
 use Rattle.repo_plan.proofs.Known.{in_numbers, rises_numbers, from_parts_of, in_parts_of}
 use Rattle.repo_plan.proofs.Changes.{wanted_parts}
 use Rattle.repo_object.specs.Publication.{Listed}
@@ -103,7 +104,7 @@ entry_listed_whole packets e r i =
 
 -- ---- such a publication in a sound plan
 
-module _ (p : Holdings) (packets : List Packet) (pair : Pair) (n : ℕ) (s : PlanIsSound p) (tied : AreTied p packets)
+module _ (p : PlanState) (packets : List Packet) (pair : Pair) (n : ℕ) (s : PlanIsSound p) (tied : AreTied p packets)
     (whole : IsWhole packets pair n) where
   pub held_each : (x : ℕ) → x ≤ n → holds p (part_of pair x) ≡ true
   held_each x below = held_value p packets pair tied (part_of pair x) ∙ whole.each x below
@@ -258,7 +259,7 @@ others_before name es i d r l q j =
     ap (λ (k : Pair). eq_by_cmp pair_cmp k (publication_of (get_or es i d))) x.2 ∙ ap is_eq less
 
 -- one publication more has so many packets
-pub one_more_dropped : (p : Holdings) (packets : List Packet) (pair : Pair) (n : ℕ) (pairs : List Pair) → PlanIsSound p
+pub one_more_dropped : (p : PlanState) (packets : List Packet) (pair : Pair) (n : ℕ) (pairs : List Pair) → PlanIsSound p
     → AreTied p packets → IsWhole packets pair n
     → ((q : Pair) → In q pairs → eq_by_cmp pair_cmp q pair ≡ false)
     → length (outside_all (pairs ++ pair ∷ []) packets) + (n + 1) ≡ length (outside_all pairs packets)
@@ -282,7 +283,7 @@ outside_shorter (pair ∷ pairs) packets =
 -- ---- the entry at a place of the catalogue
 
 -- what a loop over the entries learns of one
-pub record IsEntryAt (p : Holdings) (packets : List Packet) (name : List Component) (entries : List Entry) (i : ℕ)
+pub record IsEntryAt (p : PlanState) (packets : List Packet) (name : List Component) (entries : List Entry) (i : ℕ)
     (e : Entry) : Type 0 where
   pub held : holds p (part_of (publication_of e) 0) ≡ true
   pub known : knows p (publication_of e) ≡ true
@@ -292,7 +293,7 @@ pub record IsEntryAt (p : Holdings) (packets : List Packet) (name : List Compone
       ≡ length (outside_all (publications_named name (take i entries)) packets)
 
 pub entry_is_at :
-    (p : Holdings) (packets : List Packet) (name : List Component) (entries : List Entry) (i : ℕ) (d e : Entry)
+    (p : PlanState) (packets : List Packet) (name : List Component) (entries : List Entry) (i : ℕ) (d e : Entry)
     → PlanIsSound p → AreTied p packets → entries ≡ alone_catalogue packets → IsCatalogue entries → i < length entries
     → e ≡ get_or entries i d
     → IsEntryAt p packets name entries i e

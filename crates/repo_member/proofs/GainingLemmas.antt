@@ -6,11 +6,12 @@ use Rattle.std.specs.List.{list_all}
 use Rattle.std.specs.Option.{option_and_then}
 use Rattle.std.specs.Ordering.{eq_by_cmp}
 use Rattle.repo_plan.specs.declared.part.Part.{Part}
-use Rattle.repo_plan.specs.SortedList.{keys, Rises, contains, value_of, with_value, insert_key}
-use Rattle.repo_plan.specs.Parts.{Pair, Shape, pair_cmp, part_cmp, pair_of, part_of, numbers_from, parts_of, parts_told}
-use Rattle.repo_plan.specs.Plan.{Holdings, holds, holds_too, uses_room, with_shape, shape_of, is_complete}
+use Rattle.sorted_lists.specs.SortedList.{keys, Rises, contains, value_of, with_value, insert_key}
+use Rattle.sorted_lists.specs.Range.{numbers_from}
+use Rattle.repo_plan.specs.Parts.{Pair, Shape, pair_cmp, part_cmp, pair_of, part_of, parts_of, parts_told}
+use Rattle.repo_plan.specs.Plan.{PlanState, holds, holds_too, uses_room, with_shape, shape_of, is_complete}
 use Rattle.repo_plan.proofs.Orders.{exact_pairs, exact_parts}
-use Rattle.repo_plan.proofs.Sets.{eq_same, eq_itself, keys-with_value, rises_with_value, value_of-with_value}
+use Rattle.sorted_lists.proofs.Sets.{eq_same, eq_itself, keys-with_value, rises_with_value, value_of-with_value}
 use Rattle.repo_object.specs.Publication.{Listed}
 use Rattle.repo_object.specs.Verdict.{listing_in}
 use Rattle.repo_store.specs.StoreList.{with_packet}
@@ -94,7 +95,7 @@ module _ (packets : List Packet) (t : Part) (octets : List ℕ)
 
 -- ---- the plan of one part more
 
-module _ (plan : Holdings) (packets : List Packet) (t : Part) (octets : List ℕ) (segments : Option Shape)
+module _ (plan : PlanState) (packets : List Packet) (t : Part) (octets : List ℕ) (segments : Option Shape)
     (tied : AreTied plan packets) (fresh : holds plan t ≡ false) where
   pub absent : contains part_cmp (keys packets) t ≡ false
   absent = ap (λ (ts : List Part). contains part_cmp ts t) (sym tied.held) ∙ fresh
@@ -195,7 +196,7 @@ list_all-map : {A B : Type 0} (p : B → Bool) (f : A → B) (xs : List A)
 list_all-map p f [] = refl
 list_all-map p f (x ∷ xs) = ap (λ (b : Bool). p (f x) && b) (list_all-map p f xs)
 
-module _ (plan : Holdings) (packets : List Packet) (pair : Pair) (tied : AreTied plan packets) where
+module _ (plan : PlanState) (packets : List Packet) (pair : Pair) (tied : AreTied plan packets) where
   pub shape_told : shape_of plan pair ≡ option_map listed_shape (listing_at packets pair)
   shape_told =
       ap (λ (es : List (Pair × Shape)). value_of pair_cmp es pair) tied.shapes ∙ shapes_value packets pair tied.in_order
@@ -238,7 +239,7 @@ module _ (plan : Holdings) (packets : List Packet) (pair : Pair) (tied : AreTied
 
 -- ---- what is left as it was
 
-pub others_kept : (t : Part) (shape : Option Shape) (plan : Holdings)
+pub others_kept : (t : Part) (shape : Option Shape) (plan : PlanState)
     → KeepsOthers plan (uses_room (holds_too t shape plan))
 others_kept t shape plan = go (holds plan t) where
   go : (b : Bool)

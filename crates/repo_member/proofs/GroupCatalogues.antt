@@ -8,10 +8,12 @@ use Rattle.std.specs.Ordering.{eq_by_cmp}
 use Rattle.std.specs.declared.cmp.Ordering.{Ordering}
 use Rattle.std.proofs.lemmas.Bool.{true≢false}
 use Rattle.sha2.specs.Sha256.{sha256}
-use Rattle.repo_plan.specs.SortedList.{keys, Rises, value_of}
-use Rattle.repo_plan.specs.Parts.{Pair, Shape, pair_cmp, part_of, numbers_from, parts_of, parts_told}
-use Rattle.repo_plan.proofs.Orders.{Exact, exact_pairs}
-use Rattle.repo_plan.proofs.Sets.{In, in_map, from_map, in_filter, eq_same}
+use Rattle.sorted_lists.specs.SortedList.{keys, Rises, value_of}
+use Rattle.sorted_lists.specs.Range.{numbers_from}
+use Rattle.repo_plan.specs.Parts.{Pair, Shape, pair_cmp, part_of, parts_of, parts_told}
+use Rattle.sorted_lists.proofs.Orders.{Exact}
+use Rattle.repo_plan.proofs.Orders.{exact_pairs}
+use Rattle.sorted_lists.proofs.Sets.{In, in_map, from_map, in_filter, eq_same}
 use Rattle.repo_plan.proofs.Known.{in_parts_of}
 use Rattle.repo_plan.proofs.Whole.{each_all}
 use Rattle.repo_object.specs.Objects.{NamedContents}

@@ -4,11 +4,11 @@ use Rattle.std.proofs.Common.{option_map, refl, sym, ap, ◌∙◌, subst, arith
 use Rattle.std.specs.Prelude.{filter, ◌↔◌}
 use Rattle.std.proofs.lemmas.Bool.{eqb-true}
 use Rattle.repo_plan.specs.declared.part.Part.{Part}
-use Rattle.repo_plan.specs.SortedList.{keys, contains}
+use Rattle.sorted_lists.specs.SortedList.{keys, contains}
 use Rattle.repo_plan.specs.Parts.{Pair, Shape, part_cmp, pair_of}
-use Rattle.repo_plan.specs.Plan.{Holdings, wanted}
+use Rattle.repo_plan.specs.Plan.{PlanState, wanted}
 use Rattle.repo_plan.proofs.Orders.{exact_parts}
-use Rattle.repo_plan.proofs.Sets.{In, in_map, contains_in}
+use Rattle.sorted_lists.proofs.Sets.{In, in_map, contains_in}
 use Rattle.repo_object.specs.Verdict.{listing_in}
 use Rattle.group_model.specs.Publications.{Logs, count, object_at}
 use Rattle.group_model.specs.Member.{told_by}
@@ -73,10 +73,10 @@ module _ (g : GroupKeys) (logs : Logs) (a : Alone) (are : AreLogs g logs) (truly
 
 pub plans_alike : PlansAlike
 plans_alike g logs a are truly =
-    ap (λ (shapes : List (Pair × Shape)). let p : Holdings = record (alone_plan a) { shapes = shapes } in p)
+    ap (λ (shapes : List (Pair × Shape)). let p : PlanState = record (alone_plan a) { shapes = shapes } in p)
     (shapes_told g logs a are truly)
 
 pub wants_alike : WantsAlike
 wants_alike g logs a t are truly =
-    subst (λ (p : Holdings). (contains part_cmp (wanted p) t ≡ true) ↔ IsWantedPart logs (in_group a) t)
+    subst (λ (p : PlanState). (contains part_cmp (wanted p) t ≡ true) ↔ IsWantedPart logs (in_group a) t)
     (sym (plans_alike g logs a are truly)) (wants_those logs (in_group a) t)

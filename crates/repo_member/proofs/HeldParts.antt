@@ -15,12 +15,12 @@ use Rattle.svs_vector.proofs.JoinLemmas.{length-join, join-at}
 use Rattle.svs_sync.specs.KeptVector.{Keeper}
 use Rattle.ndn_data.specs.Data.{Data}
 use Rattle.repo_plan.specs.declared.part.Part.{Part}
-use Rattle.repo_plan.specs.SortedList.{keys, Rises, contains, value_of}
+use Rattle.sorted_lists.specs.SortedList.{keys, Rises, contains, value_of}
 use Rattle.repo_plan.specs.Parts.{Pair, part_cmp, pair_of, part_of}
 use Rattle.repo_plan.specs.Plan.{knows, holds, hides, is_asked, can_be_asked, shape_of}
 use Rattle.repo_plan.specs.Sound.{PlanIsSound, CanBeHeld}
 use Rattle.repo_plan.proofs.Orders.{exact_parts}
-use Rattle.repo_plan.proofs.Sets.{eq_same}
+use Rattle.sorted_lists.proofs.Sets.{eq_same}
 use Rattle.repo_plan.proofs.Changes.{sound_opening}
 use Rattle.repo_object.specs.declared.part_refusal.PartRefusal.{PartRefusal}
 use Rattle.repo_object.specs.Objects.{NamedContents, IsObject, Publisher, IsPublisher}

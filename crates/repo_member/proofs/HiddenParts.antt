@@ -7,12 +7,12 @@ use Rattle.std.specs.Ordering.{eq_by_cmp}
 use Rattle.std.proofs.lemmas.Bool.{or_cases, or_parts}
 use Rattle.ndn_name.specs.Names.{Component}
 use Rattle.repo_plan.specs.declared.part.Part.{Part}
-use Rattle.repo_plan.specs.SortedList.{Rises, keys, value_of, insert_key}
+use Rattle.sorted_lists.specs.SortedList.{Rises, keys, value_of, insert_key}
 use Rattle.repo_plan.specs.Parts.{Pair, pair_cmp, part_cmp, pair_of}
-use Rattle.repo_plan.specs.Plan.{Holdings, knows, hides, is_in, claims_part_in, hides_too}
+use Rattle.repo_plan.specs.Plan.{PlanState, knows, hides, is_in, claims_part_in, hides_too}
 use Rattle.repo_plan.specs.Sound.{PlanIsSound}
 use Rattle.repo_plan.proofs.Orders.{exact_pairs}
-use Rattle.repo_plan.proofs.Sets.{In, eq_same, contains-insert_key, from_map}
+use Rattle.sorted_lists.proofs.Sets.{In, eq_same, contains-insert_key, from_map}
 use Rattle.repo_plan.proofs.Changes.{same_holdings, sound_hides}
 use Rattle.repo_object.specs.Wants.{WantedPart, want_record, want_segment}
 use Rattle.repo_object.specs.Verdict.{listing_in, ring_verdict}
@@ -35,11 +35,11 @@ use Rattle.repo_member.proofs.HeldParts.{IsReached, PassesNow}
 -- ---- what can be hidden
 
 -- a known publication that no fetcher claims a part of
-pub record CanHide (p : Holdings) (pair : Pair) : Type 0 where
+pub record CanHide (p : PlanState) (pair : Pair) : Type 0 where
   pub known : knows p pair ≡ true
   pub unclaimed : claims_part_in p pair ≡ false
 
-pub named_can_hide : (p : Holdings) (packets : List Packet) (name : List Component) → PlanIsSound p → AreTied p packets
+pub named_can_hide : (p : PlanState) (packets : List Packet) (name : List Component) → PlanIsSound p → AreTied p packets
     → (pair : Pair) → In pair (publications_named name (alone_catalogue packets)) → CanHide p pair
 named_can_hide p packets name s tied pair i =
     let e : (e : Entry) × (In e (filter (entry_has_name name) (alone_catalogue packets))) × (pair ≡ publication_of e) =

@@ -5,11 +5,11 @@ use Rattle.std.specs.Prelude.{filter}
 use Rattle.std.specs.Option.{option_and_then}
 use Rattle.std.specs.Ordering.{eq_by_cmp}
 use Rattle.repo_plan.specs.declared.part.Part.{Part}
-use Rattle.repo_plan.specs.SortedList.{keys, Rises, value_of}
+use Rattle.sorted_lists.specs.SortedList.{keys, Rises, value_of}
 use Rattle.repo_plan.specs.Parts.{Pair, Shape, pair_cmp, part_cmp, part_of}
-use Rattle.repo_plan.specs.Plan.{Holdings, is_in, hides_too, uses_room}
+use Rattle.repo_plan.specs.Plan.{PlanState, is_in, hides_too, uses_room}
 use Rattle.repo_plan.proofs.Orders.{exact_pairs, exact_parts}
-use Rattle.repo_plan.proofs.Sets.{eq_same, eq_itself, keys-filter, rises_keys_filter, value_of-filter}
+use Rattle.sorted_lists.proofs.Sets.{eq_same, eq_itself, keys-filter, rises_keys_filter, value_of-filter}
 use Rattle.repo_object.specs.Verdict.{listing_in}
 use Rattle.repo_store.specs.StoreList.{packets_outside}
 use Rattle.repo_catalog.specs.declared.entry.Entry.{Entry}
@@ -120,7 +120,7 @@ module _ (pair : Pair) (packets : List Packet) where
 
 -- ---- the plan
 
-pub tied_hides : (pair : Pair) (plan : Holdings) (packets : List Packet) → AreTied plan packets
+pub tied_hides : (pair : Pair) (plan : PlanState) (packets : List Packet) → AreTied plan packets
     → AreTied (uses_room (hides_too pair plan)) (packets_outside pair packets)
 tied_hides pair plan packets tied = record {
   in_order = rises_outside pair packets tied.in_order;
@@ -130,7 +130,7 @@ tied_hides pair plan packets tied = record {
       ∙ shapes_outside pair packets tied.in_order;
 }
 
-pub kept_hides : (pair : Pair) (plan : Holdings) (packets : List Packet) (entries : List Entry)
+pub kept_hides : (pair : Pair) (plan : PlanState) (packets : List Packet) (entries : List Entry)
     → AreKept plan packets entries
     → AreKept (uses_room (hides_too pair plan)) (packets_outside pair packets) (without pair entries)
 kept_hides pair plan packets entries kept = record {

@@ -9,9 +9,9 @@ use Rattle.std.proofs.lemmas.Cmp.{nat_cmp_total}
 use Rattle.std.proofs.lemmas.List.{length-map}
 use Rattle.std.proofs.lemmas.List.Elements.{All-cons, All-nil}
 use Rattle.ndn_name.specs.Names.{Component, IsName}
-use Rattle.repo_plan.specs.SortedList.{value_of, with_value}
-use Rattle.repo_plan.proofs.Orders.{Exact, nat_same, nat_itself}
-use Rattle.repo_plan.proofs.Sets.{In, value_of-with_value}
+use Rattle.sorted_lists.specs.SortedList.{value_of, with_value}
+use Rattle.sorted_lists.proofs.Orders.{Exact, nat_same, nat_itself}
+use Rattle.sorted_lists.proofs.Sets.{In, value_of-with_value}
 use Rattle.repo_object.specs.Objects.{is_object_name, IsContent, IsObject}
 use Rattle.repo_command.specs.declared.command.Command.{Command}
 use Rattle.repo_command.specs.declared.command.Command.TheVariants.{Insert, Check, Delete}

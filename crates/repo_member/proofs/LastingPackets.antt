@@ -10,10 +10,10 @@ use Rattle.std.proofs.lemmas.List.{get_or-take, get_or-set_same, get_or-set_othe
 use Rattle.std.proofs.lemmas.List.{take_all, length-set, length-replicate, get_or-replicate}
 use Rattle.std.proofs.lemmas.List.Elements.{All-nil, All-push, All-head, All-tail}
 use Rattle.repo_plan.specs.declared.part.Part.{Part}
-use Rattle.repo_plan.specs.SortedList.{keys, contains, value_of, with_value, insert_key}
+use Rattle.sorted_lists.specs.SortedList.{keys, contains, value_of, with_value, insert_key}
 use Rattle.repo_plan.specs.Parts.{Pair, part_cmp, pair_of, part_of}
 use Rattle.repo_plan.proofs.Orders.{exact_parts}
-use Rattle.repo_plan.proofs.Sets.{eq_same, contains-insert_key}
+use Rattle.sorted_lists.proofs.Sets.{eq_same, contains-insert_key}
 use Rattle.repo_object.specs.Objects.{NamedContents, IsObject}
 use Rattle.repo_object.specs.Publication.{packets, packet_at}
 use Rattle.repo_store.specs.StoreList.{with_packet}

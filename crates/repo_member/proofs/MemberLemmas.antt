@@ -13,7 +13,7 @@ use Rattle.svs_vector.proofs.JoinLemmas.{length-join, join-at}
 use Rattle.svs_sync.specs.Suppression.{suppression}
 use Rattle.svs_sync.specs.KeptVector.{Keeper, steady_kept, hears_kept}
 use Rattle.repo_object.specs.Publication.{Listed}
-use Rattle.repo_plan.specs.Plan.{Holdings}
+use Rattle.repo_plan.specs.Plan.{PlanState}
 use Rattle.repo_plan.proofs.Changes.{same_holdings}
 use Rattle.repo_member.specs.declared.member.Member.TheInside.{Inside}
 use Rattle.repo_member.specs.declared.member.stored_record.StoredRecord.{StoredRecord}
@@ -34,7 +34,7 @@ plan_is m is =
     is.kept.tied.shapes refl refl refl refl
 
 -- a reading that looks at no room is that of the member's value
-pub reading : {A : Type 0} (f : Holdings → A) (m : Inside) (a : Alone) → IsMember m → alone m ≡ a
+pub reading : {A : Type 0} (f : PlanState → A) (m : Inside) (a : Alone) → IsMember m → alone m ≡ a
     → f (record (alone_plan (alone m)) { spare = m.plan.spare }) ≡ f (alone_plan (alone m))
     → f m.plan ≡ f (alone_plan a)
 reading f m a is view same = ap f (plan_is m is) ∙ same ∙ ap (λ (x : Alone). f (alone_plan x)) view
@@ -95,7 +95,7 @@ still_wide now told known draw k new is =
     ap (λ (x : Keeper). x.members) is ∙ hears_members now told known draw k k.heard
 
 -- numbers that grow are known still
-pub knows_more : (old new : Holdings) (pair : Pair) → ((p : ℕ) → slice_index old.known p ≤ slice_index new.known p)
+pub knows_more : (old new : PlanState) (pair : Pair) → ((p : ℕ) → slice_index old.known p ≤ slice_index new.known p)
     → knows old pair ≡ true → knows new pair ≡ true
 knows_more old new pair more h =
     let both = and_parts (nat_le 1 pair.1) (nat_le pair.1 (slice_index old.known pair.0)) h in
@@ -105,7 +105,7 @@ knows_more old new pair more h =
     (le-leb pair.1 (slice_index new.known pair.0) (omega (arith, high, grown)))
 
 -- a member that learns a vector, which tells of no more publications of it than it made
-pub learns_is : (m : Inside) (told vector : List ℕ) (plan : Holdings) (machine : Keeper) → IsMember m
+pub learns_is : (m : Inside) (told vector : List ℕ) (plan : PlanState) (machine : Keeper) → IsMember m
     → length told ≡ length m.vector → slice_index told m.number ≤ length m.log.items
     → vector ≡ join m.vector told → plan ≡ record m.plan { known = join m.vector told }
     → machine.members ≡ m.machine.members
@@ -161,7 +161,7 @@ publisher_in_ring g m a t is view of keys asked =
 
 -- ---- a claim that ends
 
-pub ended_claim : (result : Result Part FetcherIdle) (old new : Holdings) (f : ℕ) (t : Part)
+pub ended_claim : (result : Result Part FetcherIdle) (old new : PlanState) (f : ℕ) (t : Part)
     → IfOk result (λ part. claim_of old f ≡ Some part) → IfOk result (CanBeHeld new)
     → OnOk result (new ≡ with_claim f None old) → (IsErr result ↔ (claim_of old f ≡ None)) → claim_of old f ≡ Some t
     → CanBeHeld new t × (new ≡ with_claim f None old)

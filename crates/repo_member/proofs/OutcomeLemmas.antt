@@ -26,14 +26,14 @@ use Rattle.ndn_packet.specs.Contents.{first_of}
 use Rattle.ndn_packet.specs.Outer.{only_of}
 use Rattle.ndn_data.specs.Data.{Data, data_of, data_fields, data_from}
 use Rattle.repo_plan.specs.declared.part.Part.{Part}
-use Rattle.repo_plan.specs.SortedList.{IsBefore, Rises, contains, value_of, with_value}
+use Rattle.sorted_lists.specs.SortedList.{IsBefore, Rises, contains, value_of, with_value}
 use Rattle.repo_plan.specs.Parts.{Pair, Shape, pair_cmp, part_cmp, pair_of, part_of}
-use Rattle.repo_plan.specs.Plan.{Holdings, holds, hides, knows, is_asked, is_wanted, is_claimed, is_unclaimed, is_after}
+use Rattle.repo_plan.specs.Plan.{PlanState, holds, hides, knows, is_asked, is_wanted, is_claimed, is_unclaimed, is_after}
 use Rattle.repo_plan.specs.Plan.{unclaimed, known_parts, can_be_asked, shape_of, attempts_of}
 use Rattle.repo_plan.proofs.Changes.{wanted_parts}
 use Rattle.repo_plan.proofs.Known.{unclaimed_rises}
 use Rattle.repo_plan.proofs.Orders.{exact_parts}
-use Rattle.repo_plan.proofs.Sets.{eq_same, eq_itself, rises_filter, value_of-with_value}
+use Rattle.sorted_lists.proofs.Sets.{eq_same, eq_itself, rises_filter, value_of-with_value}
 use Rattle.repo_object.specs.declared.job.Job.{Job}
 use Rattle.repo_object.specs.Publication.{Listed}
 use Rattle.repo_object.specs.Verdict.{CheckedPart, listing_in}
@@ -81,7 +81,7 @@ tries_aside t q n attempts other = go (n == 0) where
       value_of-with_value exact_parts t more attempts q
       ∙ ap (λ (b : Bool). cond b (Some more) (value_of part_cmp attempts q)) other
 
-module _ (old new : Holdings) (packets after : List Packet) (x : Tried) (was : AreTied old packets)
+module _ (old new : PlanState) (packets after : List Packet) (x : Tried) (was : AreTied old packets)
     (tied : AreTied new after) (taken : CanBeTaken old packets x)
     (puts : after ≡ with_fetched x.part (came x).packet packets)
     (tries : new.attempts ≡ with_tries x.part x.attempts old.attempts) (others : KeepsButTries old new) where
@@ -206,7 +206,7 @@ module _ (old new : Holdings) (packets after : List Packet) (x : Tried) (was : A
 
 -- ---- one after another
 
-pub keeps_on : (a b c : Holdings) → KeepsButTries a b → KeepsButTries b c → KeepsButTries a c
+pub keeps_on : (a b c : PlanState) → KeepsButTries a b → KeepsButTries b c → KeepsButTries a c
 keeps_on a b c first then = record {
   known = then.known ∙ first.known;
   claims = then.claims ∙ first.claims;
@@ -439,14 +439,14 @@ data_fits octets h =
     go r f true p h = absurd (true≢false (sym h))
     go r f false p h = ltb-false 8800 (length octets) p
 
-one_fits : (plan : Holdings) (packets : List Packet) (x : Tried) → CanBeTaken plan packets x → arrival_octets x ≤ 8800
+one_fits : (plan : PlanState) (packets : List Packet) (x : Tried) → CanBeTaken plan packets x → arrival_octets x ≤ 8800
 one_fits plan packets x can = go x.arrival can.arrived where
   go : (o : Option Arrival) → IfSome o (λ a. IsArrival packets x.part a.packet a.segments a.name)
       → length (unwrap_or (option_map (λ (a : Arrival). a.packet) o) []) ≤ 8800
   go None h = omega (arith)
   go (Some a) h = data_fits a.packet h.reads
 
-pub octets_fit : (plan : Holdings) (packets : List Packet) (xs : List Tried) → All (CanBeTaken plan packets) xs
+pub octets_fit : (plan : PlanState) (packets : List Packet) (xs : List Tried) → All (CanBeTaken plan packets) xs
     → sum_by arrival_octets xs ≤ 8800 * length xs
 octets_fit plan packets [] can = omega (arith)
 octets_fit plan packets (x ∷ xs) can =
@@ -456,7 +456,7 @@ octets_fit plan packets (x ∷ xs) can =
     omega (arith, one, rest, both)
 
 -- whatever room there is
-takable_in_room : (n : ℕ) (p : Holdings) (packets : List Packet) (xs : List Tried) → AreTakable p packets xs
+takable_in_room : (n : ℕ) (p : PlanState) (packets : List Packet) (xs : List Tried) → AreTakable p packets xs
     → AreTakable (record p { spare = n }) packets xs
 takable_in_room n p packets xs are = record {
   each = All-weaker (CanBeTaken p packets) (CanBeTaken (record p { spare = n }) packets) (λ x h. record {
@@ -470,27 +470,27 @@ takable_in_room n p packets xs are = record {
   apart = are.apart;
 }
 
-module _ (m : Inside) (a : Alone) (view : alone m ≡ a) (mid : Holdings) (stored : List Packet)
+module _ (m : Inside) (a : Alone) (view : alone m ≡ a) (mid : PlanState) (stored : List Packet)
     (plan : mid ≡ record m.plan { spare = mid.spare }) (packets : stored ≡ m.store.packets) where
   pub takable_still : IsMember m → (xs : List Tried) → AreTakable (alone_plan a) a.store xs → AreTakable mid stored xs
   takable_still is xs are =
       let here : mid ≡ record (alone_plan a) { spare = mid.spare } =
       plan
-      ∙ ap (λ (p : Holdings). record p { spare = mid.spare }) (plan_is m is)
+      ∙ ap (λ (p : PlanState). record p { spare = mid.spare }) (plan_is m is)
       ∙ ap (λ (x : Alone). record (alone_plan x) { spare = mid.spare }) view in
       let there : stored ≡ a.store = packets ∙ ap (λ (x : Alone). x.store) view in
       rw (here, there) (takable_in_room mid.spare (alone_plan a) a.store xs are)
 
-  pub taken_is : (after : Holdings) (held : List Packet) (xs : List Fetched) → held ≡ with_all_fetched xs stored
+  pub taken_is : (after : PlanState) (held : List Packet) (xs : List Fetched) → held ≡ with_all_fetched xs stored
       → after.attempts ≡ with_all_tries xs mid.attempts → KeepsButTries mid after
       → record (alone m) { store = held; hidden = after.hidden; claims = after.claims; attempts = after.attempts }
       ≡ alone_takes xs a
   taken_is after held xs puts tries others =
       let store : held ≡ with_all_fetched xs m.store.packets = puts ∙ ap (with_all_fetched xs) packets in
-      let hidden : after.hidden ≡ m.plan.hidden = others.hidden ∙ ap (λ (p : Holdings). p.hidden) plan in
-      let claims : after.claims ≡ m.plan.claims = others.claims ∙ ap (λ (p : Holdings). p.claims) plan in
+      let hidden : after.hidden ≡ m.plan.hidden = others.hidden ∙ ap (λ (p : PlanState). p.hidden) plan in
+      let claims : after.claims ≡ m.plan.claims = others.claims ∙ ap (λ (p : PlanState). p.claims) plan in
       let attempts : after.attempts ≡ with_all_tries xs m.plan.attempts =
-      tries ∙ ap (λ (p : Holdings). with_all_tries xs p.attempts) plan in
+      tries ∙ ap (λ (p : PlanState). with_all_tries xs p.attempts) plan in
       let same :
       record (alone m) { store = held; hidden = after.hidden; claims = after.claims; attempts = after.attempts }
       ≡ record (alone m) { store = with_all_fetched xs m.store.packets; attempts = with_all_tries xs m.plan.attempts } =

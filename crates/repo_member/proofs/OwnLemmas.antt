@@ -16,13 +16,13 @@ use Rattle.ndn_name.specs.Names.{Component, encoding}
 use Rattle.ndn_data.specs.Data.{Data, data_of}
 use Rattle.svs_sync.specs.KeptVector.{Keeper}
 use Rattle.repo_plan.specs.declared.part.Part.{Part}
-use Rattle.repo_plan.specs.SortedList.{contains, keys, Rises}
+use Rattle.sorted_lists.specs.SortedList.{contains, keys, Rises}
 use Rattle.repo_plan.specs.Parts.{Pair, part_cmp, pair_of, part_of}
-use Rattle.repo_plan.specs.Plan.{Holdings, knows, holds, hides, is_asked, is_claimed, is_claim_of, can_be_asked}
+use Rattle.repo_plan.specs.Plan.{PlanState, knows, holds, hides, is_asked, is_claimed, is_claim_of, can_be_asked}
 use Rattle.repo_plan.specs.Plan.{shape_of, raises}
 use Rattle.repo_plan.specs.Sound.{PlanIsSound}
 use Rattle.repo_plan.proofs.Orders.{exact_parts}
-use Rattle.repo_plan.proofs.Sets.{eq_same}
+use Rattle.sorted_lists.proofs.Sets.{eq_same}
 use Rattle.repo_plan.proofs.Known.{wanted_is_asked}
 use Rattle.repo_plan.proofs.Changes.{sound_room}
 use Rattle.repo_object.specs.Objects.{NamedContents, IsObject, Publisher, IsPublisher, key_name}
@@ -105,17 +105,17 @@ any_claim t (Some u ∷ claims) h = elim (or_cases (eq_by_cmp part_cmp t u) (lis
   | inr others ↦ let later = any_claim t claims others in (suc later.0, later.1)
 ]
 
-known_up_to : (p : Holdings) (pair : Pair) → knows p pair ≡ true → pair.1 ≤ slice_index p.known pair.0
+known_up_to : (p : PlanState) (pair : Pair) → knows p pair ≡ true → pair.1 ≤ slice_index p.known pair.0
 known_up_to p pair h =
     leb-true pair.1 (slice_index p.known pair.0)
     (and_parts (nat_le 1 pair.1) (nat_le pair.1 (slice_index p.known pair.0)) h).1
 
-asked_known_up_to : (p : Holdings) (t : Part) → is_asked p t ≡ true → t.seq ≤ slice_index p.known t.publisher
+asked_known_up_to : (p : PlanState) (t : Part) → is_asked p t ≡ true → t.seq ≤ slice_index p.known t.publisher
 asked_known_up_to p t h =
     known_up_to p (pair_of t) (and_parts (knows p (pair_of t)) (can_be_asked p.held (shape_of p (pair_of t)) t) h).0
 
 -- nothing is held, hidden or claimed of the publication behind the last one that is known
-pub next_to_last : (p : Holdings) (number last : ℕ) → PlanIsSound p → number < length p.known
+pub next_to_last : (p : PlanState) (number last : ℕ) → PlanIsSound p → number < length p.known
     → slice_index p.known number ≡ last
     → (hides p (number, last + 1) ≡ true → knows p (number, last + 1) ≡ true)
     → IsNew (raises number (last + 1) p) (number, last + 1)
@@ -144,14 +144,14 @@ next_to_last p number last sound inside own hidden = record {
   past h = omega (arith, own, h)
 
 -- such is a member's next publication
-pub next_is_new : (m : Inside) (plan after : Holdings) → IsMember m → PlanIsSound m.plan
+pub next_is_new : (m : Inside) (plan after : PlanState) → IsMember m → PlanIsSound m.plan
     → plan ≡ record m.plan { spare = plan.spare }
     → after ≡ raises m.number (length m.log.items + 1) plan → IsNew after (m.number, length m.log.items + 1)
 next_is_new m plan after is sound same raised =
     let seq = length m.log.items + 1 in
     let pair : Pair = (m.number, seq) in
-    let p : Holdings = record m.plan { spare = plan.spare } in
-    subst (λ (q : Holdings). IsNew q pair) (sym (raised ∙ ap (raises m.number seq) same))
+    let p : PlanState = record m.plan { spare = plan.spare } in
+    subst (λ (q : PlanState). IsNew q pair) (sym (raised ∙ ap (raises m.number seq) same))
     (next_to_last p m.number (length m.log.items) (sound_room plan.spare m.plan sound)
     (omega (arith, is.alone.member, ap (λ (known : List ℕ). length known) is.known))
     (ap (λ (known : List ℕ). slice_index known m.number) is.known ∙ is.alone.own)
@@ -240,7 +240,7 @@ module _ (m : Inside) (is : IsMember m) where
 
 -- ---- what is stored and listed of it
 
-pub next_is_new_at : (m : Inside) (plan after : Holdings) (log : ℕ) → IsMember m → PlanIsSound m.plan
+pub next_is_new_at : (m : Inside) (plan after : PlanState) (log : ℕ) → IsMember m → PlanIsSound m.plan
     → plan ≡ record m.plan { spare = plan.spare } → log ≡ length m.log.items
     → after ≡ raises m.number (log + 1) plan → IsNew after (m.number, log + 1)
 next_is_new_at m plan after log is sound same long raised =
@@ -265,7 +265,7 @@ publication_named publisher object seq made stored after pair name is_publisher 
     ∙ ap (λ (n : List Component). Some n) (sym named)
 
 pub published_kept : (stored after : List Packet) (pair : Pair) (made : List (List ℕ)) (entries listed : List Entry)
-    (plan : Holdings)
+    (plan : PlanState)
     → contains part_cmp (keys stored) (part_of pair 0) ≡ false
     → Rises part_cmp (keys stored) → AreTied plan after → after ≡ with_packets (as_parts pair 0 made) stored
     → entries ≡ alone_catalogue stored → listed ≡ with_listed (entry_at after pair) entries

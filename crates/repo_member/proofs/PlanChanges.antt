@@ -5,9 +5,9 @@ use Rattle.std.specs.Prelude.{slice_index}
 use Rattle.std.proofs.lemmas.Bool.{cases_lt, eqb-true}
 use Rattle.std.proofs.lemmas.List.{get_or_past}
 use Rattle.repo_plan.specs.declared.part.Part.{Part}
-use Rattle.repo_plan.specs.SortedList.{keys, Rises, with_value}
+use Rattle.sorted_lists.specs.SortedList.{keys, Rises, with_value}
 use Rattle.repo_plan.specs.Parts.{Pair, part_cmp, part_of}
-use Rattle.repo_plan.specs.Plan.{Holdings, holds, holds_too, uses_room, attempts_of}
+use Rattle.repo_plan.specs.Plan.{PlanState, holds, holds_too, uses_room, attempts_of}
 use Rattle.repo_plan.specs.Sound.{PlanIsSound, CanBeHeld}
 use Rattle.repo_plan.proofs.Changes.{Keeps, IsWanted, wanted_parts, wanted_from, asked_kept, same_holdings, sound_room}
 use Rattle.repo_plan.proofs.Changes.{sound_holds, sound_attempts}
@@ -26,7 +26,7 @@ use Rattle.repo_member.proofs.PublishLemmas.{told_first, room_kept, tells_later}
 
 -- ---- numbers that grow
 
-keeps_known : (p : Holdings) (known : List ℕ) → ((q : ℕ) → slice_index p.known q ≤ slice_index known q)
+keeps_known : (p : PlanState) (known : List ℕ) → ((q : ℕ) → slice_index p.known q ≤ slice_index known q)
     → Keeps p (record p { known = known })
 keeps_known p known more = record {
   knows = λ pair h. knows_more p (record p { known = known }) pair more h;
@@ -34,7 +34,7 @@ keeps_known p known more = record {
   shapes = λ pair n h. h;
 }
 
-pub sound_known : (p : Holdings) (known : List ℕ) → length known ≤ 2 ^ 32
+pub sound_known : (p : PlanState) (known : List ℕ) → length known ≤ 2 ^ 32
     → ((q : ℕ) → slice_index p.known q ≤ slice_index known q) → PlanIsSound p → PlanIsSound (record p { known = known })
 sound_known p known few more s = record {
   in_order = record {
@@ -122,7 +122,7 @@ first_told segments x = go (x == 0) where
   go true = refl
   go false = refl
 
-pub sound_puts : (start : Holdings) (pair : Pair) (segments : ℕ) → IsNew start pair
+pub sound_puts : (start : PlanState) (pair : Pair) (segments : ℕ) → IsNew start pair
     → (x : ℕ) (made : List (List ℕ)) (a : Alone) → x + length made ≡ segments + 1 → TellsTheRest segments x made
     → Rises part_cmp (keys a.store) → HasGained start (alone_plan a) pair segments x → PlanIsSound (alone_plan a)
     → PlanIsSound (alone_plan (record a { store = with_packets (as_parts pair x made) a.store }))

@@ -4,7 +4,7 @@ use Rattle.std.proofs.lemmas.Bool.{and_parts}
 use Rattle.std.specs.List.{All, filter}
 use Rattle.std.proofs.lemmas.List.Elements.{All-cons, All-nil, All-filter, All-take}
 use Rattle.repo_plan.specs.declared.part.Part.{Part}
-use Rattle.repo_plan.specs.Plan.{Holdings, is_asked, is_wanted, is_claimed, is_unclaimed, unclaimed, known_parts}
+use Rattle.repo_plan.specs.Plan.{PlanState, is_asked, is_wanted, is_claimed, is_unclaimed, unclaimed, known_parts}
 use Rattle.repo_plan.specs.Plan.{is_after}
 use Rattle.repo_plan.proofs.Known.{wanted_is_asked}
 
@@ -17,7 +17,7 @@ all_that_pass {A = A} p P h (x ∷ xs) = go (p x) refl (all_that_pass p P h xs) 
   go false e rest = rest
 
 -- each is asked for
-pub listed_are_asked : (p : Holdings) (after : Option Part) (most : ℕ)
+pub listed_are_asked : (p : PlanState) (after : Option Part) (most : ℕ)
     → All (λ t. is_asked p t ≡ true) (take most (filter (is_after after) (unclaimed p)))
 listed_are_asked p after most =
     All-take (λ t. is_asked p t ≡ true) most (filter (is_after after) (unclaimed p))

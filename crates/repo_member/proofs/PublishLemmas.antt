@@ -6,12 +6,12 @@ use Rattle.std.specs.Option.{option_and_then}
 use Rattle.std.specs.Ordering.{eq_by_cmp}
 use Rattle.std.proofs.lemmas.Bool.{true≢false, and_from, or_left, or_right, eqb-true, le-leb, false_from_ne_true}
 use Rattle.repo_plan.specs.declared.part.Part.{Part}
-use Rattle.repo_plan.specs.SortedList.{keys, Rises, contains, insert_key, value_of, with_value}
+use Rattle.sorted_lists.specs.SortedList.{keys, Rises, contains, insert_key, value_of, with_value}
 use Rattle.repo_plan.specs.Parts.{Pair, Shape, pair_cmp, part_cmp, pair_of, part_of}
-use Rattle.repo_plan.specs.Plan.{Holdings, holds, hides, knows, is_asked, can_be_asked, is_claimed, shape_of, holds_too}
+use Rattle.repo_plan.specs.Plan.{PlanState, holds, hides, knows, is_asked, can_be_asked, is_claimed, shape_of, holds_too}
 use Rattle.repo_plan.specs.Plan.{uses_room, with_shape}
 use Rattle.repo_plan.proofs.Orders.{exact_pairs, exact_parts}
-use Rattle.repo_plan.proofs.Sets.{eq_same, eq_itself, contains-insert_key, value_of-with_value}
+use Rattle.sorted_lists.proofs.Sets.{eq_same, eq_itself, contains-insert_key, value_of-with_value}
 use Rattle.repo_store.specs.StoreList.{with_packet}
 use Rattle.repo_member.specs.Records.{Packet}
 use Rattle.repo_object.specs.Verdict.{listing_in}
@@ -75,13 +75,13 @@ told_later segments n =
     (false_from_ne_true (suc n == 0) (λ e. absurd (omega (arith, eqb-true (suc n) 0 e))))
 
 -- a plan that has gained the first `x` parts of a new publication, whose record counts so many segments
-pub record HasGained (start plan : Holdings) (pair : Pair) (segments x : ℕ) : Type 0 where
+pub record HasGained (start plan : PlanState) (pair : Pair) (segments x : ℕ) : Type 0 where
   pub others : KeepsOthers start plan
   pub fresh : (y : ℕ) → x ≤ y → holds plan (part_of pair y) ≡ false
   pub record_held : 0 < x → holds plan (part_of pair 0) ≡ true
   pub told : 0 < x → shape_of plan pair ≡ Some segments
 
-pub gained_none : (start : Holdings) (pair : Pair) (segments : ℕ) → IsNew start pair
+pub gained_none : (start : PlanState) (pair : Pair) (segments : ℕ) → IsNew start pair
     → HasGained start start pair segments 0
 gained_none start pair segments new = record {
   others = record { known = refl; claims = refl; hidden = refl; attempts = refl };
@@ -90,7 +90,7 @@ gained_none start pair segments new = record {
   told = λ h. absurd (omega (arith, h));
 }
 
-module _ (start plan : Holdings) (pair : Pair) (segments x : ℕ) (new : IsNew start pair)
+module _ (start plan : PlanState) (pair : Pair) (segments x : ℕ) (new : IsNew start pair)
     (so_far : HasGained start plan pair segments x) where
   known_still : knows plan pair ≡ true
   known_still =
@@ -124,10 +124,10 @@ module _ (start plan : Holdings) (pair : Pair) (segments x : ℕ) (new : IsNew s
       ∙ new.not_claimed x
 
   -- one part more
-  pub gained_more : (shape : Option Shape) (after : Holdings) → shape ≡ told_first segments x
+  pub gained_more : (shape : Option Shape) (after : PlanState) → shape ≡ told_first segments x
       → after ≡ uses_room (holds_too (part_of pair x) shape plan) → HasGained start after pair segments (x + 1)
   gained_more shape after is_shape is =
-      subst (λ (p : Holdings). HasGained start p pair segments (x + 1)) (sym (is ∙ ap uses_room taken)) (record {
+      subst (λ (p : PlanState). HasGained start p pair segments (x + 1)) (sym (is ∙ ap uses_room taken)) (record {
         others = record {
           known = so_far.others.known;
           claims = so_far.others.claims;
@@ -138,7 +138,7 @@ module _ (start plan : Holdings) (pair : Pair) (segments x : ℕ) (new : IsNew s
         record_held = λ h. record_there x refl;
         told = λ h. told_then x refl is_shape;
       }) where
-        with_it : Holdings
+        with_it : PlanState
         with_it = record plan {
           held = insert_key part_cmp (part_of pair x) plan.held;
           shapes = with_shape pair shape plan.shapes;
@@ -216,7 +216,7 @@ TellsTheRest segments x (octets ∷ rest) = x ≡ 0 → option_map listed_shape 
 
 -- ---- room
 
-pub room_kept : (t : Part) (shape : Option Shape) (plan : Holdings)
+pub room_kept : (t : Part) (shape : Option Shape) (plan : PlanState)
     → (uses_room (holds_too t shape plan)).spare ≡ plan.spare - 1
 room_kept t shape plan = go (holds plan t) where
   go : (b : Bool)

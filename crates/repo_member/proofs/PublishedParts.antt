@@ -8,12 +8,12 @@ use Rattle.std.proofs.lemmas.Bool.{cases_eq, eqb-false}
 use Rattle.std.proofs.lemmas.List.{length-set, length_push, get_or-set_same, get_or-set_other}
 use Rattle.std.proofs.lemmas.List.Elements.{All-push}
 use Rattle.repo_plan.specs.declared.part.Part.{Part}
-use Rattle.repo_plan.specs.SortedList.{keys, contains, value_of}
+use Rattle.sorted_lists.specs.SortedList.{keys, contains, value_of}
 use Rattle.repo_plan.specs.Parts.{Pair, part_cmp, pair_of, part_of}
 use Rattle.repo_plan.specs.Plan.{hides}
 use Rattle.repo_plan.specs.Sound.{PlanIsSound}
 use Rattle.repo_plan.proofs.Orders.{exact_parts}
-use Rattle.repo_plan.proofs.Sets.{eq_same}
+use Rattle.sorted_lists.proofs.Sets.{eq_same}
 use Rattle.repo_object.specs.Objects.{NamedContents, IsObject, Publisher}
 use Rattle.repo_object.specs.Publication.{published_segments, packets}
 use Rattle.repo_object.specs.Wants.{WantedPart, want_record, want_segment}

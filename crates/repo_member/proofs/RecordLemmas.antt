@@ -5,10 +5,10 @@ use Rattle.std.specs.Ordering.{nat_cmp, ordering_then, eq_by_cmp, is_eq}
 use Rattle.std.specs.declared.cmp.Ordering.{Ordering}
 use Rattle.std.specs.declared.cmp.Ordering.TheVariants.{Less, Equal, Greater}
 use Rattle.repo_plan.specs.declared.part.Part.{Part}
-use Rattle.repo_plan.specs.SortedList.{keys, IsBefore, Rises, value_of}
+use Rattle.sorted_lists.specs.SortedList.{keys, IsBefore, Rises, value_of}
 use Rattle.repo_plan.specs.Parts.{Pair, pair_cmp, part_cmp, pair_of, part_of}
 use Rattle.repo_plan.proofs.Orders.{exact_parts}
-use Rattle.repo_plan.proofs.Sets.{eq_same}
+use Rattle.sorted_lists.proofs.Sets.{eq_same}
 use Rattle.repo_member.specs.Records.{Packet, records_in}
 
 -- two records stand as their publications do

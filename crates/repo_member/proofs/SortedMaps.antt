@@ -4,9 +4,9 @@ use Rattle.std.specs.Option.{option_and_then}
 use Rattle.std.specs.Ordering.{eq_by_cmp, is_eq}
 use Rattle.std.specs.declared.cmp.Ordering.{Ordering}
 use Rattle.std.specs.declared.cmp.Ordering.TheVariants.{Less, Equal, Greater}
-use Rattle.repo_plan.specs.SortedList.{keys, IsBefore, Rises, value_of}
-use Rattle.repo_plan.proofs.Orders.{Exact, greater_back}
-use Rattle.repo_plan.proofs.Sets.{before_more, eq_same, eq_itself}
+use Rattle.sorted_lists.specs.SortedList.{keys, IsBefore, Rises, value_of}
+use Rattle.sorted_lists.proofs.Orders.{Exact, greater_back}
+use Rattle.sorted_lists.proofs.Sets.{before_more, eq_same, eq_itself}
 use Rattle.repo_member.specs.KeptValues.{with_kept, kept_values}
 
 module _ {K : Type 0} {R : K → K → Ordering} (e : Exact R) where

@@ -8,11 +8,11 @@ use Rattle.std.proofs.lemmas.List.{length-set, length-replicate, get_or-set_same
 use Rattle.std.proofs.lemmas.List.Elements.{All-head, All-tail, All-weaker}
 use Rattle.svs_sync.specs.KeptVector.{Keeper, steady_kept, fired_kept, hears_kept}
 use Rattle.repo_plan.specs.declared.part.Part.{Part}
-use Rattle.repo_plan.specs.SortedList.{keys, Rises, value_of}
+use Rattle.sorted_lists.specs.SortedList.{keys, Rises, value_of}
 use Rattle.repo_plan.specs.Parts.{Pair, part_cmp}
-use Rattle.repo_plan.specs.Plan.{Holdings, is_in, no_claims, is_wanted, is_claimed, unclaimed, is_unclaimed, first}
+use Rattle.repo_plan.specs.Plan.{PlanState, is_in, no_claims, is_wanted, is_claimed, unclaimed, is_unclaimed, first}
 use Rattle.repo_plan.proofs.Orders.{exact_parts}
-use Rattle.repo_plan.proofs.Sets.{In, contains_in}
+use Rattle.sorted_lists.proofs.Sets.{In, contains_in}
 use Rattle.repo_plan.proofs.Known.{contains-unclaimed}
 use Rattle.repo_object.specs.Objects.{NamedContents}
 use Rattle.repo_command.specs.declared.command.Command.TheVariants.{Insert, Check, Delete}
@@ -333,8 +333,8 @@ claims_true g logs f a are t = go (first (unclaimed (alone_plan a))) refl where
         there = t.there;
         log = t.log;
         sound = sound_claims logs a.number f u (in_group a)
-            (subst (λ (p : Holdings). is_wanted p u ≡ true) plans both.0)
-            (subst (λ (p : Holdings). is_claimed p u ≡ false) plans (not-true (is_claimed (alone_plan a) u) both.1))
+            (subst (λ (p : PlanState). is_wanted p u ≡ true) plans both.0)
+            (subst (λ (p : PlanState). is_claimed p u ≡ false) plans (not-true (is_claimed (alone_plan a) u) both.1))
             t.sound;
         machine = t.machine;
         packets = t.packets;
@@ -422,8 +422,8 @@ module _ (g : GroupKeys) (logs : Logs) (xs : List Fetched) (a : Alone) (are : Ar
         subst (IsSoundMember logs a.number)
         (sym (sym (ap in_group (takes_all xs a)) ∙ takes_in_group xs a truly.sound.in_order.held))
         (sound_gains logs a.number (that_came xs) (with_all_tries xs a.attempts) (in_group a)
-        (λ t i. subst (λ (p : Holdings). is_wanted p t ≡ true) plans (open_parts t i).0)
-        (λ t i. subst (λ (p : Holdings). is_claimed p t ≡ false) plans (open_parts t i).1)
+        (λ t i. subst (λ (p : PlanState). is_wanted p t ≡ true) plans (open_parts t i).0)
+        (λ t i. subst (λ (p : PlanState). is_claimed p t ≡ false) plans (open_parts t i).1)
         (rises_all_tried xs a.attempts truly.sound.in_order.attempts)
         (all_tried xs a.attempts truly.sound.in_order.tried) truly.sound);
     machine = truly.machine;

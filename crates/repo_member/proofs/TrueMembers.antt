@@ -12,11 +12,11 @@ use Rattle.ndn_sign.specs.Ring
 use Rattle.ndn_sign.specs.Ring.{pair}
 use Rattle.ndn_data.specs.Data.{Data}
 use Rattle.repo_plan.specs.declared.part.Part.{Part}
-use Rattle.repo_plan.specs.SortedList.{keys, value_of}
+use Rattle.sorted_lists.specs.SortedList.{keys, value_of}
 use Rattle.repo_plan.specs.Parts.{part_cmp, pair_of, record_of}
-use Rattle.repo_plan.specs.Plan.{Holdings, is_wanted, claim_of}
+use Rattle.repo_plan.specs.Plan.{PlanState, is_wanted, claim_of}
 use Rattle.repo_plan.proofs.Orders.{exact_parts}
-use Rattle.repo_plan.proofs.Sets.{In}
+use Rattle.sorted_lists.proofs.Sets.{In}
 use Rattle.repo_object.specs.declared.part_refusal.PartRefusal.{PartRefusal}
 use Rattle.repo_object.specs.Objects.{NamedContents, key_name}
 use Rattle.repo_object.specs.Publication.{Listed, packets, packet_at, published_listing}
@@ -164,7 +164,7 @@ module _ (g : GroupKeys) (logs : Logs) (a : Alone) (are : AreLogs g logs) (truly
   pub wanted_in_group : (t : Part) → is_wanted (alone_plan a) t ≡ true → IsWanted logs (in_group a) t
   wanted_in_group t w =
       wanted_parts logs (in_group a) t
-      (subst (λ (p : Holdings). is_wanted p t ≡ true) (plans_alike g logs a are (true_stores g logs a truly)) w)
+      (subst (λ (p : PlanState). is_wanted p t ≡ true) (plans_alike g logs a are (true_stores g logs a truly)) w)
 
   pub wanted_published : (t : Part) → is_wanted (alone_plan a) t ≡ true → IsPublishedPart logs t
   wanted_published t w =
@@ -216,7 +216,7 @@ module _ (g : GroupKeys) (logs : Logs) (a : Alone) (are : AreLogs g logs) (truly
 
   pub claimed_wanted : (f : ℕ) (t : Part) → claim_of (alone_plan a) f ≡ Some t → is_wanted (alone_plan a) t ≡ true
   claimed_wanted f t claim =
-      subst (λ (p : Holdings). is_wanted p t ≡ true) (sym (plans_alike g logs a are (true_stores g logs a truly)))
+      subst (λ (p : PlanState). is_wanted p t ≡ true) (sym (plans_alike g logs a are (true_stores g logs a truly)))
       (truly.sound.claimed (f - 1) t claim)
 
 pub wants_published : WantsPublished

@@ -10,10 +10,10 @@ use Rattle.sha2.specs.Sha256.{sha256}
 use Rattle.ndn_data.specs.Data.{data_of}
 use Rattle.ndn_data.specs.WrittenData.{read_back}
 use Rattle.ndn_data.proofs.ReadBackLemmas.{data_again}
-use Rattle.repo_plan.specs.SortedList.{keys, Rises, value_of}
+use Rattle.sorted_lists.specs.SortedList.{keys, Rises, value_of}
 use Rattle.repo_plan.specs.Parts.{Pair}
-use Rattle.repo_plan.proofs.Orders.{Exact, less_back}
-use Rattle.repo_plan.proofs.Sets.{In, in_map, each_before, eq_itself}
+use Rattle.sorted_lists.proofs.Orders.{Exact, less_back}
+use Rattle.sorted_lists.proofs.Sets.{In, in_map, each_before, eq_itself}
 use Rattle.repo_object.specs.Objects.{NamedContents, IsContent, IsObject, Publisher, IsPublisher, key_name}
 use Rattle.repo_object.specs.Objects.{segment_name}
 use Rattle.repo_object.specs.Publication.{segment_packet, published_segments, published_listing, record_packet}

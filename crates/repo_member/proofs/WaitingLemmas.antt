@@ -5,11 +5,12 @@ use Rattle.std.specs.List.{All, list_all}
 use Rattle.std.specs.Ordering.{nat_cmp, eq_by_cmp}
 use Rattle.std.proofs.lemmas.Bool.{or_cases}
 use Rattle.ndn_name.specs.Names.{Component}
-use Rattle.repo_plan.specs.SortedList.{value_of, contains, insert_key}
-use Rattle.repo_plan.specs.Parts.{Pair, pair_cmp, numbers_from}
-use Rattle.repo_plan.specs.Plan.{Holdings, knows}
+use Rattle.sorted_lists.specs.SortedList.{value_of, contains, insert_key}
+use Rattle.sorted_lists.specs.Range.{numbers_from}
+use Rattle.repo_plan.specs.Parts.{Pair, pair_cmp}
+use Rattle.repo_plan.specs.Plan.{PlanState, knows}
 use Rattle.repo_plan.proofs.Orders.{exact_pairs}
-use Rattle.repo_plan.proofs.Sets.{In, eq_same, contains-insert_key, value_of-with_value}
+use Rattle.sorted_lists.proofs.Sets.{In, eq_same, contains-insert_key, value_of-with_value}
 use Rattle.repo_process.specs.Processes.{Process, starting, has_block, is_whole}
 use Rattle.repo_process.specs.Insertions.{Insertions, starts, with_process}
 use Rattle.group_model.proofs.Lists.{at_in}
@@ -83,7 +84,7 @@ all_in P pairs q all i =
     subst P (sym at.2) (all at.0 q at.1)
 
 -- a member that has hidden known publications, with what it then stores and lists
-pub hidden_is : (m next : Inside) (plan : Holdings) (pairs : List Pair) → IsMember m → next.number ≡ m.number
+pub hidden_is : (m next : Inside) (plan : PlanState) (pairs : List Pair) → IsMember m → next.number ≡ m.number
     → next.log.items ≡ m.log.items → next.vector ≡ m.vector
     → next.machine ≡ m.machine → next.processes ≡ m.processes → plan.known ≡ m.plan.known → plan.hidden ≡ m.plan.hidden
     → IsHiding pairs plan next.plan

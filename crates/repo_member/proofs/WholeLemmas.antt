@@ -6,9 +6,9 @@ use Rattle.std.specs.Option.{option_and_then}
 use Rattle.sha2.specs.Sha256.{sha256}
 use Rattle.ndn_name.specs.Names.{Component}
 use Rattle.repo_plan.specs.declared.part.Part.{Part}
-use Rattle.repo_plan.specs.SortedList.{contains, value_of}
+use Rattle.sorted_lists.specs.SortedList.{contains, value_of}
 use Rattle.repo_plan.specs.Parts.{Pair, Shape, part_cmp, pair_of, part_of}
-use Rattle.repo_plan.specs.Plan.{Holdings, holds, is_asked, is_complete, shape_of}
+use Rattle.repo_plan.specs.Plan.{PlanState, holds, is_asked, is_complete, shape_of}
 use Rattle.repo_plan.proofs.Whole.{not_complete}
 use Rattle.repo_object.specs.Publication.{Listed}
 use Rattle.repo_object.specs.Verdict.{listing_in}
@@ -28,7 +28,7 @@ none_listing l h = cc
 none_name : (name : List Component) → let n : Option (List Component) = None in n ≡ Some name → ⊥
 none_name name h = cc
 
-module _ (plan : Holdings) (packets : List Packet) (pair : Pair) (tied : AreTied plan packets) where
+module _ (plan : PlanState) (packets : List Packet) (pair : Pair) (tied : AreTied plan packets) where
   entry_of_listed : (l : Listed) → listing_at packets pair ≡ Some l
       → entry_at packets pair ≡ cond (is_complete plan pair) (Some (entry_of_listing packets pair l)) None
   entry_of_listed l h =
@@ -66,7 +66,7 @@ module _ (plan : Holdings) (packets : List Packet) (pair : Pair) (tied : AreTied
         entry_of_listed l p ∙ ap (λ (b : Bool). cond b (Some (entry_of_listing packets pair l)) None) incomplete
 
 -- a publication of which an asked part is missing has no entry
-pub missing_unlisted : (plan : Holdings) (packets : List Packet) (t : Part) → AreTied plan packets
+pub missing_unlisted : (plan : PlanState) (packets : List Packet) (t : Part) → AreTied plan packets
     → is_asked plan t ≡ true → holds plan t ≡ false → entry_at packets (pair_of t) ≡ None
 missing_unlisted plan packets t tied asked missing = go (t.part == 0) refl where
   nothing : value_of part_cmp packets t ≡ None
@@ -90,7 +90,7 @@ missing_unlisted plan packets t tied asked missing = go (t.part == 0) refl where
       (not_complete plan (pair_of t) (listed_shape segment.listing) told t.part segment.counted missing)
 
 -- the catalogue after an asked part has come
-pub relisted_with : (plan : Holdings) (packets : List Packet) (t : Part) (octets : List ℕ) → AreTied plan packets
+pub relisted_with : (plan : PlanState) (packets : List Packet) (t : Part) (octets : List ℕ) → AreTied plan packets
     → is_asked plan t ≡ true → holds plan t ≡ false
     → alone_catalogue (with_packet t octets packets)
     ≡ with_listed (entry_at (with_packet t octets packets) (pair_of t)) (alone_catalogue packets)

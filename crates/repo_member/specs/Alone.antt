@@ -7,8 +7,8 @@ use Rattle.svs_sync.specs.KeptVector.{Keeper, steady_kept, hears_kept, fired_kep
 use Rattle.svs_sync.specs.Suppression.{periodic}
 use Rattle.repo_plan.specs.declared.part.Part.{Part}
 use Rattle.repo_plan.specs.Parts.{Pair, part_cmp, pair_of, part_of}
-use Rattle.repo_plan.specs.SortedList.{Rises, keys}
-use Rattle.repo_plan.specs.Plan.{Holdings, no_claims, knows, hides}
+use Rattle.sorted_lists.specs.SortedList.{Rises, keys}
+use Rattle.repo_plan.specs.Plan.{PlanState, no_claims, knows, hides}
 use Rattle.repo_object.specs.Objects.{NamedContents, Publisher}
 use Rattle.repo_object.specs.Publication.{Listed, packets}
 use Rattle.repo_object.specs.Wants.{WantedPart, want_record, want_segment}
@@ -50,7 +50,7 @@ alone_opening members number moment draw = record {
 }
 
 -- its fetch plan: it holds what it stores, and the stored records tell how many segments there are
-abbrev pub alone_plan : Alone → Holdings
+abbrev pub alone_plan : Alone → PlanState
 alone_plan a = record {
   known = a.known;
   held = keys a.store;

@@ -6,7 +6,7 @@ use Rattle.std.specs.List.{All}
 use Rattle.svs_vector.specs.Vectors.{join_all}
 use Rattle.repo_plan.specs.declared.part.Part.{Part}
 use Rattle.repo_plan.specs.Parts.{Pair, part_cmp, pair_of}
-use Rattle.repo_plan.specs.SortedList.{value_of}
+use Rattle.sorted_lists.specs.SortedList.{value_of}
 use Rattle.repo_plan.specs.Plan.{hides, is_wanted, claim_of, unclaimed, first}
 use Rattle.repo_plan.specs.Calls.{IsFetcher}
 use Rattle.repo_object.specs.declared.job.Job.{Job}

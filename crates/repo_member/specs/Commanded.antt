@@ -6,7 +6,7 @@ use Rattle.ndn_name.specs.declared.fault.PacketFault.{PacketFault}
 use Rattle.ndn_name.specs.Names.{Component, encoding}
 use Rattle.ndn_data.specs.WrittenData.{written_data}
 use Rattle.ndn_interest.specs.Interest.{Interest, interest_of}
-use Rattle.repo_plan.specs.SortedList.{value_of}
+use Rattle.sorted_lists.specs.SortedList.{value_of}
 use Rattle.repo_object.specs.Limits.{object_name_limit}
 use Rattle.repo_object.specs.Objects.{key_name}
 use Rattle.repo_command.specs.Commands.{named_length, is_command, CommandIsSpelled, command_interest}

@@ -3,8 +3,8 @@ use Rattle.std.specs.Prelude.{◌≡◌, ℕ, ◌-◌, List, [], ◌∷◌, map,
 use Rattle.std.specs.List.{filter}
 use Rattle.ndn_name.specs.Names.{Component}
 use Rattle.repo_plan.specs.Parts.{Pair, pair_cmp}
-use Rattle.repo_plan.specs.SortedList.{insert_key}
-use Rattle.repo_plan.specs.Plan.{Holdings}
+use Rattle.sorted_lists.specs.SortedList.{insert_key}
+use Rattle.repo_plan.specs.Plan.{PlanState}
 use Rattle.repo_store.specs.StoreList.{packets_outside}
 use Rattle.repo_catalog.specs.declared.entry.Entry.{Entry}
 use Rattle.repo_catalog.specs.Entries.{publication_of, entry_has_name}
@@ -27,7 +27,7 @@ with_hidden [] hidden = hidden
 with_hidden (pair ∷ pairs) hidden = with_hidden pairs (insert_key pair_cmp pair hidden)
 
 -- a plan in which nothing changed but that these publications are hidden, and none of their parts is held
-pub record IsHiding (pairs : List Pair) (old new : Holdings) : Type 0 where
+pub record IsHiding (pairs : List Pair) (old new : PlanState) : Type 0 where
   pub known : new.known ≡ old.known
   pub claims : new.claims ≡ old.claims
   pub hidden : new.hidden ≡ with_hidden pairs old.hidden

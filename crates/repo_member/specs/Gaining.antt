@@ -5,8 +5,8 @@ use Rattle.ndn_name.specs.Names.{Component}
 use Rattle.ndn_data.specs.Data.{data_of}
 use Rattle.repo_plan.specs.declared.part.Part.{Part}
 use Rattle.repo_plan.specs.Parts.{Shape, part_cmp, pair_of}
-use Rattle.repo_plan.specs.SortedList.{Rises, keys}
-use Rattle.repo_plan.specs.Plan.{Holdings}
+use Rattle.sorted_lists.specs.SortedList.{Rises, keys}
+use Rattle.repo_plan.specs.Plan.{PlanState}
 use Rattle.repo_object.specs.Publication.{Listed}
 use Rattle.repo_object.specs.Verdict.{listing_in}
 use Rattle.repo_store.specs.StoreList.{StoreList}
@@ -16,13 +16,13 @@ use Rattle.repo_member.specs.Records.{Packet}
 use Rattle.repo_member.specs.Listed.{listing_at, listed_shape, shapes_in, alone_catalogue}
 
 -- a plan holds what is stored, and knows what the stored records list
-pub record AreTied (plan : Holdings) (packets : List Packet) : Type 0 where
+pub record AreTied (plan : PlanState) (packets : List Packet) : Type 0 where
   pub in_order : Rises part_cmp (keys packets)
   pub held : plan.held ≡ keys packets
   pub shapes : plan.shapes ≡ shapes_in packets
 
 -- and the entries are those of what is stored wholly
-pub record AreKept (plan : Holdings) (packets : List Packet) (entries : List Entry) : Type 0 where
+pub record AreKept (plan : PlanState) (packets : List Packet) (entries : List Entry) : Type 0 where
   pub tied : AreTied plan packets
   pub listed : entries ≡ alone_catalogue packets
 
@@ -36,7 +36,7 @@ with_listed None entries = entries
 with_listed (Some e) entries = with_entry e entries
 
 -- there is room for so many parts, each of which may be held and tried, and for as many entries
-pub record HaveRoom (n : ℕ) (plan : Holdings) (store : StoreList) (catalogue : EntryList) : Type 0 where
+pub record HaveRoom (n : ℕ) (plan : PlanState) (store : StoreList) (catalogue : EntryList) : Type 0 where
   pub for_plan : n + n ≤ plan.spare
   pub for_store : n ≤ store.spare
   pub for_catalogue : n ≤ catalogue.spare
@@ -54,7 +54,7 @@ pub record IsArrival (packets : List Packet) (t : Part) (octets : List ℕ) (seg
   pub named : option_map (λ (l : Listed). l.name) (listing_told packets t octets) ≡ Some name
 
 -- a plan in which nothing changed but what is held
-pub record KeepsOthers (old new : Holdings) : Type 0 where
+pub record KeepsOthers (old new : PlanState) : Type 0 where
   pub known : new.known ≡ old.known
   pub claims : new.claims ≡ old.claims
   pub hidden : new.hidden ≡ old.hidden

@@ -4,7 +4,7 @@ use Rattle.std.specs.Prelude.{if◌then◌else◌}
 use Rattle.svs_vector.specs.Vectors.{join_all, HaveSameVectors}
 use Rattle.repo_plan.specs.declared.part.Part.{Part}
 use Rattle.repo_plan.specs.Parts.{part_cmp}
-use Rattle.repo_plan.specs.SortedList.{contains}
+use Rattle.sorted_lists.specs.SortedList.{contains}
 use Rattle.repo_plan.specs.Plan.{claim_of, unclaimed, first}
 use Rattle.repo_object.specs.Objects.{NamedContents}
 use Rattle.repo_command.specs.declared.command.Command.{Command}

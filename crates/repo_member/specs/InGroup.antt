@@ -8,7 +8,7 @@ use Rattle.svs_sync.specs.declared.fired.Fired.TheVariants as fired
 use Rattle.svs_sync.specs.KeptVector.{fires_kept}
 use Rattle.repo_plan.specs.declared.part.Part.{Part}
 use Rattle.repo_plan.specs.Parts.{part_cmp, pair_of}
-use Rattle.repo_plan.specs.SortedList.{keys, contains, value_of, Rises}
+use Rattle.sorted_lists.specs.SortedList.{keys, contains, value_of, Rises}
 use Rattle.repo_plan.specs.Plan.{wanted}
 use Rattle.ndn_name.specs.Names.{Component}
 use Rattle.repo_object.specs.Objects.{NamedContents, IsObject}

@@ -5,7 +5,7 @@ pub use Rattle.ndn_data.specs.Data
 pub use Rattle.svs_vector.specs.Vectors
 pub use Rattle.svs_vector.specs.Rosters
 pub use Rattle.svs_sync.specs.KeptVector
-pub use Rattle.repo_plan.specs.SortedList
+pub use Rattle.sorted_lists.specs.SortedList
 pub use Rattle.repo_plan.specs.Parts
 pub use Rattle.repo_plan.specs.Plan
 pub use Rattle.repo_object.specs.Objects

@@ -6,8 +6,9 @@ use Rattle.std.specs.Option.{option_and_then}
 use Rattle.sha2.specs.Sha256.{sha256}
 use Rattle.ndn_name.specs.declared.fault.PacketFault.{PacketFault}
 use Rattle.ndn_data.specs.Data.{Data, data_of}
-use Rattle.repo_plan.specs.Parts.{Pair, Shape, part_cmp, part_of, numbers_from}
-use Rattle.repo_plan.specs.SortedList.{value_of}
+use Rattle.sorted_lists.specs.Range.{numbers_from}
+use Rattle.repo_plan.specs.Parts.{Pair, Shape, part_cmp, part_of}
+use Rattle.sorted_lists.specs.SortedList.{value_of}
 use Rattle.repo_object.specs.Publication.{Listed}
 use Rattle.repo_object.specs.Verdict.{listing_in}
 use Rattle.repo_catalog.specs.declared.entry.Entry.{Entry}

@@ -1,7 +1,7 @@
 -- How a member is kept, and what holds of every member.
 use Rattle.std.specs.Prelude.{◌≡◌, ℕ, false, List, Some}
 use Rattle.std.specs.Ordering.{nat_cmp}
-use Rattle.repo_plan.specs.SortedList.{value_of}
+use Rattle.sorted_lists.specs.SortedList.{value_of}
 use Rattle.repo_process.specs.Processes.{Process, is_whole}
 use Rattle.repo_member.specs.declared.member.Member.TheInside.{Inside}
 use Rattle.repo_member.specs.Alone.{Alone, IsAlone}

@@ -4,8 +4,8 @@ use Rattle.std.specs.Prelude.{unwrap_or, IfSome}
 use Rattle.std.specs.List.{All, filter}
 use Rattle.repo_plan.specs.declared.part.Part.{Part}
 use Rattle.repo_plan.specs.Parts.{part_cmp, pair_of}
-use Rattle.repo_plan.specs.SortedList.{contains}
-use Rattle.repo_plan.specs.Plan.{Holdings, holds, hides, is_asked, is_claimed, is_unclaimed, unclaimed, is_after}
+use Rattle.sorted_lists.specs.SortedList.{contains}
+use Rattle.repo_plan.specs.Plan.{PlanState, holds, hides, is_asked, is_claimed, is_unclaimed, unclaimed, is_after}
 use Rattle.repo_plan.specs.Plan.{attempts_of}
 use Rattle.repo_object.specs.declared.job.Job.{Job}
 use Rattle.repo_object.specs.Wants.{WantedPart}
@@ -110,7 +110,7 @@ arrival_octets x = length (unwrap_or (came x).packet [])
 
 -- what came of a tried part can be taken: the part is wanted and unclaimed, the packet is of it, and it was not tried
 -- too often
-pub record CanBeTaken (plan : Holdings) (packets : List Packet) (x : Tried) : Type 0 where
+pub record CanBeTaken (plan : PlanState) (packets : List Packet) (x : Tried) : Type 0 where
   pub asked : is_asked plan x.part ≡ true
   pub not_held : holds plan x.part ≡ false
   pub not_hidden : hides plan (pair_of x.part) ≡ false
@@ -119,7 +119,7 @@ pub record CanBeTaken (plan : Holdings) (packets : List Packet) (x : Tried) : Ty
   pub few : attempts_of plan x.part + x.attempts < 2097152
 
 -- the same of each of different parts
-pub record AreTakable (plan : Holdings) (packets : List Packet) (xs : List Tried) : Type 0 where
+pub record AreTakable (plan : PlanState) (packets : List Packet) (xs : List Tried) : Type 0 where
   pub each : All (CanBeTaken plan packets) xs
   pub apart : PartsDiffer (map (λ (x : Tried). x.part) xs)
 
@@ -134,5 +134,5 @@ with_all_tries [] attempts = attempts
 with_all_tries (x ∷ xs) attempts = with_all_tries xs (with_tries x.part x.attempts attempts)
 
 -- a plan in which nothing changed but what is held and how often parts were tried
-abbrev pub KeepsButTries : Holdings → Holdings → Type 0
+abbrev pub KeepsButTries : PlanState → PlanState → Type 0
 KeepsButTries old new = KeepsOthers old (record new { attempts = old.attempts })

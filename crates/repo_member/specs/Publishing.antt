@@ -4,7 +4,7 @@ use Rattle.std.specs.List.{All}
 use Rattle.ndn_name.specs.Names.{Component}
 use Rattle.ndn_data.specs.Data.{data_of}
 use Rattle.repo_plan.specs.Parts.{Pair, part_of}
-use Rattle.repo_plan.specs.Plan.{Holdings, knows, holds, hides, is_claimed}
+use Rattle.repo_plan.specs.Plan.{PlanState, knows, holds, hides, is_claimed}
 use Rattle.repo_object.specs.Objects.{NamedContents}
 use Rattle.repo_object.specs.Publication.{packets}
 use Rattle.repo_object.specs.Verdict.{listing_in}
@@ -32,7 +32,7 @@ pub record ArePackets (made : List (List ℕ)) : Type 0 where
   pub lists : ListsTheOthers made
 
 -- a known publication of which the plan has nothing
-pub record IsNew (plan : Holdings) (pair : Pair) : Type 0 where
+pub record IsNew (plan : PlanState) (pair : Pair) : Type 0 where
   pub known : knows plan pair ≡ true
   pub not_held : (x : ℕ) → holds plan (part_of pair x) ≡ false
   pub not_hidden : hides plan pair ≡ false

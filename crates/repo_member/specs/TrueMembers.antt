@@ -4,7 +4,7 @@ use Rattle.std.specs.Prelude.{◌≡◌, ℕ, ◌<◌, ◌≤◌, true, List, []
 use Rattle.std.specs.Prelude.{IsSomeAnd, Ok, ◌==◌, if◌then◌else◌}
 use Rattle.repo_plan.specs.declared.part.Part.{Part}
 use Rattle.repo_plan.specs.Parts.{pair_of}
-use Rattle.repo_plan.specs.SortedList.{keys}
+use Rattle.sorted_lists.specs.SortedList.{keys}
 use Rattle.repo_plan.specs.Plan.{is_wanted, claim_of}
 use Rattle.repo_object.specs.Publication.{published_listing}
 use Rattle.repo_object.specs.Wants.{WantedPart, want_record, want_segment}

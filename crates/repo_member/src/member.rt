@@ -1,6 +1,6 @@
 ghost use Rattle.std.specs.Prelude.{◌≡◌, ◌<◌, ◌^◌, length, option_map, Ok, Err, IfOk, MatchResult};
 ghost use Rattle.svs_sync.specs.Suppression.{mode_of};
-ghost use Rattle.repo_plan.specs.SortedList.{value_of};
+ghost use Rattle.sorted_lists.specs.SortedList.{value_of};
 ghost use Rattle.repo_plan.specs.Parts.{part_cmp};
 ghost use Rattle.repo_store.specs.Served.{served};
 ghost use Rattle.repo_member.specs.Listed.{alone_catalogue};

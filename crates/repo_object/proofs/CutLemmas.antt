@@ -9,7 +9,7 @@ use Rattle.std.proofs.lemmas.Bool.{cases_lt, cases_eq}
 use Rattle.std.proofs.lemmas.List.{take-append-drop, take_all, drop_all, nil_from_length, append-nil, length-map}
 use Rattle.std.proofs.lemmas.List.{get_or-map}
 use Rattle.std.proofs.lemmas.List.Elements.{All-nil, All-cons, All-head}
-use Rattle.repo_plan.specs.Parts.{numbers_from}
+use Rattle.sorted_lists.specs.Range.{numbers_from}
 use Rattle.repo_object.specs.Cuts.{piece, pieces, AreCut}
 
 -- the pieces behind the first are those of what is behind it

@@ -2,7 +2,7 @@
 use Rattle.std.specs.Prelude.{◌≡◌, ◌<◌, ◌≤◌, ℕ, ◌+◌, ◌*◌, List, [], length, take, drop, map}
 use Rattle.std.specs.Int.{div_ceil}
 use Rattle.std.specs.List.{All, flat_map, slice_index_or}
-use Rattle.repo_plan.specs.Parts.{numbers_from}
+use Rattle.sorted_lists.specs.Range.{numbers_from}
 
 -- Piece `i`, counted from 0.
 abbrev pub piece : ℕ → List ℕ → ℕ → List ℕ

@@ -8,18 +8,19 @@ use Rattle.std.specs.List.{filter, list_all}
 use Rattle.std.specs.Ordering.{nat_cmp, eq_by_cmp}
 use Rattle.repo_plan.specs.declared.part.Part.{Part}
 use Rattle.repo_plan.specs.declared.plan.Plan.TheInside.{Inside}
-use Rattle.repo_plan.specs.declared.runs.Runs.{Runs}
-use Rattle.repo_plan.specs.SortedList.{keys, Rises, contains, insert_key, value_of, in_order}
-use Rattle.repo_plan.specs.Parts.{Pair, Shape, pair_cmp, part_cmp, part_of, pair_of, numbers_from, parts_of}
+use Rattle.sorted_lists.specs.declared.runs.Runs.{Runs}
+use Rattle.sorted_lists.specs.SortedList.{keys, Rises, contains, insert_key, value_of, in_order}
+use Rattle.sorted_lists.specs.Range.{numbers_from}
+use Rattle.repo_plan.specs.Parts.{Pair, Shape, pair_cmp, part_cmp, part_of, pair_of, parts_of}
 use Rattle.repo_plan.specs.Parts.{parts_told}
 use Rattle.repo_plan.specs.Plan.{holds, hides, shape_of, is_done, is_complete, is_in, with_shape}
 use Rattle.repo_plan.specs.Sound.{PlanIsSound, CanBeHeld}
-use Rattle.repo_plan.specs.Runs.{Run, Number, IsRuns, runs_of, has, has_number, number_cmp}
+use Rattle.sorted_lists.specs.Runs.{Run, Number, IsRuns, runs_of, has, has_number, number_cmp}
 use Rattle.repo_plan.specs.PlanFields.{holdings, is_noted, are_noted, held_parts, hidden_pairs, IsRoomy, IsPlan}
 use Rattle.repo_plan.proofs.Orders.{exact_pairs, exact_parts}
-use Rattle.repo_plan.proofs.Sets.{In, eq_same, eq_itself, rises_insert, rises_filter, rises_keys_filter}
-use Rattle.repo_plan.proofs.Sets.{contains-insert_key, contains-filter, value_of-filter}
-use Rattle.repo_plan.proofs.SameSets.{same_sets}
+use Rattle.sorted_lists.proofs.Sets.{In, eq_same, eq_itself, rises_insert, rises_filter, rises_keys_filter}
+use Rattle.sorted_lists.proofs.Sets.{contains-insert_key, contains-filter, value_of-filter}
+use Rattle.sorted_lists.proofs.SameSets.{same_sets}
 use Rattle.repo_plan.proofs.Known.{from_numbers, counted}
 use Rattle.repo_plan.proofs.Whole.{no_shape}
 use Rattle.repo_plan.proofs.Changes.{with_part, sound_as, sound_part, keeps_part}

@@ -2,13 +2,9 @@
 //! wants, and which of those its fetchers claim.
 #![tactic(auto)]
 
-mod block;
 mod laws;
 mod part;
 mod plan;
-mod runs;
-mod sorted_map;
-pub mod table;
 
 pub use laws::{
     calls_keep_plans_sound, claims_are_wanted_once, least_unclaimed_parts_are_claimed,

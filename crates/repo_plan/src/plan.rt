@@ -10,8 +10,8 @@ mod wanted;
 mod whole;
 
 use crate::part::Part;
-use crate::runs::Runs;
-use crate::table;
+use sorted_lists::Runs;
+use sorted_lists::table;
 pub use claims::{FetcherBusy, FetcherIdle};
 use std::alloc::{AllocError, Global};
 use std::collections::HashMap;
@@ -38,9 +38,9 @@ pub struct Plan {
 }
 
 impl Model for Plan {
-    ghost use Rattle.repo_plan.specs.Plan.{Holdings};
+    ghost use Rattle.repo_plan.specs.Plan.{PlanState};
 
-    ghost Value = { Holdings };
+    ghost Value = { PlanState };
 
     ghost use Rattle.repo_plan.specs.PlanFields.{holdings, IsPlan};
 

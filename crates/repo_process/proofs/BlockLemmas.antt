@@ -12,9 +12,9 @@ use Rattle.std.proofs.lemmas.List.Elements.{All-nil, All-cons, All-head, All-tai
 use Rattle.repo_object.specs.Objects.{IsContent}
 use Rattle.std.specs.Ordering.{nat_cmp}
 use Rattle.std.proofs.lemmas.Bool.{cases_lt, eq-eqb}
-use Rattle.repo_plan.specs.SortedList.{value_of, with_value}
-use Rattle.repo_plan.specs.Parts.{numbers_from}
-use Rattle.repo_plan.proofs.Orders.{nat_less, nat_itself}
+use Rattle.sorted_lists.specs.SortedList.{value_of, with_value}
+use Rattle.sorted_lists.specs.Range.{numbers_from}
+use Rattle.sorted_lists.proofs.Orders.{nat_less, nat_itself}
 use Rattle.repo_process.specs.Fields.{blocks_from}
 use Rattle.repo_process.proofs.Numbered.{later}
 use Rattle.repo_process.proofs.Numbers.{same_key, key_below, key_above}

@@ -8,10 +8,10 @@ use Rattle.std.specs.declared.cmp.Ordering.{Ordering}
 use Rattle.std.specs.declared.cmp.Ordering.TheVariants.{Less, Equal, Greater}
 use Rattle.std.proofs.lemmas.Bool.{and_parts, and_from, leb-true, le-leb, eq-eqb}
 use Rattle.std.proofs.lemmas.List.{length-map}
-use Rattle.repo_plan.specs.SortedList.{by_order, value_of, with_value}
-use Rattle.repo_plan.specs.Parts.{numbers_from}
-use Rattle.repo_plan.proofs.Orders.{Exact, nat_same, nat_itself}
-use Rattle.repo_plan.proofs.Sets.{value_of-with_value}
+use Rattle.sorted_lists.specs.SortedList.{by_order, value_of, with_value}
+use Rattle.sorted_lists.specs.Range.{numbers_from}
+use Rattle.sorted_lists.proofs.Orders.{Exact, nat_same, nat_itself}
+use Rattle.sorted_lists.proofs.Sets.{value_of-with_value}
 use Rattle.std.proofs.lemmas.Cmp.{nat_cmp_total}
 use Rattle.repo_process.specs.Processes.{Process, indexes, has_index, has_block, missing, is_whole, with_block}
 use Rattle.repo_process.specs.Processes.{without_block, object_of}

@@ -5,8 +5,8 @@ use Rattle.std.specs.Prelude.{slice_set}
 use Rattle.std.specs.Option.{option_map}
 use Rattle.std.specs.Ordering.{nat_cmp}
 use Rattle.std.specs.declared.cmp.Ordering.{Ordering}
-use Rattle.repo_plan.specs.SortedList.{by_order, keys, IsBefore, Rises, value_of, with_value}
-use Rattle.repo_plan.proofs.Orders.{nat_less, nat_itself}
+use Rattle.sorted_lists.specs.SortedList.{by_order, keys, IsBefore, Rises, value_of, with_value}
+use Rattle.sorted_lists.proofs.Orders.{nat_less, nat_itself}
 use Rattle.repo_process.specs.Fields.{numbered_from}
 use Rattle.repo_process.proofs.Numbers.{nat_greater, same_key, key_below, key_above}
 

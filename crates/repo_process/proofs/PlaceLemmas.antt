@@ -6,7 +6,7 @@ use Rattle.std.specs.Prelude.{slice_set, OnOk, IsSome}
 use Rattle.std.specs.Option.{option_map}
 use Rattle.std.specs.Ordering.{nat_cmp}
 use Rattle.std.proofs.lemmas.List.{set-get_or, length-set}
-use Rattle.repo_plan.specs.SortedList.{value_of, with_value}
+use Rattle.sorted_lists.specs.SortedList.{value_of, with_value}
 use Rattle.repo_process.specs.declared.processes.Processes.TheInside.{Inside}
 use Rattle.repo_process.specs.Processes.{Process, BlockState, is_whole, object_of}
 use Rattle.repo_process.specs.Processes.BlockState.{Unknown, Already, Waiting, Whole}

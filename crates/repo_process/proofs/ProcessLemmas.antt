@@ -6,8 +6,8 @@ use Rattle.std.specs.Ordering.{nat_cmp}
 use Rattle.std.proofs.lemmas.Bool.{lt-leb, eqb-true}
 use Rattle.std.proofs.lemmas.List.{length-set}
 use Rattle.ndn_name.specs.Names.{Component}
-use Rattle.repo_plan.specs.SortedList.{value_of}
-use Rattle.repo_plan.specs.Parts.{numbers_from}
+use Rattle.sorted_lists.specs.SortedList.{value_of}
+use Rattle.sorted_lists.specs.Range.{numbers_from}
 use Rattle.repo_object.specs.Objects.{NamedContents}
 use Rattle.repo_process.specs.Processes.{Process, starting, indexes, has_block, present, missing, is_whole, with_block}
 use Rattle.repo_process.specs.Processes.{without_block, object_of}

@@ -2,7 +2,7 @@
 use Rattle.std.specs.Prelude.{ℕ, ◌+◌, List, Option, Some, None, nat_le, if◌then◌else◌}
 use Rattle.std.specs.Ordering.{nat_cmp}
 use Rattle.ndn_name.specs.Names.{Component}
-use Rattle.repo_plan.specs.SortedList.{value_of, with_value}
+use Rattle.sorted_lists.specs.SortedList.{value_of, with_value}
 use Rattle.repo_process.specs.Processes.{Process, BlockState, starting, block_state}
 use Rattle.repo_process.specs.Processes.BlockState.{Unknown, Already, Waiting, Whole}
 

@@ -1,7 +1,7 @@
 ghost use Rattle.std.specs.Prelude.{◌≡◌, ◌+◌, ◌-◌, ◌<◌, ◌↔◌, false, [], ℕ, List, Some, IsTrue, length, slice_get};
 ghost use Rattle.std.specs.Prelude.{unwrap_or};
 ghost use Rattle.std.specs.Ordering.{nat_cmp};
-ghost use Rattle.repo_plan.specs.SortedList.{value_of};
+ghost use Rattle.sorted_lists.specs.SortedList.{value_of};
 ghost use Rattle.repo_process.specs.Processes.{Process, has_index, has_block, is_whole, present, missing, with_block};
 ghost use Rattle.repo_process.specs.Processes.{without_block, object_of};
 

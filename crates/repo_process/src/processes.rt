@@ -3,7 +3,7 @@ ghost use Rattle.std.specs.Prelude.{map, option_map, slice_get, IsSomeAnd, IfOk,
 ghost use Rattle.std.specs.Prelude.{MatchOption, IfSome};
 ghost use Rattle.std.specs.List.{All};
 ghost use Rattle.std.specs.Ordering.{nat_cmp};
-ghost use Rattle.repo_plan.specs.SortedList.{Rises, keys, value_of};
+ghost use Rattle.sorted_lists.specs.SortedList.{Rises, keys, value_of};
 ghost use Rattle.repo_object.specs.Objects.{is_object_name, IsContent, IsObject};
 ghost use Rattle.repo_process.specs.Processes.{Process, has_block, present, object_of, closed, block_state};
 ghost use Rattle.repo_process.specs.Processes.{without_block};

@@ -17,10 +17,11 @@ use Rattle.ndn_name.specs.Names.{Component, IsName, encoding, full_name}
 use Rattle.ndn_name.specs.CanonicalOrder.{IsPrefix}
 use Rattle.ndn_name.proofs.Encodings.{encoding-same}
 use Rattle.ndn_name.proofs.Prefixes.{prefix-octets, prefix-encoding}
-use Rattle.repo_plan.specs.SortedList.{Rises}
+use Rattle.sorted_lists.specs.SortedList.{Rises}
 use Rattle.repo_plan.specs.Parts.{part_cmp}
-use Rattle.repo_plan.proofs.Orders.{exact_parts, equal_from_is_eq, greater_back}
-use Rattle.repo_plan.proofs.Sets.{In, each_before, in_map}
+use Rattle.sorted_lists.proofs.Orders.{equal_from_is_eq, greater_back}
+use Rattle.repo_plan.proofs.Orders.{exact_parts}
+use Rattle.sorted_lists.proofs.Sets.{In, each_before, in_map}
 use Rattle.repo_store.specs.declared.index.Held.{Held}
 use Rattle.repo_store.specs.declared.index.Order.TheVariants.{Names}
 use Rattle.repo_store.specs.Served.{satisfies}

@@ -18,11 +18,12 @@ use Rattle.std.proofs.lemmas.List.{drop-append-le}
 use Rattle.std.proofs.lemmas.Map.Lookups.{exact_bytes}
 use Rattle.slab.specs.Slab.{Slab}
 use Rattle.repo_plan.specs.declared.part.Part.{Part}
-use Rattle.repo_plan.specs.SortedList.{IsBefore, Rises}
+use Rattle.sorted_lists.specs.SortedList.{IsBefore, Rises}
 use Rattle.repo_plan.specs.Parts.{part_cmp}
-use Rattle.repo_plan.proofs.Orders.{Exact, exact_parts, equal_from_is_eq, less_back, greater_back, nat_same}
-use Rattle.repo_plan.proofs.Sets.{In, each_before, before_each, rises_append, in_append, append_left, append_right}
-use Rattle.repo_plan.proofs.Sets.{in_map, from_map}
+use Rattle.sorted_lists.proofs.Orders.{Exact, equal_from_is_eq, less_back, greater_back, nat_same}
+use Rattle.repo_plan.proofs.Orders.{exact_parts}
+use Rattle.sorted_lists.proofs.Sets.{In, each_before, before_each, rises_append, in_append, append_left, append_right}
+use Rattle.sorted_lists.proofs.Sets.{in_map, from_map}
 use Rattle.repo_store.specs.declared.index.Held.{Held}
 use Rattle.repo_store.specs.declared.index.Order.{Order}
 use Rattle.repo_store.specs.Indexes.{KeyPair, KeyTriple, pair_cmp, triple_cmp, key_cmp, key_at, key_in, keys_in}

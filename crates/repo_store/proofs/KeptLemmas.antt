@@ -11,10 +11,11 @@ use Rattle.std.specs.declared.cmp.Ordering.TheVariants.{Less, Equal, Greater}
 use Rattle.std.proofs.lemmas.Bool.{true≢false, or_cases, or_left, or_right}
 use Rattle.slab.specs.Slab.{Slab, get, slab_len}
 use Rattle.repo_plan.specs.declared.part.Part.{Part}
-use Rattle.repo_plan.specs.SortedList.{by_order, Rises, contains, insert_key}
-use Rattle.repo_plan.proofs.Orders.{less_back}
-use Rattle.repo_plan.proofs.Sets.{In, each_before, rises_insert, eq_same, eq_itself, contains-insert_key, contains_in}
-use Rattle.repo_plan.proofs.Sets.{in_contains, in_map, from_map}
+use Rattle.sorted_lists.specs.SortedList.{by_order, Rises, contains, insert_key}
+use Rattle.sorted_lists.proofs.Orders.{less_back}
+use Rattle.sorted_lists.proofs.Sets.{In, each_before, rises_insert, eq_same, eq_itself, contains-insert_key}
+use Rattle.sorted_lists.proofs.Sets.{contains_in}
+use Rattle.sorted_lists.proofs.Sets.{in_contains, in_map, from_map}
 use Rattle.repo_store.specs.declared.index.Held.{Held}
 use Rattle.repo_store.specs.StoreList.{different_octets}
 use Rattle.repo_store.specs.Kept.{octets_at, entries_of}

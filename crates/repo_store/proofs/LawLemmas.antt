@@ -18,12 +18,14 @@ use Rattle.ndn_name.proofs.Encodings.{bind_ok}
 use Rattle.ndn_interest.specs.Interest.{Interest, interest_of}
 use Rattle.ndn_data.specs.Data.{Data, data_of, Satisfies}
 use Rattle.repo_plan.specs.declared.part.Part.{Part}
-use Rattle.repo_plan.specs.SortedList.{by_order, keys, IsBefore, Rises, contains, insert_key, value_of, with_value}
+use Rattle.sorted_lists.specs.SortedList.{by_order, keys, IsBefore, Rises, contains, insert_key, value_of, with_value}
 use Rattle.repo_plan.specs.Parts.{Pair, part_cmp}
 use Rattle.repo_plan.specs.Plan.{is_in}
-use Rattle.repo_plan.proofs.Orders.{exact_parts, less_back}
-use Rattle.repo_plan.proofs.Sets.{each_before, eq_same, eq_itself, value_of-with_value, keys-with_value, keys-filter}
-use Rattle.repo_plan.proofs.Sets.{in_contains}
+use Rattle.sorted_lists.proofs.Orders.{less_back}
+use Rattle.repo_plan.proofs.Orders.{exact_parts}
+use Rattle.sorted_lists.proofs.Sets.{each_before, eq_same, eq_itself, value_of-with_value, keys-with_value}
+use Rattle.sorted_lists.proofs.Sets.{keys-filter}
+use Rattle.sorted_lists.proofs.Sets.{in_contains}
 use Rattle.repo_store.specs.StoreList.{with_packet, packets_outside, StoreIsSound}
 use Rattle.repo_store.specs.Served.{asks_for_read, satisfies, first_served, served_entry, served, served_part}
 use Rattle.repo_store.specs.Answers.{AnswersWith}

@@ -9,10 +9,12 @@ use Rattle.std.proofs.lemmas.Bool.{true≢false}
 use Rattle.std.proofs.lemmas.List.{take-append-drop, append-nil, length-map}
 use Rattle.slab.specs.Slab.{Slab, get}
 use Rattle.repo_plan.specs.declared.part.Part.{Part}
-use Rattle.repo_plan.specs.SortedList.{Rises}
+use Rattle.sorted_lists.specs.SortedList.{Rises}
 use Rattle.repo_plan.specs.Parts.{part_cmp}
-use Rattle.repo_plan.proofs.Orders.{exact_parts, greater_back}
-use Rattle.repo_plan.proofs.Sets.{In, each_before, before_each, in_append, append_left, append_right, in_map, from_map}
+use Rattle.sorted_lists.proofs.Orders.{greater_back}
+use Rattle.repo_plan.proofs.Orders.{exact_parts}
+use Rattle.sorted_lists.proofs.Sets.{In, each_before, before_each, in_append, append_left, append_right, in_map}
+use Rattle.sorted_lists.proofs.Sets.{from_map}
 use Rattle.repo_store.specs.declared.index.Held.{Held}
 use Rattle.repo_store.specs.declared.index.Order.{Order}
 use Rattle.repo_store.specs.declared.index.Index.{Index}

@@ -16,7 +16,7 @@ use Rattle.ndn_name.proofs.Encodings.{encoding-push, encoding-same, IsName-appen
 use Rattle.ndn_name.proofs.Prefixes.{canonical_cmp-equal, prefix-octets, prefix-encoding}
 use Rattle.ndn_data.specs.Data.{Data, data_of, Satisfies}
 use Rattle.ndn_interest.proofs.DigestLemmas.{IsOctets-sha256}
-use Rattle.repo_plan.proofs.Orders.{equal_from_is_eq}
+use Rattle.sorted_lists.proofs.Orders.{equal_from_is_eq}
 use Rattle.repo_store.specs.Served.{is_same_name, is_prefix, asks_for, asks_for_read, satisfies}
 
 -- ---- tests of names

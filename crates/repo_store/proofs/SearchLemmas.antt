@@ -13,9 +13,9 @@ use Rattle.slab.specs.Slab.{Slab, get}
 use Rattle.sha2.specs.Sha256.{sha256}
 use Rattle.sha2.proofs.Facts256.{length-sha256}
 use Rattle.ndn_tlv.specs.Spelling.{element}
-use Rattle.repo_plan.specs.SortedList.{Rises}
-use Rattle.repo_plan.proofs.Orders.{equal_from_is_eq}
-use Rattle.repo_plan.proofs.Sets.{In}
+use Rattle.sorted_lists.specs.SortedList.{Rises}
+use Rattle.sorted_lists.proofs.Orders.{equal_from_is_eq}
+use Rattle.sorted_lists.proofs.Sets.{In}
 use Rattle.repo_store.specs.declared.index.Held.{Held}
 use Rattle.repo_store.specs.declared.index.Key.{Key}
 use Rattle.repo_store.specs.declared.index.Order.{Order}

@@ -8,13 +8,13 @@ use Rattle.sha2.specs.Sha256.{sha256}
 use Rattle.slab.specs.Slab.{Slab, get, slab_len, ContainsKey, HasRoomFor, Updates}
 use Rattle.repo_plan.specs.declared.part.Part.{Part}
 use Rattle.std.proofs.lemmas.List.Elements.{All-head, All-tail}
-use Rattle.repo_plan.specs.SortedList.{IsBefore, Rises, keys, value_of}
+use Rattle.sorted_lists.specs.SortedList.{IsBefore, Rises, keys, value_of}
 use Rattle.repo_plan.specs.Parts.{Pair, part_cmp, pair_of}
 use Rattle.repo_plan.proofs.Orders.{exact_pairs}
 use Rattle.repo_store.specs.Kept.{front_of, held_list}
 use Rattle.repo_store.proofs.SlotMaps.{kept_at, slot_is, nothing_of}
 use Rattle.repo_plan.specs.Plan.{is_in}
-use Rattle.repo_plan.proofs.Sets.{In, eq_same, in_filter, in_append, append_left, append_right}
+use Rattle.sorted_lists.proofs.Sets.{In, eq_same, in_filter, in_append, append_left, append_right}
 use Rattle.repo_store.specs.declared.index.Held.{Held}
 use Rattle.repo_store.specs.declared.store.Kept.{Kept}
 use Rattle.repo_store.specs.declared.index.Order.{Order}

@@ -9,11 +9,11 @@ use Rattle.std.specs.declared.cmp.Ordering.TheVariants.{Less, Equal, Greater}
 use Rattle.std.proofs.lemmas.List.{length-map}
 use Rattle.slab.specs.Slab.{Slab, get}
 use Rattle.repo_plan.specs.declared.part.Part.{Part}
-use Rattle.repo_plan.specs.SortedList.{by_order, keys, Rises, contains, value_of, with_value}
+use Rattle.sorted_lists.specs.SortedList.{by_order, keys, Rises, contains, value_of, with_value}
 use Rattle.repo_plan.specs.Parts.{Pair, part_cmp}
 use Rattle.repo_plan.specs.Plan.{is_in}
 use Rattle.repo_plan.proofs.Orders.{exact_parts}
-use Rattle.repo_plan.proofs.Sets.{In, each_before, eq_same, eq_itself, rises_with_value, value_of-with_value}
+use Rattle.sorted_lists.proofs.Sets.{In, each_before, eq_same, eq_itself, rises_with_value, value_of-with_value}
 use Rattle.repo_store.specs.declared.index.Held.{Held}
 use Rattle.repo_store.specs.declared.store.Kept.{Kept}
 use Rattle.repo_store.specs.StoreList.{with_packet}

@@ -12,11 +12,12 @@ use Rattle.std.proofs.lemmas.List.Elements.{All-nil, All-cons, All-head, All-tai
 use Rattle.std.proofs.lemmas.List.Filters.{length-filter_both}
 use Rattle.slab.specs.Slab.{Slab, get}
 use Rattle.repo_plan.specs.declared.part.Part.{Part}
-use Rattle.repo_plan.specs.SortedList.{by_order, keys, Rises, with_value}
+use Rattle.sorted_lists.specs.SortedList.{by_order, keys, Rises, with_value}
 use Rattle.repo_plan.specs.Parts.{Pair, part_cmp, pair_of}
 use Rattle.repo_plan.specs.Plan.{is_in}
-use Rattle.repo_plan.proofs.Orders.{exact_pairs, exact_parts, nat_itself, then_second}
-use Rattle.repo_plan.proofs.Sets.{In, eq_same, rises_with_value, rises_keys_filter}
+use Rattle.sorted_lists.proofs.Orders.{nat_itself, then_second}
+use Rattle.repo_plan.proofs.Orders.{exact_pairs, exact_parts}
+use Rattle.sorted_lists.proofs.Sets.{In, eq_same, rises_with_value, rises_keys_filter}
 use Rattle.ndn_data.specs.Data.{data_of}
 use Rattle.repo_store.specs.declared.index.Held.{Held}
 use Rattle.repo_store.specs.StoreList.{packets_in, packets_outside, StoreIsSound}

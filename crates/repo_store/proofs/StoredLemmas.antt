@@ -5,10 +5,10 @@ use Rattle.std.specs.Prelude.{IsSome, IsOk}
 use Rattle.std.proofs.lemmas.List.Elements.{All-nil}
 use Rattle.ndn_data.specs.Data.{data_of}
 use Rattle.repo_plan.specs.declared.part.Part.{Part}
-use Rattle.repo_plan.specs.SortedList.{Rises}
+use Rattle.sorted_lists.specs.SortedList.{Rises}
 use Rattle.std.specs.HashMap.{spare}
 use Rattle.slab.specs.Slab.{Slab, get, ContainsKey, HasRoomFor}
-use Rattle.repo_plan.proofs.Sets.{In, in_append}
+use Rattle.sorted_lists.proofs.Sets.{In, in_append}
 use Rattle.repo_store.specs.declared.index.Held.{Held}
 use Rattle.repo_store.specs.declared.store.Kept.{Kept}
 use Rattle.repo_store.specs.declared.index.Order.{Order}

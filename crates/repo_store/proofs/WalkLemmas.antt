@@ -14,10 +14,11 @@ use Rattle.std.proofs.lemmas.Bool.{true≢false, cases_lt}
 use Rattle.std.proofs.lemmas.Slice.Eq.{slice_eq-Decides, starts_is}
 use Rattle.std.proofs.lemmas.List.{drop-map}
 use Rattle.slab.specs.Slab.{Slab, get}
-use Rattle.repo_plan.specs.SortedList.{Rises}
+use Rattle.sorted_lists.specs.SortedList.{Rises}
 use Rattle.repo_plan.specs.Parts.{part_cmp}
-use Rattle.repo_plan.proofs.Orders.{exact_parts, less_back, greater_back, nat_same, nat_itself}
-use Rattle.repo_plan.proofs.Sets.{In, each_before, in_map}
+use Rattle.sorted_lists.proofs.Orders.{less_back, greater_back, nat_same, nat_itself}
+use Rattle.repo_plan.proofs.Orders.{exact_parts}
+use Rattle.sorted_lists.proofs.Sets.{In, each_before, in_map}
 use Rattle.repo_store.specs.declared.index.Held.{Held}
 use Rattle.repo_store.specs.declared.index.Order.TheVariants.{Names}
 use Rattle.repo_store.specs.Indexes.{key_cmp, key_of, key_in, keys_in, begins_with, lesser, first_part, IsFrom}

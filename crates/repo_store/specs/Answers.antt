@@ -3,7 +3,7 @@ use Rattle.std.specs.Prelude.{◌≡◌, ◌≢◌, ℕ, true, false, List, Opti
 use Rattle.std.specs.declared.cmp.Ordering.TheVariants.{Less}
 use Rattle.ndn_interest.specs.Interest.{Interest}
 use Rattle.repo_plan.specs.declared.part.Part.{Part}
-use Rattle.repo_plan.specs.SortedList.{value_of}
+use Rattle.sorted_lists.specs.SortedList.{value_of}
 use Rattle.repo_plan.specs.Parts.{part_cmp}
 use Rattle.repo_store.specs.Served.{satisfies}
 

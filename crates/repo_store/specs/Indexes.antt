@@ -12,9 +12,9 @@ use Rattle.ndn_tlv.specs.Spelling.{element}
 use Rattle.sha2.specs.Sha256.{sha256}
 use Rattle.ndn_name.specs.Names.{Component}
 use Rattle.repo_plan.specs.declared.part.Part.{Part}
-use Rattle.repo_plan.specs.SortedList.{Rises}
+use Rattle.sorted_lists.specs.SortedList.{Rises}
 use Rattle.repo_plan.specs.Parts.{part_cmp}
-use Rattle.repo_plan.proofs.Sets.{In}
+use Rattle.sorted_lists.proofs.Sets.{In}
 use Rattle.repo_store.specs.declared.index.Held.{Held}
 use Rattle.repo_store.specs.declared.index.Index.{Index}
 use Rattle.repo_store.specs.declared.index.Key.{Key}

@@ -1,8 +1,8 @@
 -- Indexes in two layers: what is settled, and what came last in front of others.
 use Rattle.std.specs.Prelude.{◌≡◌, ◌≢◌, ℕ, ◌+◌, ◌≤◌, ◌⊎◌, List, ◌++◌, vec_len, vec_capacity}
 use Rattle.slab.specs.Slab.{Slab}
-use Rattle.repo_plan.specs.SortedList.{Rises}
-use Rattle.repo_plan.proofs.Sets.{In}
+use Rattle.sorted_lists.specs.SortedList.{Rises}
+use Rattle.sorted_lists.proofs.Sets.{In}
 use Rattle.repo_store.specs.declared.index.Held.{Held}
 use Rattle.repo_store.specs.declared.index.Order.{Order}
 use Rattle.repo_store.specs.declared.layers.Layers.{Layers}

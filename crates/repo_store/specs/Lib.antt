@@ -1,7 +1,7 @@
 pub use Rattle.ndn_name.specs.Names
 pub use Rattle.ndn_interest.specs.Interest
 pub use Rattle.ndn_data.specs.Data
-pub use Rattle.repo_plan.specs.SortedList
+pub use Rattle.sorted_lists.specs.SortedList
 pub use Rattle.repo_plan.specs.Parts
 pub mod StoreList
 pub mod Served

@@ -4,7 +4,7 @@ use Rattle.std.specs.List.{filter}
 use Rattle.slab.specs.Slab.{Slab, get, ContainsKey}
 use Rattle.repo_plan.specs.Parts.{Pair}
 use Rattle.repo_plan.specs.Plan.{is_in}
-use Rattle.repo_plan.proofs.Sets.{In}
+use Rattle.sorted_lists.proofs.Sets.{In}
 use Rattle.repo_store.specs.declared.index.Held.{Held}
 use Rattle.repo_store.specs.Indexes.{AreFronts, IsData}
 

@@ -2,7 +2,7 @@ ghost use Rattle.std.specs.Prelude.{◌≡◌, ◌↔◌, ◌+◌, ◌<◌, ◌�
 ghost use Rattle.std.specs.Prelude.{vec_capacity};
 ghost use Rattle.repo_store.specs.declared.index.Order.TheVariants.{Names, FullNames};
 ghost use Rattle.slab.specs.Slab.{get};
-ghost use Rattle.repo_plan.specs.SortedList.{Rises};
+ghost use Rattle.sorted_lists.specs.SortedList.{Rises};
 ghost use Rattle.repo_store.specs.Indexes.{packet_key, key_of, front_in, key_at, pair_of, triple_of, pair_cmp};
 ghost use Rattle.repo_store.specs.Indexes.{triple_cmp, key_cmp, key_in, keys_in, keys_of, has_key, has_full_name};
 ghost use Rattle.repo_store.specs.Indexes.{begins_with, lesser, AreFronts, IndexIsInOrder, IsPlace, IsFrom, IsBehind};

@@ -9,7 +9,7 @@ ghost use Rattle.ndn_name.specs.Names.{Component};
 ghost use Rattle.ndn_interest.specs.Interest.{Interest, interest_of};
 ghost use Rattle.ndn_data.specs.Data.{Data, data_of, Satisfies};
 ghost use Rattle.repo_plan.specs.declared.part.Part.{Part};
-ghost use Rattle.repo_plan.specs.SortedList.{Rises, keys, contains, value_of, insert_key};
+ghost use Rattle.sorted_lists.specs.SortedList.{Rises, keys, contains, value_of, insert_key};
 ghost use Rattle.repo_plan.specs.Parts.{Pair, part_cmp};
 ghost use Rattle.repo_plan.specs.Plan.{is_in};
 ghost use Rattle.repo_store.specs.StoreList.{with_packet, packets_outside, different_octets, StoreIsSound};

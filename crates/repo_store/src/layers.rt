@@ -1,7 +1,7 @@
 ghost use Rattle.std.specs.Prelude.{◌≡◌, ◌↔◌, ◌+◌, ◌≤◌, ℕ, [], length, IsTrue, OnOk, vec_len, vec_capacity};
 ghost use Rattle.slab.specs.Slab.{get};
-ghost use Rattle.repo_plan.specs.SortedList.{Rises};
-ghost use Rattle.repo_plan.proofs.Sets.{In};
+ghost use Rattle.sorted_lists.specs.SortedList.{Rises};
+ghost use Rattle.sorted_lists.proofs.Sets.{In};
 ghost use Rattle.repo_store.specs.declared.index.Held as declared_held;
 ghost use Rattle.repo_store.specs.declared.index.Order.TheVariants.{Names, FullNames};
 ghost use Rattle.repo_store.specs.Indexes.{key_cmp, key_in, keys_in, has_key, has_full_name, begins_with, AreFronts};

@@ -16,7 +16,7 @@ use Rattle.std.proofs.lemmas.List.{length-map}
 use Rattle.ndn_name.specs.Names.{Component, encoding}
 use Rattle.ndn_name.specs.UriText.{is_digest}
 use Rattle.ndn_name.specs.UriVerdict.{HasUri}
-use Rattle.repo_plan.specs.Parts.{numbers_from}
+use Rattle.sorted_lists.specs.Range.{numbers_from}
 use Rattle.repo_process.proofs.ProcessLemmas.{length-numbers}
 use Rattle.repo_object.specs.Objects.{is_object_name}
 use Rattle.repo_object.specs.Cuts.{piece, pieces}

@@ -8,7 +8,7 @@ use Rattle.std.proofs.lemmas.Bool.{true≢false, cases_Bool}
 use Rattle.std.proofs.lemmas.Bool.Decides.{nat_tests}
 use Rattle.std.proofs.lemmas.Slice.Eq.{bytes_eq-Decides}
 use Rattle.repo_plan.specs.Parts.{Pair}
-use Rattle.repo_plan.proofs.Sets.{In, from_map}
+use Rattle.sorted_lists.proofs.Sets.{In, from_map}
 use Rattle.repo_catalog.specs.declared.entry.Entry.{Entry}
 use Rattle.repo_catalog.specs.Entries.{lists, publication_of}
 use Rattle.group_model.specs.Publications.{Logs, Publication, count, published, published_entry}

@@ -22,7 +22,7 @@ use Rattle.group_model.specs.Steps.{after_fire, after_hear, after_publish, block
 use Rattle.group_model.specs.Steps.{claim_at, tells_too_much, timer_at, to_claim, with_process_at}
 use Rattle.group_model.specs.Laws.{NothingHidden}
 use Rattle.group_model.proofs.Settles.{member_settled}
-use Rattle.repo_plan.specs.Parts.{numbers_from}
+use Rattle.sorted_lists.specs.Range.{numbers_from}
 use Rattle.repo_member.specs.Groups.{GroupKeys}
 use Rattle.script_lang.specs.declared.line_fault.LineFault.{LineFault}
 use Rattle.script_lang.specs.declared.verb.Verb.{Verb}

@@ -18,7 +18,7 @@ use Rattle.group_model.specs.Refusals.{NamesThose}
 use Rattle.group_model.specs.Sound.{IsSoundGroup}
 use Rattle.group_model.proofs.PublicLaws.{sound_opening, sound_after}
 use Rattle.group_model.proofs.Lasting.{lasts}
-use Rattle.repo_plan.specs.Parts.{numbers_from}
+use Rattle.sorted_lists.specs.Range.{numbers_from}
 use Rattle.repo_process.proofs.ProcessLemmas.{length-numbers}
 use Rattle.repo_member.specs.Groups.{no_nodes, with_node}
 use Rattle.bench_world.specs.EventValues.{EventValue, group_event, telling}

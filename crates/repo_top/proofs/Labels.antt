@@ -1,7 +1,7 @@
 -- The labels of all members, in order, are the labels.
 use Rattle.std.proofs.Common.{◌≡◌, ℕ, ◌+◌, List, [], ◌∷◌, ◌++◌, length, length-append, map, refl, subst, append_assoc}
 use Rattle.std.proofs.Math.Seq.{get_or-append_seam}
-use Rattle.repo_plan.specs.Parts.{numbers_from}
+use Rattle.sorted_lists.specs.Range.{numbers_from}
 use Rattle.repo_top.specs.ToldTexts.{label_at}
 
 labels_behind : (front rest : List (List ℕ))

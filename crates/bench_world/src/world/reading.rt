@@ -1,7 +1,8 @@
 // What is read of a world.
 ghost use Rattle.std.specs.Prelude.{◌≡◌, ◌+◌, ◌<◌, ◌≤◌, ℕ, None, length, map, IfOk, IfErr, OnOk, OnErr};
-ghost use Rattle.repo_plan.specs.Parts.{numbers_from, part_cmp};
-ghost use Rattle.repo_plan.specs.SortedList.{value_of};
+ghost use Rattle.sorted_lists.specs.Range.{numbers_from};
+ghost use Rattle.repo_plan.specs.Parts.{part_cmp};
+ghost use Rattle.sorted_lists.specs.SortedList.{value_of};
 ghost use Rattle.bench_world.specs.Serving.{keyed};
 ghost use Rattle.bench_world.specs.Worlds.{world_of, alone_at};
 ghost use Rattle.bench_world.specs.Steps.{IsFaultOf};

@@ -2,7 +2,7 @@ ghost use Rattle.std.specs.Prelude.{◌≡◌, ◌-◌, ◌<◌, ◌≤◌, true
 ghost use Rattle.std.specs.List.{All};
 ghost use Rattle.std.specs.Ordering.{nat_cmp};
 ghost use Rattle.repo_object.specs.Objects.{is_object_name};
-ghost use Rattle.repo_plan.specs.SortedList.{value_of};
+ghost use Rattle.sorted_lists.specs.SortedList.{value_of};
 ghost use Rattle.repo_plan.specs.Plan.{knows, claims_part_in};
 ghost use Rattle.repo_command.specs.Commands.{is_command, CommandIsSpelled};
 ghost use Rattle.repo_process.specs.Insertions.{next_number};

@@ -6,7 +6,7 @@ ghost use Rattle.repo_plan.specs.Parts.{pair_of};
 use super::Plan;
 use super::whole::{note_held, note_shape};
 use crate::part::Part;
-use crate::table;
+use sorted_lists::table;
 use std::alloc::AllocError;
 
 impl Plan {

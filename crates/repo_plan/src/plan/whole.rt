@@ -1,14 +1,14 @@
 ghost use Rattle.std.specs.Prelude.{◌≡◌, ◌≤◌, ◌<◌, ◌+◌, ◌||◌, ◌&&◌, true};
 ghost use Rattle.std.specs.Ordering.{nat_cmp, eq_by_cmp};
 ghost use Rattle.std.specs.HashMap.{spare};
-ghost use Rattle.repo_plan.specs.SortedList.{in_order};
+ghost use Rattle.sorted_lists.specs.SortedList.{in_order};
 ghost use Rattle.repo_plan.specs.Plan.{with_shape};
 ghost use Rattle.repo_plan.specs.Parts.{Pair, pair_cmp};
-ghost use Rattle.repo_plan.specs.Runs.{Number, IsRuns, has_number, number_cmp, runs_of, room_of};
+ghost use Rattle.sorted_lists.specs.Runs.{Number, IsRuns, has_number, number_cmp, runs_of, room_of};
 ghost use Rattle.repo_plan.specs.PlanFields.{is_noted, are_noted};
 
-use crate::runs::Runs;
-use crate::table;
+use sorted_lists::Runs;
+use sorted_lists::table;
 use std::collections::HashMap;
 
 // Notes what a record tells, if the part that is held now is one.

@@ -1,5 +1,5 @@
 use Rattle.std.proofs.Common.{◌≡◌, ◌-◌, ℕ, List, length, replicate, sym, ap, ◌∙◌, arith}
-use Rattle.repo_plan.specs.SortedList.{contains}
+use Rattle.sorted_lists.specs.SortedList.{contains}
 use Rattle.repo_plan.specs.Parts.{part_cmp}
 use Rattle.repo_member.specs.Alone.{Fetched, alone_takes}
 use Rattle.bench_world.specs.Gathering.{next_parts}

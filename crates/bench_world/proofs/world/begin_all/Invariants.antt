@@ -1,5 +1,5 @@
 use Rattle.std.proofs.Common.{◌≡◌, map, length}
-use Rattle.repo_plan.specs.Parts.{numbers_from}
+use Rattle.sorted_lists.specs.Range.{numbers_from}
 use Rattle.bench_world.specs.Worlds.{begun_one}
 use Rattle.bench_world.proofs.world.begin_all.Given as goal
 

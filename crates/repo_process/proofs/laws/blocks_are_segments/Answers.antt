@@ -1,6 +1,6 @@
 use Rattle.std.proofs.Common.{[], ◌+◌, ◌-◌, nat_cmp}
 use Rattle.std.specs.Prelude.{unwrap_or}
-use Rattle.repo_plan.specs.SortedList.{value_of}
+use Rattle.sorted_lists.specs.SortedList.{value_of}
 use Rattle.repo_process.proofs.LawLemmas.{segments_counted, segment_at}
 use Rattle.repo_process.proofs.laws.blocks_are_segments.Goals as goal
 

@@ -1,6 +1,6 @@
 use Rattle.std.proofs.Common.{◌≡◌, List, subst, sym}
 use Rattle.std.specs.List.{insert}
-use Rattle.repo_plan.specs.SortedList.{Rises}
+use Rattle.sorted_lists.specs.SortedList.{Rises}
 use Rattle.repo_store.specs.declared.index.Held.{Held}
 use Rattle.repo_store.specs.Indexes.{IsPlace, GainsOne, key_cmp, key_in, keys_in}
 use Rattle.repo_store.proofs.IndexLemmas.{rises_added, gains_one, keys_added, fresh_key}

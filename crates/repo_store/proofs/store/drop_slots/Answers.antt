@@ -2,12 +2,12 @@ use Rattle.std.proofs.Common.{◌≡◌, ◌≤◌, List, not, length, refl, sym
 use Rattle.std.proofs.lemmas.List.Filters.{length-filter_both}
 use Rattle.std.proofs.lemmas.Map.Made.{filter_same_pairs}
 use Rattle.repo_plan.specs.declared.part.Part.{Part}
-use Rattle.repo_plan.specs.SortedList.{in_order}
+use Rattle.sorted_lists.specs.SortedList.{in_order}
 use Rattle.repo_plan.specs.Parts.{Pair, part_cmp}
 use Rattle.repo_plan.specs.Plan.{is_in}
 use Rattle.repo_plan.proofs.Orders.{exact_parts}
 use Rattle.repo_plan.proofs.Changes.{pair_test}
-use Rattle.repo_plan.proofs.Entries.{filter_in_order}
+use Rattle.sorted_lists.proofs.Entries.{filter_in_order}
 use Rattle.repo_store.specs.declared.store.Kept.{Kept}
 use Rattle.repo_store.specs.Kept.{held_list, held_of}
 use Rattle.repo_store.proofs.SlotMaps.{held_left, length-held}

@@ -1,9 +1,9 @@
 use Rattle.std.proofs.Common.{ℕ, ◌+◌, List, subst, sym, ◌∙◌, arith}
 use Rattle.slab.specs.Slab.{Slab}
-use Rattle.repo_plan.specs.SortedList.{in_order}
+use Rattle.sorted_lists.specs.SortedList.{in_order}
 use Rattle.repo_plan.specs.Parts.{part_cmp}
 use Rattle.repo_plan.proofs.Orders.{exact_parts}
-use Rattle.repo_plan.proofs.Entries.{order_rises}
+use Rattle.sorted_lists.proofs.Entries.{order_rises}
 use Rattle.repo_store.specs.declared.index.Order.TheVariants.{FullNames}
 use Rattle.repo_store.specs.Kept.{held_of}
 use Rattle.repo_store.specs.Slots.{held_outside}

@@ -1,5 +1,5 @@
 use Rattle.std.proofs.Common.{◌≡◌}
-use Rattle.repo_plan.specs.Parts.{numbers_from}
+use Rattle.sorted_lists.specs.Range.{numbers_from}
 use Rattle.bench_world.proofs.world.World.numbered.Given as goal
 
 abbrev pub invariant-loop-number : goal.invariant-loop-number

@@ -5,7 +5,7 @@ use Rattle.std.specs.List.{All}
 use Rattle.std.specs.Ordering.{nat_cmp}
 use Rattle.std.proofs.lemmas.Bool.{true≢false, lt-ltb}
 use Rattle.std.proofs.lemmas.List.{length-map}
-use Rattle.repo_plan.specs.SortedList.{value_of}
+use Rattle.sorted_lists.specs.SortedList.{value_of}
 use Rattle.repo_object.specs.Objects.{NamedContents, IsContent, IsObject}
 use Rattle.repo_object.proofs.Packing.{are_contents}
 use Rattle.repo_process.specs.Processes.{Process, BlockState, closed, has_block, object_of, without_block}

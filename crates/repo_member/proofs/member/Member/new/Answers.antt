@@ -1,9 +1,9 @@
 use Rattle.std.proofs.Common.{arith, ◌≡◌, ◌<◌, ℕ, List, length, slice_index, sym, ap, ◌∙◌, subst}
 use Rattle.std.proofs.lemmas.Bool.{true≢false}
 use Rattle.std.proofs.lemmas.List.{length-replicate, get_or-replicate}
-use Rattle.repo_plan.specs.SortedList.{Rises, keys, contains}
+use Rattle.sorted_lists.specs.SortedList.{Rises, keys, contains}
 use Rattle.repo_plan.specs.Parts.{part_cmp, pair_cmp}
-use Rattle.repo_plan.specs.Plan.{Holdings}
+use Rattle.repo_plan.specs.Plan.{PlanState}
 use Rattle.repo_store.specs.StoreList.{StoreList}
 use Rattle.repo_catalog.specs.Entries.{EntryList}
 use Rattle.svs_sync.specs.KeptVector.{Keeper}
@@ -30,15 +30,15 @@ invariant_of-result c =
             ∙ sym (ap length c.new.ensures.items);
         width = ap (λ (m : Keeper). m.members) c.in_ok-new-2.ensures ∙ sym wide;
         in_order = subst (λ (s : StoreList). Rises part_cmp (keys s.packets)) (sym c.new-5.ensures) tt;
-        hidden = λ pair h. absurd (true≢false (sym h ∙ ap (λ (p : Holdings). contains pair_cmp p.hidden pair) plan));
+        hidden = λ pair h. absurd (true≢false (sym h ∙ ap (λ (p : PlanState). contains pair_cmp p.hidden pair) plan));
       };
-      known = ap (λ (p : Holdings). p.known) plan ∙ sym known;
+      known = ap (λ (p : PlanState). p.known) plan ∙ sym known;
       kept = record {
         tied = record {
           in_order = subst (λ (s : StoreList). Rises part_cmp (keys s.packets)) (sym c.new-5.ensures) tt;
-          held = ap (λ (p : Holdings). p.held) plan ∙ sym (ap (λ (s : StoreList). keys s.packets) c.new-5.ensures);
+          held = ap (λ (p : PlanState). p.held) plan ∙ sym (ap (λ (s : StoreList). keys s.packets) c.new-5.ensures);
           shapes =
-              ap (λ (p : Holdings). p.shapes) plan ∙ sym (ap (λ (s : StoreList). shapes_in s.packets) c.new-5.ensures);
+              ap (λ (p : PlanState). p.shapes) plan ∙ sym (ap (λ (s : StoreList). shapes_in s.packets) c.new-5.ensures);
         };
         listed =
             ap (λ (k : EntryList). k.entries) c.new-6.ensures

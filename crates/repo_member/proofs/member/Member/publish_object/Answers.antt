@@ -3,8 +3,8 @@ use Rattle.std.proofs.Common.{◌≡◌, ◌<◌, ◌^◌, ◌+◌, max, true, f
 use Rattle.std.proofs.Common.{subst, arith}
 use Rattle.repo_plan.specs.declared.part.Part.{Part}
 use Rattle.repo_plan.specs.Parts.{Pair, part_cmp, part_of}
-use Rattle.repo_plan.specs.SortedList.{contains, keys, Rises}
-use Rattle.repo_plan.specs.Plan.{Holdings, raises}
+use Rattle.sorted_lists.specs.SortedList.{contains, keys, Rises}
+use Rattle.repo_plan.specs.Plan.{PlanState, raises}
 use Rattle.svs_sync.specs.KeptVector.{Keeper}
 use Rattle.repo_object.specs.Objects.{NamedContents}
 use Rattle.repo_member.specs.Records.{Packet}
@@ -74,12 +74,12 @@ invariant_of-self-2 c =
     c.raise-2.ensures ∙ ap (λ (n : ℕ). slice_set known number (max (slice_index known number) (n + 1))) long in
     let planned =
     c.gain_all.ensures.others.known
-    ∙ ap (λ (p : Holdings). p.known) c.raise.ensures
-    ∙ ap (λ (p : Holdings). (raises number (c.log_len.result + 1) p).known) c.make_room.ensures.plan
+    ∙ ap (λ (p : PlanState). p.known) c.raise.ensures
+    ∙ ap (λ (p : PlanState). (raises number (c.log_len.result + 1) p).known) c.make_room.ensures.plan
     ∙ ap (λ (n : ℕ). (raises number (n + 1) c.self.inside.plan).known) long in
     let hidden =
     c.gain_all.ensures.others.hidden
-    ∙ ap (λ (p : Holdings). p.hidden) c.raise.ensures
-    ∙ ap (λ (p : Holdings). p.hidden) c.make_room.ensures.plan in
+    ∙ ap (λ (p : PlanState). p.hidden) c.raise.ensures
+    ∙ ap (λ (p : PlanState). p.hidden) c.make_room.ensures.plan in
     published_is c.self.inside c.self.invariant _ refl longer vector
     (ap (λ (k : Keeper). k.members) c.published.ensures) planned hidden kept c.self.invariant.waiting

@@ -3,7 +3,7 @@ use Rattle.std.specs.List.{list_any}
 use Rattle.std.proofs.lemmas.List.{at_drop_more, at_drop_all}
 use Rattle.repo_plan.specs.declared.part.Part.{Part}
 use Rattle.repo_plan.specs.Parts.{Pair}
-use Rattle.repo_plan.specs.Plan.{Holdings, is_claim_in}
+use Rattle.repo_plan.specs.Plan.{PlanState, is_claim_in}
 use Rattle.repo_store.specs.StoreList.{StoreList}
 use Rattle.repo_member.specs.Records.{Packet}
 use Rattle.repo_member.specs.Deleting.{outside_all, with_hidden}
@@ -27,7 +27,7 @@ loop-publisher-preserved c =
     let pairs : List Pair = c.args.publications.now in
     let i : ℕ = c.loop-publisher.publisher-index in
     let pair : Pair = get_or pairs i (0, 0) in
-    let plan : Holdings = c.loop-publisher.plan in
+    let plan : PlanState = c.loop-publisher.plan in
     let stored : List Packet = c.loop-publisher.store.packets in
     let entries = c.loop-publisher.catalogue.entries in
     let invariant = c.loop-publisher.invariant in
@@ -37,17 +37,17 @@ loop-publisher-preserved c =
       packets = ap (λ (s : StoreList). outside_all (drop (i + 1) pairs) s.packets) c.drop_parts.ensures.dropped
           ∙ sym (at_drop_more (λ (rest : List Pair). outside_all rest stored) pairs i (0, 0) c.loop-publisher-test.true)
           ∙ invariant.packets;
-      hidden = ap (λ (p : Holdings). with_hidden (drop (i + 1) pairs) p.hidden) hidden
+      hidden = ap (λ (p : PlanState). with_hidden (drop (i + 1) pairs) p.hidden) hidden
           ∙ sym
           (at_drop_more (λ (rest : List Pair). with_hidden rest plan.hidden) pairs i (0, 0) c.loop-publisher-test.true)
           ∙ invariant.hidden;
-      known = ap (λ (p : Holdings). p.known) hidden ∙ invariant.known;
-      claims = ap (λ (p : Holdings). p.claims) hidden ∙ invariant.claims;
-      attempts = ap (λ (p : Holdings). p.attempts) hidden ∙ invariant.attempts;
+      known = ap (λ (p : PlanState). p.known) hidden ∙ invariant.known;
+      claims = ap (λ (p : PlanState). p.claims) hidden ∙ invariant.claims;
+      attempts = ap (λ (p : PlanState). p.attempts) hidden ∙ invariant.attempts;
       kept =
           rw (hidden, c.drop_parts.ensures.dropped, c.remove.ensures.left)
           (kept_hides pair plan stored entries invariant.kept);
-      room = omega (arith, invariant.room, less, ap (λ (p : Holdings). p.spare) hidden);
+      room = omega (arith, invariant.room, less, ap (λ (p : PlanState). p.spare) hidden);
     }
 
 pub returns-clause-hidden : goal.returns-clause-hidden

@@ -5,7 +5,7 @@ use Rattle.std.specs.Vec.Iter.{into_iter_items}
 use Rattle.std.proofs.lemmas.List.Elements.{All-head, All-tail}
 use Rattle.ndn_data.specs.Data.{data_of}
 use Rattle.repo_plan.specs.Parts.{part_of}
-use Rattle.repo_plan.specs.Plan.{Holdings}
+use Rattle.repo_plan.specs.Plan.{PlanState}
 use Rattle.repo_store.specs.StoreList.{StoreList}
 use Rattle.repo_member.specs.Alone.{as_parts, with_packets}
 use Rattle.repo_member.proofs.PublishLemmas.{gained_more, not_claimed, room_kept, tells_later, told_first, not_told}
@@ -51,7 +51,7 @@ loop-packet-preserved c =
             arith,
             fewer,
             inv.plan_room,
-            ap (λ (p : Holdings). p.spare) c.gain.ensures.plan,
+            ap (λ (p : PlanState). p.spare) c.gain.ensures.plan,
             room_kept (part_of (c.args.publisher, c.args.seq) c.loop-packet.x) c.if-x-eq0.segments c.loop-packet.plan,
           );
       store_room = omega (arith, fewer, inv.store_room, ap (λ (s : StoreList). s.spare) c.gain.ensures.store);

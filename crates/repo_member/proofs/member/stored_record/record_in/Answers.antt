@@ -3,7 +3,7 @@ use Rattle.std.specs.Prelude.{IsSome}
 use Rattle.std.specs.Option.{option_and_then}
 use Rattle.repo_plan.specs.declared.part.Part.{Part}
 use Rattle.repo_plan.specs.Parts.{part_cmp, part_of, pair_of}
-use Rattle.repo_plan.specs.SortedList.{value_of}
+use Rattle.sorted_lists.specs.SortedList.{value_of}
 use Rattle.repo_object.specs.Publication.{Listed}
 use Rattle.repo_object.specs.Verdict.{listing_in}
 use Rattle.repo_member.proofs.member.stored_record.record_in.Goals as goal

@@ -2,7 +2,7 @@ use Rattle.std.proofs.Common.{ℕ, List, take, max, length, sym, ap, ◌∙◌, 
 use Rattle.std.specs.Prelude.{slice_index, slice_set}
 use Rattle.svs_vector.specs.Vectors.{join}
 use Rattle.svs_vector.proofs.JoinLemmas.{join-[]}
-use Rattle.repo_plan.specs.Plan.{Holdings, raises}
+use Rattle.repo_plan.specs.Plan.{PlanState, raises}
 use Rattle.repo_member.proofs.VectorLemmas.{join_next, length-join_take}
 use Rattle.repo_member.proofs.member.syncing.learn.Goals as goal
 
@@ -12,7 +12,7 @@ loop-member-init c =
 
 pub raise-requires : goal.raise-requires
 raise-requires c =
-    let known = ap (λ (p : Holdings). length p.known) c.loop-member.invariant in
+    let known = ap (λ (p : PlanState). length p.known) c.loop-member.invariant in
     let long = length-join_take c.args.vector.now c.args.told.now c.loop-member.member c.requires.width in
     omega (arith, known, long, c.requires.width)
 

@@ -2,8 +2,8 @@ use Rattle.std.proofs.Common.{Bool, ◌&&◌, sym, ap, ◌∙◌}
 use Rattle.std.specs.Prelude.{is_some}
 use Rattle.std.specs.Ordering.{nat_cmp}
 use Rattle.repo_plan.specs.Parts.{Pair}
-use Rattle.repo_plan.specs.Runs.{has_number}
-use Rattle.repo_plan.specs.Plan.{Holdings, shape_of, is_complete}
+use Rattle.sorted_lists.specs.Runs.{has_number}
+use Rattle.repo_plan.specs.Plan.{PlanState, shape_of, is_complete}
 use Rattle.repo_plan.proofs.Views.{complete_is}
 use Rattle.repo_plan.proofs.plan.Plan.complete.Goals as goal
 
@@ -13,8 +13,8 @@ returns-then-is_some c =
     let some =
     c.if-is_some.ensures
     ∙ ap is_some c.segments.ensures
-    ∙ ap (λ (p : Holdings). is_some (shape_of p pair)) (sym c.self.view_is) in
+    ∙ ap (λ (p : PlanState). is_some (shape_of p pair)) (sym c.self.view_is) in
     c.contains.ensures
     ∙ ap (λ (b : Bool). b && has_number nat_cmp c.self.inside.done pair) some
     ∙ complete_is c.self.inside c.self.invariant pair
-    ∙ ap (λ (p : Holdings). is_complete p pair) c.self.view_is
+    ∙ ap (λ (p : PlanState). is_complete p pair) c.self.view_is

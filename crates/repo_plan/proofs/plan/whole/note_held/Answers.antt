@@ -1,8 +1,8 @@
 use Rattle.std.proofs.Common.{arith, ap, ◌∙◌, ◌||◌}
 use Rattle.std.specs.Ordering.{nat_cmp, eq_by_cmp}
 use Rattle.repo_plan.specs.Parts.{pair_cmp}
-use Rattle.repo_plan.specs.Runs.{has_number, number_cmp}
-use Rattle.repo_plan.proofs.Sets.{or_swap}
+use Rattle.sorted_lists.specs.Runs.{has_number, number_cmp}
+use Rattle.sorted_lists.proofs.Sets.{or_swap}
 use Rattle.repo_plan.proofs.Noted.{noted_whole, whole_done, kept_whole, not_whole}
 use Rattle.repo_plan.proofs.plan.whole.note_held.Goals as goal
 

@@ -1,6 +1,6 @@
 use Rattle.std.proofs.Common.{Option, sym, ap, ◌∙◌, subst, arith}
 use Rattle.std.specs.Ordering.{nat_cmp}
-use Rattle.repo_plan.specs.SortedList.{Rises, keys}
+use Rattle.sorted_lists.specs.SortedList.{Rises, keys}
 use Rattle.repo_process.specs.Processes.{Process, block_in}
 use Rattle.repo_process.specs.Arrivals.{is_last}
 use Rattle.repo_process.specs.Insertions.{Insertions}

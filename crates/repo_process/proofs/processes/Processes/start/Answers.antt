@@ -1,5 +1,5 @@
 use Rattle.std.proofs.Common.{ℕ, ◌+◌, List, ap, ◌∙◌, nat_cmp}
-use Rattle.repo_plan.specs.SortedList.{with_value}
+use Rattle.sorted_lists.specs.SortedList.{with_value}
 use Rattle.repo_process.specs.Processes.{Process, starting}
 use Rattle.repo_process.specs.Insertions.{Insertions}
 use Rattle.repo_process.proofs.PlaceLemmas.{pushed}

@@ -1,5 +1,5 @@
 use Rattle.std.proofs.Common.{◌≡◌, List, [], ◌∷◌, ◌++◌, length, subst, sym}
-use Rattle.repo_plan.specs.SortedList.{Rises}
+use Rattle.sorted_lists.specs.SortedList.{Rises}
 use Rattle.repo_store.specs.declared.index.Held.{Held}
 use Rattle.repo_store.specs.Indexes.{key_cmp, key_in, keys_in, IsPlace, GainsOne}
 use Rattle.repo_store.specs.Layers.{all_of, AreApart}

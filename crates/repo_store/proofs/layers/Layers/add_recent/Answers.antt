@@ -1,4 +1,4 @@
-use Rattle.repo_plan.proofs.Sets.{append_right}
+use Rattle.sorted_lists.proofs.Sets.{append_right}
 use Rattle.repo_store.proofs.LayerLemmas.{more_recent, apart_still}
 use Rattle.repo_store.proofs.layers.Layers.add_recent.Goals as goal
 

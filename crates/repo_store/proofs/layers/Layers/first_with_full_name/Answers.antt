@@ -1,6 +1,6 @@
 use Rattle.std.proofs.Common.{ℕ, List, Bool}
 use Rattle.slab.specs.Slab.{Slab}
-use Rattle.repo_plan.proofs.Sets.{append_left, append_right}
+use Rattle.sorted_lists.proofs.Sets.{append_left, append_right}
 use Rattle.repo_store.specs.declared.index.Held.{Held}
 use Rattle.repo_store.specs.declared.index.Order.{Order}
 use Rattle.repo_store.specs.declared.index.Order.TheVariants.{FullNames}

@@ -1,5 +1,5 @@
 use Rattle.std.proofs.Common.{Some, None}
-use Rattle.repo_plan.proofs.Sets.{append_left, append_right}
+use Rattle.sorted_lists.proofs.Sets.{append_left, append_right}
 use Rattle.repo_store.specs.declared.index.Order.TheVariants.{FullNames}
 use Rattle.repo_store.specs.Layers.{all_of}
 use Rattle.repo_store.proofs.LayerLemmas.{fronts_in, slot_in, slot_in_settled, slot_in_recent}

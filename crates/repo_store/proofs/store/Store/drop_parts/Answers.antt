@@ -2,7 +2,7 @@ use Rattle.std.proofs.Common.{◌≡◌, ℕ, List, length, subst, sym, ap, ◌�
 use Rattle.slab.specs.Slab.{get}
 use Rattle.repo_plan.specs.declared.part.Part.{Part}
 use Rattle.repo_plan.specs.Parts.{Pair}
-use Rattle.repo_plan.proofs.Sets.{In}
+use Rattle.sorted_lists.proofs.Sets.{In}
 use Rattle.repo_store.specs.declared.index.Held.{Held}
 use Rattle.repo_store.specs.declared.index.Order.TheVariants.{Names, FullNames}
 use Rattle.repo_store.specs.StoreList.{StoreList, StoreIsSound, packets_in, packets_outside}

@@ -1,5 +1,5 @@
 use Rattle.std.proofs.Common.{ℕ, List, Option, Some, option_map, sym, ap, ◌∙◌}
-use Rattle.repo_plan.specs.SortedList.{value_of, in_order}
+use Rattle.sorted_lists.specs.SortedList.{value_of, in_order}
 use Rattle.repo_plan.specs.Parts.{part_cmp}
 use Rattle.repo_store.specs.StoreList.{StoreList}
 use Rattle.repo_store.specs.declared.store.Kept.{Kept}

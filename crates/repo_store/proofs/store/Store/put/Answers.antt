@@ -1,5 +1,5 @@
 use Rattle.std.proofs.Common.{◌≡◌, Bool, true, not, cond, is_some, sym, ap, ◌∙◌}
-use Rattle.repo_plan.specs.SortedList.{keys, contains, with_value, in_order}
+use Rattle.sorted_lists.specs.SortedList.{keys, contains, with_value, in_order}
 use Rattle.repo_plan.specs.Parts.{part_cmp}
 use Rattle.repo_store.specs.StoreList.{StoreList}
 use Rattle.repo_store.proofs.SlotMaps.{part_there}

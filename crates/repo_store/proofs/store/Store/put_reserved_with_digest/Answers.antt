@@ -2,11 +2,11 @@ use Rattle.std.proofs.Common.{◌≡◌, ℕ, ◌-◌, ◌<◌, true, List, not,
 use Rattle.sha2.specs.Sha256.{sha256}
 use Rattle.slab.specs.Slab.{get}
 use Rattle.repo_plan.specs.declared.part.Part.{Part}
-use Rattle.repo_plan.specs.SortedList.{keys, contains, with_value, value_of, in_order}
+use Rattle.sorted_lists.specs.SortedList.{keys, contains, with_value, value_of, in_order}
 use Rattle.repo_plan.specs.Parts.{part_cmp}
 use Rattle.repo_plan.proofs.Orders.{exact_parts}
-use Rattle.repo_plan.proofs.Entries.{order_rises}
-use Rattle.repo_plan.proofs.Sets.{In}
+use Rattle.sorted_lists.proofs.Entries.{order_rises}
+use Rattle.sorted_lists.proofs.Sets.{In}
 use Rattle.repo_store.specs.declared.index.Held.{Held}
 use Rattle.repo_store.specs.declared.store.Kept.{Kept}
 use Rattle.repo_store.specs.declared.index.Order.TheVariants.{Names, FullNames}

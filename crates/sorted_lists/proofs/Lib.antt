@@ -1,0 +1,10 @@
+pub mod Orders
+pub mod Search
+pub mod Sets
+pub mod MapChanges
+pub mod Blocks
+pub mod Entries
+pub mod RunOrder
+pub mod RunLists
+pub mod Numbers
+pub mod SameSets

@@ -1,0 +1,4 @@
+pub mod Range
+pub mod SortedList
+pub mod SortedMap
+pub mod Runs

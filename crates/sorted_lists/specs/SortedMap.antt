@@ -1,0 +1,88 @@
+-- Maps in blocks, in order of their keys.
+use Rattle.std.specs.Prelude.{ℕ, zero, suc, ◌≡◌, ◌+◌, ◌-◌, ◌*◌, ◌^◌, ◌<◌, ◌≤◌, Bool, true}
+use Rattle.std.specs.Prelude.{List, [], ◌∷◌, ◌++◌, length, Vec}
+use Rattle.std.specs.Prelude.{vec_len, vec_capacity, is_some}
+use Rattle.std.specs.List.{All}
+use Rattle.std.specs.Ordering.{is_le}
+use Rattle.std.specs.declared.cmp.Ordering.{Ordering}
+use Rattle.std.specs.declared.cmp.Ordering.TheVariants.{Less}
+use Rattle.sorted_lists.specs.declared.sorted_map.SortedMap.{SortedMap}
+use Rattle.sorted_lists.specs.SortedList.{keys, IsBefore, Rises, last_up_to}
+
+-- a block is split at so many entries
+abbrev pub full : ℕ
+full = 64
+
+-- so many of them stay
+abbrev pub half : ℕ
+half = 32
+
+module _ {K V A : Type 0} where
+  -- what blocks have, one behind the other
+  abbrev pub joined : List (Vec (K × V) A) → List (K × V)
+  joined [] = []
+  joined (b ∷ bs) = b.items ++ joined bs
+
+  -- how much is in them above half a block each
+  abbrev pub over : List (Vec (K × V) A) → ℕ
+  over [] = 0
+  over (b ∷ bs) = (length b.items - half) + over bs
+
+  -- for how many more entries there is room in these blocks with so many empty ones to split them: none where there is
+  -- no block
+  abbrev pub room : List (Vec (K × V) A) → ℕ → ℕ
+  room [] n = 0
+  room (b ∷ bs) n = half * n - over (b ∷ bs)
+
+  -- an empty block
+  abbrev pub IsBlank : Vec (K × V) A → Type 0
+  IsBlank b = (b.items ≡ []) × (full ≤ vec_capacity b)
+
+  -- one that has room for an entry
+  abbrev pub IsOpen : Vec (K × V) A → Type 0
+  IsOpen b = (length b.items < full) × (full ≤ vec_capacity b)
+
+  -- such ones that have entries
+  abbrev pub AreFilled : List (Vec (K × V) A) → Type 0
+  AreFilled [] = Unit {0}
+  AreFilled (b ∷ bs) = (0 < length b.items) × IsOpen b × AreFilled bs
+
+  -- a map's blocks: only the first may have none
+  abbrev pub AreBlocks : List (Vec (K × V) A) → Type 0
+  AreBlocks [] = Unit {0}
+  AreBlocks (b ∷ bs) = IsOpen b × AreFilled bs
+
+module _ {K V : Type 0} (R : K → K → Ordering) where
+  -- whether the first key, if there is one, is not above this one
+  abbrev pub begins_up_to : K → List (K × V) → Bool
+  begins_up_to k [] = true
+  begins_up_to k (e ∷ es) = is_le (R e.0 k)
+
+  -- these keys are before this one
+  abbrev pub AreBefore : List (K × V) → K → Type 0
+  AreBefore [] k = Unit {0}
+  AreBefore (e ∷ es) k = (R e.0 k ≡ Less) × AreBefore es k
+
+  -- the key belongs into the block at this place: all keys in front are before it, all behind it after it, and some key
+  -- from the block on is not above it where the block isn't the first
+  abbrev pub IsPlace : {A : Type 0} → K → List (Vec (K × V) A) → ℕ → Type 0
+  IsPlace k [] i = Unit {0}
+  IsPlace k (b ∷ bs) zero = IsBefore R k (keys (joined bs))
+  IsPlace k (b ∷ bs) (suc i) = AreBefore b.items k × (is_some (last_up_to R k (joined bs)) ≡ true) × IsPlace k bs i
+
+module _ {K V : Type 0} where
+  abbrev pub entries : SortedMap K V → List (K × V)
+  entries m = joined m.blocks.items
+
+  -- for how many more entries there is room
+  abbrev pub spare : SortedMap K V → ℕ
+  spare m = room m.blocks.items (vec_len m.spare)
+
+  -- what holds of every map: the keys are in order, each once; a block can gain an entry, and be split in place; the
+  -- entries can be counted
+  pub record IsMap (R : K → K → Ordering) (m : SortedMap K V) : Type 0 where
+    pub rises : Rises R (keys (entries m))
+    pub sizes : AreBlocks m.blocks.items
+    pub spare : All IsBlank m.spare.items
+    pub room : vec_len m.blocks + vec_len m.spare ≤ vec_capacity m.blocks
+    pub few : vec_len m.blocks + vec_len m.spare < 2 ^ 57

@@ -1,0 +1,11 @@
+//! Maps and sets in order of their keys, with room that is made beforehand, so that later changes take no memory. A
+//! contract sees each as a list in order.
+#![tactic(auto)]
+
+mod block;
+mod runs;
+mod sorted_map;
+pub mod table;
+
+pub use runs::Runs;
+pub use sorted_map::SortedMap;

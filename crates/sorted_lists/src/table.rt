@@ -1,0 +1,59 @@
+//! Hash maps with room in reserve, seen as their entries in order of the keys.
+ghost use Rattle.std.specs.Prelude.{◌≡◌, ◌+◌, ◌<◌, ◌≤◌, not, length, OnOk};
+ghost use Rattle.std.specs.List.{filter};
+ghost use Rattle.std.specs.HashMap.{spare};
+ghost use Rattle.std.specs.Ordering.{eq_by_cmp};
+ghost use Rattle.sorted_lists.specs.SortedList.{IsExact, in_order, value_of, with_value};
+
+use std::alloc::AllocError;
+use std::collections::HashMap;
+use std::hash::Hash;
+
+/// Makes room for so many more entries.
+pub fn reserve<K: Ord + Hash, V>(map: &mut HashMap<K, V>, n: usize) -> Result<(), AllocError>
+    requires { IsExact K.cmp }
+    ensures entries { in_order K.cmp map.new.entries ≡ in_order K.cmp map.old.entries }
+    ensures room { OnOk result (n ≤ spare map.new) }
+    ensures kept { spare map.old ≤ spare map.new }
+{
+    map.reserve(n)
+}
+
+/// How many entries there are.
+pub fn len<K: Ord + Hash, V>(map: &HashMap<K, V>) -> usize
+    requires { IsExact K.cmp }
+    ensures { result ≡ length (in_order K.cmp map.now.entries) }
+{
+    map.len()
+}
+
+/// What the map has under the key.
+pub fn value_of<K: Ord + Hash, V: Copy>(map: &HashMap<K, V>, key: K) -> Option<V>
+where
+    K: Drop,
+    requires { IsExact K.cmp }
+    ensures { result ≡ value_of K.cmp (in_order K.cmp map.now.entries) key }
+{
+    map.get(&key).copied()
+}
+
+/// The map, which has room for one more, gains the value under the key, in place of what it has there.
+pub fn set_value<K: Ord + Hash + Drop, V: Drop>(map: &mut HashMap<K, V>, key: K, value: V)
+    requires exact { IsExact K.cmp }
+    requires room { 0 < spare map.old }
+    ensures entries { in_order K.cmp map.new.entries ≡ with_value K.cmp key value (in_order K.cmp map.old.entries) }
+    ensures room { spare map.old ≤ spare map.new + 1 }
+{
+    let replaced: Result<_, _> = map.insert(key, value);
+    replaced.unwrap();
+}
+
+/// The map has nothing under the key.
+pub fn remove<K: Ord + Hash + Drop, V: Drop>(map: &mut HashMap<K, V>, key: K)
+    requires { IsExact K.cmp }
+    ensures entries { in_order K.cmp map.new.entries
+        ≡ filter (λ e. not (eq_by_cmp K.cmp key e.0)) (in_order K.cmp map.old.entries) }
+    ensures room { spare map.old ≤ spare map.new }
+{
+    map.remove(&key);
+}
