@@ -16,9 +16,9 @@ use Rattle.std.specs.declared.cmp.Ordering.{Ordering}
 use Rattle.std.specs.declared.cmp.Ordering.TheVariants.{Less, Equal, Greater}
 use Rattle.sorted_lists.specs.SortedList.{by_order, keys, IsBefore, Rises, with_value, without_key, last_up_to}
 use Rattle.sorted_lists.specs.SortedList.{first_from}
-use Rattle.sorted_lists.specs.SortedMap.{joined, over, room, half, full, IsOpen, AreFilled, AreBlocks, AreBefore}
-use Rattle.sorted_lists.specs.SortedMap.{IsPlace}
-use Rattle.sorted_lists.specs.SortedMap.{begins_up_to}
+use Rattle.sorted_lists.specs.BlockMap.{joined, over, room, half, full, IsOpen, AreFilled, AreBlocks, AreBefore}
+use Rattle.sorted_lists.specs.BlockMap.{IsPlace}
+use Rattle.sorted_lists.specs.BlockMap.{begins_up_to}
 use Rattle.sorted_lists.proofs.Orders.{less_back, greater_back}
 use Rattle.sorted_lists.proofs.Sets.{before_more}
 

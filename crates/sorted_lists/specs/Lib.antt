@@ -1,4 +1,5 @@
 pub mod Range
 pub mod SortedList
-pub mod SortedMap
+pub mod MapState
+pub mod BlockMap
 pub mod Runs

@@ -5,7 +5,7 @@ use Rattle.std.specs.Ordering.{nat_cmp, ordering_then, is_le, eq_by_cmp}
 use Rattle.std.specs.declared.cmp.Ordering.{Ordering}
 use Rattle.sorted_lists.specs.declared.runs.Runs.{Runs}
 use Rattle.sorted_lists.specs.SortedList.{IsExact, keys, IsBefore}
-use Rattle.sorted_lists.specs.SortedMap.{IsMap, entries, spare}
+use Rattle.sorted_lists.specs.BlockMap.{IsMap, entries, spare}
 
 -- a number of something
 abbrev pub Number : Type 0 → Type 0

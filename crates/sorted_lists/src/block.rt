@@ -1,7 +1,7 @@
 // Maps in one vector each, in order of their keys.
 ghost use Rattle.std.specs.Prelude.{◌≡◌, ◌<◌, ◌≤◌, ◌++◌, [], length, vec_capacity};
 ghost use Rattle.sorted_lists.specs.SortedList.{keys, Rises, with_value, without_key, last_up_to, first_from};
-ghost use Rattle.sorted_lists.specs.SortedMap.{begins_up_to};
+ghost use Rattle.sorted_lists.specs.BlockMap.{begins_up_to};
 
 // The last entry whose key is not above this one.
 pub(crate) fn last_up_to<K: Ord + Copy, V: Copy>(block: &[(K, V)], key: K) -> Option<(K, V)>

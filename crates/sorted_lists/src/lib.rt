@@ -3,6 +3,7 @@
 #![tactic(auto)]
 
 mod block;
+mod block_map;
 mod runs;
 mod sorted_map;
 pub mod table;

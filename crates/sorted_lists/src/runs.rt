@@ -2,17 +2,17 @@
 ghost use Rattle.std.specs.Prelude.{ℕ, ◌≡◌, ◌+◌, ◌<◌, ◌≤◌, ◌||◌, ◌&&◌, [], true, false, not, length, OnOk};
 ghost use Rattle.std.specs.Ordering.{eq_by_cmp};
 ghost use Rattle.sorted_lists.specs.SortedList.{IsExact, without_key, last_up_to, first_from};
-ghost use Rattle.sorted_lists.specs.SortedMap.{IsMap};
+ghost use Rattle.sorted_lists.specs.BlockMap.{IsMap};
 ghost use Rattle.sorted_lists.specs.Runs.{IsRuns, Number, has_number, runs_of, room_of, number_cmp, next, start_at};
 ghost use Rattle.sorted_lists.specs.Runs.{end_at};
 
-use crate::sorted_map::SortedMap;
+use crate::block_map::BlockMap;
 use std::alloc::{AllocError, Global};
 
 // By a run's first number its last.
 #[derive(Debug, Drop)]
 pub struct Runs<P> {
-    map: SortedMap<(P, u16), (P, u16)>,
+    map: BlockMap<(P, u16), (P, u16)>,
 }
 
 impl<P: Ord + Copy> Runs<P> {
@@ -23,7 +23,7 @@ impl<P: Ord + Copy> Runs<P> {
         ensures set { IsRuns P.cmp result }
     {
         Runs {
-            map: SortedMap::new(alloc),
+            map: BlockMap::new(alloc),
         }
     }
 

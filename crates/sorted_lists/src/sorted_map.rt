@@ -1,152 +1,98 @@
-// Maps in blocks, in order of their keys, with room that is made beforehand.
-ghost use Rattle.std.specs.Prelude.{◌≡◌, ◌+◌, ◌<◌, ◌≤◌, [], length, vec_len, OnOk};
-ghost use Rattle.sorted_lists.specs.SortedList.{with_value, without_key, last_up_to, first_from};
-ghost use Rattle.sorted_lists.specs.SortedMap.{IsMap, IsPlace, entries, spare};
+ghost use Rattle.std.specs.Prelude.{◌≡◌, ◌+◌, ◌<◌, ◌≤◌, [], length, OnOk};
+ghost use Rattle.sorted_lists.specs.SortedList.{keys, Rises, with_value, without_key, last_up_to, first_from};
 
-use crate::block;
+use crate::block_map::BlockMap;
 use std::alloc::{AllocError, Global};
+use std::marker::Model;
 
-// A block that has come to so many entries is split in two.
-const FULL: usize = 64;
-
-const HALF: usize = 32;
-
-// There are fewer blocks than this, so that their entries can be counted.
-const TOO_MANY: usize = 1 << 57;
-
+/// A map in order of its keys, with room for entries that is made beforehand.
+///
+/// A contract sees its entries as a list, and for how many more there is room. A call that takes room uses up at most
+/// one place of it, and none gives room back. A look-up or a change takes a search among the blocks and one in a block
+/// of at most 64 entries, and a change moves what stands behind its place in the block; only when a block is split or
+/// taken out do the blocks behind it move too.
 #[derive(Debug, Drop)]
-pub struct SortedMap<K, V> {
-    // The entries, block behind block. Only the first block may have none.
-    blocks: Vec<Vec<(K, V)>>,
-    // Empty blocks, each for the back of one that is split.
-    spare: Vec<Vec<(K, V)>>,
+pub struct SortedMap<K: Ord + Copy, V: Copy> {
+    map: BlockMap<K, V>,
+}
+
+impl<K: Ord + Copy, V: Copy> Model for SortedMap<K, V> {
+    ghost use Rattle.sorted_lists.specs.MapState.{MapState};
+
+    ghost Value = { MapState K V };
+
+    ghost use Rattle.sorted_lists.specs.BlockMap.{entries, spare, IsMap};
+
+    ghost view = { λ m. record { entries = entries m.map; spare = spare m.map } };
+
+    ghost invariant = { λ m. IsMap K.cmp m.map };
 }
 
 impl<K: Ord + Copy, V: Copy> SortedMap<K, V> {
+    /// The empty map, which has no room yet.
     pub fn new(alloc: Global) -> SortedMap<K, V>
-        ensures entries { entries result ≡ [] }
-        ensures map { IsMap K.cmp result }
+        ensures entries { result.entries ≡ [] }
+        ensures spare { result.spare ≡ 0 }
     {
         SortedMap {
-            blocks: Vec::new(alloc),
-            spare: Vec::new(alloc),
+            map: BlockMap::new(alloc),
         }
     }
 
-    // Makes room for so many more entries. Each block may have to be split at the next one, and then at every `HALF`
-    // further ones.
+    /// Makes room for `n` more entries.
     pub fn reserve(&mut self, n: usize) -> Result<(), AllocError>
-        requires { IsMap K.cmp self.old }
-        ensures entries { entries self.new ≡ entries self.old }
-        ensures map { IsMap K.cmp self.new }
-        ensures grows { spare self.old ≤ spare self.new }
-        ensures room { OnOk result (n ≤ spare self.new) }
+        ensures entries { self.new.entries ≡ self.old.entries }
+        ensures grows { self.old.spare ≤ self.new.spare }
+        ensures room { OnOk result (n ≤ self.new.spare) }
     {
-        let wanted = self.blocks.len() + n / HALF + 2;
-        self.add_spare(wanted)?;
-        if self.blocks.is_empty() {
-            let first = self.spare.pop().unwrap();
-            self.blocks.push(first).unwrap();
-        }
-        Ok(())
+        self.map.reserve(n)
     }
 
-    // Sees that there are so many empty blocks, and room to place them.
-    fn add_spare(&mut self, wanted: usize) -> Result<(), AllocError>
-        requires { IsMap K.cmp self.old }
-        ensures blocks { self.new.blocks.items ≡ self.old.blocks.items }
-        ensures map { IsMap K.cmp self.new }
-        ensures grows { vec_len self.old.spare ≤ vec_len self.new.spare }
-        ensures room { OnOk result (wanted ≤ vec_len self.new.spare) }
-    {
-        if wanted >= TOO_MANY - self.blocks.len() {
-            return Err(AllocError);
-        }
-        self.blocks.reserve(wanted)?;
-        while self.spare.len() < wanted {
-            let block = Vec::with_capacity(*self.spare.allocator(), FULL)?;
-            self.spare.push(block)?;
-        }
-        Ok(())
-    }
-
-    // How many entries there are.
+    /// How many entries there are. Counts them block by block.
     pub fn len(&self) -> usize
-        requires { IsMap K.cmp self.now }
-        ensures { result ≡ length (entries self.now) }
+        ensures len { result ≡ length self.now.entries }
+        ensures rises { Rises K.cmp (keys self.now.entries) }
     {
-        let mut n = 0;
-        for block in &self.blocks {
-            n += block.len();
-        }
-        n
+        self.map.len()
     }
 
-    // The last entry whose key is not above this one.
+    /// The last entry whose key is not above this one.
     pub fn last_up_to(&self, key: K) -> Option<(K, V)>
-        requires { IsMap K.cmp self.now }
-        ensures { result ≡ last_up_to K.cmp key (entries self.now) }
+        ensures found { result ≡ last_up_to K.cmp key self.now.entries }
+        ensures rises { Rises K.cmp (keys self.now.entries) }
     {
-        let block = self.blocks.get(self.place_of(key))?;
-        block::last_up_to(block, key)
+        self.map.last_up_to(key)
     }
 
-    // The first entry whose key is not below this one.
+    /// The first entry whose key is not below this one.
     pub fn first_from(&self, key: K) -> Option<(K, V)>
-        requires { IsMap K.cmp self.now }
-        ensures { result ≡ first_from K.cmp key (entries self.now) }
+        ensures found { result ≡ first_from K.cmp key self.now.entries }
+        ensures rises { Rises K.cmp (keys self.now.entries) }
     {
-        let place = self.place_of(key);
-        let block = self.blocks.get(place)?;
-        match block::first_from(block, key) {
-            Some(entry) => Some(entry),
-            None => self.blocks.get(place + 1)?.first().copied(),
-        }
+        self.map.first_from(key)
     }
 
-    // The map, which has room for one more, gains the value under the key, in place of what it has there.
+    /// The map gains the value under the key, in place of what it has there.
     pub fn insert(&mut self, key: K, value: V)
-        requires map { IsMap K.cmp self.old }
-        requires room { 0 < spare self.old }
-        ensures entries { entries self.new ≡ with_value K.cmp key value (entries self.old) }
-        ensures map { IsMap K.cmp self.new }
-        ensures room { spare self.old ≤ spare self.new + 1 }
+        requires { 0 < self.old.spare }
+        ensures entries { self.new.entries ≡ with_value K.cmp key value self.old.entries }
+        ensures spare { self.old.spare ≤ self.new.spare + 1 }
     {
-        let place = self.place_of(key);
-        block::insert(&mut self.blocks[place], key, value);
-        if self.blocks[place].len() < FULL {
-            return;
-        }
-        let mut back = self.spare.pop().unwrap();
-        block::split(&mut self.blocks[place], HALF, &mut back);
-        self.blocks.insert(place + 1, back).unwrap();
+        self.map.insert(key, value);
     }
 
-    // The map has nothing under the key.
+    /// The map has nothing under the key from now on.
     pub fn remove(&mut self, key: K)
-        requires { IsMap K.cmp self.old }
-        ensures entries { entries self.new ≡ without_key K.cmp key (entries self.old) }
-        ensures map { IsMap K.cmp self.new }
-        ensures room { spare self.old ≤ spare self.new }
+        ensures entries { self.new.entries ≡ without_key K.cmp key self.old.entries }
+        ensures spare { self.old.spare ≤ self.new.spare }
     {
-        let place = self.place_of(key);
-        if place >= self.blocks.len() {
-            return;
-        }
-        block::remove(&mut self.blocks[place], key);
-        if place > 0 && self.blocks[place].is_empty() {
-            self.blocks.remove(place);
-        }
+        self.map.remove(key);
     }
 
-    // Which block the key belongs into.
-    fn place_of(&self, key: K) -> usize
-        requires { IsMap K.cmp self.now }
-        ensures place { IsPlace K.cmp key self.now.blocks.items result }
-        ensures there { 0 < length self.now.blocks.items → result < length self.now.blocks.items }
+    /// The keys rise, so each stands once. Costs nothing, and is called for its clause.
+    pub fn is_in_order(&self)
+        ensures { Rises K.cmp (keys self.now.entries) }
     {
-        self.blocks
-            .partition_point(|block| block::begins_up_to(block, key))
-            .saturating_sub(1)
+        let _ = &self.map;
     }
 }

@@ -2,9 +2,9 @@ use Rattle.std.proofs.Common.{◌∙◌, ap, sym, subst, ◌≡◌, ◌≤◌, �
 use Rattle.std.specs.List.{slice_get}
 use Rattle.std.proofs.Math.Numerals.{add-one}
 use Rattle.sorted_lists.specs.SortedList.{keys, Rises, first_from}
-use Rattle.sorted_lists.specs.SortedMap.{joined}
+use Rattle.sorted_lists.specs.BlockMap.{joined}
 use Rattle.sorted_lists.proofs.Blocks.{block_rises, none_joined, first_place, first_end, first_next}
-use Rattle.sorted_lists.proofs.sorted_map.SortedMap.first_from.Goals as goal
+use Rattle.sorted_lists.proofs.block_map.BlockMap.first_from.Goals as goal
 
 pub returns-in_err-block : goal.returns-in_err-block
 returns-in_err-block g c =

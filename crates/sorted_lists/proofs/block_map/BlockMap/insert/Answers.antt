@@ -6,12 +6,12 @@ use Rattle.std.proofs.lemmas.List.Edits.{length-insert}
 use Rattle.std.proofs.lemmas.List.Elements.{All-take}
 use Rattle.std.proofs.Math.Numerals.{add-one}
 use Rattle.sorted_lists.specs.SortedList.{keys, Rises, with_value}
-use Rattle.sorted_lists.specs.SortedMap.{joined, room, AreBlocks, IsBlank, IsOpen, entries}
+use Rattle.sorted_lists.specs.BlockMap.{joined, room, AreBlocks, IsBlank, IsOpen, entries}
 use Rattle.sorted_lists.proofs.MapChanges.{rises_with}
 use Rattle.sorted_lists.proofs.Blocks.{has_block, block_rises, block_at, with_place, with_some, with_more}
 use Rattle.sorted_lists.proofs.Blocks.{blocks_set, blocks_insert, joined_split, room_is, over-set, over-insert}
 use Rattle.sorted_lists.proofs.Blocks.{all_last, set_again}
-use Rattle.sorted_lists.proofs.sorted_map.SortedMap.insert.Goals as goal
+use Rattle.sorted_lists.proofs.block_map.BlockMap.insert.Goals as goal
 
 pub index_mut-requires : goal.index_mut-requires
 index_mut-requires g c =

@@ -6,7 +6,7 @@ use Rattle.std.specs.List.{All}
 use Rattle.std.specs.Ordering.{is_le}
 use Rattle.std.specs.declared.cmp.Ordering.{Ordering}
 use Rattle.std.specs.declared.cmp.Ordering.TheVariants.{Less}
-use Rattle.sorted_lists.specs.declared.sorted_map.SortedMap.{SortedMap}
+use Rattle.sorted_lists.specs.declared.block_map.BlockMap.{BlockMap}
 use Rattle.sorted_lists.specs.SortedList.{keys, IsBefore, Rises, last_up_to}
 
 -- a block is split at so many entries
@@ -71,16 +71,16 @@ module _ {K V : Type 0} (R : K → K → Ordering) where
   IsPlace k (b ∷ bs) (suc i) = AreBefore b.items k × (is_some (last_up_to R k (joined bs)) ≡ true) × IsPlace k bs i
 
 module _ {K V : Type 0} where
-  abbrev pub entries : SortedMap K V → List (K × V)
+  abbrev pub entries : BlockMap K V → List (K × V)
   entries m = joined m.blocks.items
 
   -- for how many more entries there is room
-  abbrev pub spare : SortedMap K V → ℕ
+  abbrev pub spare : BlockMap K V → ℕ
   spare m = room m.blocks.items (vec_len m.spare)
 
   -- what holds of every map: the keys are in order, each once; a block can gain an entry, and be split in place; the
   -- entries can be counted
-  pub record IsMap (R : K → K → Ordering) (m : SortedMap K V) : Type 0 where
+  pub record IsMap (R : K → K → Ordering) (m : BlockMap K V) : Type 0 where
     pub rises : Rises R (keys (entries m))
     pub sizes : AreBlocks m.blocks.items
     pub spare : All IsBlank m.spare.items

@@ -4,14 +4,14 @@ use Rattle.std.proofs.Common.{get_or-set_same, length-set}
 use Rattle.std.specs.List.{remove}
 use Rattle.std.proofs.lemmas.List.Edits.{length-remove}
 use Rattle.sorted_lists.specs.SortedList.{keys, Rises, without_key}
-use Rattle.sorted_lists.specs.SortedMap.{joined, room, AreBlocks, IsOpen, entries}
+use Rattle.sorted_lists.specs.BlockMap.{joined, room, AreBlocks, IsOpen, entries}
 use Rattle.sorted_lists.proofs.MapChanges.{rises_without}
 use Rattle.sorted_lists.proofs.Blocks.{none_joined, block_rises, block_at, without_place, without_fewer, none_of}
 use Rattle.sorted_lists.proofs.Blocks.{positive}
 use Rattle.sorted_lists.proofs.Blocks.{blocks_set, blocks_set_remove, joined_remove, room_is, over-set, over_remove}
-use Rattle.sorted_lists.proofs.sorted_map.SortedMap.remove.Goals as goal
-use Rattle.sorted_lists.proofs.sorted_map.SortedMap.remove.Goals.{else-place-gt0-via-then-place-gt0+else-is_empty}
-use Rattle.sorted_lists.proofs.sorted_map.SortedMap.remove.Goals.{else-place-gt0-via-else-place-gt0}
+use Rattle.sorted_lists.proofs.block_map.BlockMap.remove.Goals as goal
+use Rattle.sorted_lists.proofs.block_map.BlockMap.remove.Goals.{else-place-gt0-via-then-place-gt0+else-is_empty}
+use Rattle.sorted_lists.proofs.block_map.BlockMap.remove.Goals.{else-place-gt0-via-else-place-gt0}
 
 pub returns-then-place-len-clause-entries : goal.returns-then-place-len-clause-entries
 returns-then-place-len-clause-entries g c =

@@ -1,8 +1,8 @@
 use Rattle.std.proofs.Common.{◌∙◌, ap, sym, subst}
 use Rattle.sorted_lists.specs.SortedList.{keys, Rises, last_up_to}
-use Rattle.sorted_lists.specs.SortedMap.{joined}
+use Rattle.sorted_lists.specs.BlockMap.{joined}
 use Rattle.sorted_lists.proofs.Blocks.{block_rises, last_place, none_joined}
-use Rattle.sorted_lists.proofs.sorted_map.SortedMap.last_up_to.Goals as goal
+use Rattle.sorted_lists.proofs.block_map.BlockMap.last_up_to.Goals as goal
 
 pub returns-in_err-block : goal.returns-in_err-block
 returns-in_err-block g c =

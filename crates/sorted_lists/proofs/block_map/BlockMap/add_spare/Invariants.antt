@@ -1,6 +1,6 @@
 use Rattle.std.proofs.Common.{◌≡◌, ◌≤◌, ◌<◌, ◌+◌, ◌-◌, ◌^◌, vec_len, vec_capacity}
-use Rattle.sorted_lists.specs.SortedMap.{IsMap}
-use Rattle.sorted_lists.proofs.sorted_map.SortedMap.add_spare.Given as goal
+use Rattle.sorted_lists.specs.BlockMap.{IsMap}
+use Rattle.sorted_lists.proofs.block_map.BlockMap.add_spare.Given as goal
 
 abbrev pub invariant-loop-self : goal.invariant-loop-self
 invariant-loop-self g l = record {

@@ -2,9 +2,9 @@ use Rattle.std.proofs.Common.{arith, ap, ◌∙◌}
 use Rattle.std.proofs.lemmas.List.{take_all}
 use Rattle.std.proofs.Math.Numerals.{add-one}
 use Rattle.std.proofs.Common.{length, take, ◌≡◌, ◌+◌, suc}
-use Rattle.sorted_lists.specs.SortedMap.{joined}
+use Rattle.sorted_lists.specs.BlockMap.{joined}
 use Rattle.sorted_lists.proofs.Blocks.{counted_more, counted_within, counted_bound}
-use Rattle.sorted_lists.proofs.sorted_map.SortedMap.len.Goals as goal
+use Rattle.sorted_lists.proofs.block_map.BlockMap.len.Goals as goal
 
 pub overflow_add-n : goal.overflow_add-n
 overflow_add-n g c =

@@ -1,8 +1,8 @@
 use Rattle.std.proofs.Common.{rules}
 use Rattle.std.proofs.lemmas.List.Sorted.{IsPartitionPoint-from_clause}
-use Rattle.sorted_lists.specs.SortedMap.{begins_up_to}
+use Rattle.sorted_lists.specs.BlockMap.{begins_up_to}
 use Rattle.sorted_lists.proofs.Blocks.{parted, placed, place_within}
-use Rattle.sorted_lists.proofs.sorted_map.SortedMap.place_of.Goals as goal
+use Rattle.sorted_lists.proofs.block_map.BlockMap.place_of.Goals as goal
 
 pub returns-clause-place : goal.returns-clause-place
 returns-clause-place g c =

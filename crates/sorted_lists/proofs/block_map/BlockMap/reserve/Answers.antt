@@ -1,6 +1,6 @@
 use Rattle.std.proofs.Common.{arith, length, ap}
 use Rattle.sorted_lists.proofs.Blocks.{positive, room_is, over_bound}
-use Rattle.sorted_lists.proofs.sorted_map.SortedMap.reserve.Goals as goal
+use Rattle.sorted_lists.proofs.block_map.BlockMap.reserve.Goals as goal
 
 pub returns-else-is_empty-clause-room : goal.returns-else-is_empty-clause-room
 returns-else-is_empty-clause-room g c =

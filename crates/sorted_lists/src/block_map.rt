@@ -1,0 +1,153 @@
+// Maps in blocks, in order of their keys, with room that is made beforehand.
+ghost use Rattle.std.specs.Prelude.{◌≡◌, ◌+◌, ◌<◌, ◌≤◌, [], length, vec_len, OnOk};
+ghost use Rattle.sorted_lists.specs.SortedList.{with_value, without_key, last_up_to, first_from};
+ghost use Rattle.sorted_lists.specs.BlockMap.{IsMap, IsPlace, entries, spare};
+
+use crate::block;
+use std::alloc::{AllocError, Global};
+
+// A block that has come to so many entries is split in two.
+const FULL: usize = 64;
+
+const HALF: usize = 32;
+
+// There are fewer blocks than this, so that their entries can be counted.
+const TOO_MANY: usize = 1 << 57;
+
+#[derive(Debug, Drop)]
+pub(crate) struct BlockMap<K, V> {
+    // The entries, block behind block. Only the first block may have none.
+    blocks: Vec<Vec<(K, V)>>,
+    // Empty blocks, each for the back of one that is split.
+    spare: Vec<Vec<(K, V)>>,
+}
+
+impl<K: Ord + Copy, V: Copy> BlockMap<K, V> {
+    pub fn new(alloc: Global) -> BlockMap<K, V>
+        ensures entries { entries result ≡ [] }
+        ensures spare { spare result ≡ 0 }
+        ensures map { IsMap K.cmp result }
+    {
+        BlockMap {
+            blocks: Vec::new(alloc),
+            spare: Vec::new(alloc),
+        }
+    }
+
+    // Makes room for so many more entries. Each block may have to be split at the next one, and then at every `HALF`
+    // further ones.
+    pub fn reserve(&mut self, n: usize) -> Result<(), AllocError>
+        requires { IsMap K.cmp self.old }
+        ensures entries { entries self.new ≡ entries self.old }
+        ensures map { IsMap K.cmp self.new }
+        ensures grows { spare self.old ≤ spare self.new }
+        ensures room { OnOk result (n ≤ spare self.new) }
+    {
+        let wanted = self.blocks.len() + n / HALF + 2;
+        self.add_spare(wanted)?;
+        if self.blocks.is_empty() {
+            let first = self.spare.pop().unwrap();
+            self.blocks.push(first).unwrap();
+        }
+        Ok(())
+    }
+
+    // Sees that there are so many empty blocks, and room to place them.
+    fn add_spare(&mut self, wanted: usize) -> Result<(), AllocError>
+        requires { IsMap K.cmp self.old }
+        ensures blocks { self.new.blocks.items ≡ self.old.blocks.items }
+        ensures map { IsMap K.cmp self.new }
+        ensures grows { vec_len self.old.spare ≤ vec_len self.new.spare }
+        ensures room { OnOk result (wanted ≤ vec_len self.new.spare) }
+    {
+        if wanted >= TOO_MANY - self.blocks.len() {
+            return Err(AllocError);
+        }
+        self.blocks.reserve(wanted)?;
+        while self.spare.len() < wanted {
+            let block = Vec::with_capacity(*self.spare.allocator(), FULL)?;
+            self.spare.push(block)?;
+        }
+        Ok(())
+    }
+
+    // How many entries there are.
+    pub fn len(&self) -> usize
+        requires { IsMap K.cmp self.now }
+        ensures { result ≡ length (entries self.now) }
+    {
+        let mut n = 0;
+        for block in &self.blocks {
+            n += block.len();
+        }
+        n
+    }
+
+    // The last entry whose key is not above this one.
+    pub fn last_up_to(&self, key: K) -> Option<(K, V)>
+        requires { IsMap K.cmp self.now }
+        ensures { result ≡ last_up_to K.cmp key (entries self.now) }
+    {
+        let block = self.blocks.get(self.place_of(key))?;
+        block::last_up_to(block, key)
+    }
+
+    // The first entry whose key is not below this one.
+    pub fn first_from(&self, key: K) -> Option<(K, V)>
+        requires { IsMap K.cmp self.now }
+        ensures { result ≡ first_from K.cmp key (entries self.now) }
+    {
+        let place = self.place_of(key);
+        let block = self.blocks.get(place)?;
+        match block::first_from(block, key) {
+            Some(entry) => Some(entry),
+            None => self.blocks.get(place + 1)?.first().copied(),
+        }
+    }
+
+    // The map, which has room for one more, gains the value under the key, in place of what it has there.
+    pub fn insert(&mut self, key: K, value: V)
+        requires map { IsMap K.cmp self.old }
+        requires room { 0 < spare self.old }
+        ensures entries { entries self.new ≡ with_value K.cmp key value (entries self.old) }
+        ensures map { IsMap K.cmp self.new }
+        ensures room { spare self.old ≤ spare self.new + 1 }
+    {
+        let place = self.place_of(key);
+        block::insert(&mut self.blocks[place], key, value);
+        if self.blocks[place].len() < FULL {
+            return;
+        }
+        let mut back = self.spare.pop().unwrap();
+        block::split(&mut self.blocks[place], HALF, &mut back);
+        self.blocks.insert(place + 1, back).unwrap();
+    }
+
+    // The map has nothing under the key.
+    pub fn remove(&mut self, key: K)
+        requires { IsMap K.cmp self.old }
+        ensures entries { entries self.new ≡ without_key K.cmp key (entries self.old) }
+        ensures map { IsMap K.cmp self.new }
+        ensures room { spare self.old ≤ spare self.new }
+    {
+        let place = self.place_of(key);
+        if place >= self.blocks.len() {
+            return;
+        }
+        block::remove(&mut self.blocks[place], key);
+        if place > 0 && self.blocks[place].is_empty() {
+            self.blocks.remove(place);
+        }
+    }
+
+    // Which block the key belongs into.
+    fn place_of(&self, key: K) -> usize
+        requires { IsMap K.cmp self.now }
+        ensures place { IsPlace K.cmp key self.now.blocks.items result }
+        ensures there { 0 < length self.now.blocks.items → result < length self.now.blocks.items }
+    {
+        self.blocks
+            .partition_point(|block| block::begins_up_to(block, key))
+            .saturating_sub(1)
+    }
+}
