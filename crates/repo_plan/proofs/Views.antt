@@ -8,14 +8,13 @@ use Rattle.std.specs.List.{filter, list_all}
 use Rattle.std.specs.Ordering.{nat_cmp, eq_by_cmp}
 use Rattle.repo_plan.specs.declared.part.Part.{Part}
 use Rattle.repo_plan.specs.declared.plan.Plan.TheInside.{Inside}
-use Rattle.sorted_lists.specs.declared.runs.Runs.{Runs}
 use Rattle.sorted_lists.specs.SortedList.{keys, Rises, contains, insert_key, value_of, in_order}
 use Rattle.sorted_lists.specs.Range.{numbers_from}
 use Rattle.repo_plan.specs.Parts.{Pair, Shape, pair_cmp, part_cmp, part_of, pair_of, parts_of}
 use Rattle.repo_plan.specs.Parts.{parts_told}
 use Rattle.repo_plan.specs.Plan.{holds, hides, shape_of, is_done, is_complete, is_in, with_shape}
 use Rattle.repo_plan.specs.Sound.{PlanIsSound, CanBeHeld}
-use Rattle.sorted_lists.specs.Runs.{Run, Number, IsRuns, runs_of, has, has_number, number_cmp}
+use Rattle.sorted_lists.specs.Runs.{Run, RunsState, Number, IsRuns, has, has_number, number_cmp}
 use Rattle.repo_plan.specs.PlanFields.{holdings, is_noted, are_noted, held_parts, hidden_pairs, IsRoomy, IsPlan}
 use Rattle.repo_plan.proofs.Orders.{exact_pairs, exact_parts}
 use Rattle.sorted_lists.proofs.Sets.{In, eq_same, eq_itself, rises_insert, rises_filter, rises_keys_filter}
@@ -38,20 +37,20 @@ and_true false b h = refl
 module _ (p : Inside) (i : IsPlan p) where
   pub holds_is : (t : Part)
       → holds (holdings p) t
-      ≡ (is_noted (runs_of p.done) (runs_of p.held) (number_of t) && tells (shape_of (holdings p) (pair_of t)) t)
-  holds_is t = held_has (runs_of p.done) (runs_of p.held) (shapes_of p) i.sound.in_order.shapes t
+      ≡ (is_noted p.done.runs p.held.runs (number_of t) && tells (shape_of (holdings p) (pair_of t)) t)
+  holds_is t = held_has p.done.runs p.held.runs (shapes_of p) i.sound.in_order.shapes t
 
   -- of a part that is told of
   pub held_told : (t : Part) (n : Shape) → shape_of (holdings p) (pair_of t) ≡ Some n → t.part ≤ n
       → holds (holdings p) t ≡ (has_number nat_cmp p.done (pair_of t) || has_number pair_cmp p.held (number_of t))
   held_told t n e l =
       holds_is t
-      ∙ ap (λ (o : Option Shape). is_noted (runs_of p.done) (runs_of p.held) (number_of t) && tells o t) e
-      ∙ and_true (is_noted (runs_of p.done) (runs_of p.held) (number_of t)) (nat_le t.part n) (le-leb t.part n l)
+      ∙ ap (λ (o : Option Shape). is_noted p.done.runs p.held.runs (number_of t) && tells o t) e
+      ∙ and_true (is_noted p.done.runs p.held.runs (number_of t)) (nat_le t.part n) (le-leb t.part n l)
 
   pub hides_is : (q : Pair)
       → hides (holdings p) q ≡ (not (is_some (shape_of (holdings p) q)) && has_number nat_cmp p.done q)
-  hides_is q = hidden_has (runs_of p.done) (shapes_of p) i.done.runs i.done.one q
+  hides_is q = hidden_has p.done.runs (shapes_of p) i.done.runs i.done.one q
 
   pub complete_is : (q : Pair)
       → (is_some (shape_of (holdings p) q) && has_number nat_cmp p.done q) ≡ is_complete (holdings p) q
@@ -73,7 +72,7 @@ module _ (p : Inside) (i : IsPlan p) where
 
   -- what is noted of a publication that isn't hidden is told of
   noted_told : (t : Part) → hides (holdings p) (pair_of t) ≡ false
-      → is_noted (runs_of p.done) (runs_of p.held) (number_of t) ≡ true
+      → is_noted p.done.runs p.held.runs (number_of t) ≡ true
       → is_some (shape_of (holdings p) (pair_of t)) ≡ true
   noted_told t open_yet h =
       elim (or_cases (has_number nat_cmp p.done (pair_of t)) (has_number pair_cmp p.held (number_of t)) h) [
@@ -108,11 +107,11 @@ module _ (p : Inside) (i : IsPlan p) where
           go None h = absurd (true≢false (sym h))
           go (Some n) h = refl
 
-    module _ (done : Runs ℕ) (held : Runs Pair) (n : ℕ)
+    module _ (done : RunsState ℕ) (held : RunsState Pair) (n : ℕ)
         (shape : shape_of (with_part t segments (holdings p)) (pair_of t) ≡ Some n)
         (noted : (q : Number Pair) → (q.0 ≡ pair_of t → q.1 ≤ n)
-        → is_noted (runs_of done) (runs_of held) q
-        ≡ (eq_by_cmp (number_cmp pair_cmp) q (number_of t) || is_noted (runs_of p.done) (runs_of p.held) q)) where
+        → is_noted done.runs held.runs q
+        ≡ (eq_by_cmp (number_cmp pair_cmp) q (number_of t) || is_noted p.done.runs p.held.runs q)) where
       counts_it : t.part ≤ n
       counts_it =
           let asked =
@@ -135,21 +134,21 @@ module _ (p : Inside) (i : IsPlan p) where
           ∙ ap (shape_of (with_part t segments (holdings p))) s ∙ shape)
 
       is_held : (u : Part)
-          → (is_noted (runs_of done) (runs_of held) (number_of u)
+          → (is_noted done.runs held.runs (number_of u)
           && tells (shape_of (with_part t segments (holdings p)) (pair_of u)) u)
           ≡ (eq_by_cmp part_cmp u t
-          || (is_noted (runs_of p.done) (runs_of p.held) (number_of u) && tells (shape_of (holdings p) (pair_of u)) u))
+          || (is_noted p.done.runs p.held.runs (number_of u) && tells (shape_of (holdings p) (pair_of u)) u))
       is_held u = go (eq_by_cmp pair_cmp (pair_of u) (pair_of t)) refl where
         here : pair_of u ≡ pair_of t → (b : Bool) → nat_le u.part n ≡ b
-            → (is_noted (runs_of done) (runs_of held) (number_of u) && b)
+            → (is_noted done.runs held.runs (number_of u) && b)
             ≡ (eq_by_cmp part_cmp u t
-            || (is_noted (runs_of p.done) (runs_of p.held) (number_of u)
+            || (is_noted p.done.runs p.held.runs (number_of u)
             && tells (shape_of (holdings p) (pair_of u)) u))
         here s true l =
-            and_one (is_noted (runs_of done) (runs_of held) (number_of u))
+            and_one (is_noted done.runs held.runs (number_of u))
             ∙ noted (number_of u) (λ _. leb-true u.part n l)
             ∙ (λ j.
-            sym (same_part u t) j || known (is_noted (runs_of p.done) (runs_of p.held) (number_of u)) refl j) where
+            sym (same_part u t) j || known (is_noted p.done.runs p.held.runs (number_of u)) refl j) where
               and_one : (b : Bool) → (b && true) ≡ b
               and_one true = refl
               and_one false = refl
@@ -158,18 +157,18 @@ module _ (p : Inside) (i : IsPlan p) where
               counts None e h = absurd (true≢false (sym h))
               counts (Some m) e h = ap (nat_le u.part) (told_before u s m e) ∙ l
 
-              known : (b : Bool) → is_noted (runs_of p.done) (runs_of p.held) (number_of u) ≡ b
+              known : (b : Bool) → is_noted p.done.runs p.held.runs (number_of u) ≡ b
                   → b ≡ (b && tells (shape_of (holdings p) (pair_of u)) u)
               known true h =
                   sym (counts (shape_of (holdings p) (pair_of u)) refl
                   (noted_told u (ap (hides (holdings p)) s ∙ can.not_hidden) h))
               known false h = refl
         here s false l =
-            and_none (is_noted (runs_of done) (runs_of held) (number_of u))
+            and_none (is_noted done.runs held.runs (number_of u))
             ∙ sym ((λ j. apart j
-            || (is_noted (runs_of p.done) (runs_of p.held) (number_of u)
+            || (is_noted p.done.runs p.held.runs (number_of u)
             && past (shape_of (holdings p) (pair_of u)) refl j))
-            ∙ and_none (is_noted (runs_of p.done) (runs_of p.held) (number_of u))) where
+            ∙ and_none (is_noted p.done.runs p.held.runs (number_of u))) where
               and_none : (b : Bool) → (b && false) ≡ false
               and_none true = refl
               and_none false = refl
@@ -186,14 +185,14 @@ module _ (p : Inside) (i : IsPlan p) where
               past (Some m) e = ap (nat_le u.part) (told_before u s m e) ∙ l
 
         go : (b : Bool) → eq_by_cmp pair_cmp (pair_of u) (pair_of t) ≡ b
-            → (is_noted (runs_of done) (runs_of held) (number_of u)
+            → (is_noted done.runs held.runs (number_of u)
             && tells (shape_of (with_part t segments (holdings p)) (pair_of u)) u)
             ≡ (eq_by_cmp part_cmp u t
-            || (is_noted (runs_of p.done) (runs_of p.held) (number_of u)
+            || (is_noted p.done.runs p.held.runs (number_of u)
             && tells (shape_of (holdings p) (pair_of u)) u))
         go true e =
             let s : pair_of u ≡ pair_of t = eq_same exact_pairs (pair_of u) (pair_of t) e in
-            ap (λ (o : Option Shape). is_noted (runs_of done) (runs_of held) (number_of u) && tells o u)
+            ap (λ (o : Option Shape). is_noted done.runs held.runs (number_of u) && tells o u)
             (ap (shape_of (with_part t segments (holdings p))) s ∙ shape)
             ∙ here s (nat_le u.part n) refl
         go false e =
@@ -207,20 +206,20 @@ module _ (p : Inside) (i : IsPlan p) where
             noted (number_of u)
             (λ s. absurd (true≢false
             (sym (ap (λ (q : Pair). eq_by_cmp pair_cmp q (pair_of t)) s ∙ eq_itself exact_pairs (pair_of t)) ∙ e))) in
-            (λ j. (same ∙ ap (λ (b : Bool). b || is_noted (runs_of p.done) (runs_of p.held) (number_of u))
+            (λ j. (same ∙ ap (λ (b : Bool). b || is_noted p.done.runs p.held.runs (number_of u))
             (sym (same_part u t) ∙ apart)) j
             && tells (other_shape (holdings p) (pair_of t) (pair_of u) segments e j) u)
             ∙ sym (ap (λ (b : Bool). b
-            || (is_noted (runs_of p.done) (runs_of p.held) (number_of u)
+            || (is_noted p.done.runs p.held.runs (number_of u)
             && tells (shape_of (holdings p) (pair_of u)) u)) apart)
 
-      pub held_more : held_parts (runs_of done) (runs_of held) (with_shape (pair_of t) segments (shapes_of p))
+      pub held_more : held_parts done.runs held.runs (with_shape (pair_of t) segments (shapes_of p))
           ≡ insert_key part_cmp t (holdings p).held
       held_more =
           same_sets exact_parts _ (insert_key part_cmp t (holdings p).held)
-          (held_rise (runs_of done) (runs_of held) (with_shape (pair_of t) segments (shapes_of p))
+          (held_rise done.runs held.runs (with_shape (pair_of t) segments (shapes_of p))
           sound_more.in_order.shapes) (rises_insert exact_parts.total t (holdings p).held i.sound.in_order.held) (λ u.
-          held_has (runs_of done) (runs_of held) (with_shape (pair_of t) segments (shapes_of p))
+          held_has done.runs held.runs (with_shape (pair_of t) segments (shapes_of p))
           sound_more.in_order.shapes u
           ∙ is_held u
           ∙ ap (λ (b : Bool). eq_by_cmp part_cmp u t || b) (sym (holds_is u))
@@ -232,31 +231,31 @@ module _ (p : Inside) (i : IsPlan p) where
       all_over f g [] h = refl
       all_over f g (x ∷ xs) h = λ j. h x (inl refl) j && all_over f g xs (λ y k. h y (inr k)) j
 
-      pub complete_more : are_noted (runs_of done) (runs_of held) (pair_of t) n
+      pub complete_more : are_noted done.runs held.runs (pair_of t) n
           ≡ is_complete (with_part t segments (holdings p)) (pair_of t)
       complete_more =
-          all_over (λ x. is_noted (runs_of done) (runs_of held) (pair_of t, x))
+          all_over (λ x. is_noted done.runs held.runs (pair_of t, x))
           (holds (with_part t segments (holdings p))) (numbers_from 0 (n + 1)) (λ x k.
           let within : x ≤ n = omega (arith, (from_numbers 0 (n + 1) x k).1) in
           let u = part_of (pair_of t) x in
           sym ((λ j. contains part_cmp (sym held_more j) u)
-          ∙ held_has (runs_of done) (runs_of held) (with_shape (pair_of t) segments (shapes_of p))
+          ∙ held_has done.runs held.runs (with_shape (pair_of t) segments (shapes_of p))
           sound_more.in_order.shapes u
-          ∙ ap (λ (o : Option Shape). is_noted (runs_of done) (runs_of held) (pair_of t, x) && tells o u) shape
-          ∙ and_true (is_noted (runs_of done) (runs_of held) (pair_of t, x)) (nat_le x n) (le-leb x n within)))
+          ∙ ap (λ (o : Option Shape). is_noted done.runs held.runs (pair_of t, x) && tells o u) shape
+          ∙ and_true (is_noted done.runs held.runs (pair_of t, x)) (nat_le x n) (le-leb x n within)))
           ∙ ap (λ (o : Option Shape).
           list_all (holds (with_part t segments (holdings p))) (parts_of (pair_of t) (parts_told o))) (sym shape)
 
       -- no other publication is hidden
-      pub hidden_as_before : IsRuns nat_cmp done → (whole : Bool)
+      pub hidden_as_before : IsRuns nat_cmp done.runs → (whole : Bool)
           → ((q : Pair)
           → has_number nat_cmp done q ≡ ((eq_by_cmp pair_cmp q (pair_of t) && whole) || has_number nat_cmp p.done q))
-          → hidden_pairs (runs_of done) (with_shape (pair_of t) segments (shapes_of p)) ≡ (holdings p).hidden
+          → hidden_pairs done.runs (with_shape (pair_of t) segments (shapes_of p)) ≡ (holdings p).hidden
       hidden_as_before r whole d =
           same_sets exact_pairs _ (holdings p).hidden
-          (hidden_rise (runs_of done) (with_shape (pair_of t) segments (shapes_of p)) r.runs r.one)
+          (hidden_rise done.runs (with_shape (pair_of t) segments (shapes_of p)) r.runs r.one)
           i.sound.in_order.hidden (λ q.
-          hidden_has (runs_of done) (with_shape (pair_of t) segments (shapes_of p)) r.runs r.one q
+          hidden_has done.runs (with_shape (pair_of t) segments (shapes_of p)) r.runs r.one q
           ∙ go q (eq_by_cmp pair_cmp q (pair_of t)) refl) where
             go : (q : Pair) (b : Bool) → eq_by_cmp pair_cmp q (pair_of t) ≡ b
                 → (not (is_some (shape_of (with_part t segments (holdings p)) q)) && has_number nat_cmp done q)
@@ -272,7 +271,7 @@ module _ (p : Inside) (i : IsPlan p) where
                 ∙ sym (hides_is q)
 
     -- what stands in the runs is held
-    pub runs_more : (held : Runs Pair)
+    pub runs_more : (held : RunsState Pair)
         → ((q : Number Pair) → has_number pair_cmp held q ≡ true
         → (eq_by_cmp (number_cmp pair_cmp) q (number_of t) || has_number pair_cmp p.held q) ≡ true)
         → (q : Number Pair) → has_number pair_cmp held q ≡ true
@@ -287,7 +286,7 @@ module _ (p : Inside) (i : IsPlan p) where
 
   -- ---- a publication is hidden
 
-  module _ (pair : Pair) (done : Runs ℕ) (held : Runs Pair)
+  module _ (pair : Pair) (done : RunsState ℕ) (held : RunsState Pair)
       (d : (q : Pair) → has_number nat_cmp done q ≡ (eq_by_cmp pair_cmp q pair || has_number nat_cmp p.done q))
       (l : (q : Number Pair)
       → has_number pair_cmp held q ≡ (not (eq_by_cmp pair_cmp pair q.0) && has_number pair_cmp p.held q)) where
@@ -309,14 +308,14 @@ module _ (p : Inside) (i : IsPlan p) where
         true≢false (sym (ap (eq_by_cmp pair_cmp pair) (eq_same exact_pairs q pair h) ∙ eq_itself exact_pairs pair) ∙ e))
 
     pub held_hidden :
-        held_parts (runs_of done) (runs_of held) (filter (λ e. not (eq_by_cmp pair_cmp pair e.0)) (shapes_of p))
+        held_parts done.runs held.runs (filter (λ e. not (eq_by_cmp pair_cmp pair e.0)) (shapes_of p))
         ≡ filter (λ t. not (is_in pair t)) (holdings p).held
     held_hidden =
         same_sets exact_parts _ (filter (λ t. not (is_in pair t)) (holdings p).held)
-        (held_rise (runs_of done) (runs_of held) _ rest_rises)
+        (held_rise done.runs held.runs _ rest_rises)
         (rises_filter exact_parts.total (λ t. not (is_in pair t)) (holdings p).held i.sound.in_order.held) (λ u.
-        held_has (runs_of done) (runs_of held) _ rest_rises u
-        ∙ ap (λ (o : Option Shape). is_noted (runs_of done) (runs_of held) (number_of u) && tells o u)
+        held_has done.runs held.runs _ rest_rises u
+        ∙ ap (λ (o : Option Shape). is_noted done.runs held.runs (number_of u) && tells o u)
         (rest_has (pair_of u))
         ∙ go u (eq_by_cmp pair_cmp pair (pair_of u)) refl
         ∙ sym (contains-filter exact_parts (λ t. not (is_in pair t)) (holdings p).held u)) where
@@ -325,13 +324,13 @@ module _ (p : Inside) (i : IsPlan p) where
           and_none false = refl
 
           go : (u : Part) (b : Bool) → eq_by_cmp pair_cmp pair (pair_of u) ≡ b
-              → (is_noted (runs_of done) (runs_of held) (number_of u)
+              → (is_noted done.runs held.runs (number_of u)
               && tells (cond (not (eq_by_cmp pair_cmp pair (pair_of u))) (shape_of (holdings p) (pair_of u)) None) u)
               ≡ (not (eq_by_cmp pair_cmp pair (pair_of u)) && holds (holdings p) u)
           go u true e =
-              (λ j. is_noted (runs_of done) (runs_of held) (number_of u)
+              (λ j. is_noted done.runs held.runs (number_of u)
               && tells (cond (not (e j)) (shape_of (holdings p) (pair_of u)) None) u)
-              ∙ and_none (is_noted (runs_of done) (runs_of held) (number_of u))
+              ∙ and_none (is_noted done.runs held.runs (number_of u))
               ∙ sym (ap (λ (b : Bool). not b && holds (holdings p) u) e)
           go u false e =
               (λ j. ((d (pair_of u)
@@ -340,14 +339,14 @@ module _ (p : Inside) (i : IsPlan p) where
               && tells (cond (not (e j)) (shape_of (holdings p) (pair_of u)) None) u)
               ∙ sym (ap (λ (b : Bool). not b && holds (holdings p) u) e ∙ holds_is u)
 
-    pub hidden_more : IsRuns nat_cmp done
-        → hidden_pairs (runs_of done) (filter (λ e. not (eq_by_cmp pair_cmp pair e.0)) (shapes_of p))
+    pub hidden_more : IsRuns nat_cmp done.runs
+        → hidden_pairs done.runs (filter (λ e. not (eq_by_cmp pair_cmp pair e.0)) (shapes_of p))
         ≡ insert_key pair_cmp pair (holdings p).hidden
     hidden_more r =
         same_sets exact_pairs _ (insert_key pair_cmp pair (holdings p).hidden)
-        (hidden_rise (runs_of done) _ r.runs r.one)
+        (hidden_rise done.runs _ r.runs r.one)
         (rises_insert exact_pairs.total pair (holdings p).hidden i.sound.in_order.hidden) (λ q.
-        hidden_has (runs_of done) _ r.runs r.one q
+        hidden_has done.runs _ r.runs r.one q
         ∙ ap (λ (o : Option Shape). not (is_some o) && has_number nat_cmp done q) (rest_has q)
         ∙ go q (eq_by_cmp pair_cmp pair q) refl
         ∙ sym (contains-insert_key exact_pairs pair (holdings p).hidden q)) where
@@ -373,19 +372,17 @@ module _ (p : Inside) (i : IsPlan p) where
         ∙ (λ j. b.0 j && i.all_held q b.1 j)
 
 -- fields that say the same, with more room
-pub roomier : (p q : Inside) → IsPlan p → q.known ≡ p.known → runs_of q.done ≡ runs_of p.done
-    → runs_of q.held ≡ runs_of p.held → shapes_of q ≡ shapes_of p → q.claims ≡ p.claims
-    → in_order part_cmp q.attempts.entries ≡ in_order part_cmp p.attempts.entries → IsRuns nat_cmp q.done
-    → IsRuns pair_cmp q.held → IsRoomy q → IsPlan q
-roomier p q i known done held shapes claims attempts a b room =
+pub roomier : (p q : Inside) → IsPlan p → q.known ≡ p.known → q.done.runs ≡ p.done.runs
+    → q.held.runs ≡ p.held.runs → shapes_of q ≡ shapes_of p → q.claims ≡ p.claims
+    → in_order part_cmp q.attempts.entries ≡ in_order part_cmp p.attempts.entries → IsRoomy q → IsPlan q
+roomier p q i known done held shapes claims attempts room =
     let parts : (holdings q).held ≡ (holdings p).held = λ j. held_parts (done j) (held j) (shapes j) in
     let hidden : (holdings q).hidden ≡ (holdings p).hidden = λ j. hidden_pairs (done j) (shapes j) in
     record {
       sound =
           sound_as (holdings p) (holdings q) (ap (λ v. v.items) (sym known)) (sym parts) (sym shapes) (sym claims)
           (sym hidden) (sym attempts) i.sound;
-      done = a;
-      held = b;
+      done = subst (IsRuns nat_cmp) (sym done) i.done;
       room = room;
       all_done = λ pair.
           ap (λ (zs : List (Run ℕ)). has pair_cmp zs pair) done ∙ i.all_done pair

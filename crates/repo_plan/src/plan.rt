@@ -10,9 +10,8 @@ mod wanted;
 mod whole;
 
 use crate::part::Part;
-use sorted_lists::Runs;
-use sorted_lists::table;
 pub use claims::{FetcherBusy, FetcherIdle};
+use sorted_lists::{Runs, table};
 use std::alloc::{AllocError, Global};
 use std::collections::HashMap;
 use std::marker::Model;

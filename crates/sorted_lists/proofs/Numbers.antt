@@ -1,5 +1,5 @@
 -- Numbers of things follow one another.
-use Rattle.std.proofs.Common.{◌≡◌, ℕ, ◌+◌, ◌<◌, ◌≤◌, Bool, true, false, cond, List, [], ◌∷◌, Option, Some}
+use Rattle.std.proofs.Common.{◌≡◌, ℕ, ◌+◌, ◌<◌, ◌≤◌, Bool, true, false, cond, ◌||◌, List, [], ◌∷◌, Option, Some}
 use Rattle.std.proofs.Common.{None, length, refl, sym, ap, ◌∙◌, subst, arith, inl, inr}
 use Rattle.std.proofs.lemmas.Bool.{true≢false, false_from_ne_true}
 use Rattle.std.specs.Cmp.{IsTotalOrder}
@@ -11,13 +11,14 @@ use Rattle.std.proofs.lemmas.Bool.Decides.{nat_tests}
 use Rattle.sorted_lists.specs.SortedList.{IsExact, by_order, keys, Rises, value_of, with_value, without_key}
 use Rattle.sorted_lists.specs.SortedList.{last_up_to}
 use Rattle.sorted_lists.specs.SortedList.{first_from}
-use Rattle.sorted_lists.specs.Runs.{Number, Run, next, number_cmp, AreRuns, AreOfOne, has, start_at, end_at}
+use Rattle.sorted_lists.specs.Runs.{Number, Run, next, number_cmp, AreRuns, AreOfOne, IsRuns, has, start_at, end_at}
 use Rattle.sorted_lists.proofs.Sets.{In, eq_same, eq_itself}
 use Rattle.sorted_lists.proofs.RunOrder.{IsLast, last_is, IsFirst, first_is, none_from_on, has_in, IsIn, has_from}
 use Rattle.sorted_lists.proofs.RunOrder.{le_trans, lt_not_le, both_ways, in_without, without_in, behind_head}
 use Rattle.sorted_lists.proofs.MapChanges.{length-without, rises_without}
 use Rattle.sorted_lists.proofs.Orders.{Exact, less_back, nat_same, nat_itself, then_second, nat_less}
-use Rattle.sorted_lists.proofs.RunLists.{Follows, runs_rise, are_runs, not_empty, apart, gap_behind}
+use Rattle.sorted_lists.proofs.RunLists.{Follows, runs_rise, are_runs, not_empty, apart, gap_behind, Start, End}
+use Rattle.sorted_lists.proofs.RunLists.{start_found, end_found, longer_runs, longer_has}
 
 nat_step : (m n : ℕ) → nat_cmp m n ≡ Less → is_le (nat_cmp (m + 1) n) ≡ true
 nat_step m n h = grind (arith, nat_tests)
@@ -105,6 +106,39 @@ module _ {P : Type 0} {R : P → P → Ordering} (o : IsTotalOrder R) (exact : I
         sym (in_one es b y (first_is exact_numbers q es (runs_rise follow es a) y h).is_in)
         ∙ sym (ap (λ (w : Number P). w.0) (eq_same exact_numbers (next q) y.0 p))
     go false p = refl
+
+  -- ---- one more number
+
+  module _ (es : List (Run P)) (set : IsRuns R es) (q : Number P) (lacks : has (number_cmp R) es q ≡ false) where
+    -- where its run begins and ends
+    abbrev pub start_of : Number P
+    start_of = start_at (number_cmp R) next (last_up_to (number_cmp R) q es) q
+
+    abbrev pub end_of : Number P
+    end_of = end_at (number_cmp R) next (first_from (number_cmp R) q es) q
+
+    -- the runs with it
+    abbrev pub runs_with : List (Run P)
+    runs_with = with_value (number_cmp R) start_of end_of (without_key (number_cmp R) (next q) es)
+
+    begins : Start follow es q start_of
+    begins = start_found follow es set.runs q lacks (last_up_to (number_cmp R) q es) refl
+
+    ends : End follow es q end_of
+    ends = end_found follow es set.runs q lacks (first_from (number_cmp R) q es) refl
+
+    pub set_with : IsRuns R runs_with
+    set_with = record {
+      runs = longer_runs follow es set.runs q lacks start_of end_of begins ends;
+      one =
+          one_with start_of end_of (without_key (number_cmp R) (next q) es)
+          (start_one es set.runs set.one q (last_up_to (number_cmp R) q es) refl
+          ∙ sym (end_one es set.runs set.one q (first_from (number_cmp R) q es) refl))
+          (one_without (next q) es set.one);
+    }
+
+    pub has_with : (x : Number P) → has (number_cmp R) runs_with x ≡ (eq_by_cmp (number_cmp R) x q || has (number_cmp R) es x)
+    has_with x = longer_has follow es set.runs q lacks start_of end_of begins ends x
 
   -- ---- where a run ends
 

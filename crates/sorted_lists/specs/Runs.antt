@@ -3,9 +3,7 @@ use Rattle.std.specs.Prelude.{ℕ, ◌≡◌, ◌+◌, Bool, true, ◌&&◌, Opt
 use Rattle.std.specs.List.{list_any}
 use Rattle.std.specs.Ordering.{nat_cmp, ordering_then, is_le, eq_by_cmp}
 use Rattle.std.specs.declared.cmp.Ordering.{Ordering}
-use Rattle.sorted_lists.specs.declared.runs.Runs.{Runs}
-use Rattle.sorted_lists.specs.SortedList.{IsExact, keys, IsBefore}
-use Rattle.sorted_lists.specs.BlockMap.{IsMap, entries, spare}
+use Rattle.sorted_lists.specs.SortedList.{keys, IsBefore}
 
 -- a number of something
 abbrev pub Number : Type 0 → Type 0
@@ -54,21 +52,16 @@ module _ {P : Type 0} (R : P → P → Ordering) where
   AreOfOne [] = Unit {0}
   AreOfOne (run ∷ runs) = (run.0.0 ≡ run.1.0) × AreOfOne runs
 
-  -- what holds of every set
-  pub record IsRuns (s : Runs P) : Type 0 where
-    pub exact : IsExact R
-    pub map : IsMap number_cmp s.map
-    pub runs : AreRuns number_cmp next (entries s.map)
-    pub one : AreOfOne (entries s.map)
+  -- what holds of the runs of every set
+  pub record IsRuns (es : List (Run P)) : Type 0 where
+    pub runs : AreRuns number_cmp next es
+    pub one : AreOfOne es
 
--- the runs of a set
-abbrev pub runs_of : {P : Type 0} → Runs P → List (Run P)
-runs_of s = entries s.map
+-- what contracts see of a set
+pub record RunsState (P : Type 0) : Type 0 where
+  pub runs : List (Run P)  -- in order
+  pub spare : ℕ  -- for how many more runs there is room
 
 -- whether a set has the number
-abbrev pub has_number : {P : Type 0} → (P → P → Ordering) → Runs P → Number P → Bool
-has_number R s q = has (number_cmp R) (runs_of s) q
-
--- for how many more runs there is room
-abbrev pub room_of : {P : Type 0} → Runs P → ℕ
-room_of s = spare s.map
+abbrev pub has_number : {P : Type 0} → (P → P → Ordering) → RunsState P → Number P → Bool
+has_number R s q = has (number_cmp R) s.runs q

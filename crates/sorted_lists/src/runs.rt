@@ -1,54 +1,61 @@
-// Sets of numbers, of several things each, as runs that neither overlap nor touch.
 ghost use Rattle.std.specs.Prelude.{ℕ, ◌≡◌, ◌+◌, ◌<◌, ◌≤◌, ◌||◌, ◌&&◌, [], true, false, not, length, OnOk};
 ghost use Rattle.std.specs.Ordering.{eq_by_cmp};
 ghost use Rattle.sorted_lists.specs.SortedList.{IsExact, without_key, last_up_to, first_from};
-ghost use Rattle.sorted_lists.specs.BlockMap.{IsMap};
-ghost use Rattle.sorted_lists.specs.Runs.{IsRuns, Number, has_number, runs_of, room_of, number_cmp, next, start_at};
-ghost use Rattle.sorted_lists.specs.Runs.{end_at};
+ghost use Rattle.sorted_lists.specs.Runs.{IsRuns, Number, has, has_number, number_cmp, next, start_at, end_at};
 
-use crate::block_map::BlockMap;
+use crate::sorted_map::SortedMap;
 use std::alloc::{AllocError, Global};
+use std::marker::Model;
 
-// By a run's first number its last.
+/// A set of numbers, of several things each, with room that is made beforehand.
+///
+/// It is kept as runs of numbers that follow one another, which neither overlap nor touch, so that a set of many
+/// numbers with few gaps is small. A contract sees the runs, and for how many more there is room.
 #[derive(Debug, Drop)]
-pub struct Runs<P> {
-    map: BlockMap<(P, u16), (P, u16)>,
+pub struct Runs<P: Ord + Copy> {
+    // By a run's first number its last.
+    map: SortedMap<(P, u16), (P, u16)>,
+}
+
+impl<P: Ord + Copy> Model for Runs<P> {
+    ghost use Rattle.sorted_lists.specs.SortedList.{IsExact};
+    ghost use Rattle.sorted_lists.specs.Runs.{RunsState, IsRuns};
+
+    ghost Value = { RunsState P };
+
+    ghost view = { λ s. record { runs = s.map.entries; spare = s.map.spare } };
+
+    ghost invariant = { λ s. IsExact P.cmp × IsRuns P.cmp s.map.entries };
 }
 
 impl<P: Ord + Copy> Runs<P> {
-    // The empty set.
+    /// The empty set, which has no room yet.
     pub fn new(alloc: Global) -> Runs<P>
         requires { IsExact P.cmp }
-        ensures runs { runs_of result ≡ [] }
-        ensures set { IsRuns P.cmp result }
+        ensures runs { result.runs ≡ [] }
+        ensures spare { result.spare ≡ 0 }
     {
         Runs {
-            map: BlockMap::new(alloc),
+            map: SortedMap::new(alloc),
         }
     }
 
-    // Whether the set has the number.
+    /// Whether the set has the number. One look-up.
     pub fn contains(&self, number: (P, u16)) -> bool
-        requires { IsRuns P.cmp self.now }
         ensures { result ≡ has_number P.cmp self.now number }
     {
-        match self.map.last_up_to(number) {
-            Some((_, last)) => number.cmp(&last).is_le(),
-            None => false,
-        }
+        holds(&self.map, number)
     }
 
-    // How many runs there are.
+    /// How many runs there are.
     pub fn count(&self) -> usize
-        requires { IsRuns P.cmp self.now }
-        ensures { result ≡ length (runs_of self.now) }
+        ensures { result ≡ length self.now.runs }
     {
         self.map.len()
     }
 
-    // The least number from this one on that the set does not have.
+    /// The least number of this thing, from this one on, that the set does not have. One look-up.
     pub fn gap_from(&self, number: (P, u16)) -> u32
-        requires { IsRuns P.cmp self.now }
         ensures from { number.1 ≤ result }
         ensures gap { has_number P.cmp self.now (number.0, result) ≡ false }
         ensures none_before { (n : ℕ) → number.1 ≤ n → n < result → has_number P.cmp self.now (number.0, n) ≡ true }
@@ -59,41 +66,37 @@ impl<P: Ord + Copy> Runs<P> {
         }
     }
 
-    // Makes room for so many more runs.
+    /// Makes room for `n` more runs.
     pub fn reserve(&mut self, n: usize) -> Result<(), AllocError>
-        requires { IsRuns P.cmp self.old }
-        ensures set { IsRuns P.cmp self.new }
-        ensures runs { runs_of self.new ≡ runs_of self.old }
-        ensures grows { room_of self.old ≤ room_of self.new }
-        ensures room { OnOk result (n ≤ room_of self.new) }
+        ensures runs { self.new.runs ≡ self.old.runs }
+        ensures grows { self.old.spare ≤ self.new.spare }
+        ensures room { OnOk result (n ≤ self.new.spare) }
     {
         self.map.reserve(n)
     }
 
-    // The set has the number from now on. There is room for one more run.
+    /// The set has the number from now on.
     pub fn insert(&mut self, number: (P, u16))
-        requires set { IsRuns P.cmp self.old }
-        requires room { 0 < room_of self.old }
-        ensures set { IsRuns P.cmp self.new }
+        requires { 0 < self.old.spare }
+        ensures set { IsRuns P.cmp self.new.runs }
         ensures numbers { (q : Number P) → has_number P.cmp self.new q
             ≡ (eq_by_cmp (number_cmp P.cmp) q number || has_number P.cmp self.old q) }
-        ensures room { room_of self.old ≤ room_of self.new + 1 }
+        ensures spare { self.old.spare ≤ self.new.spare + 1 }
     {
-        if self.contains(number) {
+        if holds(&self.map, number) {
             return;
         }
-        let first = self.start_of(number);
-        let last = self.take_end_of(number);
+        let first = start_of(&self.map, number);
+        let last = take_end_of(&mut self.map, number);
         self.map.insert(first, last);
     }
 
-    // The set has no number of the thing from now on.
+    /// The set has no number of the thing from now on. Takes as many look-ups as the thing has runs.
     pub fn remove_all(&mut self, thing: P)
-        requires { IsRuns P.cmp self.old }
-        ensures set { IsRuns P.cmp self.new }
+        ensures set { IsRuns P.cmp self.new.runs }
         ensures numbers { (q : Number P) → has_number P.cmp self.new q
             ≡ (not (eq_by_cmp P.cmp thing q.0) && has_number P.cmp self.old q) }
-        ensures room { room_of self.old ≤ room_of self.new }
+        ensures spare { self.old.spare ≤ self.new.spare }
     {
         while let Some((first, _)) = self.map.first_from((thing, 0)) {
             if thing.cmp(&first.0).is_ne() {
@@ -102,36 +105,50 @@ impl<P: Ord + Copy> Runs<P> {
             self.map.remove(first);
         }
     }
+}
 
-    // Where the run of the number begins once the set has it.
-    fn start_of(&self, number: (P, u16)) -> (P, u16)
-        requires { IsRuns P.cmp self.now }
-        ensures { result
-            ≡ start_at (number_cmp P.cmp) next (last_up_to (number_cmp P.cmp) number (runs_of self.now)) number }
-    {
-        match self.map.last_up_to(number) {
-            Some((first, last)) if is_next(last, number) => first,
-            _ => number,
-        }
+// Whether the number is in one of the runs.
+fn holds<P: Ord + Copy>(runs: &SortedMap<(P, u16), (P, u16)>, number: (P, u16)) -> bool
+    requires exact { IsExact P.cmp }
+    requires set { IsRuns P.cmp runs.now.entries }
+    ensures { result ≡ has (number_cmp P.cmp) runs.now.entries number }
+{
+    match runs.last_up_to(number) {
+        Some((_, last)) => number.cmp(&last).is_le(),
+        None => false,
     }
+}
 
-    // Where it ends. A run that begins right behind the number is taken out of the set.
-    fn take_end_of(&mut self, number: (P, u16)) -> (P, u16)
-        requires set { IsRuns P.cmp self.old }
-        requires lacks { has_number P.cmp self.old number ≡ false }
-        ensures end { result
-            ≡ end_at (number_cmp P.cmp) next (first_from (number_cmp P.cmp) number (runs_of self.old)) number }
-        ensures map { IsMap (number_cmp P.cmp) self.new.map }
-        ensures runs { runs_of self.new ≡ without_key (number_cmp P.cmp) (next number) (runs_of self.old) }
-        ensures room { room_of self.old ≤ room_of self.new }
-    {
-        match self.map.first_from(number) {
-            Some((first, last)) if is_next(number, first) => {
-                self.map.remove(first);
-                last
-            }
-            _ => number,
+// Where the run of the number begins once the set has it.
+fn start_of<P: Ord + Copy>(runs: &SortedMap<(P, u16), (P, u16)>, number: (P, u16)) -> (P, u16)
+    ensures { result
+        ≡ start_at (number_cmp P.cmp) next (last_up_to (number_cmp P.cmp) number runs.now.entries) number }
+{
+    match runs.last_up_to(number) {
+        Some((first, last)) if is_next(last, number) => first,
+        _ => number,
+    }
+}
+
+// Where it ends. A run that begins right behind the number is taken out.
+fn take_end_of<P: Ord + Copy>(
+    runs: &mut SortedMap<(P, u16), (P, u16)>,
+    number: (P, u16),
+) -> (P, u16)
+    requires exact { IsExact P.cmp }
+    requires set { IsRuns P.cmp runs.old.entries }
+    requires lacks { has (number_cmp P.cmp) runs.old.entries number ≡ false }
+    ensures end { result
+        ≡ end_at (number_cmp P.cmp) next (first_from (number_cmp P.cmp) number runs.old.entries) number }
+    ensures runs { runs.new.entries ≡ without_key (number_cmp P.cmp) (next number) runs.old.entries }
+    ensures spare { runs.old.spare ≤ runs.new.spare }
+{
+    match runs.first_from(number) {
+        Some((first, last)) if is_next(number, first) => {
+            runs.remove(first);
+            last
         }
+        _ => number,
     }
 }
 

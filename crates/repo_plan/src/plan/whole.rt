@@ -4,11 +4,10 @@ ghost use Rattle.std.specs.HashMap.{spare};
 ghost use Rattle.sorted_lists.specs.SortedList.{in_order};
 ghost use Rattle.repo_plan.specs.Plan.{with_shape};
 ghost use Rattle.repo_plan.specs.Parts.{Pair, pair_cmp};
-ghost use Rattle.sorted_lists.specs.Runs.{Number, IsRuns, has_number, number_cmp, runs_of, room_of};
+ghost use Rattle.sorted_lists.specs.Runs.{Number, IsRuns, has_number, number_cmp};
 ghost use Rattle.repo_plan.specs.PlanFields.{is_noted, are_noted};
 
-use sorted_lists::Runs;
-use sorted_lists::table;
+use sorted_lists::{Runs, table};
 use std::collections::HashMap;
 
 // Notes what a record tells, if the part that is held now is one.
@@ -36,21 +35,19 @@ pub(super) fn note_held(
     number: ((u32, u16), u16),
     told: u8,
 )
-    requires done { IsRuns nat_cmp done.old }
-    requires held { IsRuns pair_cmp held.old }
-    requires room_of_done { 0 < room_of done.old }
-    requires room_of_held { 0 < room_of held.old }
-    ensures done { IsRuns nat_cmp done.new }
-    ensures held { IsRuns pair_cmp held.new }
-    ensures noted { (q : Number Pair) → (q.0 ≡ number.0 → q.1 ≤ told) → is_noted (runs_of done.new) (runs_of held.new) q
-        ≡ (eq_by_cmp (number_cmp pair_cmp) q number || is_noted (runs_of done.old) (runs_of held.old) q) }
+    requires done { IsRuns nat_cmp done.old.runs }
+    requires spare_of_done { 0 < done.old.spare }
+    requires spare_of_held { 0 < held.old.spare }
+    ensures done { IsRuns nat_cmp done.new.runs }
+    ensures noted { (q : Number Pair) → (q.0 ≡ number.0 → q.1 ≤ told) → is_noted done.new.runs held.new.runs q
+        ≡ (eq_by_cmp (number_cmp pair_cmp) q number || is_noted done.old.runs held.old.runs q) }
     ensures whole { (q : Pair) → has_number nat_cmp done.new q
-        ≡ ((eq_by_cmp pair_cmp q number.0 && are_noted (runs_of done.new) (runs_of held.new) number.0 told)
+        ≡ ((eq_by_cmp pair_cmp q number.0 && are_noted done.new.runs held.new.runs number.0 told)
         || has_number nat_cmp done.old q) }
     ensures kept { (q : Number Pair) → has_number pair_cmp held.new q ≡ true
         → (eq_by_cmp (number_cmp pair_cmp) q number || has_number pair_cmp held.old q) ≡ true }
-    ensures room_of_done { room_of done.old ≤ room_of done.new + 1 }
-    ensures room_of_held { room_of held.old ≤ room_of held.new + 1 }
+    ensures spare_of_done { done.old.spare ≤ done.new.spare + 1 }
+    ensures spare_of_held { held.old.spare ≤ held.new.spare + 1 }
 {
     held.insert(number);
     let publication = number.0;

@@ -4,7 +4,7 @@ use Rattle.std.proofs.lemmas.Cmp.{tied_itself}
 use Rattle.std.specs.Ordering.{eq_by_cmp, is_eq, is_ne}
 use Rattle.std.specs.declared.cmp.Ordering.{Ordering}
 use Rattle.std.specs.declared.cmp.Ordering.TheVariants.{Less, Equal, Greater}
-use Rattle.sorted_lists.specs.Runs.{Run, has, has_number, runs_of, number_cmp}
+use Rattle.sorted_lists.specs.Runs.{Run, has, has_number, number_cmp}
 use Rattle.sorted_lists.proofs.Sets.{In}
 use Rattle.sorted_lists.proofs.Orders.{equal_from_is_eq}
 use Rattle.sorted_lists.proofs.RunOrder.{first_is}
@@ -31,62 +31,64 @@ agrees Greater h = absurd (true≢false h)
 pub returns-then-is_ne-clause-numbers : goal.returns-then-is_ne-clause-numbers
 returns-then-is_ne-clause-numbers g c =
     let v = c.loop-first.invariant in
+    let exact = c.self.invariant.0 in
     let o = g.met.P.Ord.total in
-    let es = runs_of c.loop-first.self in
+    let es = c.loop-first.self-inside.map.entries in
     let other = sym c.is_ne.ensures ∙ c.if-is_ne.true in
-    λ q. ended (has (number_cmp g.P.Ord.cmp) es q) (eq_by_cmp g.P.Ord.cmp c.args.thing q.0)
-    (has_number g.P.Ord.cmp c.args.self.now q) (v.kept q) (λ h.
-    others_left o v.set.exact es v.set.runs v.set.one c.args.thing (c.in-Some.first, c.in-Some.field-0-1)
-    (sym c.in-Some.ensures)
+    rw (← c.self.view_is) (λ q. ended (has (number_cmp g.P.Ord.cmp) es q) (eq_by_cmp g.P.Ord.cmp c.args.thing q.0)
+    (has (number_cmp g.P.Ord.cmp) c.self.inside.map.entries q) (v.kept q) (λ h.
+    others_left o exact es v.set.runs v.set.one c.args.thing (c.in-Some.first, c.in-Some.field-0-1)
+    (sym c.in-Some.ensures.found)
     (λ s. differs c.cmp.result other
     (c.cmp.ensures ∙ subst (λ p. g.P.Ord.cmp c.args.thing p ≡ Equal) s (tied_itself o c.args.thing)))
-    q (v.set.exact c.args.thing q.0 (equal_from_is_eq (g.P.Ord.cmp c.args.thing q.0) h)))
+    q (exact c.args.thing q.0 (equal_from_is_eq (g.P.Ord.cmp c.args.thing q.0) h))))
 
 pub loop-first-smaller : goal.loop-first-smaller
 loop-first-smaller g c =
     let v = c.loop-first.invariant in
+    let exact = c.self.invariant.0 in
     let o = g.met.P.Ord.total in
-    let es = runs_of c.loop-first.self in
+    let es = c.loop-first.self-inside.map.entries in
     let y : Run g.row.P.Denot = (c.in-Some.first, c.in-Some.field-0-1) in
     let there : In y es =
-    (first_is (exact_numbers o v.set.exact) (c.args.thing, 0) es (runs_rise (follow o v.set.exact) es v.set.runs) y
-    (sym c.in-Some.ensures)).is_in in
-    rw c.remove.ensures.entries (shorter o v.set.exact es v.set.runs v.set.one y there)
+    (first_is (exact_numbers o exact) (c.args.thing, 0) es (runs_rise (follow o exact) es v.set.runs) y
+    (sym c.in-Some.ensures.found)).is_in in
+    rw c.remove.ensures.entries (shorter o exact es v.set.runs v.set.one y there)
 
 pub loop-first-preserved : goal.loop-first-preserved
 loop-first-preserved g c =
     let v = c.loop-first.invariant in
+    let exact = c.self.invariant.0 in
     let o = g.met.P.Ord.total in
-    let es = runs_of c.loop-first.self in
+    let es = c.loop-first.self-inside.map.entries in
     let y : Run g.row.P.Denot = (c.in-Some.first, c.in-Some.field-0-1) in
     let there : In y es =
-    (first_is (exact_numbers o v.set.exact) (c.args.thing, 0) es (runs_rise (follow o v.set.exact) es v.set.runs) y
-    (sym c.in-Some.ensures)).is_in in
+    (first_is (exact_numbers o exact) (c.args.thing, 0) es (runs_rise (follow o exact) es v.set.runs) y
+    (sym c.in-Some.ensures.found)).is_in in
     let same : c.args.thing ≡ c.in-Some.first.0 =
-    v.set.exact c.args.thing c.in-Some.first.0
+    exact c.args.thing c.in-Some.first.0
     (sym c.cmp.ensures ∙ agrees c.cmp.result (sym c.is_ne.ensures ∙ c.if-is_ne.false)) in
     record {
       set = record {
-        exact = v.set.exact;
-        map = c.remove.ensures.map;
-        runs = rw c.remove.ensures.entries (fewer_runs o v.set.exact es v.set.runs v.set.one y there);
-        one = rw c.remove.ensures.entries (one_without o v.set.exact c.in-Some.first es v.set.one);
+        runs = rw c.remove.ensures.entries (fewer_runs o exact es v.set.runs v.set.one y there);
+        one = rw c.remove.ensures.entries (one_without o exact c.in-Some.first es v.set.one);
       };
       kept = λ q h.
-          rw c.remove.ensures.entries (fewer_has o v.set.exact es v.set.runs v.set.one y there q (λ s.
+          rw c.remove.ensures.entries (fewer_has o exact es v.set.runs v.set.one y there q (λ s.
           true≢false
           (sym (ap is_eq (subst (λ p. g.P.Ord.cmp c.args.thing p ≡ Equal) (same ∙ s) (tied_itself o c.args.thing)))
           ∙ h)))
           ∙ v.kept q h;
-      room = omega (arith, v.room, c.remove.ensures.room);
+      spare = omega (arith, v.spare, c.remove.ensures.spare);
     }
 
 pub returns-clause-numbers : goal.returns-clause-numbers
 returns-clause-numbers g c =
     let v = c.loop-first.invariant in
+    let exact = c.self.invariant.0 in
     let o = g.met.P.Ord.total in
-    let es = runs_of c.loop-first.self in
-    λ q. ended (has (number_cmp g.P.Ord.cmp) es q) (eq_by_cmp g.P.Ord.cmp c.args.thing q.0)
-    (has_number g.P.Ord.cmp c.args.self.now q) (v.kept q) (λ h.
-    none_left o v.set.exact es v.set.runs v.set.one c.args.thing (sym c.first_from.ensures ∙ c.in_default.is) q
-    (v.set.exact c.args.thing q.0 (equal_from_is_eq (g.P.Ord.cmp c.args.thing q.0) h)))
+    let es = c.loop-first.self-inside.map.entries in
+    rw (← c.self.view_is) (λ q. ended (has (number_cmp g.P.Ord.cmp) es q) (eq_by_cmp g.P.Ord.cmp c.args.thing q.0)
+    (has (number_cmp g.P.Ord.cmp) c.self.inside.map.entries q) (v.kept q) (λ h.
+    none_left o exact es v.set.runs v.set.one c.args.thing (sym c.first_from.ensures.found ∙ c.in_default.is) q
+    (exact c.args.thing q.0 (equal_from_is_eq (g.P.Ord.cmp c.args.thing q.0) h))))
