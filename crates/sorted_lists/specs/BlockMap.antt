@@ -1,5 +1,5 @@
 -- Maps in blocks, in order of their keys.
-use Rattle.std.specs.Prelude.{ℕ, zero, suc, ◌≡◌, ◌+◌, ◌-◌, ◌*◌, ◌^◌, ◌<◌, ◌≤◌, Bool, true}
+use Rattle.std.specs.Prelude.{ℕ, zero, suc, ◌≡◌, ◌+◌, ◌-◌, ◌*◌, ◌^◌, ◌<◌, ◌≤◌, ◌⊎◌, max, Bool, true}
 use Rattle.std.specs.Prelude.{List, [], ◌∷◌, ◌++◌, length, Vec}
 use Rattle.std.specs.Prelude.{vec_len, vec_capacity, is_some}
 use Rattle.std.specs.List.{All}
@@ -17,22 +17,29 @@ full = 64
 abbrev pub half : ℕ
 half = 32
 
+-- how many entries of a full block stay when it is split, by the number of blocks and its place: half of them, or all
+-- but one where it is the last
+abbrev pub IsKept : ℕ → ℕ → ℕ → Type 0
+IsKept blocks place n = (n ≡ half) ⊎ ((n + 1 ≡ full) × (place + 1 ≡ blocks))
+
 module _ {K V A : Type 0} where
   -- what blocks have, one behind the other
   abbrev pub joined : List (Vec (K × V) A) → List (K × V)
   joined [] = []
   joined (b ∷ bs) = b.items ++ joined bs
 
-  -- how much is in them above half a block each
+  -- how much is in them above half a block each, and in the last, behind which a block can begin, above one entry
   abbrev pub over : List (Vec (K × V) A) → ℕ
   over [] = 0
-  over (b ∷ bs) = (length b.items - half) + over bs
+  over (b ∷ []) = length b.items - 1
+  over (b ∷ c ∷ bs) = (length b.items - half) + over (c ∷ bs)
 
   -- for how many more entries there is room in these blocks with so many empty ones to split them: none where there is
-  -- no block
+  -- no block. An entry takes one empty block at most, and when half a block of entries came beyond what was over, at
+  -- most one was taken for them
   abbrev pub room : List (Vec (K × V) A) → ℕ → ℕ
   room [] n = 0
-  room (b ∷ bs) n = half * n - over (b ∷ bs)
+  room (b ∷ bs) n = max n (half * n - over (b ∷ bs))
 
   -- an empty block
   abbrev pub IsBlank : Vec (K × V) A → Type 0
@@ -78,11 +85,12 @@ module _ {K V : Type 0} where
   abbrev pub spare : BlockMap K V → ℕ
   spare m = room m.blocks.items (vec_len m.spare)
 
-  -- what holds of every map: the keys are in order, each once; a block can gain an entry, and be split in place; the
-  -- entries can be counted
+  -- what holds of every map: the keys are in order, each once; a block can gain an entry, and be split in place; a
+  -- block that is emptied can be kept; the entries can be counted
   pub record IsMap (R : K → K → Ordering) (m : BlockMap K V) : Type 0 where
     pub rises : Rises R (keys (entries m))
     pub sizes : AreBlocks m.blocks.items
     pub spare : All IsBlank m.spare.items
     pub room : vec_len m.blocks + vec_len m.spare ≤ vec_capacity m.blocks
+    pub back : vec_len m.blocks + vec_len m.spare ≤ vec_capacity m.spare
     pub few : vec_len m.blocks + vec_len m.spare < 2 ^ 57

@@ -1,7 +1,7 @@
 // Maps in blocks, in order of their keys, with room that is made beforehand.
 ghost use Rattle.std.specs.Prelude.{◌≡◌, ◌+◌, ◌<◌, ◌≤◌, [], length, vec_len, OnOk};
 ghost use Rattle.sorted_lists.specs.SortedList.{with_value, without_key, last_up_to, first_from};
-ghost use Rattle.sorted_lists.specs.BlockMap.{IsMap, IsPlace, entries, spare};
+ghost use Rattle.sorted_lists.specs.BlockMap.{IsMap, IsPlace, IsKept, entries, spare};
 
 use crate::block;
 use std::alloc::{AllocError, Global};
@@ -9,6 +9,7 @@ use std::alloc::{AllocError, Global};
 // A block that has come to so many entries is split in two.
 const FULL: usize = 64;
 
+// So many of them stay, unless the last was appended to the map.
 const HALF: usize = 32;
 
 // There are fewer blocks than this, so that their entries can be counted.
@@ -18,7 +19,7 @@ const TOO_MANY: usize = 1 << 57;
 pub(crate) struct BlockMap<K, V> {
     // The entries, block behind block. Only the first block may have none.
     blocks: Vec<Vec<(K, V)>>,
-    // Empty blocks, each for the back of one that is split.
+    // Empty blocks, each for the back of one that is split. A block that is emptied is kept here too.
     spare: Vec<Vec<(K, V)>>,
 }
 
@@ -34,8 +35,8 @@ impl<K: Ord + Copy, V: Copy> BlockMap<K, V> {
         }
     }
 
-    // Makes room for so many more entries. Each block may have to be split at the next one, and then at every `HALF`
-    // further ones.
+    // Makes room for so many more entries. Each entry takes one empty block at most. Beyond that each block may have to
+    // be split once, and then one of them at every `HALF` further entries.
     pub fn reserve(&mut self, n: usize) -> Result<(), AllocError>
         requires { IsMap K.cmp self.old }
         ensures entries { entries self.new ≡ entries self.old }
@@ -43,9 +44,22 @@ impl<K: Ord + Copy, V: Copy> BlockMap<K, V> {
         ensures grows { spare self.old ≤ spare self.new }
         ensures room { OnOk result (n ≤ spare self.new) }
     {
-        let wanted = self.blocks.len() + n / HALF + 2;
+        self.begin()?;
+        let wanted = n.min(self.blocks.len() + n / HALF + 2);
         self.add_spare(wanted)?;
+        Ok(())
+    }
+
+    // Sees that there is a block.
+    fn begin(&mut self) -> Result<(), AllocError>
+        requires { IsMap K.cmp self.old }
+        ensures entries { entries self.new ≡ entries self.old }
+        ensures map { IsMap K.cmp self.new }
+        ensures grows { spare self.old ≤ spare self.new }
+        ensures block { OnOk result (0 < vec_len self.new.blocks) }
+    {
         if self.blocks.is_empty() {
+            self.add_spare(1)?;
             let first = self.spare.pop().unwrap();
             self.blocks.push(first).unwrap();
         }
@@ -60,10 +74,15 @@ impl<K: Ord + Copy, V: Copy> BlockMap<K, V> {
         ensures grows { vec_len self.old.spare ≤ vec_len self.new.spare }
         ensures room { OnOk result (wanted ≤ vec_len self.new.spare) }
     {
+        if wanted <= self.spare.len() {
+            return Ok(());
+        }
         if wanted >= TOO_MANY - self.blocks.len() {
             return Err(AllocError);
         }
         self.blocks.reserve(wanted)?;
+        self.spare
+            .reserve(self.blocks.len() + wanted - self.spare.len())?;
         while self.spare.len() < wanted {
             let block = Vec::with_capacity(*self.spare.allocator(), FULL)?;
             self.spare.push(block)?;
@@ -118,8 +137,9 @@ impl<K: Ord + Copy, V: Copy> BlockMap<K, V> {
         if self.blocks[place].len() < FULL {
             return;
         }
+        let kept = kept_of(&self.blocks, place, key);
         let mut back = self.spare.pop().unwrap();
-        block::split(&mut self.blocks[place], HALF, &mut back);
+        block::split(&mut self.blocks[place], kept, &mut back);
         self.blocks.insert(place + 1, back).unwrap();
     }
 
@@ -136,7 +156,8 @@ impl<K: Ord + Copy, V: Copy> BlockMap<K, V> {
         }
         block::remove(&mut self.blocks[place], key);
         if place > 0 && self.blocks[place].is_empty() {
-            self.blocks.remove(place);
+            let empty = self.blocks.remove(place);
+            self.spare.push(empty).unwrap();
         }
     }
 
@@ -149,5 +170,17 @@ impl<K: Ord + Copy, V: Copy> BlockMap<K, V> {
         self.blocks
             .partition_point(|block| block::begins_up_to(block, key))
             .saturating_sub(1)
+    }
+}
+
+// How many entries of a full block stay when it is split: half of them, or all but the last one where that is the entry
+// that came, so that keys that rise fill the blocks.
+fn kept_of<K: Ord + Copy, V: Copy>(blocks: &[Vec<(K, V)>], place: usize, key: K) -> usize
+    requires { place < length blocks.now }
+    ensures { IsKept (length blocks.now) place result }
+{
+    match blocks[place].last() {
+        Some((last, _)) if place + 1 == blocks.len() && last.cmp(&key).is_eq() => FULL - 1,
+        _ => HALF,
     }
 }

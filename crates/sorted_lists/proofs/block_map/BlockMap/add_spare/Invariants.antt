@@ -8,6 +8,7 @@ invariant-loop-self g l = record {
   map : IsMap g.K.Ord.cmp l.self;
   grows : vec_len l.initial.self.spare ≤ vec_len l.self.spare;
   room : vec_len l.self.blocks + l.wanted ≤ vec_capacity l.self.blocks;
+  back : vec_len l.self.blocks + l.wanted ≤ vec_capacity l.self.spare;
   few : vec_len l.self.blocks + l.wanted < 2 ^ 57;
 }
 

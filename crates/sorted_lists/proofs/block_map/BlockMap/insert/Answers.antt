@@ -1,4 +1,4 @@
-use Rattle.std.proofs.Common.{◌∙◌, ◌≡◌, ◌<◌, ◌≤◌, suc, length, set, ap, sym, subst, arith}
+use Rattle.std.proofs.Common.{◌∙◌, ◌≡◌, ◌+◌, ◌<◌, ◌≤◌, ℕ, suc, length, set, ap, sym, subst, arith, inl, inr}
 use Rattle.std.proofs.Common.{get_or-set_same, length-set}
 use Rattle.std.specs.List.{All, insert}
 use Rattle.std.proofs.lemmas.List.{length-append}
@@ -6,10 +6,10 @@ use Rattle.std.proofs.lemmas.List.Edits.{length-insert}
 use Rattle.std.proofs.lemmas.List.Elements.{All-take}
 use Rattle.std.proofs.Math.Numerals.{add-one}
 use Rattle.sorted_lists.specs.SortedList.{keys, Rises, with_value}
-use Rattle.sorted_lists.specs.BlockMap.{joined, room, AreBlocks, IsBlank, IsOpen, entries}
+use Rattle.sorted_lists.specs.BlockMap.{joined, room, AreBlocks, IsBlank, IsOpen, IsKept, half, full, entries}
 use Rattle.sorted_lists.proofs.MapChanges.{rises_with}
 use Rattle.sorted_lists.proofs.Blocks.{has_block, block_rises, block_at, with_place, with_some, with_more}
-use Rattle.sorted_lists.proofs.Blocks.{blocks_set, blocks_insert, joined_split, room_is, over-set, over-insert}
+use Rattle.sorted_lists.proofs.Blocks.{blocks_set, blocks_insert, joined_split, room_is, over_more, over_split}
 use Rattle.sorted_lists.proofs.Blocks.{all_last, set_again}
 use Rattle.sorted_lists.proofs.block_map.BlockMap.insert.Goals as goal
 
@@ -82,6 +82,7 @@ returns-then-len-lt-FULL-clause-map g c =
           );
       spare = m.spare;
       room = m.room;
+      back = m.back;
       few = m.few;
     }
 
@@ -98,13 +99,31 @@ returns-then-len-lt-FULL-clause-room g c =
       arith,
       room_is blocks n some,
       room_is (set blocks place new) n (omega (arith, some, length-set blocks place new)),
-      over-set blocks place new old within,
-      ap (λ b. length b.items) c.index_mut.ensures.value,
-      ap length c.insert.ensures.entries,
-      with_more g.met.K.Ord.total c.args.key c.args.value old.items,
+      over_more blocks place 1 new old within (omega (
+        arith,
+        ap (λ b. length b.items) c.index_mut.ensures.value,
+        ap length c.insert.ensures.entries,
+        with_more g.met.K.Ord.total c.args.key c.args.value old.items,
+      )),
     )
 
 -- ---- the block is split
+
+-- half of the entries stay at least, and one goes
+kept_bounds : (blocks place n : ℕ) → IsKept blocks place n → (half ≤ n) × (n < full)
+kept_bounds blocks place n (inl h) = (omega (arith, h), omega (arith, h))
+kept_bounds blocks place n (inr h) = (omega (arith, h.0), omega (arith, h.0))
+
+pub kept_of-kept-requires : goal.kept_of-kept-requires
+kept_of-kept-requires g c =
+    let blocks = c.args.self.now.blocks.items in
+    let within = c.place_of-place.ensures.there (has_block blocks c.args.self.now.spare.len c.requires.room) in
+    omega (
+      arith,
+      within,
+      ap length c.deref.ensures.value,
+      length-set blocks c.place_of-place.result c.insert.new.block,
+    )
 
 pub split-requires-clause-place : goal.split-requires-clause-place
 split-requires-clause-place g c =
@@ -123,6 +142,7 @@ split-requires-clause-place g c =
     omega (
       arith,
       long,
+      (kept_bounds _ place c.kept_of-kept.result c.kept_of-kept.ensures).1,
       ap (λ b. length b.items) (c.index_mut-2.ensures.value ∙ get_or-set_same blocks place new _ within),
     )
 
@@ -212,7 +232,8 @@ returns-clause-map g c =
       with_more o c.args.key c.args.value old.items,
       ap length c.insert.ensures.entries,
     ) in
-    let rest : length back.items ≡ 32 =
+    let bounds = kept_bounds _ place c.kept_of-kept.result c.kept_of-kept.ensures in
+    let rest : length back.items + c.kept_of-kept.result ≡ 64 =
     omega (
       arith,
       long,
@@ -228,8 +249,8 @@ returns-clause-map g c =
           rw (returns-clause-entries g c) (rises_with o c.args.key c.args.value (entries c.args.self.now) m.rises);
       sizes =
           subst AreBlocks (sym placed) (blocks_insert (set blocks place front) place back
-          (blocks_set blocks place front m.sizes (λ n. omega (arith, c.split.ensures.len)) (
-            omega (arith, c.split.ensures.len),
+          (blocks_set blocks place front m.sizes (λ n. omega (arith, c.split.ensures.len, bounds)) (
+            omega (arith, c.split.ensures.len, bounds),
             omega (
               arith,
               free.1,
@@ -238,7 +259,7 @@ returns-clause-map g c =
               ap (λ b. b.cap) same,
             ),
           ))
-          (omega (arith, rest)) (omega (arith, rest), omega (arith, blank.1, c.split.ensures.capacity))
+          (omega (arith, rest, bounds)) (omega (arith, rest, bounds), omega (arith, blank.1, c.split.ensures.capacity))
           (omega (arith, within, length-set blocks place front)));
       spare = subst (All IsBlank) (sym c.pop.ensures.rest) (All-take IsBlank _ _ m.spare);
       room =
@@ -248,6 +269,14 @@ returns-clause-map g c =
             rw c.unwrap.ensures at c.insert-2.ensures.len,
             rw c.unwrap-back.ensures at c.pop.ensures.cases,
             c.insert-2.ensures.capacity,
+          );
+      back =
+          omega (
+            arith,
+            m.back,
+            rw c.unwrap.ensures at c.insert-2.ensures.len,
+            rw c.unwrap-back.ensures at c.pop.ensures.cases,
+            c.pop.ensures.capacity,
           );
       few =
           omega (
@@ -268,33 +297,50 @@ returns-clause-room g c =
     let front = c.split.new.block in
     let back = c.split.new.back in
     let now = set blocks place new in
-    let split = insert (set now place front) (suc place) back in
+    let split = insert (set blocks place front) (suc place) back in
     let some = has_block blocks n c.requires.room in
     let within = c.place_of-place.ensures.there some in
     let same = c.index_mut-2.ensures.value ∙ get_or-set_same blocks place new _ within in
     let there : place < length now = omega (arith, within, length-set blocks place new) in
-    let behind : suc place ≤ length (set now place front) = omega (arith, there, length-set now place front) in
-    let items = rw (c.unwrap.ensures, add-one) at c.insert-2.ensures.items in
+    let behind : suc place ≤ length (set blocks place front) =
+    omega (arith, within, length-set blocks place front) in
+    let free = subst IsOpen (sym c.index_mut.ensures.value) (block_at blocks place _ c.requires.map.sizes within) in
+    let long : 64 ≤ length new.items =
+    omega (
+      arith,
+      c.if-len-lt-FULL.false,
+      c.len.ensures,
+      ap (λ b. b.len) (c.index.ensures ∙ get_or-set_same blocks place new _ within),
+      new.ok.0,
+    ) in
+    let more = with_more g.met.K.Ord.total c.args.key c.args.value old.items in
+    let count = ap length c.insert.ensures.entries in
+    let was : length old.items + 1 ≡ full = omega (arith, free.0, long, more, count) in
+    let parts : length front.items + length back.items ≡ full =
+    omega (
+      arith,
+      free.0,
+      long,
+      more,
+      count,
+      ap (λ b. length b.items) same,
+      ap length c.split.ensures.entries,
+      length-append front.items back.items,
+    ) in
+    let blocks_now : length c.deref.result.now ≡ length blocks =
+    ap length c.deref.ensures.value ∙ length-set blocks place new in
+    let kept : IsKept (length blocks) place (length front.items) =
+    subst (λ n. IsKept (length blocks) place n) (sym c.split.ensures.len)
+    (subst (λ n. IsKept n place c.kept_of-kept.result) blocks_now c.kept_of-kept.ensures) in
+    let items = rw (c.unwrap.ensures, add-one, set_again) at c.insert-2.ensures.items in
     omega (
       arith,
       c.requires.room,
       room_is blocks n some,
       ap (λ bs. room bs c.pop.new.self.len) items,
-      room_is split c.pop.new.self.len (omega (arith, length-insert (set now place front) (suc place) back behind)),
+      room_is split c.pop.new.self.len
+          (omega (arith, length-insert (set blocks place front) (suc place) back behind)),
       rw c.unwrap-back.ensures at c.pop.ensures.cases,
-      over-insert (set now place front) (suc place) back behind,
-      over-set now place front old there,
-      over-set blocks place new old within,
-      ap (λ b. length b.items) c.index_mut.ensures.value,
-      ap (λ b. length b.items) (get_or-set_same blocks place new old within),
-      ap length c.insert.ensures.entries,
-      with_more g.met.K.Ord.total c.args.key c.args.value old.items,
-      ap (λ b. length b.items) same,
-      ap length c.split.ensures.entries,
-      length-append front.items back.items,
-      c.split.ensures.len,
-      c.if-len-lt-FULL.false,
-      c.len.ensures,
-      ap (λ b. b.len) (c.index.ensures ∙ get_or-set_same blocks place new _ within),
-      new.ok.0,
+      over_split blocks place front back old within
+          (omega (arith, was, ap (λ b. length b.items) c.index_mut.ensures.value)) parts kept,
     )

@@ -1,4 +1,4 @@
-use Rattle.std.proofs.Common.{◌≡◌, List, false, sym, ap, ◌∙◌}
+use Rattle.std.proofs.Common.{◌≡◌, List, sym, ap, ◌∙◌}
 use Rattle.sorted_lists.specs.Runs.{has, Run, number_cmp}
 use Rattle.sorted_lists.proofs.Numbers.{runs_with, set_with, has_with}
 use Rattle.sorted_lists.proofs.runs.Runs.insert.Goals as goal

@@ -4,7 +4,7 @@ use Rattle.std.proofs.lemmas.Cmp.{tied_itself}
 use Rattle.std.specs.Ordering.{eq_by_cmp, is_eq, is_ne}
 use Rattle.std.specs.declared.cmp.Ordering.{Ordering}
 use Rattle.std.specs.declared.cmp.Ordering.TheVariants.{Less, Equal, Greater}
-use Rattle.sorted_lists.specs.Runs.{Run, has, has_number, number_cmp}
+use Rattle.sorted_lists.specs.Runs.{Run, has, number_cmp}
 use Rattle.sorted_lists.proofs.Sets.{In}
 use Rattle.sorted_lists.proofs.Orders.{equal_from_is_eq}
 use Rattle.sorted_lists.proofs.RunOrder.{first_is}
