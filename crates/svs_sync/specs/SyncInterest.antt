@@ -1,6 +1,6 @@
 -- Sync Interests (State Vector Sync, in the profile of this project): which octets one is, and what it tells, or why it
 -- is refused.
-use Rattle.std.specs.Prelude.{◌≡◌, ℕ, ◌≤◌, Bool, ◌&&◌, List, [], ◌∷◌, ◌++◌, length, unwrap_or, Result, Ok, Err, ⊥}
+use Rattle.std.specs.Prelude.{◌≡◌, ℕ, ◌≤◌, Bool, ◌&&◌, List, [], ◌∷◌, ◌++◌, length, unwrap_or, Result, Ok, Err}
 use Rattle.ndn_tlv.specs.Types as types
 use Rattle.ndn_tlv.specs.Listing.{◌>>=◌}
 use Rattle.ndn_name.specs.declared.fault.PacketFault.{PacketFault}
@@ -12,13 +12,12 @@ use Rattle.ndn_interest.specs.Interest.{Interest, interest_of, without_last, end
 use Rattle.ndn_interest.specs.Signer.{ensured, signer_of}
 use Rattle.ndn_interest.specs.WrittenInterest.{written_interest}
 use Rattle.svs_vector.specs.declared.vector_fault.VectorFault.{VectorFault}
-use Rattle.svs_vector.specs.declared.vector_fault.VectorFault.TheVariants as vector_fault
 use Rattle.svs_vector.specs.Rosters.{has_same_octets}
 use Rattle.svs_vector.specs.StateVector.{vector_of}
 use Rattle.svs_vector.specs.WrittenVector.{written_vector}
 use Rattle.svs_sync.specs.declared.sync_refusal.SyncRefusal.{SyncRefusal}
 use Rattle.svs_sync.specs.declared.sync_refusal.SyncRefusal.TheVariants.{Packet, WrongGroup, Unsigned, ParamsDigest}
-use Rattle.svs_sync.specs.declared.sync_refusal.SyncRefusal.TheVariants.{UnknownKey, BadSignature, Vector, NoMemory}
+use Rattle.svs_sync.specs.declared.sync_refusal.SyncRefusal.TheVariants.{UnknownKey, BadSignature, Vector}
 
 -- ---- names
 
@@ -96,9 +95,3 @@ abbrev pub sync_verdict : List Component → List (List Component) → List Name
     → Result (ℕ × List ℕ) SyncRefusal
 sync_verdict group roster ring octets =
     packet_or (interest_of octets) >>= sync_interest_verdict group roster ring
-
--- A refusal is of the octets, and not want of memory.
-abbrev pub IsOfOctets : SyncRefusal → Type 0
-IsOfOctets NoMemory = ⊥
-IsOfOctets (Vector vector_fault.NoMemory) = ⊥
-IsOfOctets _ = Unit {0}

@@ -1,5 +1,5 @@
 ghost use Rattle.std.specs.Prelude.{◌≡◌, ◌≤◌, ◌⊎◌, IfOk, IsTrue, MatchResult, Ok, Err, Some, length, slice_get};
-ghost use Rattle.std.specs.Prelude.{is_some, IfErr, IsOk};
+ghost use Rattle.std.specs.Prelude.{◌≢◌, is_some, IfErr, IsOk};
 ghost use Rattle.std.specs.List.{All};
 ghost use Rattle.svs_sync.specs.SyncInterest.{sync_name, sync_interest, sync_verdict, is_sync_name, IsNodeName};
 ghost use Rattle.svs_sync.specs.SyncInterest.{IsKeyName, signer_verdict};
@@ -83,6 +83,7 @@ pub fn check_sync(
         ⊎ (refusal ≡ SyncRefusal.NoMemory)) }
     ensures memory { IfErr result (λ refusal. refusal ≡ SyncRefusal.NoMemory
         → IsOk (signer_verdict group.now ring.now octets.now)) }
+    ensures vector { result ≢ Err (SyncRefusal.Vector VectorFault.NoMemory) }
     ensures width { IfOk result (λ told. length told.1 ≡ length roster.now) }
 {
     let interest = InterestView::read(octets)?;
