@@ -140,7 +140,11 @@ impl Group {
 
     /// The number of the member that signed a sync Interest of the group, and the vector that it tells. Want of memory
     /// is told where all that is tested before the vector has passed.
-    pub fn check_sync(&self, alloc: Global, octets: &[u8]) -> Result<(u32, Vector), SyncRefusal>
+    pub(crate) fn check_sync(
+        &self,
+        alloc: Global,
+        octets: &[u8],
+    ) -> Result<(u32, Vector), SyncRefusal>
         ensures verdict { MatchResult result
             (λ told. group_verdict self.now octets.now ≡ Ok (told.0, told.1))
             (λ refusal. (group_verdict self.now octets.now ≡ Err refusal) ⊎ (refusal ≡ SyncRefusal.NoMemory)) }

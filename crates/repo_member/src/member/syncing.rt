@@ -1,5 +1,5 @@
 ghost use Rattle.std.specs.Prelude.{◌≡◌, ◌<◌, ◌≤◌, ◌^◌, ◌⊎◌, ◌↔◌, Ok, Err, IsFalse, IfOk, IfErr, IsOkAnd, OnOk, OnErr};
-ghost use Rattle.std.specs.Prelude.{length, slice_index, IsOk};
+ghost use Rattle.std.specs.Prelude.{◌≢◌, length, slice_index, IsOk};
 ghost use Rattle.svs_vector.specs.Vectors.{join};
 ghost use Rattle.svs_sync.specs.Suppression.{mode_of};
 ghost use Rattle.svs_sync.specs.KeptVector.{fires_kept};
@@ -49,6 +49,7 @@ impl Member {
             ⊎ (hear_verdict g.now self.old octets.now ≡ Err refusal)) }
         ensures memory { IfErr result (λ refusal. refusal ≡ HearRefusal.NoMemory
             → IsOk (signer_verdict g.now.name g.now.members.ring octets.now)) }
+        ensures sync { result ≢ Err (HearRefusal.Sync SyncRefusal.NoMemory) }
         ensures err { OnErr result (self.new ≡ self.old) }
     {
         let told = self.told(g, octets)?;
@@ -85,6 +86,7 @@ impl Member {
             ⊎ (hear_verdict g.now self.old octets.now ≡ Err refusal)) }
         ensures memory { IfErr result (λ refusal. refusal ≡ HearRefusal.NoMemory
             → IsOk (signer_verdict g.now.name g.now.members.ring octets.now)) }
+        ensures sync { result ≢ Err (HearRefusal.Sync SyncRefusal.NoMemory) }
         ensures err { OnErr result (self.new ≡ self.old) }
     {
         let told = self.told(g, octets)?;
@@ -144,6 +146,7 @@ impl Member {
             ⊎ (hear_verdict g.now self.now octets.now ≡ Err refusal)) }
         ensures memory { IfErr result (λ refusal. refusal ≡ HearRefusal.NoMemory
             → IsOk (signer_verdict g.now.name g.now.members.ring octets.now)) }
+        ensures sync { result ≢ Err (HearRefusal.Sync SyncRefusal.NoMemory) }
     {
         match g.check_sync(*self.log.allocator(), octets) {
             Ok((_, told)) => Ok(told),
