@@ -12,13 +12,13 @@ use std::marker::Model;
 /// A word and a place for each of a number of items, which the threads that have a seat share.
 ///
 /// The word says what its item stands at: wanted, held, done or spent, and how many attempts at it ended without a
-/// value. The place takes the value. Both change by single atomic steps: no call waits for another.
+/// value. The place takes the value. Both change by single atomic steps: no call waits for another. A board keeps no
+/// allocator, so a call takes memory only where it is given one.
 #[derive(Drop)]
 pub struct Board<T> {
     pub(crate) table: Table<Option<T>, Hand<T>, Terms, Fair, Global>,
     pub(crate) items: usize,
     pub(crate) tries: u32,
-    pub(crate) alloc: Global,
 }
 
 // What is fixed of it. The words and places are in many hands, and no contract can tell what they are at a moment.
@@ -55,7 +55,7 @@ impl<T: Drop> Board<T> {
         ensures seats { IfOk result (λ r. All (λ seat. seat ≡ fresh r.0 1) r.1.items) }
     {
         let (board, first) = Board::open(alloc, items, tries, seats)?;
-        let seats = board.deal(first, seats)?;
+        let seats = board.deal(alloc, first, seats)?;
         Ok((board, seats))
     }
 
@@ -84,19 +84,23 @@ impl<T: Drop> Board<T> {
             table,
             items,
             tries,
-            alloc,
         };
         Ok((board, Seat { inner }))
     }
 
     // The seat that stands for so many, as so many that stand for one each.
-    fn deal(&self, mut first: Seat<T>, seats: usize) -> Result<Vec<Seat<T>>, AllocError>
+    fn deal(
+        &self,
+        alloc: Global,
+        mut first: Seat<T>,
+        seats: usize,
+    ) -> Result<Vec<Seat<T>>, AllocError>
         requires first { first ≡ fresh self.now seats }
         requires some { 1 ≤ seats }
         ensures count { IfOk result (λ v. length v.items ≡ seats) }
         ensures seats { IfOk result (λ v. All (λ seat. seat ≡ fresh self.now 1) v.items) }
     {
-        let mut dealt = Vec::with_capacity(self.alloc, seats)?;
+        let mut dealt = Vec::with_capacity(alloc, seats)?;
         for _ in 1..seats {
             dealt.push(self.split(&mut first))?;
         }

@@ -81,7 +81,7 @@ fn discard<T: Drop>(mut closed: Closed<Option<T>, Global>, from: usize)
 impl<T: Drop> Board<T> {
     /// Closes the board for the seat that all others were joined into, and gives what became of the items. The board is
     /// gone, also where memory ran out.
-    pub fn close(self, seat: Seat<T>) -> Result<Outcome<T>, AllocError>
+    pub fn close(self, alloc: Global, seat: Seat<T>) -> Result<Outcome<T>, AllocError>
         requires seat { IsSeatOf self seat }
         requires shares { seat.shares ≡ self.seats }
         requires rests { Rests seat }
@@ -95,7 +95,6 @@ impl<T: Drop> Board<T> {
             table,
             items,
             tries,
-            alloc,
         } = self;
         let Seat { inner } = seat;
         let values = vacant(alloc, items)?;

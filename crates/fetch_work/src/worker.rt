@@ -39,7 +39,7 @@ impl<T> Worker<T> {
     }
 
     /// A worker whose rounds begin at that item, so that workers who begin together meet different items.
-    pub fn beginning_at(seat: Seat<T>, first: usize) -> Worker<T>
+    pub(crate) fn beginning_at(seat: Seat<T>, first: usize) -> Worker<T>
         ensures { result ≡ seat }
     {
         Worker { seat, first }

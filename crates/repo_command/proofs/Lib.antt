@@ -5,3 +5,4 @@ pub mod FieldLemmas
 pub mod AnswerLemmas
 pub mod MadeLemmas
 pub mod TakenLemmas
+pub mod RefusalLemmas

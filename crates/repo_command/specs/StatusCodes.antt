@@ -2,7 +2,8 @@
 use Rattle.std.specs.Prelude.{ℕ}
 use Rattle.repo_command.specs.declared.command_refusal.CommandRefusal.{CommandRefusal}
 use Rattle.repo_command.specs.declared.command_refusal.CommandRefusal.TheVariants.{ParamsDigest, UnknownKey}
-use Rattle.repo_command.specs.declared.command_refusal.CommandRefusal.TheVariants.{BadSignature}
+use Rattle.repo_command.specs.declared.command_refusal.CommandRefusal.TheVariants.{BadSignature, Packet, OtherName}
+use Rattle.repo_command.specs.declared.command_refusal.CommandRefusal.TheVariants.{Unsigned, BadParameter, NoMemory}
 
 abbrev pub Accepted : ℕ
 Accepted = 100
@@ -22,9 +23,14 @@ Malformed = 403
 abbrev pub NotFound : ℕ
 NotFound = 404
 
--- What is answered to a command that is refused.
+-- What is answered to a command that is refused. Want of memory is no refusal of a command and has no code, which 0
+-- says: no answer has it.
 abbrev pub refusal_code : CommandRefusal → ℕ
 refusal_code ParamsDigest = NotValidated
 refusal_code UnknownKey = NotValidated
 refusal_code BadSignature = NotValidated
-refusal_code _ = Malformed
+refusal_code (Packet fault) = Malformed
+refusal_code OtherName = Malformed
+refusal_code Unsigned = Malformed
+refusal_code BadParameter = Malformed
+refusal_code NoMemory = 0

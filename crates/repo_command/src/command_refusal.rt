@@ -1,4 +1,4 @@
-ghost use Rattle.std.specs.Prelude.{◌≡◌};
+ghost use Rattle.std.specs.Prelude.{◌≡◌, ◌≢◌};
 ghost use Rattle.repo_command.specs.StatusCodes.{refusal_code};
 
 use crate::status_codes::{MALFORMED, NOT_VALIDATED};
@@ -32,15 +32,21 @@ pub enum CommandRefusal {
 }
 
 impl CommandRefusal {
-    /// The status code that a repository answers to a command that it refuses. Want of memory is no fault of a command.
+    /// The status code that a repository answers to a command that it refuses. Want of memory is no refusal of a command,
+    /// and is answered by none.
     pub fn status_code(self) -> u16
+        requires { self ≢ CommandRefusal.NoMemory }
         ensures { result ≡ refusal_code self }
     {
         match self {
             CommandRefusal::ParamsDigest
             | CommandRefusal::UnknownKey
             | CommandRefusal::BadSignature => NOT_VALIDATED,
-            _ => MALFORMED,
+            CommandRefusal::Packet(_)
+            | CommandRefusal::OtherName
+            | CommandRefusal::Unsigned
+            | CommandRefusal::BadParameter => MALFORMED,
+            CommandRefusal::NoMemory => unreachable!(),
         }
     }
 }

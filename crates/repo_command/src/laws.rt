@@ -1,11 +1,11 @@
 ghost use Rattle.std.specs.Prelude.{◌≡◌, ◌^◌, ◌<◌, ◌≤◌, ◌↔◌, ◌++◌, ◌∷◌, [], ℕ, List, Ok, Err, Some, IsTrue, length};
-ghost use Rattle.std.specs.Prelude.{slice_get, if◌then◌else◌};
+ghost use Rattle.std.specs.Prelude.{slice_get, if◌then◌else◌, IfErr, ◌≢◌};
 ghost use Rattle.ndn_tlv.specs.Types as standard;
 ghost use Rattle.ndn_name.specs.Names.{Component, IsName, encoding};
 ghost use Rattle.ndn_sign.specs.Ring.{NamedKey, key_number, pair};
 ghost use Rattle.repo_command.specs.declared.answer.Answer.{Answer};
 ghost use Rattle.repo_command.specs.declared.command.Command.{Command};
-ghost use Rattle.repo_command.specs.declared.command_refusal.CommandRefusal.TheVariants.{BadParameter};
+ghost use Rattle.repo_command.specs.declared.command_refusal.CommandRefusal.TheVariants.{BadParameter, NoMemory};
 ghost use Rattle.repo_command.specs.declared.verb.Verb.{Verb};
 ghost use Rattle.repo_command.specs.ElementTypes as types;
 ghost use Rattle.repo_command.specs.OrderTables.{repo_command_parameter, repo_command_response};
@@ -64,6 +64,12 @@ pub fn taken_commands_are_within_limits()
     ensures { (node : List Component) (ring : List NamedKey) (octets : List ℕ) (client : ℕ) (command : Command)
         → command_verdict node ring octets ≡ Ok (client, command)
         → IsTrue (is_command command) × (client < length ring) }
+{}
+
+/// A refusal that octets get is told by them, and is never want of memory: each has its status code.
+pub fn command_refusals_are_of_the_octets()
+    ensures { (node : List Component) (ring : List NamedKey) (octets : List ℕ)
+        → IfErr (command_verdict node ring octets) (λ refusal. refusal ≢ NoMemory) }
 {}
 
 /// What the test of a command's name says: it is the node's, the verb and one parameters digest.

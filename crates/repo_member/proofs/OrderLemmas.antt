@@ -1,7 +1,7 @@
 -- Commands that clients of the group make for its members.
-use Rattle.std.proofs.Common.{◌≡◌, ℕ, ◌-◌, ◌<◌, ◌≤◌, true, ◌&&◌, List, [], length, get_or, Some, sym, ap, ◌∙◌, subst}
+use Rattle.std.proofs.Common.{◌≡◌, ℕ, ◌-◌, ◌<◌, ◌≤◌, true, ◌&&◌, List, [], length, get_or, Some, refl, sym, ap, ◌∙◌, subst}
 use Rattle.std.proofs.Common.{arith}
-use Rattle.std.specs.Prelude.{slice_get, nat_le, nat_lt, Result, Ok, Err}
+use Rattle.std.specs.Prelude.{slice_get, nat_le, nat_lt, Result, Ok, Err, IfErr, ◌≢◌}
 use Rattle.std.proofs.lemmas.Bool.{and_parts}
 use Rattle.std.proofs.lemmas.Option.{slice_get-get_or, unwrap_or-slice_get}
 use Rattle.ndn_name.specs.Names.{Component, encoding}
@@ -15,8 +15,10 @@ use Rattle.repo_command.specs.declared.command.Command.{Command}
 use Rattle.repo_command.specs.declared.command.Command.TheVariants.{Insert, Check, Delete}
 use Rattle.repo_command.specs.Commands.{named_length, is_command, CommandIsSpelled}
 use Rattle.repo_command.specs.declared.command_refusal.CommandRefusal.{CommandRefusal}
+use Rattle.repo_command.specs.declared.command_refusal.CommandRefusal.TheVariants as refused
 use Rattle.repo_command.specs.Verdict.{command_verdict}
 use Rattle.repo_command.proofs.MadeLemmas.{or_bad, made_commands}
+use Rattle.repo_command.proofs.RefusalLemmas.{refused_for_octets}
 use Rattle.repo_command.proofs.TakenLemmas.{taken_commands}
 use Rattle.repo_member.specs.Groups.{GroupKeys, IsGroup, IsPlainNodeName, node_at, client_at, client_key_at}
 use Rattle.repo_member.specs.Commanded.{coded, order_of, order_made, MadeOrdersAreTaken, OrdersBeyondAreMalformed}
@@ -29,6 +31,25 @@ within_short (Insert name first last) is =
     named_short name (and_parts (is_object_name name) (nat_le first last && nat_lt (last - first) 200) is).0
 within_short (Check process) is = omega arith
 within_short (Delete name) is = named_short name is
+
+-- No command is answered by the code of want of memory, since there is none.
+no_code : (verdict : Result (ℕ × Command) CommandRefusal) → IfErr verdict (λ r. r ≢ refused.NoMemory)
+    → coded (Err refused.NoMemory) ≡ coded verdict → ⊥
+no_code (Ok order) of_octets e = cc
+no_code (Err (refused.Packet fault)) of_octets e = cc
+no_code (Err refused.OtherName) of_octets e = cc
+no_code (Err refused.Unsigned) of_octets e = cc
+no_code (Err refused.ParamsDigest) of_octets e = cc
+no_code (Err refused.UnknownKey) of_octets e = cc
+no_code (Err refused.BadSignature) of_octets e = cc
+no_code (Err refused.BadParameter) of_octets e = cc
+no_code (Err refused.NoMemory) of_octets e = of_octets refl
+
+pub coded_refusals : (node : List Component) (ring : List Ring.NamedKey) (octets : List ℕ) (refusal : CommandRefusal)
+    → coded (Err refusal) ≡ coded (command_verdict node ring octets) → refusal ≢ refused.NoMemory
+coded_refusals node ring octets refusal e is =
+    no_code (command_verdict node ring octets) (refused_for_octets node ring octets)
+    (ap (λ (r : CommandRefusal). coded (Err r)) (sym is) ∙ e)
 
 module _ (g : GroupKeys) (number client : ℕ) (group : IsGroup g) (there : number < length g.members.names)
     (known : client < length g.clients.names) where

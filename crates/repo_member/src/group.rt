@@ -1,4 +1,6 @@
 ghost use Rattle.std.specs.Prelude.{◌≡◌, ◌≤◌, ◌↔◌, ◌⊎◌, true, false, length, MatchResult, IfOk, OnOk, OnErr, Ok, Err};
+ghost use Rattle.std.specs.Prelude.{IfErr, IsOk};
+ghost use Rattle.svs_sync.specs.SyncInterest.{signer_verdict};
 ghost use Rattle.repo_member.specs.Groups.{IsPlainNodeName, IsKey, IsGroup, HaveKeys, is_name_taken, node_limit};
 ghost use Rattle.repo_member.specs.Groups.{no_nodes, with_node};
 ghost use Rattle.repo_member.specs.Verdicts.{group_verdict};
@@ -136,11 +138,18 @@ impl Group {
         &self.name
     }
 
-    /// The number of the member that signed a sync Interest of the group, and the vector that it tells.
-    pub fn check_sync(&self, alloc: Global, octets: &[u8]) -> Result<(u32, Vector), SyncRefusal>
+    /// The number of the member that signed a sync Interest of the group, and the vector that it tells. Want of memory
+    /// is told where all that is tested before the vector has passed.
+    pub(crate) fn check_sync(
+        &self,
+        alloc: Global,
+        octets: &[u8],
+    ) -> Result<(u32, Vector), SyncRefusal>
         ensures verdict { MatchResult result
             (λ told. group_verdict self.now octets.now ≡ Ok (told.0, told.1))
             (λ refusal. (group_verdict self.now octets.now ≡ Err refusal) ⊎ (refusal ≡ SyncRefusal.NoMemory)) }
+        ensures memory { IfErr result (λ refusal. refusal ≡ SyncRefusal.NoMemory
+            → IsOk (signer_verdict self.now.name self.now.members.ring octets.now)) }
         ensures width { IfOk result (λ told. length told.1 ≡ length self.now.members.names) }
         ensures members { IfOk result (λ told. length told.1 ≤ node_limit) }
     {

@@ -54,7 +54,7 @@ pub fn expect_record(part: Part, node: &Name, group: &Name) -> Result<Expected, 
 }
 
 /// The packet of a segment of the object of this name, which has this digest.
-pub fn expect_segment(
+pub(crate) fn expect_segment(
     alloc: Global,
     part: Part,
     object: &NameView<'_>,

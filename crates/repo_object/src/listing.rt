@@ -1,5 +1,4 @@
-ghost use Rattle.std.specs.Prelude.{◌≡◌, ◌↔◌, ◌<◌, None, Some, Err, IsSome, is_some, IfOk, option_map, slice_get};
-ghost use Rattle.std.specs.Option.{option_and_then};
+ghost use Rattle.std.specs.Prelude.{◌≡◌, ◌↔◌, ◌<◌, None, Some, Err, IsSome, is_some, IfOk};
 ghost use Rattle.repo_object.specs.Records.{listing_of, digests_to_come, digests_left, IsListing};
 
 use crate::record_fault::RecordFault;
@@ -29,15 +28,6 @@ pub fn is_record(content: &[u8]) -> bool
     ensures { result ≡ is_some (listing_of content.now) }
 {
     RecordView::read(content).is_some()
-}
-
-/// The digest of the packet of segment `i`, counted from 0, that the record of this content lists;
-/// `None` where the content is no record or counts fewer segments. It takes no memory.
-pub fn digest_at(content: &[u8], i: usize) -> Option<&[u8; 32]>
-    ensures { option_map (λ digest. digest.now) result
-        ≡ option_and_then (λ l. slice_get l.digests i) (listing_of content.now) }
-{
-    RecordView::read(content)?.digest(i)
 }
 
 /// What the record of this content lists.

@@ -64,39 +64,9 @@ pub fn digested_packets_of(
     Ok(packets)
 }
 
-/// The packet of the record that lists this, of the publication of that number by a node of a group,
-/// signed with the node's key. No segment's packet is made.
-pub fn record_packet(
-    alloc: Global,
-    listing: &Listing,
-    seq: u16,
-    node: &Name,
-    group: &Name,
-    key: &[u8],
-) -> Result<Vec<u8>, AllocError>
-    requires name { length (encoding listing.now.name) ≤ object_name_limit }
-    requires few { length listing.now.digests ≤ segment_limit }
-    requires node { length (encoding node.now) ≤ node_name_limit }
-    requires group { length (encoding group.now) ≤ node_name_limit }
-    ensures { IfOk result (λ packet. packet.items
-        ≡ record_packet (publisher node.now group.now key.now) seq listing.now) }
-{
-    let key_name = key_name(node)?;
-    let name = record_name(node, group, seq)?;
-    write_record(
-        alloc,
-        &name,
-        &listing.name,
-        &listing.digests,
-        &key_name,
-        key,
-    )
-}
-
 /// The packet of one part of such a publication, counted from 0, or `None` where it has no such part.
 ///
-/// A segment's packet is made alone. For the record's all others are made too; where their digests
-/// are at hand, [`record_packet`] makes it alone.
+/// A segment's packet is made alone. For the record's all others are made too.
 pub fn packet_of(
     alloc: Global,
     object: &Object,

@@ -40,7 +40,7 @@ impl<'p> RecordView<'p> {
     ghost use Rattle.repo_object.specs.Verdict.{listing_in};
 
     /// The record of this content, or `None` where it is none. It takes no memory.
-    pub fn read(content: &'p [u8]) -> Option<RecordView<'p>>
+    pub(crate) fn read(content: &'p [u8]) -> Option<RecordView<'p>>
         ensures { result ≡ listing_of content.now }
     {
         let RecordReader { name, digests, row } = RecordReader::new(content)?;
@@ -51,7 +51,7 @@ impl<'p> RecordView<'p> {
     }
 
     /// The record of a content that is known to be one, as those are that were checked. Its digests are not gone over.
-    pub fn known(content: &'p [u8]) -> RecordView<'p>
+    fn known(content: &'p [u8]) -> RecordView<'p>
         requires { IsSome (listing_of content.now) }
         ensures { listing_of content.now ≡ Some result }
     {
@@ -84,7 +84,7 @@ impl<'p> RecordView<'p> {
     }
 
     /// The digest of the packet of segment `i`, counted from 0, or `None` where there is no such segment.
-    pub fn digest(&self, i: usize) -> Option<&'p [u8; 32]>
+    pub(crate) fn digest(&self, i: usize) -> Option<&'p [u8; 32]>
         ensures { option_map (λ digest. digest.now) result ≡ slice_get self.now.digests i }
     {
         let count = self.digests.left();
@@ -107,7 +107,7 @@ impl<'p> RecordView<'p> {
     }
 
     /// The same with octets of its own.
-    pub fn to_listing(&self, alloc: Global) -> Result<Listing, AllocError>
+    pub(crate) fn to_listing(&self, alloc: Global) -> Result<Listing, AllocError>
         ensures same { IfOk result (λ listing. listing ≡ self.now) }
         ensures within { IfOk result (λ listing. IsListing listing) }
     {

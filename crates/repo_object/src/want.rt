@@ -68,7 +68,7 @@ impl Want {
     }
 
     /// The packet that is expected.
-    pub fn expected(&self) -> &Expected
+    pub(crate) fn expected(&self) -> &Expected
         ensures { result.now ≡ self.now }
     {
         &self.expected

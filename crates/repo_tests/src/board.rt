@@ -92,7 +92,7 @@ fn outcome(alloc: Global, tries: u32) -> Option<Outcome<u32>>
     let mut two = seats.pop()?;
     share(&board, &mut one, &mut two)?;
     board.join(&mut one, two);
-    board.close(one).ok()
+    board.close(alloc, one).ok()
 }
 
 #[test]
@@ -111,7 +111,7 @@ fn a_board_may_have_no_items(rt: HostRuntime) -> Result<(), Fail> {
     let alloc: Global = rt.alloc();
     let (board, mut seats) = Board::<u32>::new(alloc, 0, 1, 1)?;
     let seat = seats.pop().expect(&rt, "a seat");
-    let outcome = board.close(seat)?;
+    let outcome = board.close(alloc, seat)?;
     assert!(rt; outcome.values.is_empty() && outcome.attempts.is_empty());
     Ok(())
 }

@@ -3,6 +3,7 @@ ghost use Rattle.repo_member.specs.Alone.{IsOfGroup};
 ghost use Rattle.repo_member.specs.Groups.{HaveKeys, IsKey, IsPlainNodeName};
 
 mod commands;
+mod fetched;
 mod worked;
 
 use ndn_name::Name;

@@ -1,4 +1,5 @@
 use bench_net::*;
+use std::process::Abort;
 use std::test::*;
 
 // Shared by threads, so that a proof that these can be is owed here.
@@ -83,4 +84,30 @@ fn seeded_passes(rt: HostRuntime) {
     }
     assert!(rt; Seeded::new(COUNTED).passes(15, 15, 65_535, 65_535, 2_097_151, 135));
     assert!(rt; passed(&Seeded::new([0; 32])) && passed(&TableNet::new(1)));
+}
+
+#[test]
+fn packets_that_were_sent_are_found(rt: HostRuntime) {
+    let mut sent = Sent::new(rt.alloc());
+    assert_eq!(rt; add(&rt, &mut sent, 1, &[0, 2], b"ab"), 1);
+    assert_eq!(rt; add(&rt, &mut sent, 0, &[1, 2], b"c"), 2);
+    assert_eq!(rt; sent.len(), 2);
+    for (k, octets) in [(0, None), (1, Some("ab")), (2, Some("c")), (3, None)] {
+        assert!(rt; sent.octets(k) == octets.map(str::as_bytes), "{k}");
+    }
+    assert!(rt; sent.has(1, &[0, 2]) && sent.has(0, &[1, 2]));
+    assert!(rt; !sent.has(0, &[0, 2]) && !sent.has(1, &[1, 2]) && !sent.has(1, &[0, 3]));
+}
+
+// The number of a packet that is added.
+fn add(
+    rt: &(impl Abort + AllocGlobal),
+    sent: &mut Sent,
+    sender: u32,
+    vector: &[u16],
+    octets: &[u8],
+) -> u32 {
+    let vector = Vec::from_slice(rt.alloc(), vector).expect(rt, "memory");
+    assert!(rt; sent.len() < 10);
+    sent.add(sender, &vector, octets).expect(rt, "memory")
 }

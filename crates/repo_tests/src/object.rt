@@ -112,6 +112,10 @@ fn worked_publication_is_written(rt: HostRuntime) {
     let group = short_name(&rt, "/g");
     let name = short_name(&rt, "/doc");
     let object = object(&rt, &name, b"abc", 10);
+    assert!(rt; object.name().octets() == name.octets());
+    assert!(rt;
+        object.contents().len() == 1 && object.contents()[0].as_slice() == b"abc".as_slice()
+    );
     is_written_whole(&rt, &object, &alice, &group);
     is_written_alone(&rt, &object, &alice, &group);
     comes_with_digests(&rt, &object, &alice, &group);
@@ -168,7 +172,6 @@ fn worked_segment_is_checked(rt: HostRuntime) {
     let alice = short_name(&rt, "/alice");
     let ring = ring_of(&rt, &alice, KEY);
     let listing = listing_of(&rt, &RECORD);
-    record_is_written(&rt, &listing, &alice);
     let want = segment_want(&rt, 1, 1, &listing);
     assert!(rt; want.interest() == FULL_ASKED.as_slice());
     check_all(&rt, &want, &ring, FOR_THE_SEGMENT);
@@ -178,17 +181,6 @@ fn worked_segment_is_checked(rt: HostRuntime) {
 fn listing_of(rt: &(impl Abort + AllocGlobal), record: &[u8]) -> Listing {
     let content = DataView::read(record).expect(rt, "a packet").content;
     read_record(rt.alloc(), content).expect(rt, "a record")
-}
-
-// Sees that what the record lists is written as the record's packet, without its segment's.
-fn record_is_written(rt: &(impl Abort + AllocGlobal), listing: &Listing, node: &Name)
-    requires node { length (encoding node.now) ≤ 200 }
-{
-    let group = short_name(rt, "/g");
-    assert!(rt; listing.name.octets().len() <= OBJECT_NAME_LIMIT);
-    assert!(rt; listing.digests.len() <= SEGMENT_LIMIT);
-    let packet = record_packet(rt.alloc(), listing, 1, node, &group, KEY).expect(rt, "memory");
-    assert!(rt; packet.as_slice() == RECORD.as_slice());
 }
 
 #[test]
@@ -215,7 +207,6 @@ fn segments_in(rt: &(impl Abort + AllocGlobal), content: &[u8]) -> Option<usize>
         Err(RecordFault::NoMemory) => panic!(rt; "memory"),
     };
     assert!(rt; is_record(content) == segments.is_some());
-    assert!(rt; digest_at(content, 0).is_some() == segments.is_some_and(|n| n > 0));
     segments
 }
 
@@ -265,11 +256,10 @@ fn segments_pass(
 )
     requires some { 0 < length ring.now }
 {
-    let content = DataView::read(record).expect(rt, "a packet").content;
     let listing = listing_of(rt, record);
     let mut part = 0u8;
     for segment in segments {
-        assert!(rt; digest_at(content, usize::from(part)) == Some(&digest(segment)));
+        assert!(rt; listing.digests.get(usize::from(part)) == Some(&digest(segment)));
         part = part.saturating_add(1);
         let want = segment_want(rt, 65_535, part, &listing);
         let checked = check_part(&want, segment, ring).expect(rt, "a segment");

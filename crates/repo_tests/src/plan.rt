@@ -78,6 +78,17 @@ fn calls_in_room_that_was_made(rt: HostRuntime) {
     wants(&rt, &plan, &[]);
 }
 
+#[test]
+fn attempts_add_up(rt: HostRuntime) {
+    let mut plan = Plan::new(rt.alloc(), 1).expect(&rt, "memory");
+    for (sum, more) in [(0, 3), (3, 4)] {
+        assert_eq!(rt; plan.attempts(part(1, 1)), sum);
+        plan.add_attempts(part(1, 1), more).expect(&rt, "memory");
+    }
+    assert_eq!(rt; plan.attempts(part(1, 1)), 7);
+    assert_eq!(rt; plan.attempts(part(1, 0)), 0);
+}
+
 // Each record is claimed before it is held, which takes minutes where each claim looks at every number before it.
 #[test]
 fn every_number_of_a_publisher(rt: HostRuntime) {

@@ -255,7 +255,7 @@ fn work_is_expected(alloc: Global, published: &Published) -> Result<bool, Fail>
     };
     let mut worker = Worker::new(seat);
     worker.work(&board, &link, &published.jobs, &published.ring);
-    let outcome = board.close(worker.into_seat())?;
+    let outcome = board.close(alloc, worker.into_seat())?;
     let outcome = PhaseOutcome {
         parts: outcome.values,
         attempts: outcome.attempts,

@@ -63,10 +63,15 @@ labels_in (Number n ∷ values) = labels_in values
 labels_in (Named name ∷ values) = labels_in values
 labels_in (Octets octets ∷ values) = labels_in values
 
--- Labels are members', but a client's where a client stands.
+-- Labels are members'. Of those of a client's command the first is a member's, and what is behind it clients'.
+abbrev pub are_clients : Declared → List (List ℕ) → Bool
+are_clients d [] = true
+are_clients d (client ∷ []) = has_label client d.clients
+are_clients d (client ∷ other ∷ clients) = has_label client d.clients && are_clients d (other ∷ clients)
+
 abbrev pub are_those : Declared → List (List ℕ) → Bool
-are_those d (m ∷ client ∷ []) = has_label m d.members && has_label client d.clients
-are_those d _ = true
+are_those d [] = true
+are_those d (m ∷ clients) = has_label m d.members && are_clients d clients
 
 abbrev pub are_members : Declared → List (List ℕ) → Bool
 are_members d labels = list_all (λ label. has_label label d.members) labels
@@ -79,6 +84,13 @@ are_known_by verb d labels = are_members d labels
 
 abbrev pub are_known : Declared → Stated → Bool
 are_known d s = are_known_by s.verb d (labels_in s.values)
+
+-- The forms that declare the group, a member or a client. All others are events.
+abbrev pub declares : Verb → Bool
+declares Group = true
+declares Member = true
+declares Client = true
+declares verb = false
 
 -- How many segments of this size a content has.
 abbrev pub segments : ℕ → ℕ → ℕ

@@ -1,12 +1,13 @@
-ghost use Rattle.std.specs.Prelude.{◌≡◌};
+ghost use Rattle.std.specs.Prelude.{◌≡◌, false};
 ghost use Rattle.script_lang.specs.Forms.{stated};
-ghost use Rattle.script_lang.specs.Checking.{parties_of, are_known_by, labels_in, Declared};
+ghost use Rattle.script_lang.specs.Checking.{parties_of, are_known_by, declares, labels_in, Declared};
 
 use crate::declaration::{Declaration, has_label};
 use crate::line::Line;
 
-// Whether the labels of a line are of members, and of a client where a client stands.
+// Whether the labels of an event line are of members, and of a client where a client stands.
 pub(crate) fn are_known(members: &[Declaration], clients: &[Declaration], line: &Line) -> bool
+    requires { declares (stated line.now).verb ≡ false }
     ensures { (d : Declared)
         → d.members ≡ parties_of members.now
         → d.clients ≡ parties_of clients.now
@@ -33,12 +34,11 @@ pub(crate) fn are_known(members: &[Declaration], clients: &[Declaration], line: 
         | Line::Ask { m, .. }
         | Line::Feed { m, .. }
         | Line::Block { m, .. } => has_label(m, members),
-        Line::Member { label, .. } | Line::Client { label, .. } => has_label(label, members),
-        Line::Group { .. }
-        | Line::Sync { .. }
+        Line::Sync { .. }
         | Line::Advance { .. }
         | Line::Settle { .. }
         | Line::Summary
         | Line::Traffic => true,
+        Line::Group { .. } | Line::Member { .. } | Line::Client { .. } => unreachable!(),
     }
 }

@@ -1,5 +1,8 @@
 ghost use Rattle.std.specs.Prelude.{◌≡◌, ◌≢◌, ◌≤◌, ◌↔◌, [], ◌∷◌, ℕ, codes, length, true, List, None, Some, Ok, Err};
+ghost use Rattle.std.specs.Prelude.{IfErr};
+ghost use Rattle.script_lang.specs.declared.line_fault.LineFault.TheVariants as fault;
 ghost use Rattle.script_lang.specs.declared.line_fault.LineFault.TheVariants.{Limit, Syntax};
+ghost use Rattle.script_lang.specs.declared.check_fault.CheckFault.TheVariants as refusal;
 ghost use Rattle.script_lang.specs.declared.check_fault.CheckFault.TheVariants.{TooLarge};
 ghost use Rattle.script_lang.specs.declared.verb.Verb.{Verb};
 ghost use Rattle.script_lang.specs.declared.verb.Verb.TheVariants.{Claim, Group, Publish};
@@ -44,6 +47,12 @@ pub fn printed_lines_are_read()
     ensures { (s : Stated) → ArePlainValues s.values → AreOf (form s.verb).kinds s.values
         → are_within s.verb s.values ≡ true → length (printed_line s) ≤ line_octets
         → line_of (printed_line s) ≡ Ok (Some s) }
+{}
+
+/// A refusal that a line gets is told by it and the lines before it, and is never want of memory.
+pub fn refusals_are_of_the_lines()
+    ensures read { (octets : List ℕ) → IfErr (line_of octets) (λ f. f ≢ fault.NoMemory) }
+    ensures checked { (d : Declared) (s : Stated) → IfErr (after_line d s) (λ r. r ≢ refusal.NoMemory) }
 {}
 
 /// A line that names a packet's number or a fetcher passes no total, so it is all the same whether a

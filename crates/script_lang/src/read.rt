@@ -54,8 +54,9 @@ fn read_body(alloc: Global, body: &[u8]) -> Result<Option<Line>, LineFault>
     if !are_printable(body) {
         return Err(LineFault::Syntax);
     }
+    // What is printable is ASCII.
     let Ok(text) = str::from_utf8(body) else {
-        return Err(LineFault::Syntax);
+        unreachable!()
     };
     let words = spaced(alloc, text)?;
     let line = read_words(alloc, &words)?;

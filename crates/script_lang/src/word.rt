@@ -9,7 +9,7 @@ ghost use Rattle.script_lang.specs.Kinds.{is_label, is_label_octet, is_numeral, 
 ghost use Rattle.script_lang.specs.Reading.{Gives};
 
 use crate::line_fault::LineFault;
-use ndn_name::{Name, plain_uri_len};
+use ndn_name::{Name, NameFault, plain_uri_len};
 use std::alloc::Global;
 
 fn is_label(word: &str) -> bool
@@ -65,7 +65,8 @@ pub(crate) fn number_in(least: u64, most: u64, word: &str) -> Result<u64, LineFa
     match word.parse() {
         Ok(number) if least <= number && number <= most => Ok(number),
         Ok(_) => Err(LineFault::Limit),
-        Err(_) => Err(LineFault::Syntax),
+        // A numeral has at most 18 digits.
+        Err(_) => unreachable!(),
     }
 }
 
@@ -180,6 +181,8 @@ pub(crate) fn name_in(alloc: Global, most: u64, word: &str) -> Result<Name, Line
     }
     match Name::from_uri(alloc, word) {
         Ok(name) => Ok(name),
-        Err(_) => Err(LineFault::NoMemory),
+        Err(NameFault::NoMemory) => Err(LineFault::NoMemory),
+        // The text was read before.
+        Err(_) => unreachable!(),
     }
 }

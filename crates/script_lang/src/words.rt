@@ -1,6 +1,6 @@
-ghost use Rattle.std.specs.Prelude.{◌≡◌, ◌<◌, ◌⊎◌, map, length, slice_get, IfErr, IfSome, OnOk, OnErr, Ok, Err, Some};
+ghost use Rattle.std.specs.Prelude.{◌≡◌, ◌<◌, ◌⊎◌, false, map, length, slice_get, IfErr, IfSome, OnOk, OnErr, Ok, Err, Some};
 ghost use Rattle.script_lang.specs.Forms.{stated};
-ghost use Rattle.script_lang.specs.Checking.{Declared, after_event, after_line, party_label, may_declare};
+ghost use Rattle.script_lang.specs.Checking.{Declared, after_event, after_line, declares, party_label, may_declare};
 ghost use Rattle.script_lang.specs.Checking.{nothing_declared, party, party_place};
 
 use crate::check_fault::CheckFault;
@@ -109,6 +109,7 @@ impl Words {
 
     // Takes an event line.
     fn event(&mut self, line: &Line) -> Result<(), CheckFault>
+        requires { declares (stated line.now).verb ≡ false }
         ensures ok { OnOk result (after_event self.old (stated line.now) ≡ Ok self.new) }
         ensures refused { IfErr result (λ fault. after_event self.old (stated line.now) ≡ Err fault) }
         ensures err { OnErr result (self.new ≡ self.old) }

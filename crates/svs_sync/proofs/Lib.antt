@@ -4,3 +4,4 @@ pub mod NameLemmas
 pub mod LengthLemmas
 pub mod VerdictLemmas
 pub mod ToldWidth
+pub mod RefusalLemmas

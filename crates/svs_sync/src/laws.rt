@@ -6,6 +6,8 @@ ghost use Rattle.svs_vector.specs.Rosters.{IsRoster};
 ghost use Rattle.svs_sync.specs.Suppression.{SyncEvent, SyncMember, after_sync_events, fires, mode_of};
 ghost use Rattle.ndn_tlv.specs.Types as types;
 ghost use Rattle.svs_sync.specs.SyncInterest.{sync_interest, sync_verdict, is_sync_name, IsNodeName, IsKeyName};
+ghost use Rattle.svs_sync.specs.declared.sync_refusal.SyncRefusal.TheVariants.{NoMemory};
+ghost use Rattle.std.specs.Prelude.{◌≢◌, IfErr};
 ghost use Rattle.svs_sync.specs.KeptVector.{kept, after_all_kept, fires_kept};
 
 /// After any list of events, what is kept is what the table says over the list of vectors heard since the member was
@@ -47,4 +49,10 @@ pub fn told_vectors_have_all_members()
     ensures { (group : List Component) (roster : List (List Component)) (ring : List NamedKey)
         (octets : List ℕ) (told : ℕ × List ℕ)
         → sync_verdict group roster ring octets ≡ Ok told → length told.1 ≡ length roster }
+{}
+
+/// A refusal that octets get is told by them, and is never want of memory.
+pub fn sync_refusals_are_of_the_octets()
+    ensures { (group : List Component) (roster : List (List Component)) (ring : List NamedKey)
+        (octets : List ℕ) → IfErr (sync_verdict group roster ring octets) (λ refusal. refusal ≢ NoMemory) }
 {}

@@ -12,8 +12,8 @@ mod sync_refusal;
 
 pub use fired::Fired;
 pub use laws::{
-    made_sync_interests_are_checked, sync_interests_are_tested, told_vectors_have_all_members,
-    what_is_kept_is_the_join,
+    made_sync_interests_are_checked, sync_interests_are_tested, sync_refusals_are_of_the_octets,
+    told_vectors_have_all_members, what_is_kept_is_the_join,
 };
 pub use machine::Machine;
 pub use mode::Mode;

@@ -69,6 +69,7 @@ impl Member {
         requires group { IsOfGroup g.now self.old }
         ensures part { IfOk result (λ part. accept_verdict g.now self.old f octets.now ≡ Ok part) }
         ensures ok { IfOk result (λ part. self.new ≡ alone_accepts f part octets.now self.old) }
+        ensures idle { (result ≡ Err AcceptRefusal.FetcherIdle) ↔ (claim_of (alone_plan self.old) f ≡ None) }
         ensures refused { IfErr result (λ refusal. (refusal ≡ AcceptRefusal.NoMemory)
             ⊎ (accept_verdict g.now self.old f octets.now ≡ Err refusal)) }
         ensures err { OnErr result (self.new ≡ self.old) }

@@ -1,8 +1,9 @@
 ghost use Rattle.std.specs.Prelude.{◌≡◌, ◌<◌, ◌≤◌, ◌^◌, ◌⊎◌, ◌↔◌, Ok, Err, IsFalse, IfOk, IfErr, IsOkAnd, OnOk, OnErr};
-ghost use Rattle.std.specs.Prelude.{length, slice_index};
+ghost use Rattle.std.specs.Prelude.{◌≢◌, length, slice_index, IsOk};
 ghost use Rattle.svs_vector.specs.Vectors.{join};
 ghost use Rattle.svs_sync.specs.Suppression.{mode_of};
 ghost use Rattle.svs_sync.specs.KeptVector.{fires_kept};
+ghost use Rattle.svs_sync.specs.SyncInterest.{signer_verdict};
 ghost use Rattle.repo_member.specs.Groups.{node_limit};
 ghost use Rattle.repo_member.specs.Alone.{IsOfGroup, alone_learns, alone_hears, alone_fires};
 ghost use Rattle.repo_member.specs.Verdicts.{sync_of, vector_verdict, hear_verdict};
@@ -46,6 +47,9 @@ impl Member {
         ensures mode { IfOk result (λ mode. mode ≡ mode_of self.new.machine.heard) }
         ensures refused { IfErr result (λ refusal. (refusal ≡ HearRefusal.NoMemory)
             ⊎ (hear_verdict g.now self.old octets.now ≡ Err refusal)) }
+        ensures memory { IfErr result (λ refusal. refusal ≡ HearRefusal.NoMemory
+            → IsOk (signer_verdict g.now.name g.now.members.ring octets.now)) }
+        ensures sync { result ≢ Err (HearRefusal.Sync SyncRefusal.NoMemory) }
         ensures err { OnErr result (self.new ≡ self.old) }
     {
         let told = self.told(g, octets)?;
@@ -80,6 +84,9 @@ impl Member {
         ensures changed { IfOk result (λ changed. IsFalse changed ↔ (self.new.known ≡ self.old.known)) }
         ensures refused { IfErr result (λ refusal. (refusal ≡ HearRefusal.NoMemory)
             ⊎ (hear_verdict g.now self.old octets.now ≡ Err refusal)) }
+        ensures memory { IfErr result (λ refusal. refusal ≡ HearRefusal.NoMemory
+            → IsOk (signer_verdict g.now.name g.now.members.ring octets.now)) }
+        ensures sync { result ≢ Err (HearRefusal.Sync SyncRefusal.NoMemory) }
         ensures err { OnErr result (self.new ≡ self.old) }
     {
         let told = self.told(g, octets)?;
@@ -137,6 +144,9 @@ impl Member {
         ensures members { IfOk result (λ told. length told ≤ node_limit) }
         ensures refused { IfErr result (λ refusal. (refusal ≡ HearRefusal.NoMemory)
             ⊎ (hear_verdict g.now self.now octets.now ≡ Err refusal)) }
+        ensures memory { IfErr result (λ refusal. refusal ≡ HearRefusal.NoMemory
+            → IsOk (signer_verdict g.now.name g.now.members.ring octets.now)) }
+        ensures sync { result ≢ Err (HearRefusal.Sync SyncRefusal.NoMemory) }
     {
         match g.check_sync(*self.log.allocator(), octets) {
             Ok((_, told)) => Ok(told),

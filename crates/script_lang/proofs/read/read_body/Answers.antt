@@ -2,6 +2,6 @@ use Rattle.std.proofs.Common.{sym, ◌∙◌}
 use Rattle.script_lang.proofs.Texts.{is_text}
 use Rattle.script_lang.proofs.read.read_body.Goals as goal
 
-pub returns-in_default : goal.returns-in_default
-returns-in_default c = absurd (c.in_default.ensures.cases.0
+pub unreachable-requires : goal.unreachable-requires
+unreachable-requires c = absurd (c.in_default.ensures.cases.0
     (is_text c.args.body.now (sym c.are_printable.ensures ∙ c.if-not-are_printable.false)))
