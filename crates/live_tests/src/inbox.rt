@@ -146,26 +146,144 @@ fn an_inbox_holds_sixty_four_values(rt: HostRuntime) -> Result<(), Fail> {
     Ok(())
 }
 
-// What two threads put, what a third one took, and what was left.
-struct Passed {
-    one: u32,
-    two: u32,
-    taken: Vec<u32>,
-    left: Vec<u32>,
+// A port and how many values the inbox took of it.
+struct Put {
+    port: Port<u32>,
+    count: u32,
 }
 
-// One thread puts values from 0 on, another from 1000 on, and this one takes.
-fn in_threads<R: Threads + Wait + Sync>(
+fn put_from<R: Wait>(rt: &R, inbox: &Inbox<u32>, mut port: Port<u32>, first: u32) -> Put
+    requires value { first ≤ 10000 }
+    requires port { IsPortOf inbox.now port }
+    ensures port { IsPortOf inbox.now result.port }
+{
+    let count = put_some(rt, inbox, &mut port, first, 300);
+    Put { port, count }
+}
+
+// A mouth and what it took.
+struct Taken {
+    mouth: Mouth<u32>,
+    values: Result<Vec<u32>, AllocError>,
+}
+
+fn take_all<R: Wait>(rt: &R, alloc: Global, inbox: &Inbox<u32>, mut mouth: Mouth<u32>) -> Taken
+    requires { IsMouthOf inbox.now mouth }
+    ensures { IsMouthOf inbox.now result.mouth }
+{
+    let values = take_some(rt, alloc, inbox, &mut mouth, 600);
+    Taken { mouth, values }
+}
+
+// A thread puts, and another takes.
+fn pass<R: Threads + Wait + Sync>(
     rt: &R,
     alloc: Global,
     inbox: &Inbox<u32>,
-    one: &mut Port<u32>,
-    two: &mut Port<u32>,
-    mouth: &mut Mouth<u32>,
-) -> (u32, u32, Result<Vec<u32>, AllocError>)
-    requires one { IsPortOf inbox.now one.old }
-    requires two { IsPortOf inbox.now two.old }
-    requires mouth { IsMouthOf inbox.now mouth.old }
+    port: Port<u32>,
+    mouth: Mouth<u32>,
+) -> (Put, Taken)
+    requires port { IsPortOf inbox.now port }
+    requires mouth { IsMouthOf inbox.now mouth }
+    ensures port { IsPortOf inbox.now result.0.port }
+    ensures mouth { IsMouthOf inbox.now result.1.mouth }
 {
-    (0, 0, Ok(Vec::new(alloc)))
+    join(
+        rt,
+        move || -> Put
+            requires { IsPortOf inbox.now port }
+            ensures { IsPortOf inbox.entry.now result.port }
+        { put_from(rt, inbox, port, 1000) },
+        move || -> Taken
+            requires { IsMouthOf inbox.now mouth }
+            ensures { IsMouthOf inbox.entry.now result.mouth }
+        { take_all(rt, alloc, inbox, mouth) },
+    )
+}
+
+// A third thread puts, too.
+fn pass_two<R: Threads + Wait + Sync>(
+    rt: &R,
+    alloc: Global,
+    inbox: &Inbox<u32>,
+    one: Port<u32>,
+    two: Port<u32>,
+    mouth: Mouth<u32>,
+) -> (Put, (Put, Taken))
+    requires one { IsPortOf inbox.now one }
+    requires two { IsPortOf inbox.now two }
+    requires mouth { IsMouthOf inbox.now mouth }
+    ensures one { IsPortOf inbox.now result.0.port }
+    ensures two { IsPortOf inbox.now result.1.0.port }
+    ensures mouth { IsMouthOf inbox.now result.1.1.mouth }
+{
+    join(
+        rt,
+        move || -> Put
+            requires { IsPortOf inbox.now one }
+            ensures { IsPortOf inbox.entry.now result.port }
+        { put_from(rt, inbox, one, 0) },
+        move || -> (Put, Taken)
+            requires { IsPortOf inbox.now two × IsMouthOf inbox.now mouth }
+            ensures { IsPortOf inbox.entry.now result.0.port × IsMouthOf inbox.entry.now result.1.mouth }
+        { pass(rt, alloc, inbox, two, mouth) },
+    )
+}
+
+// How many values each of two ports put, and the values as they were taken and then as they were left.
+struct Passed {
+    counts: [u32; 2],
+    values: Vec<u32>,
+}
+
+fn passed<R: Threads + Wait + Sync>(rt: &R, alloc: Global) -> Result<Option<Passed>, AllocError> {
+    let (inbox, mut ports, mouth) = Inbox::<u32>::new(alloc, 4, 2)?;
+    let Some(two) = ports.pop() else {
+        return Ok(None);
+    };
+    let Some(one) = ports.pop() else {
+        return Ok(None);
+    };
+    let (one, (two, taken)) = pass_two(rt, alloc, &inbox, one, two, mouth);
+    let Put {
+        port: first,
+        count: one,
+    } = one;
+    let Put {
+        port: second,
+        count: two,
+    } = two;
+    let Taken { mouth, values } = taken;
+    ports.push(first)?;
+    ports.push(second)?;
+    let mut left = inbox.close(rt, alloc, ports, mouth)?;
+    let mut values = values?;
+    values.append(&mut left)?;
+    Ok(Some(Passed {
+        counts: [one, two],
+        values,
+    }))
+}
+
+#[test]
+fn what_threads_put_comes_once_and_in_the_order_of_each(rt: HostRuntime) -> Result<(), Fail> {
+    let passed = passed(&rt, rt.alloc())?.expect(&rt, "two ports");
+    let [one, two] = passed.counts;
+    let values = passed.values.as_slice();
+    assert!(rt; values.len() as u64 == u64::from(one) + u64::from(two));
+    assert!(rt;
+        values
+            .iter()
+            .copied()
+            .filter(|value| *value < 1000)
+            .eq(0..one)
+    );
+    assert!(rt;
+        values
+            .iter()
+            .copied()
+            .filter(|value| *value >= 1000)
+            .eq((1000..2000).take(two as usize))
+    );
+    Ok(())
 }
