@@ -11,6 +11,7 @@ use std::thread::{Threads, join, yield_now};
 const TRIES: u32 = 100_000;
 
 // What each of these puts and takes answers, at an inbox of two values.
+#[derive(Drop)]
 struct Answers {
     puts: [Result<(), u32>; 6],
     takes: [Option<u32>; 4],
@@ -147,6 +148,7 @@ fn an_inbox_holds_sixty_four_values(rt: HostRuntime) -> Result<(), Fail> {
 }
 
 // A port and how many values the inbox took of it.
+#[derive(Drop)]
 struct Put {
     port: Port<u32>,
     count: u32,
@@ -162,6 +164,7 @@ fn put_from<R: Wait>(rt: &R, inbox: &Inbox<u32>, mut port: Port<u32>, first: u32
 }
 
 // A mouth and what it took.
+#[derive(Drop)]
 struct Taken {
     mouth: Mouth<u32>,
     values: Result<Vec<u32>, AllocError>,
@@ -231,12 +234,13 @@ fn pass_two<R: Threads + Wait + Sync>(
 }
 
 // How many values each of two ports put, and the values as they were taken and then as they were left.
+#[derive(Drop)]
 struct Passed {
     counts: [u32; 2],
     values: Vec<u32>,
 }
 
-fn passed<R: Threads + Wait + Sync>(rt: &R, alloc: Global) -> Result<Option<Passed>, AllocError> {
+fn pass_all<R: Threads + Wait + Sync>(rt: &R, alloc: Global) -> Result<Option<Passed>, AllocError> {
     let (inbox, mut ports, mouth) = Inbox::<u32>::new(alloc, 4, 2)?;
     let Some(two) = ports.pop() else {
         return Ok(None);
@@ -267,7 +271,7 @@ fn passed<R: Threads + Wait + Sync>(rt: &R, alloc: Global) -> Result<Option<Pass
 
 #[test]
 fn what_threads_put_comes_once_and_in_the_order_of_each(rt: HostRuntime) -> Result<(), Fail> {
-    let passed = passed(&rt, rt.alloc())?.expect(&rt, "two ports");
+    let passed = pass_all(&rt, rt.alloc())?.expect(&rt, "two ports");
     let [one, two] = passed.counts;
     let values = passed.values.as_slice();
     assert!(rt; values.len() as u64 == u64::from(one) + u64::from(two));
