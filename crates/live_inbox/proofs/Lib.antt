@@ -1,0 +1,4 @@
+mod Values
+mod Moves
+mod Dealing
+mod Ending

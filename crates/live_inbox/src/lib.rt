@@ -1,0 +1,16 @@
+//! A bounded inbox that threads share: each of its ports puts values, and the one mouth takes them. What comes of a port
+//! is what it put, in its order, each once.
+#![tactic(auto)]
+
+mod close;
+mod inbox;
+mod knowledge;
+mod mouth;
+mod open;
+mod port;
+mod rule;
+mod steps;
+
+pub use inbox::Inbox;
+pub use mouth::Mouth;
+pub use port::Port;

@@ -1,0 +1,7 @@
+//! Tests of the crates whose threads wait for each other.
+//!
+//! They stand in a crate of their own, since no other test may wait.
+#![tactic(auto)]
+
+#[cfg(test)]
+mod inbox;
