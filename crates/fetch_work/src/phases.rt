@@ -11,6 +11,9 @@ use repo_object::Job;
 use std::alloc::{AllocError, Global};
 use std::thread::Threads;
 
+// To begin a thread is worth it where it has about so many jobs.
+const WORTH: usize = 16;
+
 /// Tries each job until its packet comes, at most so many times, by so many workers in threads.
 ///
 /// The answer is that of one worker who tries one job after another, whatever the number of workers and their turns.
@@ -31,12 +34,19 @@ pub fn phase<'p, L: Link + Sync, R: Threads + Sync>(
     ensures first { IfOk result (λ o.
         AreFirst (L.answer link.now) ring.now tries jobs.now o.parts.items o.attempts.items) }
 {
-    // No thread is started without a job for it.
-    let workers = workers.min(jobs.len().max(1) as u32);
+    let workers = workers.min(worthwhile(jobs.len()));
     let trial = LinkTrial { link, jobs, ring };
     let outcome = team::run(rt, alloc, &trial, jobs.len(), tries, workers)?;
     Ok(PhaseOutcome {
         parts: outcome.values,
         attempts: outcome.attempts,
     })
+}
+
+// How many workers so many jobs are worth: none is without a job, two share a few, and more share many.
+fn worthwhile(jobs: usize) -> u32
+    requires { jobs ≤ 4096 }
+    ensures { 1 ≤ result }
+{
+    (jobs / WORTH).max(2).min(jobs).max(1) as u32
 }
