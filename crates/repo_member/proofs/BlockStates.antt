@@ -16,7 +16,7 @@ use Rattle.repo_process.specs.Fields.{blocks_from}
 use Rattle.repo_process.specs.Insertions.{Insertions, with_process, with_changed, changes_process, with_arrival}
 use Rattle.repo_process.proofs.LawLemmas.{block_stays, block_gone, block_comes}
 use Rattle.repo_member.specs.Members.{AreWaiting}
-use Rattle.repo_member.proofs.SortedMaps.{same_map}
+use Rattle.repo_holdings.proofs.SortedMaps.{same_map}
 use Rattle.repo_member.proofs.InsertionParts.{exact_numbers, Comes, comes_waiting, comes_whole}
 use Rattle.repo_member.proofs.WaitingLemmas.{waiting_with}
 

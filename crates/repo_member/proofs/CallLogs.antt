@@ -18,7 +18,7 @@ use Rattle.repo_process.specs.Insertions.{next_number}
 use Rattle.repo_member.specs.declared.refusals.HearRefusal.{HearRefusal}
 use Rattle.repo_member.specs.declared.refusals.AcceptRefusal.{AcceptRefusal}
 use Rattle.repo_member.specs.Groups.{GroupKeys, publisher_at}
-use Rattle.repo_member.specs.Records.{Packet}
+use Rattle.repo_holdings.specs.Records.{Packet}
 use Rattle.group_model.specs.Member.{with_tries}
 use Rattle.repo_member.specs.Alone.{Alone, Fetched, alone_plan, alone_publishes, packet_in, logged, alone_takes}
 use Rattle.repo_member.specs.Alone.{with_fetched}

@@ -20,7 +20,7 @@ use Rattle.repo_process.specs.Insertions.{next_number}
 use Rattle.repo_store.specs.StoreList.{with_packet}
 use Rattle.repo_member.specs.declared.refusals.HearRefusal.{HearRefusal}
 use Rattle.repo_member.specs.declared.refusals.AcceptRefusal.{AcceptRefusal}
-use Rattle.repo_member.specs.Records.{Packet}
+use Rattle.repo_holdings.specs.Records.{Packet}
 use Rattle.repo_member.specs.Groups.{GroupKeys}
 use Rattle.group_model.specs.Member.{with_tries}
 use Rattle.repo_member.specs.Alone.{Alone, Fetched, alone_plan, with_packets, new_packets, alone_publishes, logged}
@@ -34,8 +34,8 @@ use Rattle.repo_member.specs.Calls.{MemberCall, Publish, Hear, JoinFrom, Fire, C
 use Rattle.repo_member.specs.Calls.{Command, Block, EndClaims, Reset, Restart, if_heard, if_joined, if_claimed, if_lost}
 use Rattle.repo_member.specs.Calls.{if_accepted, after_call, after_calls, HeldPacketsStay, HiddenForGood, HiddenIsGone}
 use Rattle.repo_member.specs.Calls.{OwnStored}
-use Rattle.repo_member.proofs.GainingLemmas.{put_elsewhere}
-use Rattle.repo_member.proofs.HidingLemmas.{other_way, value_outside}
+use Rattle.repo_holdings.proofs.GainingLemmas.{put_elsewhere}
+use Rattle.repo_holdings.proofs.HidingLemmas.{other_way, value_outside}
 use Rattle.repo_member.proofs.HeldParts.{IsReached, StaysStored, missing_value}
 use Rattle.repo_member.proofs.HiddenParts.{hidden_one}
 use Rattle.repo_member.proofs.CallLogs.{takes_same}

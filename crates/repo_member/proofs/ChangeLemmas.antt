@@ -19,7 +19,7 @@ use Rattle.repo_store.specs.StoreList.{with_packet}
 use Rattle.group_model.specs.Member.{Member, gains, insert_keys, with_each_tried, with_tries}
 use Rattle.group_model.specs.Changes as group
 use Rattle.group_model.specs.World.{no_member}
-use Rattle.repo_member.specs.Records.{Packet}
+use Rattle.repo_holdings.specs.Records.{Packet}
 use Rattle.repo_member.specs.Groups.{publisher_at}
 use Rattle.repo_member.specs.Alone.{Alone, Fetched, alone_opening, as_parts, with_packets, new_packets, next_seq}
 use Rattle.repo_member.specs.Alone.{with_fetched, alone_takes}

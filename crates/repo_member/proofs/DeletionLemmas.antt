@@ -14,7 +14,7 @@ use Rattle.repo_member.specs.Alone.{Alone}
 use Rattle.repo_member.specs.Deleting as alone
 use Rattle.repo_member.specs.Deleting.{publications_named, alone_hides}
 use Rattle.repo_member.specs.InGroup.{in_group, AreLogs, StoresTruly, DeletesAlike}
-use Rattle.repo_member.proofs.HidingLemmas.{keys_outside}
+use Rattle.repo_holdings.proofs.HidingLemmas.{keys_outside}
 use Rattle.repo_member.proofs.HiddenParts.{hidden_one}
 use Rattle.repo_member.proofs.GroupCatalogues.{lists_alike}
 

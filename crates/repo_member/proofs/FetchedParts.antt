@@ -19,12 +19,12 @@ use Rattle.repo_object.specs.Publication.{Listed}
 use Rattle.repo_object.specs.Wants.{WantedPart}
 use Rattle.repo_object.specs.Verdict.{CheckedPart, IsChecked, part_verdict, ring_verdict, publisher_key}
 use Rattle.repo_store.specs.StoreList.{with_packet}
-use Rattle.repo_member.specs.Listed.{listing_at, listed_shape}
+use Rattle.repo_holdings.specs.Listed.{listing_at, listed_shape}
 use Rattle.repo_member.specs.Groups.{GroupKeys}
 use Rattle.group_model.specs.Member.{with_tries}
 use Rattle.repo_member.specs.Alone.{Alone, alone_plan, want_of, alone_takes}
 use Rattle.repo_member.specs.Outcomes.{outcome_of, PartsDiffer, IsCheckedFor, AreFetched, IsOutcome}
-use Rattle.repo_member.proofs.GainingLemmas.{contains-value, put_elsewhere, shape_told}
+use Rattle.repo_holdings.proofs.GainingLemmas.{contains-value, put_elsewhere, shape_told}
 use Rattle.repo_member.proofs.PlanChanges.{gains, tied_alone, sound_tried}
 use Rattle.repo_member.proofs.HeldParts.{IsReached, PassesNow, StaysStored, listing_still, want_stays, stays_stored}
 use Rattle.repo_member.proofs.HeldParts.{missing_value, not_there, reached_with, reached_gains}

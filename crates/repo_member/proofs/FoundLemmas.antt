@@ -31,14 +31,14 @@ use Rattle.repo_catalog.specs.declared.entry.Entry.{Entry}
 use Rattle.repo_catalog.specs.Entries.{publication_of, entry_has_name, IsCatalogue}
 use Rattle.group_model.proofs.Lists.{from_filter, each_all, in_at}
 use Rattle.group_model.proofs.SortedSets.{same_set}
-use Rattle.repo_member.specs.Records.{Packet}
-use Rattle.repo_member.specs.Listed.{stored_at, listing_at, listed_shape, are_stored, entry_at, entry_listed}
-use Rattle.repo_member.specs.Listed.{entry_of_listing, entries_in, alone_catalogue}
-use Rattle.repo_member.specs.Gaining.{AreTied}
+use Rattle.repo_holdings.specs.Records.{Packet}
+use Rattle.repo_holdings.specs.Listed.{stored_at, listing_at, listed_shape, are_stored, entry_at, entry_listed}
+use Rattle.repo_holdings.specs.Listed.{entry_of_listing, entries_in, alone_catalogue}
+use Rattle.repo_holdings.specs.Gaining.{AreTied}
 use Rattle.repo_member.specs.Deleting.{publications_named, outside_all}
-use Rattle.repo_member.proofs.CatalogueLemmas.{entries_value, entries_rise, Keyed, entries_keyed}
-use Rattle.repo_member.proofs.GainingLemmas.{contains-value, held_value}
-use Rattle.repo_member.proofs.AskedLemmas.{asked_segment}
+use Rattle.repo_holdings.proofs.CatalogueLemmas.{entries_value, entries_rise, Keyed, entries_keyed}
+use Rattle.repo_holdings.proofs.GainingLemmas.{contains-value, held_value}
+use Rattle.repo_holdings.proofs.AskedLemmas.{asked_segment}
 use Rattle.repo_member.proofs.TruePackets.{value_in}
 
 -- ---- what is catalogued is stored wholly

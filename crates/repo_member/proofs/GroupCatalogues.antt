@@ -27,17 +27,18 @@ use Rattle.group_model.specs.Sound.{IsPublished}
 use Rattle.group_model.proofs.Lists.{from_filter}
 use Rattle.group_model.proofs.Parts.{IsIn, in_published}
 use Rattle.group_model.proofs.Catalogues.{lists_in_order, at_pair, is_published}
-use Rattle.repo_member.specs.Records.{records_in}
-use Rattle.repo_member.specs.Listed.{listing_at, stored_at, listed_shape, packet_content, stored_content}
-use Rattle.repo_member.specs.Listed.{contents_joined, are_stored, entry_of_listing, entry_listed, entry_at, entries_in}
+use Rattle.repo_holdings.specs.Records.{records_in}
+use Rattle.repo_holdings.specs.Listed.{listing_at, stored_at, listed_shape, packet_content, stored_content}
+use Rattle.repo_holdings.specs.Listed.{contents_joined, are_stored, entry_of_listing, entry_listed, entry_at}
+use Rattle.repo_holdings.specs.Listed.{entries_in}
 use Rattle.repo_member.specs.Groups.{GroupKeys, publisher_at}
 use Rattle.repo_member.specs.Alone.{Alone, alone_plan}
-use Rattle.repo_member.specs.Gaining.{AreTied}
+use Rattle.repo_holdings.specs.Gaining.{AreTied}
 use Rattle.repo_member.specs.InGroup.{in_group, AreLogs, StoresTruly, ListsAlike}
-use Rattle.repo_member.proofs.SortedMaps.{same_map, rises_kept}
-use Rattle.repo_member.proofs.RecordLemmas.{rises_records}
-use Rattle.repo_member.proofs.CatalogueLemmas.{entries_value}
-use Rattle.repo_member.proofs.GainingLemmas.{contains-value, complete_stored, shape_told}
+use Rattle.repo_holdings.proofs.SortedMaps.{same_map, rises_kept}
+use Rattle.repo_holdings.proofs.RecordLemmas.{rises_records}
+use Rattle.repo_holdings.proofs.CatalogueLemmas.{entries_value}
+use Rattle.repo_holdings.proofs.GainingLemmas.{contains-value, complete_stored, shape_told}
 use Rattle.repo_member.proofs.TruePackets.{value_in, record_lists, segment_content, listing_counts, published_object}
 use Rattle.repo_member.proofs.TruePackets.{published_by, published_low}
 

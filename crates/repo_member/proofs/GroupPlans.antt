@@ -15,9 +15,9 @@ use Rattle.group_model.specs.Member.{told_by}
 use Rattle.group_model.specs.Sound.{IsPublished}
 use Rattle.group_model.specs.Wanted.{IsWantedPart}
 use Rattle.group_model.proofs.Wants.{wants_those}
-use Rattle.repo_member.specs.KeptValues.{with_kept, kept_values}
-use Rattle.repo_member.specs.Records.{Packet, records_in}
-use Rattle.repo_member.specs.Listed.{listed_shape, shapes_in}
+use Rattle.repo_holdings.specs.KeptValues.{with_kept, kept_values}
+use Rattle.repo_holdings.specs.Records.{Packet, records_in}
+use Rattle.repo_holdings.specs.Listed.{listed_shape, shapes_in}
 use Rattle.repo_member.specs.Groups.{GroupKeys, publisher_at}
 use Rattle.repo_member.specs.Alone.{Alone, alone_plan}
 use Rattle.repo_member.specs.InGroup.{AreLogs, StoresTruly, true_packet, in_group, SoundStoresTruly, PlansAlike}

@@ -31,15 +31,15 @@ use Rattle.repo_object.proofs.Passing.{passes}
 use Rattle.repo_object.proofs.Publications.{packets-length, record_listed}
 use Rattle.repo_process.specs.Insertions.{Insertions}
 use Rattle.repo_store.specs.StoreList.{with_packet}
-use Rattle.repo_member.specs.Records.{Packet}
-use Rattle.repo_member.specs.Listed.{stored_at, listing_at, listed_shape}
+use Rattle.repo_holdings.specs.Records.{Packet}
+use Rattle.repo_holdings.specs.Listed.{stored_at, listing_at, listed_shape}
 use Rattle.repo_member.specs.Groups.{GroupKeys, IsGroup, node_at, publisher_at}
 use Rattle.repo_member.specs.Alone.{Alone, IsAlone, IsOfGroup, alone_plan, alone_opening, logged, packet_in}
 use Rattle.repo_member.specs.Alone.{nothing_listed, want_of, alone_learns}
-use Rattle.repo_member.specs.Gaining.{told_shape}
+use Rattle.repo_holdings.specs.Gaining.{told_shape}
 use Rattle.repo_member.specs.Blocks.{AreWithinLimits}
-use Rattle.repo_member.proofs.GainingLemmas.{contains-value, put_elsewhere, value_of-put}
-use Rattle.repo_member.proofs.AskedLemmas.{asked_segment}
+use Rattle.repo_holdings.proofs.GainingLemmas.{contains-value, put_elsewhere, value_of-put}
+use Rattle.repo_holdings.proofs.AskedLemmas.{asked_segment}
 use Rattle.repo_member.proofs.MemberLemmas.{knows_more, want_part}
 use Rattle.repo_member.proofs.OwnLemmas.{is_publisher}
 use Rattle.repo_member.proofs.ChangeLemmas.{rises_put}

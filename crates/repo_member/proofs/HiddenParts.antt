@@ -20,14 +20,14 @@ use Rattle.repo_store.specs.StoreList.{packets_outside}
 use Rattle.repo_catalog.specs.declared.entry.Entry.{Entry}
 use Rattle.repo_catalog.specs.Entries.{publication_of, entry_has_name}
 use Rattle.group_model.proofs.Lists.{from_filter}
-use Rattle.repo_member.specs.Records.{Packet}
-use Rattle.repo_member.specs.Listed.{alone_catalogue}
+use Rattle.repo_holdings.specs.Records.{Packet}
+use Rattle.repo_holdings.specs.Listed.{alone_catalogue}
 use Rattle.repo_member.specs.Groups.{GroupKeys, node_at}
-use Rattle.repo_member.specs.Gaining.{AreTied}
+use Rattle.repo_holdings.specs.Gaining.{AreTied}
 use Rattle.repo_member.specs.Alone.{Alone, alone_plan, want_of, nothing_listed}
 use Rattle.repo_member.specs.Deleting.{publications_named, catalogued_named, alone_hides, alone_deletes}
-use Rattle.repo_member.proofs.HidingLemmas.{other_way, value_outside, rises_outside, keys_outside, shapes_outside}
-use Rattle.repo_member.proofs.HidingLemmas.{others_stay}
+use Rattle.repo_holdings.proofs.HidingLemmas.{other_way, value_outside, rises_outside, keys_outside, shapes_outside}
+use Rattle.repo_holdings.proofs.HidingLemmas.{others_stay}
 use Rattle.repo_member.proofs.FoundLemmas.{entry_listed_whole, whole_known, whole_unclaimed}
 use Rattle.repo_member.proofs.PlanChanges.{tied_alone}
 use Rattle.repo_member.proofs.HeldParts.{IsReached, PassesNow}

@@ -19,7 +19,7 @@ use Rattle.repo_object.specs.Publication.{packets, packet_at}
 use Rattle.repo_store.specs.StoreList.{with_packet}
 use Rattle.group_model.specs.Publications.{Logs, no_object, object_at, last_of}
 use Rattle.group_model.specs.Sound.{IsPublished}
-use Rattle.repo_member.specs.Records.{Packet}
+use Rattle.repo_holdings.specs.Records.{Packet}
 use Rattle.repo_member.specs.Groups.{GroupKeys, publisher_at}
 use Rattle.group_model.specs.Member.{with_tries}
 use Rattle.repo_member.specs.Alone.{Alone, Fetched, alone_publishes, alone_accepts, as_parts, with_packets, next_seq}
@@ -27,7 +27,7 @@ use Rattle.repo_member.specs.Alone.{with_fetched}
 use Rattle.repo_member.specs.InGroup.{StoresTruly, IsItsPacket, CameTruly, true_packet, GrowInto, BeginsTruly}
 use Rattle.repo_member.specs.InGroup.{GrowsTruly, PublishesTruly, AcceptsTruly, TakesTruly, StaysTrue, LogsBegin}
 use Rattle.repo_member.specs.InGroup.{LogsGrow}
-use Rattle.repo_member.proofs.GainingLemmas.{contains-value, value_of-put}
+use Rattle.repo_holdings.proofs.GainingLemmas.{contains-value, value_of-put}
 use Rattle.repo_member.proofs.ChangeLemmas.{keys_put, rises_put}
 
 same_some : (a b : List ℕ) → (let o : Option (List ℕ) = Some a in o) ≡ Some b → a ≡ b

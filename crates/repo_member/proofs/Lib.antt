@@ -1,13 +1,5 @@
 mod GroupLemmas
-mod SortedMaps
-mod RecordLemmas
-mod CatalogueLemmas
-mod GainingLemmas
-mod HidingLemmas
-mod ContentLemmas
-mod AskedLemmas
 mod PlanLemmas
-mod WholeLemmas
 mod PublishLemmas
 mod MemberLemmas
 mod OwnLemmas

@@ -16,15 +16,15 @@ use Rattle.repo_object.specs.Publication.{Listed}
 use Rattle.repo_plan.specs.Plan.{PlanState}
 use Rattle.repo_plan.proofs.Changes.{same_holdings}
 use Rattle.repo_member.specs.declared.member.Member.TheInside.{Inside}
-use Rattle.repo_member.specs.declared.member.stored_record.StoredRecord.{StoredRecord}
-use Rattle.repo_member.specs.Listed.{listing_at, listed_shape}
-use Rattle.repo_member.specs.StoredRecords.{IsStored, IsListedIn}
+use Rattle.repo_holdings.specs.declared.stored_record.StoredRecord.{StoredRecord}
+use Rattle.repo_holdings.specs.Listed.{listing_at, listed_shape}
+use Rattle.repo_holdings.specs.StoredRecords.{IsStored, IsListedIn}
 use Rattle.repo_object.specs.Wants.{want_record, want_segment}
-use Rattle.repo_member.specs.Records.{Packet}
+use Rattle.repo_holdings.specs.Records.{Packet}
 use Rattle.repo_member.specs.Groups.{GroupKeys, HaveKeys, node_at}
 use Rattle.repo_member.specs.Alone.{Alone, IsOfGroup, alone_plan, want_of, nothing_listed}
 use Rattle.repo_member.specs.Members.{alone, IsMember}
-use Rattle.repo_member.proofs.AskedLemmas.{IsListedSegment, asked_segment, asked_member}
+use Rattle.repo_holdings.proofs.AskedLemmas.{IsListedSegment, asked_segment, asked_member}
 use Rattle.repo_member.proofs.GroupLemmas.{ring_length}
 
 -- the plan is that of the member's value, with what is spare

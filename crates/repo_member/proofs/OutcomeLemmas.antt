@@ -28,7 +28,8 @@ use Rattle.ndn_data.specs.Data.{Data, data_of, data_fields, data_from}
 use Rattle.repo_plan.specs.declared.part.Part.{Part}
 use Rattle.sorted_lists.specs.SortedList.{IsBefore, Rises, contains, value_of, with_value}
 use Rattle.repo_plan.specs.Parts.{Pair, Shape, pair_cmp, part_cmp, pair_of, part_of}
-use Rattle.repo_plan.specs.Plan.{PlanState, holds, hides, knows, is_asked, is_wanted, is_claimed, is_unclaimed, is_after}
+use Rattle.repo_plan.specs.Plan.{PlanState, holds, hides, knows, is_asked, is_wanted, is_claimed, is_unclaimed}
+use Rattle.repo_plan.specs.Plan.{is_after}
 use Rattle.repo_plan.specs.Plan.{unclaimed, known_parts, can_be_asked, shape_of, attempts_of}
 use Rattle.repo_plan.proofs.Changes.{wanted_parts}
 use Rattle.repo_plan.proofs.Known.{unclaimed_rises}
@@ -38,12 +39,12 @@ use Rattle.repo_object.specs.declared.job.Job.{Job}
 use Rattle.repo_object.specs.Publication.{Listed}
 use Rattle.repo_object.specs.Verdict.{CheckedPart, listing_in}
 use Rattle.repo_member.specs.Groups.{GroupKeys, HaveKeys}
-use Rattle.repo_member.specs.Records.{Packet}
-use Rattle.repo_member.specs.Listed.{listing_at, stored_at, listed_shape}
+use Rattle.repo_holdings.specs.Records.{Packet}
+use Rattle.repo_holdings.specs.Listed.{listing_at, stored_at, listed_shape}
 use Rattle.group_model.specs.Member.{with_tries}
 use Rattle.repo_member.specs.Alone.{Alone, Fetched, IsOfGroup, alone_plan, want_of, with_fetched, alone_takes}
-use Rattle.repo_member.specs.Gaining.{AreTied, IsArrival}
-use Rattle.repo_member.specs.declared.gaining.Arrival.{Arrival}
+use Rattle.repo_holdings.specs.Gaining.{AreTied, IsArrival}
+use Rattle.repo_holdings.specs.declared.gaining.Arrival.{Arrival}
 use Rattle.repo_member.specs.Members.{alone, IsMember}
 use Rattle.repo_member.specs.declared.member.Member.TheInside.{Inside}
 use Rattle.repo_member.specs.declared.member.outcome.Tried.{Tried}
@@ -51,9 +52,9 @@ use Rattle.repo_member.specs.Outcomes.{job_for, IsPlannedJob, WereTried, JobsAre
 use Rattle.repo_member.specs.Outcomes.{IsOutcome, outcome_of, IsFetched, AreFetched, PartsDiffer, CanBeTaken}
 use Rattle.repo_member.specs.Outcomes.{AreTakable, KeepsButTries, came, octets_in, arrival_octets, with_all_fetched}
 use Rattle.repo_member.specs.Outcomes.{with_all_tries}
-use Rattle.repo_member.proofs.GainingLemmas.{absent, held_value, shape_told, put_elsewhere}
+use Rattle.repo_holdings.proofs.GainingLemmas.{absent, held_value, shape_told, put_elsewhere}
 use Rattle.repo_member.proofs.GroupLemmas.{ring_length}
-use Rattle.repo_member.proofs.AskedLemmas.{asked_segment, asked_member}
+use Rattle.repo_holdings.proofs.AskedLemmas.{asked_segment, asked_member}
 use Rattle.repo_member.proofs.MemberLemmas.{plan_is, want_part}
 
 -- ---- what is taken in all

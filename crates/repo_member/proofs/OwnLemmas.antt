@@ -34,10 +34,10 @@ use Rattle.repo_member.specs.declared.member.Member.TheInside.{Inside}
 use Rattle.repo_member.specs.Groups.{GroupKeys, IsGroup, IsPlainNodeName, node_at, publisher_at}
 use Rattle.repo_catalog.specs.declared.entry.Entry.{Entry}
 use Rattle.std.specs.Option.{option_and_then}
-use Rattle.repo_member.specs.Records.{Packet}
-use Rattle.repo_member.specs.Listed.{listed_shape, listing_at, entry_at, alone_catalogue}
+use Rattle.repo_holdings.specs.Records.{Packet}
+use Rattle.repo_holdings.specs.Listed.{listed_shape, listing_at, entry_at, alone_catalogue}
 use Rattle.repo_member.specs.Alone.{alone_plan, as_parts, with_packets}
-use Rattle.repo_member.specs.Gaining.{AreTied, AreKept, with_listed}
+use Rattle.repo_holdings.specs.Gaining.{AreTied, AreKept, with_listed}
 use Rattle.repo_member.specs.Publishing.{IsNew, ArePackets}
 use Rattle.repo_member.specs.Members.{alone, AreWaiting, IsMember}
 use Rattle.repo_member.proofs.MemberLemmas.{knows_more}

@@ -27,4 +27,4 @@ pub use Rattle.repo_member.proofs.CallVectors.{numbers_never_fall, known_is_the_
 pub use Rattle.repo_member.proofs.CallReach.{in_every_member, claims_once}
 pub use Rattle.repo_member.proofs.CallPackets.{held_packets_stay, hidden_for_good, hidden_is_gone, own_stored}
 pub use Rattle.repo_member.proofs.GroupLemmas.{client_is, client_plain, same_name, none_found}
-pub use Rattle.repo_member.proofs.GainingLemmas.{contains-value}
+pub use Rattle.repo_holdings.proofs.GainingLemmas.{contains-value}

@@ -8,19 +8,20 @@ use Rattle.std.proofs.lemmas.Bool.{true≢false, and_from, or_left, or_right, eq
 use Rattle.repo_plan.specs.declared.part.Part.{Part}
 use Rattle.sorted_lists.specs.SortedList.{keys, Rises, contains, insert_key, value_of, with_value}
 use Rattle.repo_plan.specs.Parts.{Pair, Shape, pair_cmp, part_cmp, pair_of, part_of}
-use Rattle.repo_plan.specs.Plan.{PlanState, holds, hides, knows, is_asked, can_be_asked, is_claimed, shape_of, holds_too}
+use Rattle.repo_plan.specs.Plan.{PlanState, holds, hides, knows, is_asked, can_be_asked, is_claimed, shape_of}
+use Rattle.repo_plan.specs.Plan.{holds_too}
 use Rattle.repo_plan.specs.Plan.{uses_room, with_shape}
 use Rattle.repo_plan.proofs.Orders.{exact_pairs, exact_parts}
 use Rattle.sorted_lists.proofs.Sets.{eq_same, eq_itself, contains-insert_key, value_of-with_value}
 use Rattle.repo_store.specs.StoreList.{with_packet}
-use Rattle.repo_member.specs.Records.{Packet}
+use Rattle.repo_holdings.specs.Records.{Packet}
 use Rattle.repo_object.specs.Verdict.{listing_in}
-use Rattle.repo_member.specs.Listed.{listed_shape, stored_at, entry_at, entry_listed, alone_catalogue}
+use Rattle.repo_holdings.specs.Listed.{listed_shape, stored_at, entry_at, entry_listed, alone_catalogue}
 use Rattle.repo_member.specs.Alone.{as_parts, with_packets}
-use Rattle.repo_member.specs.Gaining.{KeepsOthers, with_listed}
+use Rattle.repo_holdings.specs.Gaining.{KeepsOthers, with_listed}
 use Rattle.repo_member.specs.Publishing.{IsNew}
-use Rattle.repo_member.proofs.CatalogueLemmas.{relisted}
-use Rattle.repo_member.proofs.GainingLemmas.{contains-value, put_here, put_elsewhere}
+use Rattle.repo_holdings.proofs.CatalogueLemmas.{relisted}
+use Rattle.repo_holdings.proofs.GainingLemmas.{contains-value, put_here, put_elsewhere}
 
 -- ---- what stays where packets are put elsewhere
 

@@ -29,7 +29,7 @@ use Rattle.group_model.proofs.Gains.{Publishes, AreTried, sound_takes, sound_gai
 use Rattle.group_model.proofs.Gains.{tried_once_more}
 use Rattle.group_model.proofs.Deletions.{sound_deletes}
 use Rattle.group_model.proofs.Settles.{no_claim}
-use Rattle.repo_member.specs.Records.{Packet}
+use Rattle.repo_holdings.specs.Records.{Packet}
 use Rattle.repo_member.specs.Deleting.{catalogued_named, outside_all}
 use Rattle.repo_member.specs.Commanded.{alone_starts}
 use Rattle.repo_member.specs.Blocks.{alone_block, alone_keeps, after_block}
@@ -47,7 +47,7 @@ use Rattle.repo_member.proofs.CallReach.{fired_wide}
 use Rattle.repo_member.proofs.ChangeLemmas.{publishes_alike, accepts_alike, takes_in_group}
 use Rattle.repo_member.proofs.DeletionLemmas.{deletes_alike}
 use Rattle.repo_member.proofs.GroupPlans.{plans_alike}
-use Rattle.repo_member.proofs.HidingLemmas.{value_outside}
+use Rattle.repo_holdings.proofs.HidingLemmas.{value_outside}
 use Rattle.repo_member.proofs.LastingPackets.{begins_truly, grown_last, grown_object, grows_truly, publishes_truly}
 use Rattle.repo_member.proofs.LastingPackets.{published_grows, object_next, accepts_truly, takes_truly}
 use Rattle.repo_member.proofs.MemberLemmas.{still_wide}

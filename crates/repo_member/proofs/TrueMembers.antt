@@ -29,8 +29,8 @@ use Rattle.group_model.specs.Sound.{IsPublished, IsPublishedPart}
 use Rattle.group_model.proofs.Plans.{IsWanted, wanted_parts}
 use Rattle.group_model.proofs.Members.{known_published}
 use Rattle.repo_member.specs.Groups.{GroupKeys, IsGroup, node_at, member_key, publisher_at}
-use Rattle.repo_member.specs.Records.{Packet}
-use Rattle.repo_member.specs.Listed.{listing_at}
+use Rattle.repo_holdings.specs.Records.{Packet}
+use Rattle.repo_holdings.specs.Listed.{listing_at}
 use Rattle.repo_member.specs.Alone.{Alone, alone_plan, want_of, nothing_listed}
 use Rattle.repo_member.specs.Verdicts.{passed, claim_verdict}
 use Rattle.repo_member.specs.InGroup.{in_group, AreLogs, true_packet}
@@ -38,7 +38,7 @@ use Rattle.repo_member.specs.TrueMembers.{IsTrueMember, true_want, true_packets,
 use Rattle.repo_member.specs.TrueMembers.{StoresThose, LogsThose, WantsPublished, WantsAreTrue, PacketsAreThere}
 use Rattle.repo_member.specs.TrueMembers.{PacketsPass, PacketsPassForMembers, AcceptsTheClaimed, TakesTheTrue}
 use Rattle.repo_member.proofs.CallReach.{accepted}
-use Rattle.repo_member.proofs.GainingLemmas.{contains-value}
+use Rattle.repo_holdings.proofs.GainingLemmas.{contains-value}
 use Rattle.repo_member.proofs.GroupLemmas.{ring_length}
 use Rattle.repo_member.proofs.GroupPlans.{plans_alike, sound_stores_truly}
 use Rattle.repo_member.proofs.HeldParts.{logged_own}

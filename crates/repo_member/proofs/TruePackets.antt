@@ -27,7 +27,7 @@ use Rattle.repo_object.proofs.Packing.{segment_from}
 use Rattle.group_model.specs.Publications.{Logs, no_object, object_at, last_of}
 use Rattle.group_model.specs.Sound.{IsPublished}
 use Rattle.repo_member.specs.Groups.{GroupKeys, publisher_at}
-use Rattle.repo_member.specs.Listed.{listed_shape, content_read, packet_content}
+use Rattle.repo_holdings.specs.Listed.{listed_shape, content_read, packet_content}
 use Rattle.repo_member.specs.InGroup.{AreLogs}
 use Rattle.repo_member.proofs.OwnLemmas.{is_publisher}
 

@@ -16,7 +16,7 @@ use Rattle.repo_process.specs.Insertions.{Insertions, starts, with_process}
 use Rattle.group_model.proofs.Lists.{at_in}
 use Rattle.repo_member.specs.declared.member.Member.TheInside.{Inside}
 use Rattle.repo_member.specs.Alone.{alone_plan}
-use Rattle.repo_member.specs.Gaining.{AreKept}
+use Rattle.repo_holdings.specs.Gaining.{AreKept}
 use Rattle.repo_member.specs.Deleting.{with_hidden, IsHiding}
 use Rattle.repo_member.specs.Members.{alone, AreWaiting, IsMember}
 use Rattle.repo_member.proofs.InsertionParts.{exact_numbers}

@@ -15,8 +15,8 @@ use Rattle.repo_object.specs.Wants.{WantedPart, want_record, want_segment}
 use Rattle.repo_process.specs.Insertions.{Insertions}
 use Rattle.repo_store.specs.StoreList.{with_packet}
 use Rattle.group_model.specs.Member.{with_tries}
-use Rattle.repo_member.specs.Records.{Packet}
-use Rattle.repo_member.specs.Listed.{shapes_in, listing_at}
+use Rattle.repo_holdings.specs.Records.{Packet}
+use Rattle.repo_holdings.specs.Listed.{shapes_in, listing_at}
 use Rattle.repo_member.specs.Groups.{GroupKeys, node_at, publisher_at}
 
 -- what a member has

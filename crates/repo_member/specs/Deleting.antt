@@ -8,8 +8,8 @@ use Rattle.repo_plan.specs.Plan.{PlanState}
 use Rattle.repo_store.specs.StoreList.{packets_outside}
 use Rattle.repo_catalog.specs.declared.entry.Entry.{Entry}
 use Rattle.repo_catalog.specs.Entries.{publication_of, entry_has_name}
-use Rattle.repo_member.specs.Records.{Packet}
-use Rattle.repo_member.specs.Listed.{alone_catalogue}
+use Rattle.repo_holdings.specs.Records.{Packet}
+use Rattle.repo_holdings.specs.Listed.{alone_catalogue}
 use Rattle.repo_member.specs.Alone.{Alone}
 
 -- the publications of the objects of a name that are listed

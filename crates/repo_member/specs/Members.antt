@@ -5,7 +5,7 @@ use Rattle.sorted_lists.specs.SortedList.{value_of}
 use Rattle.repo_process.specs.Processes.{Process, is_whole}
 use Rattle.repo_member.specs.declared.member.Member.TheInside.{Inside}
 use Rattle.repo_member.specs.Alone.{Alone, IsAlone}
-use Rattle.repo_member.specs.Gaining.{AreKept}
+use Rattle.repo_holdings.specs.Gaining.{AreKept}
 
 -- what a member's fields say
 abbrev pub alone : Inside → Alone

@@ -11,10 +11,10 @@ use Rattle.repo_object.specs.declared.job.Job.{Job}
 use Rattle.repo_object.specs.Wants.{WantedPart}
 use Rattle.repo_object.specs.Verdict.{CheckedPart, publisher_key}
 use Rattle.repo_member.specs.Groups.{GroupKeys, HaveKeys}
-use Rattle.repo_member.specs.Records.{Packet}
+use Rattle.repo_holdings.specs.Records.{Packet}
 use Rattle.group_model.specs.Member.{with_tries}
 use Rattle.repo_member.specs.Alone.{Alone, Fetched, IsOfGroup, alone_plan, want_of, with_fetched}
-use Rattle.repo_member.specs.Gaining.{KeepsOthers, IsArrival}
+use Rattle.repo_holdings.specs.Gaining.{KeepsOthers, IsArrival}
 use Rattle.repo_member.specs.declared.member.outcome.Tried.{Tried}
 
 -- the job of a part: its attempts go on from those that were made

@@ -9,7 +9,7 @@ use Rattle.repo_object.specs.Objects.{NamedContents}
 use Rattle.repo_object.specs.Publication.{packets}
 use Rattle.repo_object.specs.Verdict.{listing_in}
 use Rattle.repo_member.specs.Groups.{GroupKeys, publisher_at}
-use Rattle.repo_member.specs.Listed.{listed_shape}
+use Rattle.repo_holdings.specs.Listed.{listed_shape}
 use Rattle.repo_member.specs.Alone.{Alone, next_seq}
 use Rattle.repo_member.specs.Verdicts.{sync_of}
 

@@ -12,7 +12,7 @@ use Rattle.repo_object.specs.Verdict.{ring_verdict}
 use Rattle.group_model.specs.Publications.{Logs, object_at}
 use Rattle.group_model.specs.Sound.{IsPublished, IsPublishedPart, IsSoundMember}
 use Rattle.repo_member.specs.Groups.{GroupKeys, node_at, publisher_at}
-use Rattle.repo_member.specs.Records.{Packet}
+use Rattle.repo_holdings.specs.Records.{Packet}
 use Rattle.repo_member.specs.Alone.{Alone, IsAlone, IsOfGroup, alone_plan, want_of, logged}
 use Rattle.repo_member.specs.Verdicts.{accept_verdict}
 use Rattle.repo_member.specs.InGroup.{in_group, AreLogs, true_packet, AreItsPackets, StoresTruly}

@@ -2,11 +2,9 @@
 //! the group with its members' and clients' keys.
 #![tactic(auto)]
 
-mod gaining;
 mod group;
 mod group_fault;
 mod laws;
-mod listing;
 mod member;
 mod nodes;
 mod refusals;

@@ -3,7 +3,7 @@ ghost use Rattle.svs_sync.specs.Suppression.{mode_of};
 ghost use Rattle.sorted_lists.specs.SortedList.{value_of};
 ghost use Rattle.repo_plan.specs.Parts.{part_cmp};
 ghost use Rattle.repo_store.specs.Served.{served};
-ghost use Rattle.repo_member.specs.Listed.{alone_catalogue};
+ghost use Rattle.repo_holdings.specs.Listed.{alone_catalogue};
 ghost use Rattle.repo_member.specs.Alone.{IsAlone, alone_opening, alone_ends_claims, alone_resets, alone_restarts};
 
 mod block;

@@ -7,7 +7,7 @@ ghost use Rattle.repo_plan.specs.Plan.{knows, claims_part_in};
 ghost use Rattle.repo_command.specs.Commands.{is_command, CommandIsSpelled};
 ghost use Rattle.repo_process.specs.Insertions.{next_number};
 ghost use Rattle.group_model.specs.Steps.{check_answer};
-ghost use Rattle.repo_member.specs.Gaining.{AreKept};
+ghost use Rattle.repo_holdings.specs.Gaining.{AreKept};
 ghost use Rattle.repo_member.specs.Alone.{IsOfGroup, alone_plan};
 ghost use Rattle.repo_member.specs.Deleting.{catalogued_named, alone_deletes, alone_drops, outside_all, IsHiding};
 ghost use Rattle.repo_member.specs.Commanded.{coded, order_of, alone_after_order, alone_order_answer, alone_obeys};

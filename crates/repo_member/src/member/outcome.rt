@@ -2,15 +2,15 @@ ghost use Rattle.std.specs.Prelude.{◌≡◌, ◌+◌, ◌<◌, ◌^◌, ℕ, c
 ghost use Rattle.std.specs.Prelude.{OnErr, map, vec_len};
 ghost use Rattle.group_model.specs.Member.{with_tries};
 ghost use Rattle.repo_member.specs.Alone.{IsOfGroup, alone_plan, alone_takes, with_fetched};
-ghost use Rattle.repo_member.specs.Gaining.{AreKept, HaveRoom};
+ghost use Rattle.repo_holdings.specs.Gaining.{AreKept, HaveRoom};
 ghost use Rattle.repo_member.specs.Outcomes.{IsOutcome, outcome_of, came, octets_in, arrival_octets, CanBeTaken};
 ghost use Rattle.repo_member.specs.Outcomes.{AreTakable};
 ghost use Rattle.repo_member.specs.Outcomes.{KeepsButTries, with_all_fetched, with_all_tries};
 
 use super::Member;
-use crate::gaining::{Arrival, gain_listed, make_room};
 use crate::group::Group;
 use repo_catalog::Catalogue;
+use repo_holdings::{Arrival, gain_listed, make_room};
 use repo_object::{Checked, Job};
 use repo_plan::{Part, Plan};
 use repo_store::Store;

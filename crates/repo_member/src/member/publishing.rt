@@ -5,17 +5,16 @@ ghost use Rattle.repo_object.specs.Objects.{is_object_name, IsContent, IsObject,
 ghost use Rattle.repo_member.specs.Groups.{publisher_at};
 ghost use Rattle.repo_member.specs.Alone.{IsOfGroup, publication_limit, as_parts, with_packets, next_seq};
 ghost use Rattle.repo_member.specs.Alone.{alone_publishes, logged};
-ghost use Rattle.repo_member.specs.Gaining.{AreTied, KeepsOthers};
+ghost use Rattle.repo_holdings.specs.Gaining.{AreTied, KeepsOthers};
 ghost use Rattle.repo_member.specs.Verdicts.{sync_of};
 ghost use Rattle.repo_member.specs.Publishing.{IsPrepared, ArePackets, IsNew};
 
 use super::Member;
 use super::syncing::sync_of;
-use crate::gaining::{gain, make_room};
 use crate::group::Group;
-use crate::listing::list_if_whole;
 use crate::refusals::PublishRefusal;
 use ndn_name::Name;
+use repo_holdings::{gain, list_if_whole, make_room};
 use repo_object::{Digested, Object, digested_packets_of, packet_of};
 use repo_plan::{Part, Plan};
 use repo_store::Store;

@@ -1,21 +1,11 @@
-ghost use Rattle.std.specs.Prelude.{◌≡◌, true, Some, None, IsSome, IfSome};
-ghost use Rattle.repo_plan.specs.Parts.{pair_of};
+ghost use Rattle.std.specs.Prelude.{◌≡◌, true, None, IfSome};
 ghost use Rattle.repo_plan.specs.Plan.{is_asked};
 ghost use Rattle.repo_member.specs.Alone.{alone_plan};
-ghost use Rattle.repo_member.specs.Listed.{listing_at};
-ghost use Rattle.repo_member.specs.StoredRecords.{IsStored, IsListedIn};
+ghost use Rattle.repo_holdings.specs.StoredRecords.{IsStored, IsListedIn};
 
 use super::Member;
-use repo_object::RecordView;
+use repo_holdings::{StoredRecord, record_in};
 use repo_plan::Part;
-use repo_store::Store;
-
-// A stored record, as it was read, and which part it is.
-#[derive(Drop)]
-pub(super) struct StoredRecord<'m> {
-    part: Part,
-    pub(super) view: RecordView<'m>,
-}
 
 impl Member {
     // The stored record that lists a part which is asked for, or none where the part is a record itself.
@@ -46,13 +36,4 @@ impl Member {
             }),
         }
     }
-}
-
-// The record that is stored as this part.
-fn record_in(store: &Store, part: Part) -> RecordView<'_>
-    requires part { part.part ≡ 0 }
-    requires stored { IsSome (listing_at store.now.packets (pair_of part)) }
-    ensures { listing_at store.now.packets (pair_of part) ≡ Some result }
-{
-    RecordView::in_packet(store.get(part).unwrap())
 }

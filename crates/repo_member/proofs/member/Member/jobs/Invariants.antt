@@ -1,6 +1,6 @@
 use Rattle.std.proofs.Common.{◌≡◌, map, take}
 use Rattle.std.specs.Prelude.{IfSome}
-use Rattle.repo_member.specs.StoredRecords.{IsStored}
+use Rattle.repo_holdings.specs.StoredRecords.{IsStored}
 use Rattle.repo_member.specs.Outcomes.{job_for}
 use Rattle.repo_member.proofs.member.Member.jobs.Given as goal
 

@@ -7,7 +7,7 @@ use Rattle.repo_plan.specs.Plan.{PlanState}
 use Rattle.repo_store.specs.StoreList.{StoreList}
 use Rattle.repo_catalog.specs.Entries.{EntryList}
 use Rattle.svs_sync.specs.KeptVector.{Keeper}
-use Rattle.repo_member.specs.Listed.{alone_catalogue, shapes_in}
+use Rattle.repo_holdings.specs.Listed.{alone_catalogue, shapes_in}
 use Rattle.repo_process.specs.Insertions.{Insertions}
 use Rattle.repo_member.specs.Members.{AreWaiting}
 use Rattle.repo_member.proofs.member.Member.new.Goals as goal

@@ -7,8 +7,8 @@ use Rattle.sorted_lists.specs.SortedList.{contains, keys, Rises}
 use Rattle.repo_plan.specs.Plan.{PlanState, raises}
 use Rattle.svs_sync.specs.KeptVector.{Keeper}
 use Rattle.repo_object.specs.Objects.{NamedContents}
-use Rattle.repo_member.specs.Records.{Packet}
-use Rattle.repo_member.specs.Listed.{alone_catalogue}
+use Rattle.repo_holdings.specs.Records.{Packet}
+use Rattle.repo_holdings.specs.Listed.{alone_catalogue}
 use Rattle.repo_member.specs.Groups.{publisher_at}
 use Rattle.repo_member.specs.Alone.{Alone, next_seq}
 use Rattle.repo_member.proofs.OwnLemmas.{next_is_new_at, packets_are, publication_named, published_kept, published_is}

@@ -3,10 +3,10 @@ use Rattle.std.specs.Prelude.{IfSome}
 use Rattle.std.proofs.lemmas.Bool.{and_parts, eqb-true}
 use Rattle.repo_plan.specs.declared.part.Part.{Part}
 use Rattle.repo_plan.specs.Parts.{pair_of}
-use Rattle.repo_member.specs.declared.member.stored_record.StoredRecord.{StoredRecord}
-use Rattle.repo_member.specs.Listed.{listing_at}
+use Rattle.repo_holdings.specs.declared.stored_record.StoredRecord.{StoredRecord}
+use Rattle.repo_holdings.specs.Listed.{listing_at}
 use Rattle.repo_member.specs.Alone.{Alone}
-use Rattle.repo_member.specs.StoredRecords.{IsStored}
+use Rattle.repo_holdings.specs.StoredRecords.{IsStored}
 use Rattle.repo_member.proofs.MemberLemmas.{segment_of, not_zero, some_is, listed_in}
 use Rattle.repo_member.proofs.member.Member.record_for.Goals as goal
 

@@ -6,10 +6,10 @@ use Rattle.std.specs.Iterator.Adapters.{zip_first, zip_second}
 use Rattle.std.proofs.lemmas.List.{append-nil}
 use Rattle.std.proofs.lemmas.List.Elements.{All-push}
 use Rattle.repo_object.specs.Verdict.{CheckedPart}
-use Rattle.repo_member.specs.declared.gaining.Arrival.{Arrival}
+use Rattle.repo_holdings.specs.declared.gaining.Arrival.{Arrival}
 use Rattle.repo_member.specs.declared.member.outcome.Tried.{Tried}
 use Rattle.repo_member.specs.Alone.{alone_plan, Fetched}
-use Rattle.repo_member.specs.Gaining.{IsArrival}
+use Rattle.repo_holdings.specs.Gaining.{IsArrival}
 use Rattle.repo_member.specs.Outcomes.{outcome_of, came, CanBeTaken}
 use Rattle.repo_member.proofs.OutcomeLemmas.{IsSmallPart, nothing_left, first_fetched, one_more, fetched_asked}
 use Rattle.repo_member.proofs.OutcomeLemmas.{can_be_taken, all_apart, few_tried}

@@ -5,7 +5,7 @@ use Rattle.std.specs.Slice.Iter.{iter_rest}
 use Rattle.std.specs.Iterator.Adapters.{zip_first, zip_second}
 use Rattle.repo_member.specs.declared.member.outcome.Tried.{Tried}
 use Rattle.repo_member.specs.Alone.{alone_plan}
-use Rattle.repo_member.specs.StoredRecords.{IsStored}
+use Rattle.repo_holdings.specs.StoredRecords.{IsStored}
 use Rattle.repo_member.specs.Outcomes.{AreFetched, outcome_of, came, CanBeTaken}
 use Rattle.repo_member.proofs.OutcomeLemmas.{IsSmallPart}
 use Rattle.repo_member.proofs.member.Member.tried.Given as goal

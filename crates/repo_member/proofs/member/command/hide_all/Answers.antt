@@ -5,9 +5,9 @@ use Rattle.repo_plan.specs.declared.part.Part.{Part}
 use Rattle.repo_plan.specs.Parts.{Pair}
 use Rattle.repo_plan.specs.Plan.{PlanState, is_claim_in}
 use Rattle.repo_store.specs.StoreList.{StoreList}
-use Rattle.repo_member.specs.Records.{Packet}
+use Rattle.repo_holdings.specs.Records.{Packet}
 use Rattle.repo_member.specs.Deleting.{outside_all, with_hidden}
-use Rattle.repo_member.proofs.HidingLemmas.{kept_hides}
+use Rattle.repo_holdings.proofs.HidingLemmas.{kept_hides}
 use Rattle.repo_member.proofs.member.command.hide_all.Goals as goal
 
 pub hide_reserved-requires-clause-spare : goal.hide_reserved-requires-clause-spare

@@ -1,5 +1,5 @@
 use Rattle.std.proofs.Common.{◌≡◌, ◌≤◌, length, drop}
-use Rattle.repo_member.specs.Gaining.{AreKept}
+use Rattle.repo_holdings.specs.Gaining.{AreKept}
 use Rattle.repo_member.specs.Deleting.{outside_all, with_hidden}
 use Rattle.repo_member.proofs.member.command.hide_all.Given as goal
 

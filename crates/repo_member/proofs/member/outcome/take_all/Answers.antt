@@ -5,8 +5,8 @@ use Rattle.std.specs.Vec.Iter.{into_iter_items}
 use Rattle.std.proofs.lemmas.List.Elements.{All-head, All-tail}
 use Rattle.std.proofs.lemmas.List.Sums.{sum_by-cons}
 use Rattle.repo_member.specs.declared.member.outcome.Tried.{Tried}
-use Rattle.repo_member.specs.declared.gaining.Arrival.{Arrival}
-use Rattle.repo_member.specs.Gaining.{HaveRoom}
+use Rattle.repo_holdings.specs.declared.gaining.Arrival.{Arrival}
+use Rattle.repo_holdings.specs.Gaining.{HaveRoom}
 use Rattle.repo_member.specs.Outcomes.{came, arrival_octets, CanBeTaken, AreTakable, with_all_fetched, with_all_tries}
 use Rattle.repo_member.proofs.OutcomeLemmas.{still_takable, keeps_on}
 use Rattle.repo_member.proofs.member.outcome.take_all.Goals as goal

@@ -1,6 +1,6 @@
 use Rattle.std.proofs.Common.{◌≡◌, ◌+◌, map, length, count_by, sum_by, is_some}
 use Rattle.std.specs.Vec.Iter.{into_iter_items}
-use Rattle.repo_member.specs.Gaining.{AreKept, HaveRoom}
+use Rattle.repo_holdings.specs.Gaining.{AreKept, HaveRoom}
 use Rattle.repo_member.specs.Outcomes.{came, arrival_octets, AreTakable, KeepsButTries, with_all_fetched}
 use Rattle.repo_member.specs.Outcomes.{with_all_tries}
 use Rattle.repo_member.proofs.member.outcome.take_all.Given as goal

@@ -4,7 +4,7 @@ use Rattle.std.specs.List.{All}
 use Rattle.std.specs.Vec.Iter.{into_iter_items}
 use Rattle.ndn_data.specs.Data.{data_of}
 use Rattle.repo_member.specs.Alone.{as_parts, with_packets}
-use Rattle.repo_member.specs.Gaining.{AreTied}
+use Rattle.repo_holdings.specs.Gaining.{AreTied}
 use Rattle.repo_member.proofs.PublishLemmas.{HasGained, TellsTheRest}
 use Rattle.repo_member.proofs.member.publishing.gain_all.Given as goal
 

@@ -1,0 +1,208 @@
+-- The catalogue of stored packets after one publication changed.
+use Rattle.std.proofs.Common.{◌≡◌, ℕ, Bool, true, false, cond, List, [], ◌∷◌, map, refl, sym, ap, ◌∙◌, Option, Some}
+use Rattle.std.proofs.Common.{None, option_map, is_some, unwrap_or, length}
+use Rattle.std.specs.List.{flat_map, list_all}
+use Rattle.std.specs.Option.{option_and_then}
+use Rattle.std.specs.Ordering.{eq_by_cmp, is_eq}
+use Rattle.std.specs.declared.cmp.Ordering.{Ordering}
+use Rattle.std.specs.declared.cmp.Ordering.TheVariants.{Less, Equal, Greater}
+use Rattle.sha2.specs.Sha256.{sha256}
+use Rattle.sorted_lists.specs.SortedList.{by_order, keys, Rises, value_of, with_value}
+use Rattle.sorted_lists.specs.Range.{numbers_from}
+use Rattle.repo_plan.specs.Parts.{Pair, pair_cmp, part_cmp}
+use Rattle.repo_plan.proofs.Orders.{exact_pairs}
+use Rattle.sorted_lists.proofs.Sets.{eq_same, rises_with_value, value_of-with_value}
+use Rattle.repo_object.specs.Publication.{Listed}
+use Rattle.repo_object.specs.Verdict.{listing_in}
+use Rattle.repo_catalog.specs.declared.entry.Entry.{Entry}
+use Rattle.repo_catalog.specs.Entries.{publication_of, with_entry}
+use Rattle.repo_holdings.specs.KeptValues.{with_kept, kept_values}
+use Rattle.repo_holdings.specs.Records.{Packet, records_in}
+use Rattle.repo_holdings.specs.Listed.{listing_at, stored_at, listed_shape, shapes_in, packet_content, entry_listed}
+use Rattle.repo_holdings.specs.Listed.{entry_of_listing, entry_at, entries_in, alone_catalogue}
+use Rattle.repo_holdings.specs.Gaining.{with_listed}
+use Rattle.repo_holdings.proofs.SortedMaps.{same_map, rises_kept, value_of-kept}
+use Rattle.repo_holdings.proofs.RecordLemmas.{rises_records, value_of-records}
+
+pub fun_ext : {A B : Type 0} (f g : A → B) → ((x : A) → f x ≡ g x) → f ≡ g
+fun_ext f g h = λ i x. h x i
+
+-- ---- by publication
+
+and_then_map : {A B C : Type 0} (f : A → Option B) (g : B → C) (o : Option A)
+    → option_and_then (λ x. option_map g (f x)) o ≡ option_map g (option_and_then f o)
+and_then_map f g None = refl
+and_then_map f g (Some x) = refl
+
+and_then_twice : {A B C : Type 0} (f : A → Option B) (g : B → Option C) (o : Option A)
+    → option_and_then (λ x. option_and_then g (f x)) o ≡ option_and_then g (option_and_then f o)
+and_then_twice f g None = refl
+and_then_twice f g (Some x) = refl
+
+-- what a plan is told of a publication
+pub shapes_value : (packets : List Packet) (pair : Pair) → Rises part_cmp (keys packets)
+    → value_of pair_cmp (shapes_in packets) pair ≡ option_map listed_shape (listing_at packets pair)
+shapes_value packets pair r =
+    value_of-kept exact_pairs (λ q octets. option_map listed_shape (listing_in octets)) (records_in packets) pair
+    (rises_records packets r)
+    ∙ ap (option_and_then (λ octets. option_map listed_shape (listing_in octets))) (value_of-records packets pair)
+    ∙ and_then_map listing_in listed_shape (stored_at packets pair 0)
+
+pub shapes_rise : (packets : List Packet) → Rises part_cmp (keys packets) → Rises pair_cmp (keys (shapes_in packets))
+shapes_rise packets r =
+    rises_kept exact_pairs (λ q octets. option_map listed_shape (listing_in octets)) (records_in packets)
+    (rises_records packets r)
+
+abbrev listed_entry : List Packet → Pair → List ℕ → Option Entry
+listed_entry packets pair octets = option_and_then (entry_listed packets pair) (listing_in octets)
+
+pub entries_value : (packets : List Packet) (pair : Pair) → Rises part_cmp (keys packets)
+    → value_of pair_cmp (entries_in packets) pair ≡ entry_at packets pair
+entries_value packets pair r =
+    value_of-kept exact_pairs (listed_entry packets) (records_in packets) pair (rises_records packets r)
+    ∙ ap (option_and_then (listed_entry packets pair)) (value_of-records packets pair)
+    ∙ and_then_twice listing_in (entry_listed packets pair) (stored_at packets pair 0)
+
+pub entries_rise : (packets : List Packet) → Rises part_cmp (keys packets) → Rises pair_cmp (keys (entries_in packets))
+entries_rise packets r = rises_kept exact_pairs (listed_entry packets) (records_in packets) (rises_records packets r)
+
+-- ---- entries stand under their publications
+
+abbrev pub Keyed : List (Pair × Entry) → Type 0
+Keyed [] = Unit {0}
+Keyed (x ∷ xs) = (publication_of x.1 ≡ x.0) × Keyed xs
+
+keyed_kept : {V : Type 0} (f : Pair → V → Option Entry)
+    → ((k : Pair) (v : V) (e : Entry) → f k v ≡ Some e → publication_of e ≡ k) → (es : List (Pair × V))
+    → Keyed (kept_values f es)
+keyed_kept f h [] = tt
+keyed_kept f h (x ∷ es) = go (f x.0 x.1) refl (keyed_kept f h es) where
+  go : (o : Option Entry) → f x.0 x.1 ≡ o → Keyed (kept_values f es) → Keyed (with_kept x.0 o (kept_values f es))
+  go None p k = k
+  go (Some e) p k = (h x.0 x.1 e p, k)
+
+none_is_some : (e : Entry) → let n : Option Entry = None in n ≡ Some e → ⊥
+none_is_some e h = cc
+
+entry_keyed : (packets : List Packet) (pair : Pair) (l : Listed) (e : Entry) → entry_listed packets pair l ≡ Some e
+    → publication_of e ≡ pair
+entry_keyed packets pair l e h =
+    go (list_all (λ x. is_some (stored_at packets pair x)) (numbers_from 1 (listed_shape l))) h where
+      go : (b : Bool) → cond b (Some (entry_of_listing packets pair l)) None ≡ Some e → publication_of e ≡ pair
+      go true p = let same : entry_of_listing packets pair l ≡ e = cc in ap publication_of (sym same)
+      go false p = absurd (none_is_some e p)
+
+listed_keyed : (packets : List Packet) (pair : Pair) (octets : List ℕ) (e : Entry)
+    → listed_entry packets pair octets ≡ Some e → publication_of e ≡ pair
+listed_keyed packets pair octets e h = go (listing_in octets) h where
+  go : (o : Option Listed) → option_and_then (entry_listed packets pair) o ≡ Some e → publication_of e ≡ pair
+  go None p = absurd (none_is_some e p)
+  go (Some l) p = entry_keyed packets pair l e p
+
+pub entries_keyed : (packets : List Packet) → Keyed (entries_in packets)
+entries_keyed packets = keyed_kept (listed_entry packets) (listed_keyed packets) (records_in packets)
+
+-- a new entry goes to its place
+with_entry-map : (e : Entry) (es : List (Pair × Entry)) → Keyed es → value_of pair_cmp es (publication_of e) ≡ None
+    → map (λ x. x.1) (with_value pair_cmp (publication_of e) e es) ≡ with_entry e (map (λ x. x.1) es)
+with_entry-map e [] k none = refl
+with_entry-map e (x ∷ es) k none = go (λ p. with_entry-map e es k.1 p) (pair_cmp (publication_of e) x.0) refl where
+  there : pair_cmp (publication_of e) x.0 ≡ pair_cmp (publication_of e) (publication_of x.1)
+  there = ap (pair_cmp (publication_of e)) (sym k.0)
+
+  go : (value_of pair_cmp es (publication_of e) ≡ None
+      → map (λ y. y.1) (with_value pair_cmp (publication_of e) e es) ≡ with_entry e (map (λ y. y.1) es))
+      → (o : Ordering) → pair_cmp (publication_of e) x.0 ≡ o
+      → map (λ y. y.1)
+      (by_order o ((publication_of e, e) ∷ x ∷ es) ((publication_of e, e) ∷ es)
+      (x ∷ with_value pair_cmp (publication_of e) e es))
+      ≡ by_order (pair_cmp (publication_of e) (publication_of x.1)) (e ∷ x.1 ∷ map (λ y. y.1) es)
+      (x.1 ∷ map (λ y. y.1) es) (x.1 ∷ with_entry e (map (λ y. y.1) es))
+  go h Less p = rw (← there, p) refl
+  go h Equal p =
+      absurd (none_is_some x.1
+      (sym none ∙ ap (λ (o : Ordering). cond (is_eq o) (Some x.1) (value_of pair_cmp es (publication_of e))) p))
+  go h Greater p =
+      let later : value_of pair_cmp es (publication_of e) ≡ None =
+      sym (ap (λ (o : Ordering). cond (is_eq o) (Some x.1) (value_of pair_cmp es (publication_of e))) p) ∙ none in
+      rw (← there, p) (ap (λ (rest : List Entry). x.1 ∷ rest) (h later))
+
+-- ---- what an entry depends on
+
+abbrev stored_entry : (ℕ → Option (List ℕ)) → Pair → Listed → Option Entry
+stored_entry at pair l =
+    cond (list_all (λ x. is_some (at x)) (numbers_from 1 (listed_shape l)))
+    (Some
+    (let joined = flat_map (λ x. packet_content (unwrap_or (at x) [])) (numbers_from 1 (listed_shape l)) in record {
+      publisher = pair.0;
+      seq = pair.1;
+      name = l.name;
+      segments = listed_shape l;
+      octets = length joined;
+      digest = sha256 joined;
+    })) None
+
+abbrev entry_from : (ℕ → Option (List ℕ)) → Pair → Option Entry
+entry_from at pair = option_and_then (stored_entry at pair) (option_and_then listing_in (at 0))
+
+-- publications with the same packets have the same entry
+pub same_entry : (old new : List Packet) (pair : Pair) → ((x : ℕ) → stored_at new pair x ≡ stored_at old pair x)
+    → entry_at new pair ≡ entry_at old pair
+same_entry old new pair h =
+    ap (λ (at : ℕ → Option (List ℕ)). entry_from at pair) (fun_ext (stored_at new pair) (stored_at old pair) h)
+
+-- where only one publication changed, which had no entry, its entry is all that comes to the catalogue
+module _ (old new : List Packet) (pair : Pair) (old_order : Rises part_cmp (keys old))
+    (new_order : Rises part_cmp (keys new))
+    (others : (q : Pair) → eq_by_cmp pair_cmp q pair ≡ false → (x : ℕ) → stored_at new q x ≡ stored_at old q x)
+    (before : entry_at old pair ≡ None) where
+  none_more : entry_at new pair ≡ None → entries_in new ≡ entries_in old
+  none_more none =
+      same_map exact_pairs (entries_in new) (entries_in old) (entries_rise new new_order) (entries_rise old old_order)
+      (λ q. go q (eq_by_cmp pair_cmp q pair) refl) where
+        go : (q : Pair) (b : Bool) → eq_by_cmp pair_cmp q pair ≡ b
+            → value_of pair_cmp (entries_in new) q ≡ value_of pair_cmp (entries_in old) q
+        go q true p =
+            let is = eq_same exact_pairs q pair p in
+            entries_value new q new_order
+            ∙ ap (entry_at new) is
+            ∙ none
+            ∙ sym before
+            ∙ ap (entry_at old) (sym is)
+            ∙ sym (entries_value old q old_order)
+        go q false p =
+            entries_value new q new_order ∙ same_entry old new q (others q p) ∙ sym (entries_value old q old_order)
+
+  one_more : (e : Entry) → entry_at new pair ≡ Some e → entries_in new ≡ with_value pair_cmp pair e (entries_in old)
+  one_more e some =
+      same_map exact_pairs (entries_in new) (with_value pair_cmp pair e (entries_in old)) (entries_rise new new_order)
+      (rises_with_value exact_pairs pair e (entries_in old) (entries_rise old old_order))
+      (λ q. go q (eq_by_cmp pair_cmp q pair) refl) where
+        go : (q : Pair) (b : Bool) → eq_by_cmp pair_cmp q pair ≡ b
+            → value_of pair_cmp (entries_in new) q ≡ value_of pair_cmp (with_value pair_cmp pair e (entries_in old)) q
+        go q true p =
+            let is = eq_same exact_pairs q pair p in
+            entries_value new q new_order ∙ ap (entry_at new) is ∙ some
+            ∙ sym (value_of-with_value exact_pairs pair e (entries_in old) q
+            ∙ ap (λ (b : Bool). cond b (Some e) (value_of pair_cmp (entries_in old) q)) p)
+        go q false p =
+            entries_value new q new_order ∙ same_entry old new q (others q p) ∙ sym (entries_value old q old_order)
+            ∙ sym (value_of-with_value exact_pairs pair e (entries_in old) q
+            ∙ ap (λ (b : Bool). cond b (Some e) (value_of pair_cmp (entries_in old) q)) p)
+
+  entry_pair : (e : Entry) → entry_at new pair ≡ Some e → publication_of e ≡ pair
+  entry_pair e h = go (listing_at new pair) h where
+    go : (o : Option Listed) → option_and_then (entry_listed new pair) o ≡ Some e → publication_of e ≡ pair
+    go None p = absurd (none_is_some e p)
+    go (Some l) p = entry_keyed new pair l e p
+
+  pub relisted : alone_catalogue new ≡ with_listed (entry_at new pair) (alone_catalogue old)
+  relisted = go (entry_at new pair) refl where
+    go : (o : Option Entry) → entry_at new pair ≡ o → alone_catalogue new ≡ with_listed o (alone_catalogue old)
+    go None p = ap (map (λ x. x.1)) (none_more p)
+    go (Some e) p =
+        let is = entry_pair e p in
+        let absent : value_of pair_cmp (entries_in old) (publication_of e) ≡ None =
+        ap (value_of pair_cmp (entries_in old)) is ∙ entries_value old pair old_order ∙ before in
+        ap (map (λ x. x.1)) (one_more e p ∙ ap (λ (k : Pair). with_value pair_cmp k e (entries_in old)) (sym is))
+        ∙ with_entry-map e (entries_in old) (entries_keyed old) absent

@@ -1,0 +1,42 @@
+-- The contents of a publication's segments, one after another.
+use Rattle.std.proofs.Common.{Bor, Option, Some, None, option_map, unwrap_or, ◌≡◌, ℕ, ◌+◌, List, [], ◌∷◌, ◌++◌, refl}
+use Rattle.std.proofs.Common.{sym, ap, ◌∙◌, zero, suc, add-one, append_assoc, arith}
+use Rattle.std.specs.List.{flat_map}
+use Rattle.sorted_lists.specs.Range.{numbers_from}
+use Rattle.repo_plan.specs.Parts.{Pair}
+use Rattle.repo_holdings.specs.Records.{Packet}
+use Rattle.repo_holdings.specs.Listed.{stored_content, contents_joined}
+
+numbers_last : (first n : ℕ) → numbers_from first (suc n) ≡ numbers_from first n ++ (first + n) ∷ []
+numbers_last first zero = let e : first ≡ first + 0 = omega arith in ap (λ (k : ℕ). k ∷ []) e
+numbers_last first (suc n) =
+    let e : (first + 1) + n ≡ first + suc n = omega arith in
+    ap (λ (rest : List ℕ). first ∷ rest)
+    (numbers_last (first + 1) n ∙ ap (λ (k : ℕ). numbers_from (first + 1) n ++ k ∷ []) e)
+
+flat_append : {A B : Type 0} (f : A → List B) (xs ys : List A) → flat_map f (xs ++ ys) ≡ flat_map f xs ++ flat_map f ys
+flat_append f [] ys = refl
+flat_append {B = B} f (x ∷ xs) ys =
+    ap (λ (rest : List B). f x ++ rest) (flat_append f xs ys) ∙ sym (append_assoc (f x) (flat_map f xs) (flat_map f ys))
+
+append_nothing : {A : Type 0} (xs : List A) → xs ++ [] ≡ xs
+append_nothing [] = refl
+append_nothing {A = A} (x ∷ xs) = ap (λ (rest : List A). x ∷ rest) (append_nothing xs)
+
+-- one content more
+pub joined_more : (packets : List Packet) (pair : Pair) (n : ℕ)
+    → contents_joined packets pair (n + 1) ≡ contents_joined packets pair n ++ stored_content packets pair (n + 1)
+joined_more packets pair n =
+    let e : 1 + n ≡ n + 1 = omega arith in
+    ap (λ (m : ℕ). contents_joined packets pair m) (add-one n)
+    ∙ ap (flat_map (stored_content packets pair)) (numbers_last 1 n)
+    ∙ flat_append (stored_content packets pair) (numbers_from 1 n) ((1 + n) ∷ [])
+    ∙ ap (λ (m : ℕ). contents_joined packets pair n ++ (stored_content packets pair m ++ [])) e
+    ∙ ap (λ (rest : List ℕ). contents_joined packets pair n ++ rest)
+    (append_nothing (stored_content packets pair (n + 1)))
+
+-- what is lent where nothing is stored is nothing
+pub lent_or : (o : Option (Bor (List ℕ))) (d : Bor (List ℕ))
+    → (unwrap_or o d).now ≡ unwrap_or (option_map (λ b. b.now) o) d.now
+lent_or None d = refl
+lent_or (Some b) d = refl

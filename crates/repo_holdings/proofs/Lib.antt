@@ -1,0 +1,8 @@
+pub mod SortedMaps
+pub mod RecordLemmas
+pub mod CatalogueLemmas
+pub mod GainingLemmas
+pub mod HidingLemmas
+mod ContentLemmas
+pub mod AskedLemmas
+pub mod WholeLemmas

@@ -1,0 +1,15 @@
+pub use Rattle.ndn_name.specs.Names
+pub use Rattle.ndn_data.specs.Data
+pub use Rattle.sorted_lists.specs.SortedList
+pub use Rattle.repo_plan.specs.Parts
+pub use Rattle.repo_plan.specs.Plan
+pub use Rattle.repo_object.specs.Limits
+pub use Rattle.repo_object.specs.Publication
+pub use Rattle.repo_object.specs.Verdict
+pub use Rattle.repo_store.specs.StoreList
+pub use Rattle.repo_catalog.specs.Entries
+pub mod KeptValues
+pub mod Records
+pub mod Listed
+pub mod Gaining
+pub mod StoredRecords
