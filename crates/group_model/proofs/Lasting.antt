@@ -30,7 +30,7 @@ use Rattle.group_model.specs.Steps.{drawn, claim_at, to_claim, passes_checks, ti
 use Rattle.group_model.specs.Steps.{came_as, fetched_parts, can_start, block_at, with_process_at, after_event}
 use Rattle.group_model.specs.Steps.{after_events, after_publish, after_deliver, after_hear, after_fire, after_claiming}
 use Rattle.group_model.specs.Steps.{after_came, after_command, after_order, after_block}
-use Rattle.group_model.specs.Refusals.{EventIsTaken, EventsAreTaken}
+use Rattle.group_model.specs.Refusals.{EventIsTaken, EventsAreTaken, if_idle_or_foreign}
 use Rattle.group_model.specs.Sound.{IsSoundGroup, IsPublished}
 use Rattle.group_model.specs.Lasting.{Lasts, AllLast, NothingTakenBack, PublisherHolds, AnswersAreKept}
 use Rattle.group_model.specs.Lasting.{PublisherCanAnswer}
@@ -292,13 +292,18 @@ publisher_holds out w s j t l want =
     ]
 
 pub answers_are_kept : (out : Outside) (w : World) → AnswersAreKept out w
-answers_are_kept out w j f q t give claim held =
-    ap (λ (c : Option Part). Reply.Answered (passes_checks (came_from out w q c))) claim
-    ∙ ap (λ (b : Bool). Reply.Answered b) (give (member w q).held t held)
+answers_are_kept out w j f q t claim gives =
+    let came : came_from out w q (claim_at w j f) ≡ Its = ap (came_from out w q) claim ∙ gives in
+    record {
+      taken =
+          ap (λ (c : Option Part). if_idle_or_foreign c (came_from out w q (claim_at w j f))) claim
+          ∙ ap (if_idle_or_foreign (Some t)) came;
+      told = ap (λ (c : Came). Reply.Answered (passes_checks c)) came;
+    }
 
 pub publisher_can_answer : InSoundGroups PublisherCanAnswer
-publisher_can_answer out w s j f t l give claim =
+publisher_can_answer out w s j f t l claim gives =
     elim (publisher_holds out w s j t l ((s.members j l).claimed (f - 1) t claim)) [
-      | inl held ↦ inl (answers_are_kept out w j f t.publisher t give claim held)
+      | inl held ↦ inl (answers_are_kept out w j f t.publisher t claim (gives held))
       | inr hidden ↦ inr hidden
     ]

@@ -9,7 +9,9 @@ pub mod Worlds
 pub mod Runs
 pub mod Wants
 pub mod Catalogues
+pub mod SettledLists
 pub mod Lasting
+pub mod Listings
 pub mod Machines
 pub mod Tries
 pub mod SortedSets
