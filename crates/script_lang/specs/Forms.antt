@@ -116,3 +116,19 @@ stated (line.Delete m client name) =
     said Delete (Text (string_bytes m) ∷ Text (string_bytes client) ∷ Named name ∷ [])
 stated line.Summary = said Summary []
 stated line.Traffic = said Traffic []
+
+-- ---- values of their kinds
+
+-- A value is one of this kind, whatever its range.
+abbrev pub IsShaped : Kind → Value → Type 0
+IsShaped LABEL (Text label) = Unit {0}
+IsShaped (N least most) (Number n) = Unit {0}
+IsShaped (URI most) (Named name) = Unit {0}
+IsShaped (HEX most) (Octets octets) = Unit {0}
+IsShaped (CONTENT least most) (Octets octets) = Unit {0}
+IsShaped kind value = ⊥
+
+abbrev pub AreShaped : List Kind → List Value → Type 0
+AreShaped [] [] = Unit {0}
+AreShaped (kind ∷ kinds) (value ∷ values) = IsShaped kind value × AreShaped kinds values
+AreShaped kinds values = ⊥

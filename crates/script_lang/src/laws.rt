@@ -9,7 +9,8 @@ ghost use Rattle.script_lang.specs.declared.verb.Verb.TheVariants.{Claim, Group,
 ghost use Rattle.script_lang.specs.Limits.{contents_limit, line_octets, members_limit, parts_limit, script_lines};
 ghost use Rattle.script_lang.specs.Limits.{script_octets, settles_limit};
 ghost use Rattle.script_lang.specs.Kinds.{Kind, Named, Number, Octets, Text, Value, word_of};
-ghost use Rattle.script_lang.specs.Forms.{Stated, form, said};
+ghost use Rattle.script_lang.specs.declared.line.Line.{Line};
+ghost use Rattle.script_lang.specs.Forms.{AreShaped, Stated, form, said, stated};
 ghost use Rattle.script_lang.specs.Lines.{are_within, line_of};
 ghost use Rattle.script_lang.specs.Checking.{Declared, after_line, are_within_limits, names_packet_or_fetcher};
 ghost use Rattle.script_lang.specs.Texts.{AreOf, ArePlainValues, IsLineText, IsOfKind, IsWordText, printed_line};
@@ -53,6 +54,11 @@ pub fn printed_lines_are_read()
 pub fn refusals_are_of_the_lines()
     ensures read { (octets : List ℕ) → IfErr (line_of octets) (λ f. f ≢ fault.NoMemory) }
     ensures checked { (d : Declared) (s : Stated) → IfErr (after_line d s) (λ r. r ≢ refusal.NoMemory) }
+{}
+
+/// What a line states has the values that its form has, so that what definitions say of other values is said of no line.
+pub fn lines_state_their_forms()
+    ensures { (line : Line) → AreShaped (form (stated line).verb).kinds (stated line).values }
 {}
 
 /// A line that names a packet's number or a fetcher passes no total, so it is all the same whether a
