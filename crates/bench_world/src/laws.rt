@@ -1,9 +1,22 @@
+ghost use Rattle.std.specs.Prelude.{ℕ};
+ghost use Rattle.repo_member.specs.Groups.{GroupKeys};
+ghost use Rattle.bench_world.specs.EventValues.{EventValue};
 ghost use Rattle.bench_world.specs.Worlds.{GroupState, IsTrueState};
 ghost use Rattle.bench_world.specs.Answerable.{HoldersCanAnswer, PublishersCanAnswer};
+ghost use Rattle.bench_world.specs.Workers.{ComeToTheSame};
 
-/// In every sound world whose segments' packets are told by their names and digests, an answer from a member that holds
-/// the claimed part is kept. So a claimed part can be had from its publisher, unless that has hidden its publication.
+/// Where segments' packets are told by their names and digests, an answer from a member that holds the claimed part is
+/// kept, and so is one from its publisher, unless that has hidden its publication.
 pub fn claimed_parts_can_be_answered()
     ensures holders { (s : GroupState) → IsTrueState s → HoldersCanAnswer s }
     ensures publishers { (s : GroupState) → IsTrueState s → PublishersCanAnswer s }
+{}
+
+/// How many workers fetch or settle is nothing to what refuses the event, to what it makes of the world and to what is
+/// told of it.
+pub fn workers_make_no_difference()
+    ensures fetches { (g : GroupKeys) (m tries loss few many : ℕ)
+        → ComeToTheSame g (EventValue.Fetch m few tries loss) (EventValue.Fetch m many tries loss) }
+    ensures settles { (g : GroupKeys) (few many : ℕ)
+        → ComeToTheSame g (EventValue.Settle few) (EventValue.Settle many) }
 {}

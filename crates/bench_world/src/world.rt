@@ -2,7 +2,7 @@ ghost use Rattle.std.specs.Prelude.{◌≡◌, ◌+◌, ◌<◌, length, IfOk};
 ghost use Rattle.group_model.specs.World.{opening_world, member, catalogue_at};
 ghost use Rattle.group_model.specs.Sound.{IsSoundGroup};
 ghost use Rattle.repo_member.specs.Listed.{alone_catalogue};
-ghost use Rattle.bench_world.specs.Worlds.{world_of, alone_at, drawing, begun_all};
+ghost use Rattle.bench_world.specs.Worlds.{world_of, alone_at, drawing, begun_all, IsTrueState};
 
 mod blocks;
 mod claiming;
@@ -147,6 +147,7 @@ impl World {
         ensures len { result ≡ length self.now.members }
         ensures names { length self.now.members ≡ length self.now.keys.members.names }
         ensures sound { IsSoundGroup (world_of self.now) }
+        ensures truly { IsTrueState self.now }
     {
         self.members.len()
     }
