@@ -41,6 +41,7 @@ impl<T: Drop> Inbox<T> {
         requires ports { (1 ≤ ports) × (ports ≤ 16) }
         ensures capacity { IfOk result (λ r. r.0.capacity ≡ capacity) }
         ensures ports { IfOk result (λ r. r.1.items ≡ fresh_ports r.0.inbox ports ports) }
+        ensures own { IfOk result (λ r. All (λ port. IsPortOf r.0 port) r.1.items) }
         ensures mouth { IfOk result (λ r. r.2 ≡ fresh_mouth r.0.inbox ports) }
     {
         let (queue, mut place) = RuledArrayQueue::ruled(alloc, capacity)?;

@@ -1,4 +1,4 @@
-ghost use Rattle.std.specs.Prelude.{◌≡◌, ◌+◌, ◌<◌, ◌≤◌, [], IfOk, OnOk};
+ghost use Rattle.std.specs.Prelude.{◌≡◌, ◌+◌, ◌<◌, ◌≤◌, [], All, IfOk, OnOk};
 ghost use Rattle.crossbeam_queue.specs.Passes.{view, IsPassOf};
 ghost use Rattle.live_inbox.specs.Knowledge.{mouth_knows, IsDealing};
 ghost use Rattle.live_inbox.specs.Ends.{fresh_port, fresh_ports};
@@ -21,6 +21,7 @@ pub fn deal<N: PortCount, T: Drop>(
     requires mouth { IsDealing ports 0 (view place.old) }
     ensures queue { OnOk result (IsPassOf queue.now place.new) }
     ensures mouth { OnOk result (view place.new ≡ mouth_knows ports ports [] [] []) }
+    ensures own { IfOk result (λ all. All (λ port. port.inbox ≡ queue.now.table.shared.table_id) all.items) }
     ensures ports { IfOk result (λ all. all.items ≡ fresh_ports queue.now.table.shared.table_id ports ports) }
 {
     let mut all = Vec::with_capacity(alloc, ports)?;

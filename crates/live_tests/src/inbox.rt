@@ -127,7 +127,7 @@ fn largest<R: Wait>(
     rt: &R,
     alloc: Global,
 ) -> Result<Option<(u32, Vec<u32>, Vec<u32>)>, AllocError> {
-    let (inbox, mut ports, mut mouth) = Inbox::<u32>::new(alloc, 64, 16)?;
+    let (inbox, mut ports, mut mouth) = Inbox::<u32>::new(alloc, 64, 1)?;
     let Some(mut last) = ports.pop() else {
         return Ok(None);
     };
@@ -144,6 +144,21 @@ fn an_inbox_holds_sixty_four_values(rt: HostRuntime) -> Result<(), Fail> {
     assert!(rt; put == 64);
     assert!(rt; taken.as_slice() == [0, 1].as_slice());
     assert!(rt; left.len() == 62 && left.iter().copied().eq(2..64));
+    Ok(())
+}
+
+// How many ports there are, and how many values are left where nothing was put.
+fn unused<R: Wait>(rt: &R, alloc: Global) -> Result<(usize, usize), AllocError> {
+    let (inbox, ports, mouth) = Inbox::<u32>::new(alloc, 1, 16)?;
+    let count = ports.len();
+    let left = inbox.close(rt, alloc, ports, mouth)?;
+    Ok((count, left.len()))
+}
+
+#[test]
+fn an_inbox_has_sixteen_ports(rt: HostRuntime) -> Result<(), Fail> {
+    let counts = unused(&rt, rt.alloc())?;
+    assert!(rt; counts == (16, 0));
     Ok(())
 }
 
