@@ -6,3 +6,7 @@ pub mod HidingLemmas
 mod ContentLemmas
 pub mod AskedLemmas
 pub mod WholeLemmas
+pub mod HoldingsLemmas
+mod PlanLemmas
+pub mod PublishLemmas
+mod TakingLemmas

@@ -4,7 +4,7 @@ use Rattle.repo_plan.specs.declared.part.Part.{Part}
 use Rattle.repo_plan.specs.Parts.{pair_of}
 use Rattle.repo_holdings.specs.Records.{Packet}
 use Rattle.repo_holdings.specs.Listed.{listing_at, listed_shape}
-use Rattle.repo_holdings.specs.declared.stored_record.StoredRecord.{StoredRecord}
+use Rattle.repo_holdings.specs.declared.holdings.stored_record.StoredRecord.{StoredRecord}
 
 -- a record is the stored one of its publication
 abbrev pub IsStored : List Packet → StoredRecord → Type 0

@@ -1,11 +1,8 @@
-//! What is held of publications: their parts in a plan, the packets in a store, and the catalogue of those that are
-//! stored wholly.
+//! What is held of a group's publications: the plan of the parts that are held and wanted, the store of their packets,
+//! and the catalogue of the publications that are stored wholly, under one invariant.
 #![tactic(auto)]
 
-mod gaining;
+mod holdings;
 mod listing;
-mod stored_record;
 
-pub use gaining::{Arrival, gain, gain_listed, make_room};
-pub use listing::{list_if_whole, owned_name};
-pub use stored_record::{StoredRecord, record_in};
+pub use holdings::{Arrival, Holdings, StoredRecord, Taken, Tried};

@@ -14,8 +14,8 @@ use repo_store::Store;
 use sha2::{Digest, Sha256};
 use std::alloc::{AllocError, Global};
 
-/// A name with octets of its own.
-pub fn owned_name(alloc: Global, view: &NameView<'_>) -> Result<Name, AllocError>
+// A name with octets of its own.
+pub(crate) fn owned_name(alloc: Global, view: &NameView<'_>) -> Result<Name, AllocError>
     requires { length (encoding view.now) ≤ object_name_limit }
     ensures { IfOk result (λ name. name ≡ view.now) }
 {
@@ -26,9 +26,9 @@ pub fn owned_name(alloc: Global, view: &NameView<'_>) -> Result<Name, AllocError
     }
 }
 
-/// Catalogues a publication under its object's name, where its record and every segment are stored. There is room for
-/// the entry.
-pub fn list_if_whole(
+// Catalogues a publication under its object's name, where its record and every segment are stored. There is room for
+// the entry.
+pub(crate) fn list_if_whole(
     plan: &Plan,
     store: &Store,
     catalogue: &mut Catalogue,

@@ -20,8 +20,9 @@ use Rattle.repo_member.specs.declared.refusals.AcceptRefusal.{AcceptRefusal}
 use Rattle.repo_member.specs.Groups.{GroupKeys, publisher_at}
 use Rattle.repo_holdings.specs.Records.{Packet}
 use Rattle.group_model.specs.Member.{with_tries}
-use Rattle.repo_member.specs.Alone.{Alone, Fetched, alone_plan, alone_publishes, packet_in, logged, alone_takes}
-use Rattle.repo_member.specs.Alone.{with_fetched}
+use Rattle.repo_member.specs.Alone.{Alone, alone_plan, alone_publishes, packet_in, logged, alone_takes}
+use Rattle.repo_holdings.specs.Taking.{Fetched}
+use Rattle.repo_holdings.specs.Taking.{with_fetched}
 use Rattle.repo_member.specs.Verdicts.{hear_verdict, accept_verdict}
 use Rattle.repo_member.specs.Outcomes.{outcome_of}
 use Rattle.repo_member.specs.Deleting.{alone_deletes}

@@ -23,8 +23,11 @@ use Rattle.repo_member.specs.declared.refusals.AcceptRefusal.{AcceptRefusal}
 use Rattle.repo_holdings.specs.Records.{Packet}
 use Rattle.repo_member.specs.Groups.{GroupKeys}
 use Rattle.group_model.specs.Member.{with_tries}
-use Rattle.repo_member.specs.Alone.{Alone, Fetched, alone_plan, with_packets, new_packets, alone_publishes, logged}
-use Rattle.repo_member.specs.Alone.{alone_takes, with_fetched}
+use Rattle.repo_member.specs.Alone.{Alone, alone_plan, new_packets, alone_publishes, logged}
+use Rattle.repo_holdings.specs.Taking.{Fetched}
+use Rattle.repo_holdings.specs.NewPublications.{with_packets}
+use Rattle.repo_member.specs.Alone.{alone_takes}
+use Rattle.repo_holdings.specs.Taking.{with_fetched}
 use Rattle.repo_member.specs.Verdicts.{hear_verdict, accept_verdict}
 use Rattle.repo_member.specs.Outcomes.{outcome_of}
 use Rattle.repo_member.specs.Deleting.{catalogued_named, alone_hides}

@@ -21,9 +21,12 @@ use Rattle.group_model.specs.Changes as group
 use Rattle.group_model.specs.World.{no_member}
 use Rattle.repo_holdings.specs.Records.{Packet}
 use Rattle.repo_member.specs.Groups.{publisher_at}
-use Rattle.repo_member.specs.Alone.{Alone, Fetched, alone_opening, as_parts, with_packets, new_packets, next_seq}
-use Rattle.repo_member.specs.Alone.{with_fetched, alone_takes}
-use Rattle.repo_member.specs.Outcomes.{with_all_tries}
+use Rattle.repo_member.specs.Alone.{Alone, alone_opening, new_packets, next_seq}
+use Rattle.repo_holdings.specs.Taking.{Fetched}
+use Rattle.repo_holdings.specs.NewPublications.{as_parts, with_packets}
+use Rattle.repo_holdings.specs.Taking.{with_fetched}
+use Rattle.repo_member.specs.Alone.{alone_takes}
+use Rattle.repo_holdings.specs.Taking.{with_all_tries}
 use Rattle.repo_member.specs.InGroup.{in_group, BeginsAlike, PublishesAlike, AcceptsAlike, TakesAlike, asked_for}
 use Rattle.repo_member.specs.InGroup.{that_came}
 

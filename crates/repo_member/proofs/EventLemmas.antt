@@ -29,8 +29,8 @@ use Rattle.group_model.proofs.SortedSets.{same_members}
 use Rattle.repo_member.specs.Alone.{Alone, alone_plan, alone_learns, alone_hears, alone_fires, alone_claims}
 use Rattle.repo_member.specs.Alone.{alone_accepts, alone_takes, alone_ends_claims}
 use Rattle.repo_member.specs.InGroup.{in_group, StoresInOrder, AreTries, that_came, after_timer}
-use Rattle.repo_member.specs.Outcomes.{with_all_tries}
-use Rattle.repo_member.specs.Alone.{Fetched}
+use Rattle.repo_holdings.specs.Taking.{with_all_tries}
+use Rattle.repo_holdings.specs.Taking.{Fetched}
 use Rattle.repo_member.specs.InEvents.{IsMemberOf, PublishIsEvent, DeliverIsEvent, HearIsEvent, FireIsEvent}
 use Rattle.repo_member.specs.InEvents.{RestartIsEvent, ClaimIsEvent, LoseIsEvent, AnswerIsEvent, FeedIsEvent}
 use Rattle.repo_member.specs.InEvents.{FetchIsEvent, LearnsAtOnce, LearnsWhatAllKnow, IsSettling, GatheringIsEvent}

@@ -23,7 +23,8 @@ use Rattle.repo_holdings.specs.Listed.{listing_at, listed_shape}
 use Rattle.repo_member.specs.Groups.{GroupKeys}
 use Rattle.group_model.specs.Member.{with_tries}
 use Rattle.repo_member.specs.Alone.{Alone, alone_plan, want_of, alone_takes}
-use Rattle.repo_member.specs.Outcomes.{outcome_of, PartsDiffer, IsCheckedFor, AreFetched, IsOutcome}
+use Rattle.repo_member.specs.Outcomes.{outcome_of, IsCheckedFor, AreFetched, IsOutcome}
+use Rattle.repo_holdings.specs.Taking.{PartsDiffer}
 use Rattle.repo_holdings.proofs.GainingLemmas.{contains-value, put_elsewhere, shape_told}
 use Rattle.repo_member.proofs.PlanChanges.{gains, tied_alone, sound_tried}
 use Rattle.repo_member.proofs.HeldParts.{IsReached, PassesNow, StaysStored, listing_still, want_stays, stays_stored}

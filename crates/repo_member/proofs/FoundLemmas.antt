@@ -35,7 +35,8 @@ use Rattle.repo_holdings.specs.Records.{Packet}
 use Rattle.repo_holdings.specs.Listed.{stored_at, listing_at, listed_shape, are_stored, entry_at, entry_listed}
 use Rattle.repo_holdings.specs.Listed.{entry_of_listing, entries_in, alone_catalogue}
 use Rattle.repo_holdings.specs.Gaining.{AreTied}
-use Rattle.repo_member.specs.Deleting.{publications_named, outside_all}
+use Rattle.repo_member.specs.Deleting.{publications_named}
+use Rattle.repo_holdings.specs.Hiding.{outside_all}
 use Rattle.repo_holdings.proofs.CatalogueLemmas.{entries_value, entries_rise, Keyed, entries_keyed}
 use Rattle.repo_holdings.proofs.GainingLemmas.{contains-value, held_value}
 use Rattle.repo_holdings.proofs.AskedLemmas.{asked_segment}

@@ -35,7 +35,8 @@ use Rattle.repo_holdings.specs.Records.{Packet}
 use Rattle.repo_holdings.specs.Listed.{stored_at, listing_at, listed_shape}
 use Rattle.repo_member.specs.Groups.{GroupKeys, IsGroup, node_at, publisher_at}
 use Rattle.repo_member.specs.Alone.{Alone, IsAlone, IsOfGroup, alone_plan, alone_opening, logged, packet_in}
-use Rattle.repo_member.specs.Alone.{nothing_listed, want_of, alone_learns}
+use Rattle.repo_holdings.specs.Wanting.{nothing_listed}
+use Rattle.repo_member.specs.Alone.{want_of, alone_learns}
 use Rattle.repo_holdings.specs.Gaining.{told_shape}
 use Rattle.repo_member.specs.Blocks.{AreWithinLimits}
 use Rattle.repo_holdings.proofs.GainingLemmas.{contains-value, put_elsewhere, value_of-put}

@@ -24,7 +24,8 @@ use Rattle.repo_holdings.specs.Records.{Packet}
 use Rattle.repo_holdings.specs.Listed.{alone_catalogue}
 use Rattle.repo_member.specs.Groups.{GroupKeys, node_at}
 use Rattle.repo_holdings.specs.Gaining.{AreTied}
-use Rattle.repo_member.specs.Alone.{Alone, alone_plan, want_of, nothing_listed}
+use Rattle.repo_member.specs.Alone.{Alone, alone_plan, want_of}
+use Rattle.repo_holdings.specs.Wanting.{nothing_listed}
 use Rattle.repo_member.specs.Deleting.{publications_named, catalogued_named, alone_hides, alone_deletes}
 use Rattle.repo_holdings.proofs.HidingLemmas.{other_way, value_outside, rises_outside, keys_outside, shapes_outside}
 use Rattle.repo_holdings.proofs.HidingLemmas.{others_stay}

@@ -22,8 +22,10 @@ use Rattle.group_model.specs.Sound.{IsPublished}
 use Rattle.repo_holdings.specs.Records.{Packet}
 use Rattle.repo_member.specs.Groups.{GroupKeys, publisher_at}
 use Rattle.group_model.specs.Member.{with_tries}
-use Rattle.repo_member.specs.Alone.{Alone, Fetched, alone_publishes, alone_accepts, as_parts, with_packets, next_seq}
-use Rattle.repo_member.specs.Alone.{with_fetched}
+use Rattle.repo_member.specs.Alone.{Alone, alone_publishes, alone_accepts, next_seq}
+use Rattle.repo_holdings.specs.Taking.{Fetched}
+use Rattle.repo_holdings.specs.NewPublications.{as_parts, with_packets}
+use Rattle.repo_holdings.specs.Taking.{with_fetched}
 use Rattle.repo_member.specs.InGroup.{StoresTruly, IsItsPacket, CameTruly, true_packet, GrowInto, BeginsTruly}
 use Rattle.repo_member.specs.InGroup.{GrowsTruly, PublishesTruly, AcceptsTruly, TakesTruly, StaysTrue, LogsBegin}
 use Rattle.repo_member.specs.InGroup.{LogsGrow}

@@ -1,6 +1,4 @@
 mod GroupLemmas
-mod PlanLemmas
-mod PublishLemmas
 mod MemberLemmas
 mod OwnLemmas
 mod VectorLemmas

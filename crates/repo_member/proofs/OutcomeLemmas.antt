@@ -1,60 +1,52 @@
 -- What came of a fetch, taken part after part.
-use Rattle.std.proofs.Common.{◌≡◌, ◌⊎◌, inl, inr, ℕ, ◌+◌, ◌*◌, ◌^◌, ◌<◌, ◌≤◌, Bool, true, false, cond, not, ◌&&◌, ◌||◌}
+use Rattle.std.proofs.Common.{◌≡◌, ◌⊎◌, inl, inr, ℕ, ◌+◌, ◌*◌, ◌^◌, ◌<◌, ◌≤◌, Bool, true, false, cond, not, ◌||◌}
 use Rattle.std.proofs.Common.{◌==◌, List, [], ◌∷◌, ◌++◌, map, length, append_assoc, refl, sym, ap, ◌∙◌, subst, Option}
-use Rattle.std.proofs.Common.{Some, None, option_map, is_some, unwrap_or, count_by, sum_by, Result, Err, ltb, take}
+use Rattle.std.proofs.Common.{Some, None, option_map, is_some, unwrap_or, count_by, sum_by, take}
 use Rattle.std.proofs.Common.{zero, suc, arith}
-use Rattle.std.specs.Prelude.{nat_le, slice_index, IsOk, IfSome}
+use Rattle.std.specs.Prelude.{IfSome}
 use Rattle.std.specs.List.{All, AllByRecursion, IsDistinct, list_any, filter}
-use Rattle.std.specs.Option.{option_and_then}
 use Rattle.std.specs.Ordering.{eq_by_cmp, is_eq}
 use Rattle.std.specs.declared.cmp.Ordering.{Ordering}
-use Rattle.std.proofs.lemmas.Bool.{true≢false, and_parts, and_from, or_left, or_right, or_parts, or_cases, not-true}
-use Rattle.std.proofs.lemmas.Bool.{eqb-true, false_from_ne_true, le-leb, ltb-false}
+use Rattle.std.proofs.lemmas.Bool.{true≢false, and_parts, or_parts, or_cases, not-true}
+use Rattle.std.proofs.lemmas.Bool.{eqb-true, false_from_ne_true}
 use Rattle.std.proofs.lemmas.List.{map-append, length-map}
 use Rattle.std.proofs.lemmas.Map.Keys.{IsDistinct-cons}
 use Rattle.std.proofs.lemmas.Map.Steps.{length-le_from_distinct_below}
-use Rattle.std.proofs.lemmas.List.Elements.{All-head, All-tail, All-cons, All-nil, All-map, All-weaker, All-take}
+use Rattle.std.proofs.lemmas.List.Elements.{All-head, All-tail, All-map, All-weaker, All-take}
 use Rattle.std.proofs.lemmas.List.Elements.{All-filter, filter_passes}
 use Rattle.std.proofs.lemmas.List.Sums.{sum_by-cons}
-use Rattle.ndn_tlv.specs.Listing.{◌>>=◌}
-use Rattle.ndn_tlv.specs.Elements.{Item}
-use Rattle.ndn_tlv.specs.declared.tlv_fault.TlvFault.TheVariants.{Truncated}
-use Rattle.ndn_name.specs.Names.{Component}
-use Rattle.ndn_name.specs.declared.fault.PacketFault.{PacketFault}
-use Rattle.ndn_name.specs.declared.fault.PacketFault.TheVariants.{Tlv, PacketTooLong}
-use Rattle.ndn_packet.specs.Contents.{first_of}
-use Rattle.ndn_packet.specs.Outer.{only_of}
-use Rattle.ndn_data.specs.Data.{Data, data_of, data_fields, data_from}
 use Rattle.repo_plan.specs.declared.part.Part.{Part}
-use Rattle.sorted_lists.specs.SortedList.{IsBefore, Rises, contains, value_of, with_value}
-use Rattle.repo_plan.specs.Parts.{Pair, Shape, pair_cmp, part_cmp, pair_of, part_of}
-use Rattle.repo_plan.specs.Plan.{PlanState, holds, hides, knows, is_asked, is_wanted, is_claimed, is_unclaimed}
+use Rattle.sorted_lists.specs.SortedList.{IsBefore, Rises, contains}
+use Rattle.repo_plan.specs.Parts.{part_cmp, pair_of}
+use Rattle.repo_plan.specs.Plan.{PlanState, holds, hides, is_asked, is_wanted, is_claimed, is_unclaimed}
 use Rattle.repo_plan.specs.Plan.{is_after}
-use Rattle.repo_plan.specs.Plan.{unclaimed, known_parts, can_be_asked, shape_of, attempts_of}
+use Rattle.repo_plan.specs.Plan.{unclaimed, known_parts, attempts_of}
 use Rattle.repo_plan.proofs.Changes.{wanted_parts}
 use Rattle.repo_plan.proofs.Known.{unclaimed_rises}
 use Rattle.repo_plan.proofs.Orders.{exact_parts}
-use Rattle.sorted_lists.proofs.Sets.{eq_same, eq_itself, rises_filter, value_of-with_value}
+use Rattle.sorted_lists.proofs.Sets.{eq_itself, rises_filter}
 use Rattle.repo_object.specs.declared.job.Job.{Job}
-use Rattle.repo_object.specs.Publication.{Listed}
-use Rattle.repo_object.specs.Verdict.{CheckedPart, listing_in}
+use Rattle.repo_object.specs.Verdict.{CheckedPart}
 use Rattle.repo_member.specs.Groups.{GroupKeys, HaveKeys}
 use Rattle.repo_holdings.specs.Records.{Packet}
-use Rattle.repo_holdings.specs.Listed.{listing_at, stored_at, listed_shape}
 use Rattle.group_model.specs.Member.{with_tries}
-use Rattle.repo_member.specs.Alone.{Alone, Fetched, IsOfGroup, alone_plan, want_of, with_fetched, alone_takes}
-use Rattle.repo_holdings.specs.Gaining.{AreTied, IsArrival}
-use Rattle.repo_holdings.specs.declared.gaining.Arrival.{Arrival}
+use Rattle.repo_member.specs.Alone.{Alone, IsOfGroup, alone_plan, want_of, alone_takes}
+use Rattle.repo_holdings.specs.Taking.{Fetched, with_fetched}
+use Rattle.repo_holdings.specs.Gaining.{IsArrival}
+use Rattle.repo_holdings.specs.declared.holdings.gaining.Arrival.{Arrival}
 use Rattle.repo_member.specs.Members.{alone, IsMember}
 use Rattle.repo_member.specs.declared.member.Member.TheInside.{Inside}
-use Rattle.repo_member.specs.declared.member.outcome.Tried.{Tried}
+use Rattle.repo_holdings.specs.declared.holdings.gaining.Tried.{Tried}
 use Rattle.repo_member.specs.Outcomes.{job_for, IsPlannedJob, WereTried, JobsArePlanned, PlannedJobsAreOutcomes}
-use Rattle.repo_member.specs.Outcomes.{IsOutcome, outcome_of, IsFetched, AreFetched, PartsDiffer, CanBeTaken}
-use Rattle.repo_member.specs.Outcomes.{AreTakable, KeepsButTries, came, octets_in, arrival_octets, with_all_fetched}
-use Rattle.repo_member.specs.Outcomes.{with_all_tries}
-use Rattle.repo_holdings.proofs.GainingLemmas.{absent, held_value, shape_told, put_elsewhere}
+use Rattle.repo_member.specs.Outcomes.{IsOutcome, outcome_of, IsFetched, AreFetched}
+use Rattle.repo_holdings.specs.Taking.{PartsDiffer, CanBeTaken}
+use Rattle.repo_holdings.specs.Taking.{AreTakable, came, arrival_octets, with_all_fetched}
+use Rattle.repo_member.specs.Outcomes.{octets_in}
+use Rattle.repo_holdings.specs.Taking.{with_all_tries}
+use Rattle.repo_holdings.specs.HoldingsState.{HoldingsState, held_plan}
+use Rattle.repo_holdings.specs.Taking.{takes_too}
 use Rattle.repo_member.proofs.GroupLemmas.{ring_length}
-use Rattle.repo_holdings.proofs.AskedLemmas.{asked_segment, asked_member}
+use Rattle.repo_holdings.proofs.AskedLemmas.{asked_member}
 use Rattle.repo_member.proofs.MemberLemmas.{plan_is, want_part}
 
 -- ---- what is taken in all
@@ -65,155 +57,6 @@ takes_all [] a = refl
 takes_all (x ∷ xs) a =
     takes_all xs
     (record a { store = with_fetched x.part x.packet a.store; attempts = with_tries x.part x.attempts a.attempts })
-
--- ---- one part is taken: what stays
-
--- the attempts of other parts
-tries_aside : (t q : Part) (n : ℕ) (attempts : List (Part × ℕ)) → eq_by_cmp part_cmp q t ≡ false
-    → value_of part_cmp (with_tries t n attempts) q ≡ value_of part_cmp attempts q
-tries_aside t q n attempts other = go (n == 0) where
-  more : ℕ
-  more = unwrap_or (value_of part_cmp attempts t) 0 + n
-
-  go : (b : Bool)
-      → value_of part_cmp (cond b attempts (with_value part_cmp t more attempts)) q ≡ value_of part_cmp attempts q
-  go true = refl
-  go false =
-      value_of-with_value exact_parts t more attempts q
-      ∙ ap (λ (b : Bool). cond b (Some more) (value_of part_cmp attempts q)) other
-
-module _ (old new : PlanState) (packets after : List Packet) (x : Tried) (was : AreTied old packets)
-    (tied : AreTied new after) (taken : CanBeTaken old packets x)
-    (puts : after ≡ with_fetched x.part (came x).packet packets)
-    (tries : new.attempts ≡ with_tries x.part x.attempts old.attempts) (others : KeepsButTries old new) where
-  -- the packets of other parts
-  packets_aside : (q : Part) → eq_by_cmp part_cmp q x.part ≡ false
-      → value_of part_cmp after q ≡ value_of part_cmp packets q
-  packets_aside q other = ap (λ (es : List Packet). value_of part_cmp es q) puts ∙ go (came x).packet where
-    go : (o : Option (List ℕ)) → value_of part_cmp (with_fetched x.part o packets) q ≡ value_of part_cmp packets q
-    go None = refl
-    go (Some octets) =
-        put_elsewhere packets x.part octets (absent old packets x.part octets None was taken.not_held) q other
-
-  -- a stored packet is of another part
-  stored_apart : (q : Part) (octets : List ℕ) → value_of part_cmp packets q ≡ Some octets
-      → eq_by_cmp part_cmp q x.part ≡ false
-  stored_apart q octets there = go (eq_by_cmp part_cmp q x.part) refl where
-    go : (b : Bool) → eq_by_cmp part_cmp q x.part ≡ b → b ≡ false
-    go true p =
-        let held : holds old q ≡ true = held_value old packets (pair_of q) was q ∙ ap is_some there in
-        sym held ∙ ap (holds old) (eq_same exact_parts q x.part p) ∙ taken.not_held
-    go false p = refl
-
-  -- what the stored records list
-  listed_still : (pair : Pair) (l : Listed) → listing_at packets pair ≡ Some l → listing_at after pair ≡ Some l
-  listed_still pair l listed = go (stored_at packets pair 0) refl listed where
-    go : (o : Option (List ℕ)) → stored_at packets pair 0 ≡ o → option_and_then listing_in o ≡ Some l
-        → listing_at after pair ≡ Some l
-    go None p h = absurd cc
-    go (Some octets) p h =
-        ap (option_and_then listing_in) (packets_aside (part_of pair 0) (stored_apart (part_of pair 0) octets p) ∙ p)
-        ∙ h
-
-  -- a record that lists something is held
-  record_held : (pair : Pair) (l : Listed) → listing_at after pair ≡ Some l → holds new (part_of pair 0) ≡ true
-  record_held pair l listed = held_value new after pair tied (part_of pair 0) ∙ go (stored_at after pair 0) listed where
-    go : (o : Option (List ℕ)) → option_and_then listing_in o ≡ Some l → is_some o ≡ true
-    go None h = absurd cc
-    go (Some octets) h = refl
-
-  -- what is asked for
-  asked_still : (t : Part) → is_asked old t ≡ true → is_asked new t ≡ true
-  asked_still t asked = and_from (knows new (pair_of t)) _ known (go (t.part == 0) refl) where
-    known : knows new (pair_of t) ≡ true
-    known = ap (λ (known : List ℕ). nat_le 1 t.seq && nat_le t.seq (slice_index known t.publisher)) others.known
-        ∙ (and_parts (knows old (pair_of t)) (can_be_asked old.held (shape_of old (pair_of t)) t) asked).0
-
-    of_record : (s : Option Shape) → (t.part == 0) ≡ true → can_be_asked new.held s t ≡ true
-    of_record None p = p
-    of_record (Some n) p = or_left (t.part == 0) _ p
-
-    go : (b : Bool) → (t.part == 0) ≡ b → can_be_asked new.held (shape_of new (pair_of t)) t ≡ true
-    go true p = of_record (shape_of new (pair_of t)) p
-    go false p =
-        let segment = asked_segment old packets t was asked p in
-        let listed = listed_still (pair_of t) segment.listing segment.listed in
-        ap (λ (s : Option Shape). can_be_asked new.held s t)
-        (shape_told new after (pair_of t) tied ∙ ap (option_map listed_shape) listed)
-        ∙ or_right (t.part == 0) _
-        (and_from (nat_le t.part (listed_shape segment.listing)) _
-        (le-leb t.part (listed_shape segment.listing) segment.counted) (record_held (pair_of t) segment.listing listed))
-
-  -- another part that came
-  arrival_still : (t : Part) (octets : List ℕ) (segments : Option Shape) (name : List Component)
-      → IsArrival packets t octets segments name → IsArrival after t octets segments name
-  arrival_still t octets segments name is =
-      record { reads = is.reads; record_part = is.record_part; told = is.told; named = go (t.part == 0) is.named } where
-        listed : (o : Option Listed) → listing_at packets (pair_of t) ≡ o
-            → option_map (λ (l : Listed). l.name) o ≡ Some name
-            → option_map (λ (l : Listed). l.name) (listing_at after (pair_of t)) ≡ Some name
-        listed None p h = absurd cc
-        listed (Some l) p h = ap (option_map (λ (l : Listed). l.name)) (listed_still (pair_of t) l p) ∙ h
-
-        go : (b : Bool)
-            → option_map (λ (l : Listed). l.name) (cond b (listing_in octets) (listing_at packets (pair_of t)))
-            ≡ Some name
-            → option_map (λ (l : Listed). l.name) (cond b (listing_in octets) (listing_at after (pair_of t)))
-            ≡ Some name
-        go true h = h
-        go false h = listed (listing_at packets (pair_of t)) refl h
-
-  one_takable : (y : Tried) → eq_by_cmp part_cmp y.part x.part ≡ false → CanBeTaken old packets y
-      → CanBeTaken new after y
-  one_takable y other can = record {
-    asked = asked_still y.part can.asked;
-    not_held =
-        held_value new after (pair_of y.part) tied y.part
-        ∙ ap is_some (packets_aside y.part other)
-        ∙ sym (held_value old packets (pair_of y.part) was y.part)
-        ∙ can.not_held;
-    not_hidden = ap (λ (hidden : List Pair). contains pair_cmp hidden (pair_of y.part)) others.hidden ∙ can.not_hidden;
-    not_claimed =
-        ap (λ (claims : List (Option Part)). is_claimed (record old { claims = claims }) y.part) others.claims
-        ∙ can.not_claimed;
-    arrived = go y.arrival can.arrived;
-    few = subst (λ (n : ℕ). n + y.attempts < 2097152) (sym tried) can.few;
-  } where
-    go : (o : Option Arrival) → IfSome o (λ a. IsArrival packets y.part a.packet a.segments a.name)
-        → IfSome o (λ a. IsArrival after y.part a.packet a.segments a.name)
-    go None h = tt
-    go (Some a) h = arrival_still y.part a.packet a.segments a.name h
-
-    tried : attempts_of new y.part ≡ attempts_of old y.part
-    tried =
-        ap (λ (es : List (Part × ℕ)). unwrap_or (value_of part_cmp es y.part) 0) tries
-        ∙ ap (λ (o : Option ℕ). unwrap_or o 0) (tries_aside x.part y.part x.attempts old.attempts other)
-
-  -- all that are still to be taken
-  pub still_takable : (ys : List Tried) → contains part_cmp (map (λ (y : Tried). y.part) ys) x.part ≡ false
-      → All (CanBeTaken old packets) ys → All (CanBeTaken new after) ys
-  still_takable [] apart all = All-nil (CanBeTaken new after)
-  still_takable (y ∷ ys) apart all =
-      let both = or_parts (eq_by_cmp part_cmp x.part y.part) _ apart in
-      All-cons (CanBeTaken new after) y ys
-      (one_takable y (flip (eq_by_cmp part_cmp y.part x.part) refl both.0) (All-head (CanBeTaken old packets) y ys all))
-      (still_takable ys both.1 (All-tail (CanBeTaken old packets) y ys all)) where
-        flip : (b : Bool) → eq_by_cmp part_cmp y.part x.part ≡ b → eq_by_cmp part_cmp x.part y.part ≡ false → b ≡ false
-        flip true p h =
-            sym (eq_itself exact_parts y.part)
-            ∙ ap (λ (t : Part). eq_by_cmp part_cmp t y.part) (eq_same exact_parts y.part x.part p)
-            ∙ h
-        flip false p h = refl
-
--- ---- one after another
-
-pub keeps_on : (a b c : PlanState) → KeepsButTries a b → KeepsButTries b c → KeepsButTries a c
-keeps_on a b c first then = record {
-  known = then.known ∙ first.known;
-  claims = then.claims ∙ first.claims;
-  hidden = then.hidden ∙ first.hidden;
-  attempts = refl;
-}
 
 -- ---- what came of jobs, one after another
 
@@ -427,76 +270,33 @@ module _ (g : GroupKeys) (a : Alone) where
         (λ x h. asked_member (alone_plan a) x.part h.asked) xs can)) in
         omega (arith, few, length-map xs (λ (x : Tried). x.part))
 
--- ---- how many octets came
-
--- octets that are a Data packet aren't many
-data_fits : (octets : List ℕ) → IsOk (data_of octets) → length octets ≤ 8800
-data_fits octets h =
-    go (first_of (Tlv (Truncated 0)) 0 octets >>= only_of 0x06 (length octets))
-    (λ e. data_fields octets e >>= data_from e.value) (ltb 8800 (length octets)) refl h
-  where
-    go : (r : Result Item PacketFault) (f : Item → Result Data PacketFault) (b : Bool) → ltb 8800 (length octets) ≡ b
-        → IsOk (cond b (Err PacketTooLong) r >>= f) → length octets ≤ 8800
-    go r f true p h = absurd (true≢false (sym h))
-    go r f false p h = ltb-false 8800 (length octets) p
-
-one_fits : (plan : PlanState) (packets : List Packet) (x : Tried) → CanBeTaken plan packets x → arrival_octets x ≤ 8800
-one_fits plan packets x can = go x.arrival can.arrived where
-  go : (o : Option Arrival) → IfSome o (λ a. IsArrival packets x.part a.packet a.segments a.name)
-      → length (unwrap_or (option_map (λ (a : Arrival). a.packet) o) []) ≤ 8800
-  go None h = omega (arith)
-  go (Some a) h = data_fits a.packet h.reads
-
-pub octets_fit : (plan : PlanState) (packets : List Packet) (xs : List Tried) → All (CanBeTaken plan packets) xs
-    → sum_by arrival_octets xs ≤ 8800 * length xs
-octets_fit plan packets [] can = omega (arith)
-octets_fit plan packets (x ∷ xs) can =
-    let one = one_fits plan packets x (All-head (CanBeTaken plan packets) x xs can) in
-    let rest = octets_fit plan packets xs (All-tail (CanBeTaken plan packets) x xs can) in
-    let both = sum_by-cons arrival_octets x xs in
-    omega (arith, one, rest, both)
-
--- whatever room there is
-takable_in_room : (n : ℕ) (p : PlanState) (packets : List Packet) (xs : List Tried) → AreTakable p packets xs
-    → AreTakable (record p { spare = n }) packets xs
-takable_in_room n p packets xs are = record {
-  each = All-weaker (CanBeTaken p packets) (CanBeTaken (record p { spare = n }) packets) (λ x h. record {
-    asked = h.asked;
-    not_held = h.not_held;
-    not_hidden = h.not_hidden;
-    not_claimed = h.not_claimed;
-    arrived = h.arrived;
-    few = h.few;
-  }) xs are.each;
-  apart = are.apart;
-}
-
-module _ (m : Inside) (a : Alone) (view : alone m ≡ a) (mid : PlanState) (stored : List Packet)
-    (plan : mid ≡ record m.plan { spare = mid.spare }) (packets : stored ≡ m.store.packets) where
-  pub takable_still : IsMember m → (xs : List Tried) → AreTakable (alone_plan a) a.store xs → AreTakable mid stored xs
+module _ (m : Inside) (a : Alone) (view : alone m ≡ a) (mid : HoldingsState) (n : ℕ)
+    (room : mid ≡ record m.held { spare = n }) where
+  pub takable_still : IsMember m → (xs : List Tried) → AreTakable (alone_plan a) a.store xs
+      → AreTakable (held_plan mid) mid.store xs
   takable_still is xs are =
-      let here : mid ≡ record (alone_plan a) { spare = mid.spare } =
-      plan
-      ∙ ap (λ (p : PlanState). record p { spare = mid.spare }) (plan_is m is)
-      ∙ ap (λ (x : Alone). record (alone_plan x) { spare = mid.spare }) view in
-      let there : stored ≡ a.store = packets ∙ ap (λ (x : Alone). x.store) view in
-      rw (here, there) (takable_in_room mid.spare (alone_plan a) a.store xs are)
+      let here : AreTakable (alone_plan (alone m)) m.held.store xs =
+      subst (λ (x : Alone). AreTakable (alone_plan x) x.store xs) (sym view) are in
+      let there : AreTakable (held_plan m.held) m.held.store xs =
+      subst (λ (p : PlanState). AreTakable p m.held.store xs) (sym (plan_is m is)) here in
+      subst (λ (h : HoldingsState). AreTakable (held_plan h) h.store xs) (sym room) there
 
-  pub taken_is : (after : PlanState) (held : List Packet) (xs : List Fetched) → held ≡ with_all_fetched xs stored
-      → after.attempts ≡ with_all_tries xs mid.attempts → KeepsButTries mid after
-      → record (alone m) { store = held; hidden = after.hidden; claims = after.claims; attempts = after.attempts }
+  pub taken_is : (after : HoldingsState) (xs : List Fetched) → after ≡ takes_too xs mid
+      → record (alone m) {
+        store = after.store;
+        hidden = after.hidden;
+        claims = after.claims;
+        attempts = after.attempts;
+      }
       ≡ alone_takes xs a
-  taken_is after held xs puts tries others =
-      let store : held ≡ with_all_fetched xs m.store.packets = puts ∙ ap (with_all_fetched xs) packets in
-      let hidden : after.hidden ≡ m.plan.hidden = others.hidden ∙ ap (λ (p : PlanState). p.hidden) plan in
-      let claims : after.claims ≡ m.plan.claims = others.claims ∙ ap (λ (p : PlanState). p.claims) plan in
-      let attempts : after.attempts ≡ with_all_tries xs m.plan.attempts =
-      tries ∙ ap (λ (p : PlanState). with_all_tries xs p.attempts) plan in
-      let same :
-      record (alone m) { store = held; hidden = after.hidden; claims = after.claims; attempts = after.attempts }
-      ≡ record (alone m) { store = with_all_fetched xs m.store.packets; attempts = with_all_tries xs m.plan.attempts } =
-      λ i. record (alone m) { store = store i; hidden = hidden i; claims = claims i; attempts = attempts i } in
-      same ∙ sym (takes_all xs (alone m)) ∙ ap (alone_takes xs) view
+  taken_is after xs taken =
+      ap (λ (h : HoldingsState). record (alone m) {
+        store = h.store;
+        hidden = h.hidden;
+        claims = h.claims;
+        attempts = h.attempts;
+      }) (taken ∙ ap (takes_too xs) room)
+      ∙ sym (takes_all xs (alone m)) ∙ ap (alone_takes xs) view
 
 -- ---- what a member plans can be taken, whatever came of it
 

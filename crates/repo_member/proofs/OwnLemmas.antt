@@ -1,5 +1,5 @@
 -- What a member publishes: its number is new, its packets are read, and the member afterwards.
-use Rattle.std.proofs.Common.{◌≡◌, inl, inr, ℕ, ◌+◌, ◌≤◌, ◌<◌, ◌^◌, max, suc, Bool, true, false, cond, ◌&&◌, List, []}
+use Rattle.std.proofs.Common.{◌≡◌, inl, inr, ℕ, ◌+◌, ◌≤◌, ◌<◌, ◌^◌, max, suc, Bool, true, cond, ◌&&◌, List, []}
 use Rattle.std.proofs.Common.{◌∷◌, ◌++◌, length, length-append, refl, sym, ap, ◌∙◌, subst, Option, Some, None}
 use Rattle.std.proofs.Common.{option_map, arith}
 use Rattle.std.specs.Prelude.{nat_le, slice_index, slice_set, slice_index_or, Result, Ok, Err, IsOk}
@@ -14,9 +14,7 @@ use Rattle.ndn_tlv.specs.Listing.{◌>>=◌}
 use Rattle.ndn_name.specs.declared.fault.PacketFault.{PacketFault}
 use Rattle.ndn_name.specs.Names.{Component, encoding}
 use Rattle.ndn_data.specs.Data.{Data, data_of}
-use Rattle.svs_sync.specs.KeptVector.{Keeper}
 use Rattle.repo_plan.specs.declared.part.Part.{Part}
-use Rattle.sorted_lists.specs.SortedList.{contains, keys, Rises}
 use Rattle.repo_plan.specs.Parts.{Pair, part_cmp, pair_of, part_of}
 use Rattle.repo_plan.specs.Plan.{PlanState, knows, holds, hides, is_asked, is_claimed, is_claim_of, can_be_asked}
 use Rattle.repo_plan.specs.Plan.{shape_of, raises}
@@ -24,24 +22,19 @@ use Rattle.repo_plan.specs.Sound.{PlanIsSound}
 use Rattle.repo_plan.proofs.Orders.{exact_parts}
 use Rattle.sorted_lists.proofs.Sets.{eq_same}
 use Rattle.repo_plan.proofs.Known.{wanted_is_asked}
-use Rattle.repo_plan.proofs.Changes.{sound_room}
 use Rattle.repo_object.specs.Objects.{NamedContents, IsObject, Publisher, IsPublisher, key_name}
-use Rattle.repo_object.specs.Publication.{Listed, packets, record_packet, published_listing, published_segments}
+use Rattle.repo_object.specs.Publication.{Listed, packets, published_listing, published_segments}
 use Rattle.repo_object.specs.Wants.{WantedPart, want_record, want_segment}
-use Rattle.repo_object.specs.Verdict.{read_packet, packet_verdict, part_verdict, listing_in}
+use Rattle.repo_object.specs.Verdict.{read_packet, packet_verdict, part_verdict}
 use Rattle.repo_object.proofs.Publications.{listing_within_limits, record_listed, record_passes, segment_passes}
 use Rattle.repo_member.specs.declared.member.Member.TheInside.{Inside}
 use Rattle.repo_member.specs.Groups.{GroupKeys, IsGroup, IsPlainNodeName, node_at, publisher_at}
-use Rattle.repo_catalog.specs.declared.entry.Entry.{Entry}
-use Rattle.std.specs.Option.{option_and_then}
-use Rattle.repo_holdings.specs.Records.{Packet}
-use Rattle.repo_holdings.specs.Listed.{listed_shape, listing_at, entry_at, alone_catalogue}
-use Rattle.repo_member.specs.Alone.{alone_plan, as_parts, with_packets}
-use Rattle.repo_holdings.specs.Gaining.{AreTied, AreKept, with_listed}
-use Rattle.repo_member.specs.Publishing.{IsNew, ArePackets}
+use Rattle.repo_holdings.specs.Listed.{listed_shape}
+use Rattle.repo_member.specs.Alone.{alone_plan}
+use Rattle.repo_holdings.specs.HoldingsState.{HoldingsState, held_plan, knows_too, AreInOrder}
+use Rattle.repo_holdings.specs.NewPublications.{IsNew, ArePackets, NamesTheObject}
 use Rattle.repo_member.specs.Members.{alone, AreWaiting, IsMember}
 use Rattle.repo_member.proofs.MemberLemmas.{knows_more}
-use Rattle.repo_member.proofs.PublishLemmas.{record_stored, relisted_publication}
 
 -- ---- who publishes
 
@@ -94,6 +87,13 @@ module _ (publisher : Publisher) (object : NamedContents) (seq : ℕ) (is_publis
         ∙ ap (λ (n : ℕ). Some n) (length-map (published_segments publisher object) sha256);
   })
 
+  -- they name their object
+  pub packets_named : (made : List (List ℕ)) (name : List Component) → made ≡ packets publisher seq object
+      → name ≡ object.name → NamesTheObject name made
+  packets_named made name is named = subst (NamesTheObject name) (sym is)
+      (ap (option_map (λ (l : Listed). l.name)) (record_listed publisher object is_publisher is_object seq low)
+      ∙ ap (λ (n : List Component). Some n) (sym named))
+
 -- ---- its number
 
 any_claim : (t : Part) (claims : List (Option Part)) → list_any (is_claim_of t) claims ≡ true
@@ -144,17 +144,16 @@ next_to_last p number last sound inside own hidden = record {
   past h = omega (arith, own, h)
 
 -- such is a member's next publication
-pub next_is_new : (m : Inside) (plan after : PlanState) → IsMember m → PlanIsSound m.plan
-    → plan ≡ record m.plan { spare = plan.spare }
-    → after ≡ raises m.number (length m.log.items + 1) plan → IsNew after (m.number, length m.log.items + 1)
-next_is_new m plan after is sound same raised =
-    let seq = length m.log.items + 1 in
+pub next_is_new : (m : Inside) (held : HoldingsState) (n log : ℕ) → IsMember m → PlanIsSound (held_plan m.held)
+    → log ≡ length m.log.items → held ≡ knows_too m.number (log + 1) (record m.held { spare = n })
+    → IsNew (held_plan held) (m.number, log + 1)
+next_is_new m held n log is sound long raised =
+    let seq = log + 1 in
     let pair : Pair = (m.number, seq) in
-    let p : PlanState = record m.plan { spare = plan.spare } in
-    subst (λ (q : PlanState). IsNew q pair) (sym (raised ∙ ap (raises m.number seq) same))
-    (next_to_last p m.number (length m.log.items) (sound_room plan.spare m.plan sound)
+    subst (λ (h : HoldingsState). IsNew (held_plan h) pair) (sym raised)
+    (next_to_last (held_plan m.held) m.number log sound
     (omega (arith, is.alone.member, ap (λ (known : List ℕ). length known) is.known))
-    (ap (λ (known : List ℕ). slice_index known m.number) is.known ∙ is.alone.own)
+    (ap (λ (known : List ℕ). slice_index known m.number) is.known ∙ is.alone.own ∙ sym long)
     (λ h.
     ap (λ (known : List ℕ). nat_le 1 seq && nat_le seq (slice_index known m.number)) is.known ∙ is.alone.hidden pair h))
 
@@ -184,11 +183,11 @@ module _ (m : Inside) (is : IsMember m) where
   pub published_is : (next : Inside) → next.number ≡ m.number → length next.log.items ≡ length m.log.items + 1
       → next.vector ≡ slice_set m.vector m.number (max (slice_index m.vector m.number) (length m.log.items + 1))
       → next.machine.members ≡ m.machine.members
-      → next.plan.known
-      ≡ slice_set m.plan.known m.number (max (slice_index m.plan.known m.number) (length m.log.items + 1))
-      → next.plan.hidden ≡ m.plan.hidden → AreKept next.plan next.store.packets next.catalogue.entries
+      → next.held.known
+      ≡ slice_set m.held.known m.number (max (slice_index m.held.known m.number) (length m.log.items + 1))
+      → next.held.hidden ≡ m.held.hidden → AreInOrder next.held
       → AreWaiting next.processes.processes → IsMember next
-  published_is next number more vector members known hidden kept waiting =
+  published_is next number more vector members known hidden in_order waiting =
       let long = length-set m.vector m.number (max (slice_index m.vector m.number) (length m.log.items + 1)) in
       let wide : length next.vector ≡ length m.vector = ap (λ (v : List ℕ). length v) vector ∙ long in
       let own = is.alone.own in
@@ -202,84 +201,15 @@ module _ (m : Inside) (is : IsMember m) where
           member = omega (arith, number, wide, is.alone.member);
           own = omega (arith, here, at, own, more);
           width = members ∙ is.alone.width ∙ sym wide;
-          in_order = kept.tied.in_order;
+          in_order = in_order;
           hidden = λ pair h. knows_more (alone_plan (alone m)) (alone_plan (alone next)) pair
               (λ p. subst (λ (v : List ℕ). slice_index m.vector p ≤ slice_index v p) (sym vector) (raised_at p))
               (is.alone.hidden pair
-              (ap (λ (pairs : List Pair). hides (record m.plan { hidden = pairs }) pair) (sym hidden) ∙ h));
+              (ap (λ (pairs : List Pair). hides (record (held_plan m.held) { hidden = pairs }) pair) (sym hidden) ∙ h));
         };
         known = known ∙ ap greater is.known ∙ sym vector;
-        kept = kept;
         waiting = waiting;
       }
-
-  -- a part more, or none
-  pub gained_is : (next : Inside) → next.number ≡ m.number → next.log.items ≡ m.log.items → next.vector ≡ m.vector
-      → next.machine ≡ m.machine
-      → next.plan.known ≡ m.plan.known → next.plan.hidden ≡ m.plan.hidden
-      → AreKept next.plan next.store.packets next.catalogue.entries → AreWaiting next.processes.processes
-      → IsMember next
-  gained_is next number log vector machine known hidden kept waiting = record {
-    alone = record {
-      member = omega (arith, number, ap (λ (v : List ℕ). length v) vector, is.alone.member);
-      own =
-          ap (λ (v : List ℕ). slice_index v next.number) vector
-          ∙ ap (slice_index m.vector) number
-          ∙ is.alone.own
-          ∙ sym (ap (λ l. length l) log);
-      width = ap (λ (k : Keeper). k.members) machine ∙ is.alone.width ∙ sym (ap (λ (v : List ℕ). length v) vector);
-      in_order = kept.tied.in_order;
-      hidden = λ pair h. ap (λ (v : List ℕ). nat_le 1 pair.1 && nat_le pair.1 (slice_index v pair.0)) vector
-          ∙ is.alone.hidden pair
-          (ap (λ (pairs : List Pair). hides (record m.plan { hidden = pairs }) pair) (sym hidden) ∙ h);
-    };
-    known = known ∙ is.known ∙ sym vector;
-    kept = kept;
-    waiting = waiting;
-  }
-
--- ---- what is stored and listed of it
-
-pub next_is_new_at : (m : Inside) (plan after : PlanState) (log : ℕ) → IsMember m → PlanIsSound m.plan
-    → plan ≡ record m.plan { spare = plan.spare } → log ≡ length m.log.items
-    → after ≡ raises m.number (log + 1) plan → IsNew after (m.number, log + 1)
-next_is_new_at m plan after log is sound same long raised =
-    subst (λ (n : ℕ). IsNew after (m.number, n + 1)) (sym long)
-    (next_is_new m plan after is sound same (raised ∙ ap (λ (n : ℕ). raises m.number (n + 1) plan) long))
-
-pub publication_named : (publisher : Publisher) (object : NamedContents) (seq : ℕ) (made : List (List ℕ))
-    (stored after : List Packet) (pair : Pair) (name : List Component)
-    → IsPublisher publisher → IsObject object → seq < 2 ^ 16 → made ≡ packets publisher seq object
-    → contains part_cmp (keys stored) (part_of pair 0) ≡ false
-    → after ≡ with_packets (as_parts pair 0 made) stored → name ≡ object.name
-    → option_map (λ (l : Listed). l.name) (listing_at after pair) ≡ Some name
-publication_named publisher object seq made stored after pair name is_publisher is_object low is absent puts named =
-    let record_packet_is =
-    record_stored stored pair (record_packet publisher seq (published_listing publisher object))
-    (published_segments publisher object) absent in
-    let whole : after ≡ with_packets (as_parts pair 0 (packets publisher seq object)) stored =
-    puts ∙ ap (λ (p : List (List ℕ)). with_packets (as_parts pair 0 p) stored) is in
-    ap (λ (p : List Packet). option_map (λ (l : Listed). l.name) (listing_at p pair)) whole
-    ∙ ap (λ (o : Option (List ℕ)). option_map (λ (l : Listed). l.name) (option_and_then listing_in o)) record_packet_is
-    ∙ ap (option_map (λ (l : Listed). l.name)) (record_listed publisher object is_publisher is_object seq low)
-    ∙ ap (λ (n : List Component). Some n) (sym named)
-
-pub published_kept : (stored after : List Packet) (pair : Pair) (made : List (List ℕ)) (entries listed : List Entry)
-    (plan : PlanState)
-    → contains part_cmp (keys stored) (part_of pair 0) ≡ false
-    → Rises part_cmp (keys stored) → AreTied plan after → after ≡ with_packets (as_parts pair 0 made) stored
-    → entries ≡ alone_catalogue stored → listed ≡ with_listed (entry_at after pair) entries
-    → AreKept plan after listed
-published_kept stored after pair made entries listed plan absent order tied puts was is = record {
-  tied = tied;
-  listed =
-      let rises : Rises part_cmp (keys (with_packets (as_parts pair 0 made) stored)) =
-      subst (λ (p : List Packet). Rises part_cmp (keys p)) puts tied.in_order in
-      is
-      ∙ ap (with_listed (entry_at after pair)) was
-      ∙ ap (λ (p : List Packet). with_listed (entry_at p pair) (alone_catalogue stored)) puts
-      ∙ sym (relisted_publication stored pair [] [] absent made order rises) ∙ ap alone_catalogue (sym puts);
-}
 
 -- one object more in a log
 pub log_longer : {A : Type 0} (was now : List A) (x : A) (added : Bool) → now ≡ cond added (was ++ x ∷ []) was

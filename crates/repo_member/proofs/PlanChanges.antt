@@ -15,14 +15,15 @@ use Rattle.repo_object.specs.Verdict.{listing_in}
 use Rattle.repo_store.specs.StoreList.{with_packet}
 use Rattle.repo_holdings.specs.Listed.{listed_shape}
 use Rattle.group_model.specs.Member.{with_tries}
-use Rattle.repo_member.specs.Alone.{Alone, alone_plan, as_parts, with_packets}
+use Rattle.repo_member.specs.Alone.{Alone, alone_plan}
+use Rattle.repo_holdings.specs.NewPublications.{as_parts, with_packets}
 use Rattle.repo_holdings.specs.Gaining.{AreTied, told_shape}
-use Rattle.repo_member.specs.Publishing.{IsNew}
+use Rattle.repo_holdings.specs.NewPublications.{IsNew}
 use Rattle.repo_holdings.proofs.GainingLemmas.{tied_too, others_kept}
 use Rattle.repo_member.proofs.MemberLemmas.{knows_more}
 use Rattle.repo_member.proofs.ChangeLemmas.{rises_put}
-use Rattle.repo_member.proofs.PublishLemmas.{HasGained, TellsTheRest, can_ask, not_hidden, not_claimed, gained_more}
-use Rattle.repo_member.proofs.PublishLemmas.{told_first, room_kept, tells_later}
+use Rattle.repo_holdings.proofs.PublishLemmas.{HasGained, TellsTheRest, can_ask, not_hidden, not_claimed, gained_more}
+use Rattle.repo_holdings.proofs.PublishLemmas.{told_first, room_kept, tells_later}
 
 -- ---- numbers that grow
 

@@ -21,11 +21,13 @@ use Rattle.repo_object.specs.Verdict.{listing_in, ring_verdict}
 use Rattle.repo_store.specs.StoreList.{with_packet}
 use Rattle.repo_holdings.specs.Records.{Packet}
 use Rattle.repo_member.specs.Groups.{GroupKeys, node_at, publisher_at}
-use Rattle.repo_member.specs.Alone.{Alone, alone_plan, next_seq, as_parts, with_packets, alone_publishes, logged}
-use Rattle.repo_member.specs.Alone.{packet_in, nothing_listed, want_of}
-use Rattle.repo_member.specs.Publishing.{IsNew}
+use Rattle.repo_member.specs.Alone.{Alone, alone_plan, next_seq, alone_publishes, logged}
+use Rattle.repo_holdings.specs.NewPublications.{as_parts, with_packets}
+use Rattle.repo_member.specs.Alone.{packet_in, want_of}
+use Rattle.repo_holdings.specs.Wanting.{nothing_listed}
+use Rattle.repo_holdings.specs.NewPublications.{IsNew}
 use Rattle.repo_holdings.proofs.GainingLemmas.{put_here, put_elsewhere}
-use Rattle.repo_member.proofs.PublishLemmas.{puts_aside, later_part, gained_none}
+use Rattle.repo_holdings.proofs.PublishLemmas.{puts_aside, later_part, gained_none}
 use Rattle.repo_member.proofs.MemberLemmas.{knows_more}
 use Rattle.repo_member.proofs.OwnLemmas.{is_publisher, packets_are, next_to_last}
 use Rattle.repo_member.proofs.ChangeLemmas.{rises_puts}

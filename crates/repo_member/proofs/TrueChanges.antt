@@ -30,14 +30,16 @@ use Rattle.group_model.proofs.Gains.{tried_once_more}
 use Rattle.group_model.proofs.Deletions.{sound_deletes}
 use Rattle.group_model.proofs.Settles.{no_claim}
 use Rattle.repo_holdings.specs.Records.{Packet}
-use Rattle.repo_member.specs.Deleting.{catalogued_named, outside_all}
+use Rattle.repo_member.specs.Deleting.{catalogued_named}
+use Rattle.repo_holdings.specs.Hiding.{outside_all}
 use Rattle.repo_member.specs.Commanded.{alone_starts}
 use Rattle.repo_member.specs.Blocks.{alone_block, alone_keeps, after_block}
 use Rattle.repo_member.specs.Groups.{GroupKeys}
-use Rattle.repo_member.specs.Alone.{Alone, Fetched, alone_plan, alone_publishes, alone_claims, alone_takes}
+use Rattle.repo_member.specs.Alone.{Alone, alone_plan, alone_publishes, alone_claims, alone_takes}
+use Rattle.repo_holdings.specs.Taking.{Fetched}
 use Rattle.repo_member.specs.Alone.{alone_ends_claims, alone_clears}
 use Rattle.repo_member.specs.InGroup.{in_group, AreLogs, GrowInto, AreItsPackets, CameTruly, asked_for, that_came}
-use Rattle.repo_member.specs.Outcomes.{with_all_tries}
+use Rattle.repo_holdings.specs.Taking.{with_all_tries}
 use Rattle.repo_member.specs.TrueMembers.{IsTrueMember}
 use Rattle.repo_member.specs.TrueChanges.{BeginsTrue, PublishesTrue, OthersPublish, LogsHaveGrown, LearnsTrue}
 use Rattle.repo_member.specs.TrueChanges.{HearsTrue, InsertsTrue, BlocksTrue, DeletesTrue, ObeysTrue, FiresTrue}

@@ -31,7 +31,8 @@ use Rattle.group_model.proofs.Members.{known_published}
 use Rattle.repo_member.specs.Groups.{GroupKeys, IsGroup, node_at, member_key, publisher_at}
 use Rattle.repo_holdings.specs.Records.{Packet}
 use Rattle.repo_holdings.specs.Listed.{listing_at}
-use Rattle.repo_member.specs.Alone.{Alone, alone_plan, want_of, nothing_listed}
+use Rattle.repo_member.specs.Alone.{Alone, alone_plan, want_of}
+use Rattle.repo_holdings.specs.Wanting.{nothing_listed}
 use Rattle.repo_member.specs.Verdicts.{passed, claim_verdict}
 use Rattle.repo_member.specs.InGroup.{in_group, AreLogs, true_packet}
 use Rattle.repo_member.specs.TrueMembers.{IsTrueMember, true_want, true_packets, TrueIsAlone, TrueIsOf, TrueStores}

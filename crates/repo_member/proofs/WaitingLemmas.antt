@@ -8,7 +8,7 @@ use Rattle.ndn_name.specs.Names.{Component}
 use Rattle.sorted_lists.specs.SortedList.{value_of, contains, insert_key}
 use Rattle.sorted_lists.specs.Range.{numbers_from}
 use Rattle.repo_plan.specs.Parts.{Pair, pair_cmp}
-use Rattle.repo_plan.specs.Plan.{PlanState, knows}
+use Rattle.repo_plan.specs.Plan.{knows}
 use Rattle.repo_plan.proofs.Orders.{exact_pairs}
 use Rattle.sorted_lists.proofs.Sets.{In, eq_same, contains-insert_key, value_of-with_value}
 use Rattle.repo_process.specs.Processes.{Process, starting, has_block, is_whole}
@@ -16,8 +16,8 @@ use Rattle.repo_process.specs.Insertions.{Insertions, starts, with_process}
 use Rattle.group_model.proofs.Lists.{at_in}
 use Rattle.repo_member.specs.declared.member.Member.TheInside.{Inside}
 use Rattle.repo_member.specs.Alone.{alone_plan}
-use Rattle.repo_holdings.specs.Gaining.{AreKept}
-use Rattle.repo_member.specs.Deleting.{with_hidden, IsHiding}
+use Rattle.repo_holdings.specs.HoldingsState.{HoldingsState, AreInOrder}
+use Rattle.repo_holdings.specs.Hiding.{with_hidden, hides_all}
 use Rattle.repo_member.specs.Members.{alone, AreWaiting, IsMember}
 use Rattle.repo_member.proofs.InsertionParts.{exact_numbers}
 
@@ -59,7 +59,6 @@ with_processes m processes is waiting = record {
     hidden = is.alone.hidden;
   };
   known = is.known;
-  kept = is.kept;
   waiting = waiting;
 }
 
@@ -83,14 +82,12 @@ all_in P pairs q all i =
     let at : (k : ℕ) × (k < length pairs) × (q ≡ get_or pairs k q) = at_in pairs q q i in
     subst P (sym at.2) (all at.0 q at.1)
 
--- a member that has hidden known publications, with what it then stores and lists
-pub hidden_is : (m next : Inside) (plan : PlanState) (pairs : List Pair) → IsMember m → next.number ≡ m.number
-    → next.log.items ≡ m.log.items → next.vector ≡ m.vector
-    → next.machine ≡ m.machine → next.processes ≡ m.processes → plan.known ≡ m.plan.known → plan.hidden ≡ m.plan.hidden
-    → IsHiding pairs plan next.plan
-    → All (λ pair. knows (alone_plan (alone m)) pair ≡ true) pairs
-    → AreKept next.plan next.store.packets next.catalogue.entries → IsMember next
-hidden_is m next plan pairs is number log vector machine processes known hidden hiding each kept = record {
+-- a member that has hidden known publications
+pub hidden_is : (m next : Inside) (pairs : List Pair) → IsMember m → next.number ≡ m.number
+    → next.log.items ≡ m.log.items → next.vector ≡ m.vector → next.machine ≡ m.machine → next.processes ≡ m.processes
+    → next.held ≡ hides_all pairs m.held → AreInOrder next.held
+    → All (λ pair. knows (alone_plan (alone m)) pair ≡ true) pairs → IsMember next
+hidden_is m next pairs is number log vector machine processes hiding in_order each = record {
   alone = record {
     member = omega (arith, number, ap (λ (v : List ℕ). length v) vector, is.alone.member);
     own =
@@ -99,16 +96,15 @@ hidden_is m next plan pairs is number log vector machine processes known hidden 
         ∙ is.alone.own
         ∙ sym (ap (λ l. length l) log);
     width = ap (λ k. k.members) machine ∙ is.alone.width ∙ sym (ap (λ (v : List ℕ). length v) vector);
-    in_order = kept.tied.in_order;
+    in_order = in_order;
     hidden =
         λ q h. ap (λ (v : List ℕ). knows (record (alone_plan (alone m)) { known = v }) q) vector
-        ∙ at q (hidden_cases pairs m.plan.hidden q
-        (ap (λ (hs : List Pair). contains pair_cmp hs q) (sym (hiding.hidden ∙ ap (with_hidden pairs) hidden)) ∙ h));
+        ∙ at q (hidden_cases pairs m.held.hidden q
+        (ap (λ (x : HoldingsState). contains pair_cmp x.hidden q) (sym hiding) ∙ h));
   };
-  known = hiding.known ∙ known ∙ is.known ∙ sym vector;
-  kept = kept;
+  known = ap (λ (x : HoldingsState). x.known) hiding ∙ is.known ∙ sym vector;
   waiting = subst (λ (i : Insertions). AreWaiting i.processes) (sym processes) is.waiting;
 } where
-  at : (q : Pair) → ((In q pairs) ⊎ (contains pair_cmp m.plan.hidden q ≡ true)) → knows (alone_plan (alone m)) q ≡ true
+  at : (q : Pair) → ((In q pairs) ⊎ (contains pair_cmp m.held.hidden q ≡ true)) → knows (alone_plan (alone m)) q ≡ true
   at q (inl i) = all_in (λ (pair : Pair). knows (alone_plan (alone m)) pair ≡ true) pairs q each i
   at q (inr before) = is.alone.hidden q before

@@ -1,23 +1,27 @@
 -- A member by itself: what it has, without what it can't know of others.
-use Rattle.std.specs.Prelude.{◌≡◌, ℕ, ◌+◌, ◌-◌, ◌<◌, true, List, [], ◌∷◌, ◌++◌, length, Option, Some, None, slice_get}
-use Rattle.std.specs.Prelude.{slice_set, slice_index, unwrap_or, replicate, ◌==◌, if◌then◌else◌}
+use Rattle.std.specs.Prelude.{◌≡◌, ℕ, ◌+◌, ◌-◌, ◌<◌, true, List, [], ◌∷◌, ◌++◌, length, Option, None, slice_get}
+use Rattle.std.specs.Prelude.{slice_set, slice_index, replicate, ◌==◌, if◌then◌else◌}
 use Rattle.std.specs.Option.{option_and_then}
 use Rattle.svs_vector.specs.Vectors.{join}
 use Rattle.svs_sync.specs.KeptVector.{Keeper, steady_kept, hears_kept, fired_kept}
 use Rattle.svs_sync.specs.Suppression.{periodic}
 use Rattle.repo_plan.specs.declared.part.Part.{Part}
-use Rattle.repo_plan.specs.Parts.{Pair, part_cmp, pair_of, part_of}
+use Rattle.repo_plan.specs.Parts.{Pair, part_cmp}
 use Rattle.sorted_lists.specs.SortedList.{Rises, keys}
 use Rattle.repo_plan.specs.Plan.{PlanState, no_claims, knows, hides}
 use Rattle.repo_object.specs.Objects.{NamedContents, Publisher}
-use Rattle.repo_object.specs.Publication.{Listed, packets}
-use Rattle.repo_object.specs.Wants.{WantedPart, want_record, want_segment}
+use Rattle.repo_object.specs.Publication.{packets}
+use Rattle.repo_object.specs.Wants.{WantedPart}
 use Rattle.repo_process.specs.Insertions.{Insertions}
 use Rattle.repo_store.specs.StoreList.{with_packet}
 use Rattle.group_model.specs.Member.{with_tries}
+pub use Rattle.repo_holdings.specs.NewPublications.{as_parts, with_packets}
+pub use Rattle.repo_holdings.specs.Taking.{Fetched, with_fetched}
+pub use Rattle.repo_holdings.specs.Wanting.{nothing_listed}
+use Rattle.repo_holdings.specs.Wanting.{want_at}
 use Rattle.repo_holdings.specs.Records.{Packet}
-use Rattle.repo_holdings.specs.Listed.{shapes_in, listing_at}
-use Rattle.repo_member.specs.Groups.{GroupKeys, node_at, publisher_at}
+use Rattle.repo_holdings.specs.Listed.{shapes_in}
+use Rattle.repo_member.specs.Groups.{GroupKeys, publisher_at}
 
 -- what a member has
 pub record Alone : Type 0 where
@@ -84,16 +88,6 @@ publication_limit = 65535
 abbrev pub next_seq : Alone → ℕ
 next_seq a = length a.log + 1
 
--- with these packets too
-abbrev pub with_packets : List Packet → List Packet → List Packet
-with_packets [] stored = stored
-with_packets (e ∷ es) stored = with_packets es (with_packet e.0 e.1 stored)
-
--- packets as those of a publication's parts, from part `x` on
-abbrev pub as_parts : Pair → ℕ → List (List ℕ) → List Packet
-as_parts pair x [] = []
-as_parts pair x (octets ∷ more) = (part_of pair x, octets) ∷ as_parts pair (x + 1) more
-
 -- the member's packets of its next publication
 abbrev pub new_packets : GroupKeys → NamedContents → Alone → List Packet
 new_packets g object a =
@@ -137,30 +131,15 @@ alone_fires moment draw a = record a { machine = fired_kept moment draw a.machin
 abbrev pub alone_claims : ℕ → Option Part → Alone → Alone
 alone_claims f claim a = record a { claims = slice_set a.claims (f - 1) claim }
 
-abbrev pub nothing_listed : Listed
-nothing_listed = record { name = []; digests = [] }
-
 -- the want of a part: a record is asked for by its publisher's name, a segment as the stored record lists it
 abbrev pub want_of : GroupKeys → List Packet → Part → WantedPart
-want_of g stored t =
-    if t.part == 0 then want_record t (node_at g t.publisher) g.name
-    else want_segment t (unwrap_or (listing_at stored (pair_of t)) nothing_listed)
+want_of g stored t = want_at g.members.names g.name stored t
 
 -- a fetcher's part is held from now on, and its claim over
 abbrev pub alone_accepts : ℕ → Part → List ℕ → Alone → Alone
 alone_accepts f t octets a = record (alone_claims f None a) { store = with_packet t octets a.store }
 
 -- ---- a fetch's outcome
-
--- what came of a part that was asked for: its packet, if one came, and how often it was tried
-pub record Fetched : Type 0 where
-  pub part : Part
-  pub packet : Option (List ℕ)
-  pub attempts : ℕ
-
-abbrev pub with_fetched : Part → Option (List ℕ) → List Packet → List Packet
-with_fetched t None stored = stored
-with_fetched t (Some octets) stored = with_packet t octets stored
 
 abbrev pub alone_takes : List Fetched → Alone → Alone
 alone_takes [] a = a

@@ -1,37 +1,17 @@
 -- Publications that a member hides for good.
-use Rattle.std.specs.Prelude.{◌≡◌, ℕ, ◌-◌, List, [], ◌∷◌, map, length}
+use Rattle.std.specs.Prelude.{ℕ, ◌-◌, List, map, length}
 use Rattle.std.specs.List.{filter}
 use Rattle.ndn_name.specs.Names.{Component}
-use Rattle.repo_plan.specs.Parts.{Pair, pair_cmp}
-use Rattle.sorted_lists.specs.SortedList.{insert_key}
-use Rattle.repo_plan.specs.Plan.{PlanState}
-use Rattle.repo_store.specs.StoreList.{packets_outside}
+use Rattle.repo_plan.specs.Parts.{Pair}
 use Rattle.repo_catalog.specs.declared.entry.Entry.{Entry}
 use Rattle.repo_catalog.specs.Entries.{publication_of, entry_has_name}
-use Rattle.repo_holdings.specs.Records.{Packet}
 use Rattle.repo_holdings.specs.Listed.{alone_catalogue}
+use Rattle.repo_holdings.specs.Hiding.{outside_all, with_hidden}
 use Rattle.repo_member.specs.Alone.{Alone}
 
 -- the publications of the objects of a name that are listed
 abbrev pub publications_named : List Component → List Entry → List Pair
 publications_named name entries = map publication_of (filter (entry_has_name name) entries)
-
--- the packets without those of these publications
-abbrev pub outside_all : List Pair → List Packet → List Packet
-outside_all [] packets = packets
-outside_all (pair ∷ pairs) packets = outside_all pairs (packets_outside pair packets)
-
--- the hidden publications, with these too
-abbrev pub with_hidden : List Pair → List Pair → List Pair
-with_hidden [] hidden = hidden
-with_hidden (pair ∷ pairs) hidden = with_hidden pairs (insert_key pair_cmp pair hidden)
-
--- a plan in which nothing changed but that these publications are hidden, and none of their parts is held
-pub record IsHiding (pairs : List Pair) (old new : PlanState) : Type 0 where
-  pub known : new.known ≡ old.known
-  pub claims : new.claims ≡ old.claims
-  pub hidden : new.hidden ≡ with_hidden pairs old.hidden
-  pub attempts : new.attempts ≡ old.attempts
 
 -- these publications are hidden, and none of their packets is stored
 abbrev pub alone_hides : List Pair → Alone → Alone

@@ -18,7 +18,8 @@ use Rattle.group_model.specs.Replies.{Reply}
 use Rattle.group_model.specs.Refusals.{refusal}
 use Rattle.repo_member.specs.Groups.{GroupKeys}
 use Rattle.repo_holdings.specs.Listed.{alone_catalogue}
-use Rattle.repo_member.specs.Alone.{Alone, Fetched, alone_plan, alone_publishes, alone_learns, alone_hears, alone_fires}
+use Rattle.repo_member.specs.Alone.{Alone, alone_plan, alone_publishes, alone_learns, alone_hears, alone_fires}
+use Rattle.repo_holdings.specs.Taking.{Fetched}
 use Rattle.repo_member.specs.Alone.{alone_claims, alone_accepts, alone_takes, alone_ends_claims, alone_resets}
 use Rattle.repo_member.specs.Alone.{alone_restarts}
 use Rattle.repo_member.specs.InGroup.{in_group, StoresInOrder, AreLogs, StoresTruly, asked_for, that_came, AreTries}

@@ -26,7 +26,8 @@ use Rattle.group_model.specs.World.{Outside, member, opening_world}
 use Rattle.group_model.specs.Steps.{can_start}
 use Rattle.repo_member.specs.Groups.{GroupKeys, IsGroup, publisher_at}
 use Rattle.repo_holdings.specs.Listed.{alone_catalogue}
-use Rattle.repo_member.specs.Alone.{Alone, Fetched, publication_limit, alone_plan, alone_opening, alone_publishes}
+use Rattle.repo_member.specs.Alone.{Alone, publication_limit, alone_plan, alone_opening, alone_publishes}
+use Rattle.repo_holdings.specs.Taking.{Fetched}
 use Rattle.repo_member.specs.Alone.{alone_learns, alone_hears, alone_fires, alone_claims, alone_accepts, alone_takes}
 use Rattle.repo_member.specs.Alone.{alone_ends_claims, alone_resets, alone_restarts}
 use Rattle.repo_member.specs.Deleting.{alone_deletes}

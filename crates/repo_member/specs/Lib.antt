@@ -37,6 +37,11 @@ pub mod Verdicts
 pub mod Fires
 pub use Rattle.repo_holdings.specs.Gaining
 pub use Rattle.repo_holdings.specs.StoredRecords
+pub use Rattle.repo_holdings.specs.HoldingsState
+pub use Rattle.repo_holdings.specs.Taking
+pub use Rattle.repo_holdings.specs.NewPublications
+pub use Rattle.repo_holdings.specs.Hiding
+pub use Rattle.repo_holdings.specs.Wanting
 pub mod Publishing
 pub mod Outcomes
 pub mod Deleting

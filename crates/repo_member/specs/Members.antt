@@ -5,7 +5,6 @@ use Rattle.sorted_lists.specs.SortedList.{value_of}
 use Rattle.repo_process.specs.Processes.{Process, is_whole}
 use Rattle.repo_member.specs.declared.member.Member.TheInside.{Inside}
 use Rattle.repo_member.specs.Alone.{Alone, IsAlone}
-use Rattle.repo_holdings.specs.Gaining.{AreKept}
 
 -- what a member's fields say
 abbrev pub alone : Inside → Alone
@@ -13,10 +12,10 @@ alone m = record {
   number = m.number;
   log = m.log.items;
   known = m.vector;
-  store = m.store.packets;
-  hidden = m.plan.hidden;
-  claims = m.plan.claims;
-  attempts = m.plan.attempts;
+  store = m.held.store;
+  hidden = m.held.hidden;
+  claims = m.held.claims;
+  attempts = m.held.attempts;
   machine = m.machine;
   insertions = m.processes;
 }
@@ -26,9 +25,8 @@ abbrev pub AreWaiting : List (ℕ × Process) → Type 0
 AreWaiting processes = (number : ℕ) (p : Process) → value_of nat_cmp processes number ≡ Some p → p.published ≡ false
     → is_whole p ≡ false
 
--- the plan knows the member's numbers, plan and catalogue are those of what is stored, and what is whole is published
+-- what is held is of the publications that the member knows, and what is whole is published
 pub record IsMember (m : Inside) : Type 0 where
   pub alone : IsAlone (alone m)
-  pub known : m.plan.known ≡ m.vector
-  pub kept : AreKept m.plan m.store.packets m.catalogue.entries
+  pub known : m.held.known ≡ m.vector
   pub waiting : AreWaiting m.processes.processes

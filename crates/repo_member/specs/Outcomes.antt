@@ -1,21 +1,15 @@
 -- What came of a fetch, as a member takes it.
-use Rattle.std.specs.Prelude.{◌≡◌, ℕ, ◌+◌, ◌<◌, true, false, List, [], ◌∷◌, map, take, length, Option, option_map}
+use Rattle.std.specs.Prelude.{◌≡◌, ℕ, ◌+◌, ◌<◌, true, List, [], ◌∷◌, map, take, length, Option, option_map}
 use Rattle.std.specs.Prelude.{unwrap_or, IfSome}
 use Rattle.std.specs.List.{All, filter}
 use Rattle.repo_plan.specs.declared.part.Part.{Part}
-use Rattle.repo_plan.specs.Parts.{part_cmp, pair_of}
-use Rattle.sorted_lists.specs.SortedList.{contains}
-use Rattle.repo_plan.specs.Plan.{PlanState, holds, hides, is_asked, is_claimed, is_unclaimed, unclaimed, is_after}
-use Rattle.repo_plan.specs.Plan.{attempts_of}
+use Rattle.repo_plan.specs.Plan.{is_unclaimed, unclaimed, is_after, attempts_of}
 use Rattle.repo_object.specs.declared.job.Job.{Job}
 use Rattle.repo_object.specs.Wants.{WantedPart}
 use Rattle.repo_object.specs.Verdict.{CheckedPart, publisher_key}
 use Rattle.repo_member.specs.Groups.{GroupKeys, HaveKeys}
-use Rattle.repo_holdings.specs.Records.{Packet}
-use Rattle.group_model.specs.Member.{with_tries}
-use Rattle.repo_member.specs.Alone.{Alone, Fetched, IsOfGroup, alone_plan, want_of, with_fetched}
-use Rattle.repo_holdings.specs.Gaining.{KeepsOthers, IsArrival}
-use Rattle.repo_member.specs.declared.member.outcome.Tried.{Tried}
+use Rattle.repo_member.specs.Alone.{Alone, IsOfGroup, alone_plan, want_of}
+use Rattle.repo_holdings.specs.Taking.{Fetched, PartsDiffer}
 
 -- the job of a part: its attempts go on from those that were made
 abbrev pub job_for : GroupKeys → Alone → Part → Job
@@ -30,11 +24,6 @@ outcome_of _ _ _ = []
 -- how many octets came for a job, if a packet came
 abbrev pub octets_in : Option CheckedPart → ℕ
 octets_in part = length (unwrap_or (option_map (λ c. c.octets) part) [])
-
--- no part stands twice in the list
-abbrev pub PartsDiffer : List Part → Type 0
-PartsDiffer [] = Unit {0}
-PartsDiffer (t ∷ ts) = (contains part_cmp ts t ≡ false) × PartsDiffer ts
 
 -- a packet was checked for the want, under the key that the group has for its publisher
 pub record IsCheckedFor (g : GroupKeys) (want : WantedPart) (c : CheckedPart) : Type 0 where
@@ -97,42 +86,3 @@ JobsArePlanned = (g : GroupKeys) (a : Alone) (after : Option Part) (most : ℕ) 
 abbrev pub PlannedJobsAreOutcomes : Type 0
 PlannedJobsAreOutcomes = (g : GroupKeys) (a : Alone) (jobs : List Job) (parts : List (Option CheckedPart))
     (attempts : List ℕ) → ArePlannedJobs g a jobs → WereTried g jobs parts attempts → IsOutcome g a jobs parts attempts
-
--- ---- taking it, job after job
-
--- what came of a tried part
-abbrev pub came : Tried → Fetched
-came x = record { part = x.part; packet = option_map (λ a. a.packet) x.arrival; attempts = x.attempts }
-
--- how many octets came for it, if a packet came
-abbrev pub arrival_octets : Tried → ℕ
-arrival_octets x = length (unwrap_or (came x).packet [])
-
--- what came of a tried part can be taken: the part is wanted and unclaimed, the packet is of it, and it was not tried
--- too often
-pub record CanBeTaken (plan : PlanState) (packets : List Packet) (x : Tried) : Type 0 where
-  pub asked : is_asked plan x.part ≡ true
-  pub not_held : holds plan x.part ≡ false
-  pub not_hidden : hides plan (pair_of x.part) ≡ false
-  pub not_claimed : is_claimed plan x.part ≡ false
-  pub arrived : IfSome x.arrival (λ a. IsArrival packets x.part a.packet a.segments a.name)
-  pub few : attempts_of plan x.part + x.attempts < 2097152
-
--- the same of each of different parts
-pub record AreTakable (plan : PlanState) (packets : List Packet) (xs : List Tried) : Type 0 where
-  pub each : All (CanBeTaken plan packets) xs
-  pub apart : PartsDiffer (map (λ (x : Tried). x.part) xs)
-
--- stored packets with all that came
-abbrev pub with_all_fetched : List Fetched → List Packet → List Packet
-with_all_fetched [] stored = stored
-with_all_fetched (x ∷ xs) stored = with_all_fetched xs (with_fetched x.part x.packet stored)
-
--- attempts with all that were made
-abbrev pub with_all_tries : List Fetched → List (Part × ℕ) → List (Part × ℕ)
-with_all_tries [] attempts = attempts
-with_all_tries (x ∷ xs) attempts = with_all_tries xs (with_tries x.part x.attempts attempts)
-
--- a plan in which nothing changed but what is held and how often parts were tried
-abbrev pub KeepsButTries : PlanState → PlanState → Type 0
-KeepsButTries old new = KeepsOthers old (record new { attempts = old.attempts })

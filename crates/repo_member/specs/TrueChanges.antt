@@ -11,7 +11,8 @@ use Rattle.repo_process.specs.Insertions.{Insertions}
 use Rattle.group_model.specs.Publications.{Logs, last_of}
 use Rattle.group_model.specs.Sound.{IsTrueVector}
 use Rattle.repo_member.specs.Groups.{GroupKeys}
-use Rattle.repo_member.specs.Alone.{Alone, Fetched, alone_plan, alone_opening, alone_publishes, alone_learns}
+use Rattle.repo_member.specs.Alone.{Alone, alone_plan, alone_opening, alone_publishes, alone_learns}
+use Rattle.repo_holdings.specs.Taking.{Fetched}
 use Rattle.repo_member.specs.Alone.{alone_hears, alone_fires, alone_claims, alone_accepts, alone_takes}
 use Rattle.repo_member.specs.Alone.{alone_ends_claims, alone_resets, alone_restarts}
 use Rattle.repo_member.specs.Deleting.{alone_deletes}

@@ -11,7 +11,6 @@ mod command;
 mod fetching;
 mod outcome;
 mod publishing;
-mod stored_record;
 mod syncing;
 
 use crate::group::Group;
@@ -21,10 +20,10 @@ use ndn_name::PacketFault;
 pub use outcome::Kept;
 pub use publishing::Published;
 use repo_catalog::Catalogue;
+use repo_holdings::Holdings;
 use repo_object::Object;
-use repo_plan::{Part, Plan};
+use repo_plan::Part;
 use repo_process::Processes;
-use repo_store::Store;
 use std::alloc::{AllocError, Global};
 use std::marker::Model;
 use svs_sync::{Machine, Mode};
@@ -41,9 +40,7 @@ pub struct Member {
     log: Vec<Object>,
     vector: Vector,
     machine: Machine,
-    plan: Plan,
-    store: Store,
-    catalogue: Catalogue,
+    held: Holdings,
     processes: Processes,
 }
 
@@ -80,9 +77,7 @@ impl Member {
             log: Vec::new(alloc),
             vector: Vector::new(alloc, members)?,
             machine: Machine::new(alloc, members, now, draw)?,
-            plan: Plan::new(alloc, members)?,
-            store: Store::new(alloc),
-            catalogue: Catalogue::new(alloc),
+            held: Holdings::new(alloc, members)?,
             processes: Processes::new(alloc),
         })
     }
@@ -91,7 +86,7 @@ impl Member {
     pub fn catalogue(&self) -> &Catalogue
         ensures { result.now.entries ≡ alone_catalogue self.now.store }
     {
-        &self.catalogue
+        self.held.catalogue()
     }
 
     /// The numbers that the member knows.
@@ -129,7 +124,7 @@ impl Member {
     pub fn packet(&self, part: Part) -> Option<&[u8]>
         ensures { option_map (λ octets. octets.now) result ≡ value_of part_cmp self.now.store part }
     {
-        self.store.get(part)
+        self.held.packet(part)
     }
 
     /// What the member answers to an Interest: the packet of the least part that satisfies it. It takes no memory.
@@ -138,14 +133,14 @@ impl Member {
             (λ found. served interest.now self.now.store ≡ Ok (option_map (λ octets. octets.now) found))
             (λ fault. served interest.now self.now.store ≡ Err fault) }
     {
-        self.store.serve(interest)
+        self.held.serve(interest)
     }
 
     /// Every fetcher's claim ends. It takes no memory.
     pub fn end_claims(&mut self)
         ensures { self.new ≡ alone_ends_claims self.old }
     {
-        self.plan.end_claims();
+        self.held.end_claims();
     }
 
     /// The machine starts again, with one draw. It takes no memory.

@@ -1,4 +1,4 @@
-ghost use Rattle.std.specs.Prelude.{◌≡◌, ◌-◌, ◌<◌, ◌≤◌, true, false, length, option_map, IfOk, OnOk, OnErr, IsTrue};
+ghost use Rattle.std.specs.Prelude.{◌≡◌, ◌-◌, ◌<◌, ◌≤◌, true, false, option_map, IfOk, OnOk, OnErr, IsTrue};
 ghost use Rattle.std.specs.List.{All};
 ghost use Rattle.std.specs.Ordering.{nat_cmp};
 ghost use Rattle.repo_object.specs.Objects.{is_object_name};
@@ -7,9 +7,8 @@ ghost use Rattle.repo_plan.specs.Plan.{knows, claims_part_in};
 ghost use Rattle.repo_command.specs.Commands.{is_command, CommandIsSpelled};
 ghost use Rattle.repo_process.specs.Insertions.{next_number};
 ghost use Rattle.group_model.specs.Steps.{check_answer};
-ghost use Rattle.repo_holdings.specs.Gaining.{AreKept};
 ghost use Rattle.repo_member.specs.Alone.{IsOfGroup, alone_plan};
-ghost use Rattle.repo_member.specs.Deleting.{catalogued_named, alone_deletes, alone_drops, outside_all, IsHiding};
+ghost use Rattle.repo_member.specs.Deleting.{catalogued_named, alone_deletes, alone_drops};
 ghost use Rattle.repo_member.specs.Commanded.{coded, order_of, alone_after_order, alone_order_answer, alone_obeys};
 ghost use Rattle.repo_member.specs.Commanded.{alone_starts, answer_to, start_answer, delete_answer, reply_to_octets};
 ghost use Rattle.repo_member.specs.Commanded.{reply_named};
@@ -19,13 +18,11 @@ use crate::group::Group;
 use ndn_data::write_signed;
 use ndn_interest::InterestView;
 use ndn_name::{Name, NameFault, NameView, PacketWriteFault};
-use repo_catalog::Catalogue;
 use repo_command::status_codes::{ACCEPTED, DONE, IN_PROGRESS, MALFORMED, NOT_FOUND};
 use repo_command::{Answer, Command, CommandRefusal, check_command, write_answer};
 use repo_object::key_name;
-use repo_plan::{Part, Plan};
+use repo_plan::Part;
 use repo_process::StartFault;
-use repo_store::Store;
 use std::alloc::AllocError;
 
 /// How many octets of value a name may have that a reply repeats.
@@ -183,13 +180,7 @@ impl Member {
             ..Answer::only(DONE)
         };
         let answered = self.answered(g, octets, answer)?;
-        self.plan.reserve(found.publications.len())?;
-        hide_all(
-            &mut self.plan,
-            &mut self.store,
-            &mut self.catalogue,
-            &found.publications,
-        );
+        self.held.hide_all(&found.publications)?;
         Ok(answered)
     }
 
@@ -203,15 +194,15 @@ impl Member {
             All (λ pair. claims_part_in (alone_plan self.now) pair ≡ false) found.publications.items) }
     {
         let mut publications = Vec::new(*self.log.allocator());
-        let mut left = self.store.len();
-        for entry in self.catalogue.entries() {
+        let mut left = self.held.len();
+        for entry in self.held.catalogue().entries() {
             if entry.name.view().compare(&name.view()).is_eq() {
                 let record = Part {
                     publisher: entry.publisher,
                     seq: entry.seq,
                     part: 0,
                 };
-                let held = self.plan.holds(record);
+                let held = self.held.holds(record);
                 prove!(held);
                 publications.push((entry.publisher, entry.seq))?;
                 left -= 1 + entry.segments as usize;
@@ -219,7 +210,7 @@ impl Member {
         }
         Ok(Found {
             publications,
-            packets: self.store.len() - left,
+            packets: self.held.len() - left,
         })
     }
 
@@ -265,26 +256,5 @@ impl Member {
             Err(PacketWriteFault::TooLong { .. }) => unreachable!(),
             Err(PacketWriteFault::NoMemory) => Err(AllocError),
         }
-    }
-}
-
-// These publications are hidden for good, for which room was made: none of their packets is held or listed any more.
-fn hide_all(
-    plan: &mut Plan,
-    store: &mut Store,
-    catalogue: &mut Catalogue,
-    publications: &[(u32, u16)],
-)
-    requires room { length publications.now ≤ plan.old.spare }
-    requires unclaimed { All (λ pair. claims_part_in plan.old pair ≡ false) publications.now }
-    requires kept { AreKept plan.old store.old.packets catalogue.old.entries }
-    ensures hidden { IsHiding publications.now plan.old plan.new }
-    ensures packets { store.new.packets ≡ outside_all publications.now store.old.packets }
-    ensures kept { AreKept plan.new store.new.packets catalogue.new.entries }
-{
-    for (publisher, seq) in publications {
-        plan.hide_reserved(*publisher, *seq);
-        store.drop_parts(*publisher, *seq);
-        catalogue.remove(*publisher, *seq);
     }
 }

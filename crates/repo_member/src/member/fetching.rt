@@ -1,22 +1,19 @@
-ghost use Rattle.std.specs.Prelude.{◌≡◌, ◌⊎◌, ◌↔◌, Ok, Err, Some, None, IsSome, IsOk, IsErr, IsSomeAnd};
-ghost use Rattle.std.specs.Prelude.{IfSome, IfOk, IfErr, OnOk, OnErr, true, map, take};
-ghost use Rattle.std.specs.List.{All, filter};
+ghost use Rattle.std.specs.Prelude.{◌≡◌, ◌⊎◌, ◌↔◌, Ok, Err, Some, None, IsOk, IsErr, IsSomeAnd, IfSome, IfOk, IfErr};
+ghost use Rattle.std.specs.Prelude.{OnOk, OnErr, true, map, take};
+ghost use Rattle.std.specs.List.{filter};
 ghost use Rattle.repo_plan.specs.Plan.{claim_of, unclaimed, first, is_after, is_asked, is_wanted};
 ghost use Rattle.repo_plan.specs.Calls.{IsFetcher};
-ghost use Rattle.sha2.specs.Sha256.{sha256};
-ghost use Rattle.ndn_data.specs.Data.{data_of};
-ghost use Rattle.repo_object.specs.Verdict.{listing_in, ring_verdict};
+ghost use Rattle.repo_object.specs.Verdict.{ring_verdict};
 ghost use Rattle.repo_member.specs.Alone.{IsOfGroup, alone_plan, alone_claims, want_of, alone_accepts};
 ghost use Rattle.repo_member.specs.Verdicts.{passed, accept_verdict};
 ghost use Rattle.repo_holdings.specs.Gaining.{IsArrival};
-ghost use Rattle.repo_holdings.specs.StoredRecords.{IsListedIn};
 ghost use Rattle.repo_member.specs.Outcomes.{job_for, IsCheckedFor};
 
 use super::Member;
 use crate::group::Group;
 use crate::refusals::{AcceptRefusal, WantFault};
-use repo_holdings::{Arrival, StoredRecord, gain_listed, make_room, owned_name};
-use repo_object::{Checked, Digested, Expected, Job, RecordView, Want, expect_record};
+use repo_holdings::Arrival;
+use repo_object::{Checked, Job, Want};
 use repo_plan::{FetcherBusy, FetcherIdle, Part};
 use std::alloc::{AllocError, Global};
 
@@ -31,7 +28,7 @@ impl Member {
         ensures new { IfOk result (λ claim. self.new ≡ alone_claims f claim self.old) }
         ensures err { OnErr result (self.new ≡ self.old) }
     {
-        self.plan.claim(f)
+        self.held.claim(f)
     }
 
     /// The fetcher's claim ends, and its part can be claimed again. It takes no memory.
@@ -42,7 +39,7 @@ impl Member {
         ensures ok { OnOk result (self.new ≡ alone_claims f None self.old) }
         ensures err { OnErr result (self.new ≡ self.old) }
     {
-        self.plan.release(f)
+        self.held.release(f)
     }
 
     /// The want of the fetcher's part, with the Interest that asks for it.
@@ -53,11 +50,14 @@ impl Member {
             (λ part. want ≡ want_of g.now self.now.store part)) }
         ensures idle { (result ≡ Err WantFault.FetcherIdle) ↔ (claim_of (alone_plan self.now) f ≡ None) }
     {
-        let Some(part) = self.claimed(f) else {
+        let Some(part) = self.held.claimed(f) else {
             return Err(WantFault::FetcherIdle);
         };
-        let stored = self.record_for(part, None);
-        Ok(self.want_of(alloc, g, part, stored.as_ref())?)
+        let stored = self.held.record_for(part, None);
+        Ok(
+            self.held
+                .want(alloc, g.roster(), g.name(), part, stored.as_ref())?,
+        )
     }
 
     /// The octets are taken for the part that the fetcher claims, if they pass for it: the part is held from now on,
@@ -71,7 +71,7 @@ impl Member {
             ⊎ (accept_verdict g.now self.old f octets.now ≡ Err refusal)) }
         ensures err { OnErr result (self.new ≡ self.old) }
     {
-        let Some(part) = self.claimed(f) else {
+        let Some(part) = self.held.claimed(f) else {
             return Err(AcceptRefusal::FetcherIdle);
         };
         let arrival = self.arrival(g, part, octets)?;
@@ -98,11 +98,17 @@ impl Member {
             ⊎ (refusal ≡ AcceptRefusal.FetcherIdle)) }
         ensures err { OnErr result (self.new ≡ self.old) }
     {
-        let Some(part) = self.claimed(f) else {
+        let Some(part) = self.held.claimed(f) else {
             return Err(AcceptRefusal::FetcherIdle);
         };
-        let stored = self.record_for(part, None);
-        let arrival = self.arrived(part, stored.as_ref(), checked.octets(), checked.digest())?;
+        let stored = self.held.record_for(part, None);
+        let arrival = self.held.arrived(
+            *self.log.allocator(),
+            part,
+            stored.as_ref(),
+            checked.octets(),
+            checked.digest(),
+        )?;
         self.gain_claimed(f, part, arrival)?;
         Ok(part)
     }
@@ -116,15 +122,9 @@ impl Member {
         ensures ok { OnOk result (self.new ≡ alone_accepts f part arrival.packet self.old) }
         ensures err { OnErr result (self.new ≡ self.old) }
     {
-        make_room(&mut self.plan, &mut self.store, &mut self.catalogue, 1)?;
-        let _ = self.plan.release(f);
-        gain_listed(
-            &mut self.plan,
-            &mut self.store,
-            &mut self.catalogue,
-            part,
-            arrival,
-        );
+        self.held.reserve(1)?;
+        let _ = self.held.release(f);
+        self.held.gain(part, arrival);
         Ok(())
     }
 
@@ -141,74 +141,7 @@ impl Member {
         ensures { IfOk result (λ jobs. jobs.items ≡ map (job_for g.now self.now)
             (take most (filter (is_after after) (unclaimed (alone_plan self.now))))) }
     {
-        let parts = self.plan.wanted_after(alloc, after, most)?;
-        self.jobs(alloc, g, &parts)
-    }
-
-    // The part that the fetcher claims. It is wanted, and so not held.
-    fn claimed(&self, f: u8) -> Option<Part>
-        requires { IsFetcher f }
-        ensures claim { result ≡ claim_of (alone_plan self.now) f }
-        ensures wanted { IfSome result (λ part. is_wanted (alone_plan self.now) part ≡ true) }
-    {
-        let part = self.plan.claimed(f)?;
-        let held = self.plan.holds(part);
-        prove!(!held);
-        Some(part)
-    }
-
-    // The jobs of these parts.
-    fn jobs(&self, alloc: Global, g: &Group, parts: &[Part]) -> Result<Vec<Job>, AllocError>
-        requires group { IsOfGroup g.now self.now }
-        requires asked { All (λ part. is_asked (alone_plan self.now) part ≡ true) parts.now }
-        ensures { IfOk result (λ jobs. jobs.items ≡ map (job_for g.now self.now) parts.now) }
-    {
-        let mut jobs = Vec::with_capacity(alloc, parts.len())?;
-        let mut stored = None;
-        for part in parts {
-            stored = self.record_for(*part, stored);
-            let want = self.want_of(alloc, g, *part, stored.as_ref())?;
-            let base = self.plan.attempts(*part);
-            jobs.push(Job { want, base })?;
-        }
-        Ok(jobs)
-    }
-
-    // The want of a part that is asked for, and that `stored` lists, if it is a segment.
-    fn want_of(
-        &self,
-        alloc: Global,
-        g: &Group,
-        part: Part,
-        stored: Option<&StoredRecord<'_>>,
-    ) -> Result<Want, AllocError>
-        requires group { IsOfGroup g.now self.now }
-        requires asked { is_asked (alone_plan self.now) part ≡ true }
-        requires listed { IfSome stored (λ r. IsListedIn self.now.store part r.now) }
-        requires none { stored ≡ None → part.part ≡ 0 }
-        ensures { IfOk result (λ want. want ≡ want_of g.now self.now.store part) }
-    {
-        Want::new(alloc, self.expected(alloc, g, part, stored)?)
-    }
-
-    // What is expected for such a part: of a segment the record tells it.
-    fn expected(
-        &self,
-        alloc: Global,
-        g: &Group,
-        part: Part,
-        stored: Option<&StoredRecord<'_>>,
-    ) -> Result<Expected, AllocError>
-        requires group { IsOfGroup g.now self.now }
-        requires asked { is_asked (alone_plan self.now) part ≡ true }
-        requires listed { IfSome stored (λ r. IsListedIn self.now.store part r.now) }
-        requires none { stored ≡ None → part.part ≡ 0 }
-        ensures { IfOk result (λ expected. expected ≡ want_of g.now self.now.store part) }
-    {
-        match stored {
-            Some(stored) => stored.view.expect_segment(alloc, part),
-            None => expect_record(part, g.roster().name(part.publisher), g.name()),
-        }
+        self.held.jobs(alloc, g.roster(), g.name(), after, most)
     }
 
     // The packet that came for a part, if the octets pass for it.
@@ -224,46 +157,15 @@ impl Member {
             ⊎ (passed part (ring_verdict (want_of g.now self.now.store part)
             g.now.members.ring octets.now) ≡ Err refusal)) }
     {
-        let stored = self.record_for(part, None);
-        let expected = self.expected(*self.log.allocator(), g, part, stored.as_ref())?;
-        expected.check(octets, g.members())?;
-        Ok(self.arrived(part, stored.as_ref(), octets, expected.digest())?)
-    }
-
-    // The packet that came for a part and passed for it, with its digest, if that is known. `stored` lists the part, if
-    // it is a segment.
-    pub(super) fn arrived(
-        &self,
-        part: Part,
-        stored: Option<&StoredRecord<'_>>,
-        octets: &[u8],
-        digest: Option<&[u8; 32]>,
-    ) -> Result<Arrival, AllocError>
-        requires data { IsOk (data_of octets.now) }
-        requires digest { IfSome digest (λ digest. digest.now ≡ sha256 octets.now) }
-        requires record_part { part.part ≡ 0 → IsSome (listing_in octets.now) }
-        requires listed { IfSome stored (λ r. IsListedIn self.now.store part r.now) }
-        requires none { stored ≡ None → part.part ≡ 0 }
-        ensures octets { IfOk result (λ arrival. arrival.packet ≡ octets.now) }
-        ensures arrival { IfOk result (λ arrival.
-            IsArrival self.now.store part arrival.packet arrival.segments arrival.name) }
-    {
+        let stored = self.held.record_for(part, None);
         let alloc = *self.log.allocator();
-        let packet = Digested::new(octets.to_vec(alloc)?, digest);
-        match stored {
-            Some(stored) => Ok(Arrival {
-                packet,
-                segments: None,
-                name: owned_name(alloc, stored.view.name())?,
-            }),
-            None => {
-                let record = RecordView::in_packet(octets);
-                Ok(Arrival {
-                    packet,
-                    segments: Some(record.segments()),
-                    name: owned_name(alloc, record.name())?,
-                })
-            }
-        }
+        let expected = self
+            .held
+            .expected(alloc, g.roster(), g.name(), part, stored.as_ref())?;
+        expected.check(octets, g.members())?;
+        Ok(
+            self.held
+                .arrived(alloc, part, stored.as_ref(), octets, expected.digest())?,
+        )
     }
 }

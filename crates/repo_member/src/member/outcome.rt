@@ -1,29 +1,14 @@
-ghost use Rattle.std.specs.Prelude.{◌≡◌, ◌+◌, ◌<◌, ◌^◌, ℕ, count_by, sum_by, is_some, option_map, length, IfOk, OnOk};
-ghost use Rattle.std.specs.Prelude.{OnErr, map, vec_len};
-ghost use Rattle.group_model.specs.Member.{with_tries};
-ghost use Rattle.repo_member.specs.Alone.{IsOfGroup, alone_plan, alone_takes, with_fetched};
-ghost use Rattle.repo_holdings.specs.Gaining.{AreKept, HaveRoom};
-ghost use Rattle.repo_member.specs.Outcomes.{IsOutcome, outcome_of, came, octets_in, arrival_octets, CanBeTaken};
-ghost use Rattle.repo_member.specs.Outcomes.{AreTakable};
-ghost use Rattle.repo_member.specs.Outcomes.{KeepsButTries, with_all_fetched, with_all_tries};
+ghost use Rattle.std.specs.Prelude.{◌≡◌, ◌<◌, ◌^◌, count_by, sum_by, is_some, IfOk, OnOk, OnErr, map, vec_len};
+ghost use Rattle.repo_member.specs.Alone.{IsOfGroup, alone_plan, alone_takes};
+ghost use Rattle.repo_holdings.specs.Taking.{came, AreTakable};
+ghost use Rattle.repo_member.specs.Outcomes.{IsOutcome, outcome_of, octets_in};
 
 use super::Member;
 use crate::group::Group;
-use repo_catalog::Catalogue;
-use repo_holdings::{Arrival, gain_listed, make_room};
+use repo_holdings::{Taken, Tried};
 use repo_object::{Checked, Job};
-use repo_plan::{Part, Plan};
-use repo_store::Store;
 use std::alloc::AllocError;
 use svs_vector::MEMBER_LIMIT;
-
-// What came of a job: how often its part was tried, and its packet, if one came.
-#[derive(Drop)]
-struct Tried {
-    part: Part,
-    attempts: u32,
-    arrival: Option<Arrival>,
-}
 
 /// What a member took of a fetch: the parts that it holds from now on and did not hold, and the octets of their
 /// packets.
@@ -50,13 +35,9 @@ impl Member {
         ensures err { OnErr result (self.new ≡ self.old) }
     {
         let all = self.tried(g, jobs, parts, attempts)?;
-        make_room(
-            &mut self.plan,
-            &mut self.store,
-            &mut self.catalogue,
-            all.len(),
-        )?;
-        Ok(take_all(&mut self.plan, &mut self.store, &mut self.catalogue, all))
+        self.held.reserve(all.len())?;
+        let Taken { parts, octets } = self.held.take(all);
+        Ok(Kept { parts, octets })
     }
 
     // What came of jobs, with copies of the packets.
@@ -81,14 +62,17 @@ impl Member {
         let mut stored = None;
         for ((job, checked), tries) in jobs.iter().zip(parts).zip(attempts) {
             let part = job.want.part();
-            stored = self.record_for(part, stored);
+            stored = self.held.record_for(part, stored);
             let arrival = match checked {
-                Some(checked) => Some(self.arrived(
-                    part,
-                    stored.as_ref(),
-                    checked.octets(),
-                    checked.digest(),
-                )?),
+                Some(checked) => Some(
+                    self.held.arrived(
+                        alloc,
+                        part,
+                        stored.as_ref(),
+                        checked.octets(),
+                        checked.digest(),
+                    )?,
+                ),
                 None => None,
             };
             all.push(Tried {
@@ -99,60 +83,4 @@ impl Member {
         }
         Ok(all)
     }
-}
-
-// Takes what came of jobs, for which room was made.
-fn take_all(plan: &mut Plan, store: &mut Store, catalogue: &mut Catalogue, all: Vec<Tried>) -> Kept
-    requires room { HaveRoom (vec_len all) plan.old store.old catalogue.old }
-    requires kept { AreKept plan.old store.old.packets catalogue.old.entries }
-    requires takable { AreTakable plan.old store.old.packets all.items }
-    requires few { vec_len all < 2 ^ 32 }
-    requires short { sum_by arrival_octets all.items < 2 ^ 64 }
-    ensures packets { store.new.packets ≡ with_all_fetched (map came all.items) store.old.packets }
-    ensures attempts { plan.new.attempts ≡ with_all_tries (map came all.items) plan.old.attempts }
-    ensures others { KeepsButTries plan.old plan.new }
-    ensures kept { AreKept plan.new store.new.packets catalogue.new.entries }
-    ensures parts { result.parts ≡ count_by (λ x. is_some x.arrival) all.items }
-    ensures octets { result.octets ≡ sum_by arrival_octets all.items }
-{
-    let mut parts = 0;
-    let mut octets = 0;
-    for tried in all {
-        let came = take_one(plan, store, catalogue, tried);
-        parts += u32::from(came.is_some());
-        octets += came.unwrap_or(0);
-    }
-    Kept { parts, octets }
-}
-
-// Takes what came of one job. The answer is how many octets its packet has, if one came.
-fn take_one(
-    plan: &mut Plan,
-    store: &mut Store,
-    catalogue: &mut Catalogue,
-    tried: Tried,
-) -> Option<u64>
-    requires room { HaveRoom 1 plan.old store.old catalogue.old }
-    requires kept { AreKept plan.old store.old.packets catalogue.old.entries }
-    requires takable { CanBeTaken plan.old store.old.packets tried }
-    ensures room { (n : ℕ) → HaveRoom (n + 1) plan.old store.old catalogue.old
-        → HaveRoom n plan.new store.new catalogue.new }
-    ensures packets { store.new.packets ≡ with_fetched tried.part (came tried).packet store.old.packets }
-    ensures attempts { plan.new.attempts ≡ with_tries tried.part tried.attempts plan.old.attempts }
-    ensures others { KeepsButTries plan.old plan.new }
-    ensures kept { AreKept plan.new store.new.packets catalogue.new.entries }
-    ensures came { result ≡ option_map (λ a. length a.packet) tried.arrival }
-{
-    let Tried {
-        part,
-        attempts,
-        arrival,
-    } = tried;
-    let mut came = None;
-    if let Some(arrival) = arrival {
-        came = Some(arrival.packet.octets().len() as u64);
-        gain_listed(plan, store, catalogue, part, arrival);
-    }
-    plan.add_attempts_reserved(part, attempts);
-    came
 }

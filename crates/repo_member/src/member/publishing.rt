@@ -1,23 +1,19 @@
 ghost use Rattle.std.specs.Prelude.{◌≡◌, ◌<◌, ◌≤◌, ◌^◌, ◌↔◌, ℕ, Err, IsTrue, IfOk, IfErr, OnOk, OnErr, length, map};
-ghost use Rattle.std.specs.Prelude.{option_map, vec_len};
+ghost use Rattle.std.specs.Prelude.{option_map};
 ghost use Rattle.std.specs.List.{All};
 ghost use Rattle.repo_object.specs.Objects.{is_object_name, IsContent, IsObject, IsPublisher};
 ghost use Rattle.repo_member.specs.Groups.{publisher_at};
-ghost use Rattle.repo_member.specs.Alone.{IsOfGroup, publication_limit, as_parts, with_packets, next_seq};
-ghost use Rattle.repo_member.specs.Alone.{alone_publishes, logged};
-ghost use Rattle.repo_holdings.specs.Gaining.{AreTied, KeepsOthers};
+ghost use Rattle.repo_member.specs.Alone.{IsOfGroup, publication_limit, next_seq, alone_publishes, logged};
 ghost use Rattle.repo_member.specs.Verdicts.{sync_of};
-ghost use Rattle.repo_member.specs.Publishing.{IsPrepared, ArePackets, IsNew};
+ghost use Rattle.repo_member.specs.Publishing.{IsPrepared};
 
 use super::Member;
 use super::syncing::sync_of;
 use crate::group::Group;
 use crate::refusals::PublishRefusal;
 use ndn_name::Name;
-use repo_holdings::{gain, list_if_whole, make_room};
 use repo_object::{Digested, Object, digested_packets_of, packet_of};
-use repo_plan::{Part, Plan};
-use repo_store::Store;
+use repo_plan::Part;
 use std::alloc::AllocError;
 
 /// How many objects a member may publish.
@@ -105,7 +101,7 @@ impl Member {
             seq,
             part: 0,
         };
-        let held = self.plan.holds(record);
+        let held = self.held.holds(record);
         prove!(!held);
         let Ok(prepared) = self.prepared(g, seq, &object) else {
             return Err(object);
@@ -113,30 +109,12 @@ impl Member {
         let Ok(()) = self.log.reserve(1) else {
             return Err(object);
         };
-        let Ok(()) = make_room(
-            &mut self.plan,
-            &mut self.store,
-            &mut self.catalogue,
-            prepared.packets.len(),
-        ) else {
+        let Ok(()) = self.held.reserve(prepared.packets.len()) else {
             return Err(object);
         };
-        self.plan.raise(number, seq);
-        gain_all(
-            &mut self.plan,
-            &mut self.store,
-            number,
-            seq,
-            prepared.packets,
-        );
-        list_if_whole(
-            &self.plan,
-            &self.store,
-            &mut self.catalogue,
-            number,
-            seq,
-            prepared.name,
-        );
+        self.held.raise(number, seq);
+        self.held
+            .publish_parts(number, seq, prepared.name, prepared.packets);
         self.log.push(object).unwrap();
         self.vector.raise(number, seq);
         self.machine.published(now, draw);
@@ -185,31 +163,5 @@ impl Member {
             packets,
             sync,
         })
-    }
-}
-
-// The parts of a new publication are held from now on, with these packets, for which room was made.
-fn gain_all(plan: &mut Plan, store: &mut Store, publisher: u32, seq: u16, packets: Vec<Digested>)
-    requires plan_room { vec_len packets ≤ plan.old.spare }
-    requires store_room { vec_len packets ≤ store.old.spare }
-    requires tied { AreTied plan.old store.old.packets }
-    requires new { IsNew plan.old (publisher, seq) }
-    requires packets { ArePackets packets.items }
-    ensures packets { store.new.packets ≡ with_packets
-        (as_parts (publisher, seq) 0 packets.items) store.old.packets }
-    ensures others { KeepsOthers plan.old plan.new }
-    ensures tied { AreTied plan.new store.new.packets }
-{
-    let segments = packets.len() as u8 - 1;
-    let mut x = 0;
-    for packet in packets {
-        let part = Part {
-            publisher,
-            seq,
-            part: x,
-        };
-        let segments = if x == 0 { Some(segments) } else { None };
-        gain(plan, store, part, packet, segments);
-        x += 1;
     }
 }

@@ -11,8 +11,8 @@ ghost use Rattle.repo_member.specs.Fires.{TellsFire};
 use super::Member;
 use crate::group::Group;
 use crate::refusals::HearRefusal;
+use repo_holdings::Holdings;
 use repo_object::key_name;
-use repo_plan::Plan;
 use std::alloc::{AllocError, Global};
 use svs_sync::{Fired, Mode, SyncRefusal, make_sync};
 use svs_vector::Vector;
@@ -66,7 +66,7 @@ impl Member {
     {
         self.not_ahead(told)?;
         let mode = self.machine.heard(now, told, &self.vector, draw);
-        learn(&mut self.vector, &mut self.plan, told);
+        learn(&mut self.vector, &mut self.held, told);
         Ok(mode)
     }
 
@@ -98,7 +98,7 @@ impl Member {
         ensures err { OnErr result (self.new ≡ self.old) }
     {
         self.not_ahead(told)?;
-        Ok(learn(&mut self.vector, &mut self.plan, told))
+        Ok(learn(&mut self.vector, &mut self.held, told))
     }
 
     /// The member's timer fires.
@@ -165,16 +165,16 @@ impl Member {
 }
 
 // What is told is known from now on. The answer is whether more is known than before.
-fn learn(vector: &mut Vector, plan: &mut Plan, told: &Vector) -> bool
+fn learn(vector: &mut Vector, held: &mut Holdings, told: &Vector) -> bool
     requires width { length told.now ≡ length vector.old }
     requires few { length told.now ≤ node_limit }
-    requires known { plan.old.known ≡ vector.old }
+    requires known { held.old.known ≡ vector.old }
     ensures vector { vector.new ≡ join vector.old told.now }
-    ensures plan { plan.new ≡ record plan.old { known = join vector.old told.now } }
+    ensures held { held.new ≡ record held.old { known = join vector.old told.now } }
     ensures changed { IsFalse result ↔ (vector.new ≡ vector.old) }
 {
     for member in 0..told.members() as u32 {
-        plan.raise(member, told.get(member));
+        held.raise(member, told.get(member));
     }
     vector.join(told)
 }

@@ -5,7 +5,7 @@ use Rattle.repo_plan.specs.declared.part.Part.{Part}
 use Rattle.repo_object.specs.Wants.{WantedPart}
 use Rattle.repo_object.specs.Verdict.{publisher_key}
 use Rattle.repo_object.proofs.Passing.{passing_digest}
-use Rattle.repo_member.proofs.MemberLemmas.{want_part, publisher_in_ring}
+use Rattle.repo_member.proofs.MemberLemmas.{want_at_part, publisher_in_ring}
 use Rattle.repo_member.proofs.member.Member.arrival.Goals as goal
 
 pub check-requires : goal.check-requires
@@ -15,7 +15,7 @@ check-requires c =
     c.requires.group c.members.ensures.keys c.requires.asked in
     let part =
     ap (λ (w : WantedPart). w.part.publisher) c.in_ok-expected.ensures
-    ∙ ap (λ (t : Part). t.publisher) (want_part c.args.g.now c.args.self.now.store c.args.part) in
+    ∙ ap (λ (t : Part). t.publisher) (want_at_part c.roster.result.now c.name.result.now c.self.inside.held.store c.args.part) in
     let ring = ap (λ (r : List NamedKey). length r) c.members.ensures.ring in
     omega (arith, inside, part, ring)
 

@@ -1,16 +1,15 @@
-use Rattle.std.proofs.Common.{◌≡◌, true, false, List, get_or, Option, refl, sym, ap, ◌∙◌, subst}
+use Rattle.std.proofs.Common.{◌≡◌, true, false, get_or, Option, List, refl, sym, ap, ◌∙◌, subst}
 use Rattle.std.specs.List.{All, list_any}
 use Rattle.repo_plan.specs.declared.part.Part.{Part}
 use Rattle.repo_plan.specs.Parts.{Pair}
-use Rattle.repo_plan.specs.Plan.{PlanState, knows, is_claim_in, claims_part_in}
+use Rattle.repo_plan.specs.Plan.{knows, is_claim_in, claims_part_in}
 use Rattle.repo_member.specs.Alone.{Alone, alone_plan}
 use Rattle.repo_member.proofs.WaitingLemmas.{hidden_is}
 use Rattle.repo_member.proofs.member.Member.delete.Goals as goal
 
-pub hide_all-requires-clause-unclaimed : goal.hide_all-requires-clause-unclaimed
-hide_all-requires-clause-unclaimed c =
-    let claims =
-    ap (λ (p : PlanState). p.claims) c.in_ok-reserve.ensures.ok ∙ ap (λ (a : Alone). a.claims) c.self.view_is in
+pub hide_all-requires : goal.hide_all-requires
+hide_all-requires c =
+    let claims = ap (λ (a : Alone). a.claims) c.self.view_is in
     let each =
     subst (All (λ (pair : Pair). claims_part_in (alone_plan c.args.self.now) pair ≡ false)) (sym c.deref.ensures.value)
     c.in_ok-found.ensures.unclaimed in
@@ -22,8 +21,7 @@ invariant_of-self-2 c =
     let known =
     subst (All (λ (pair : Pair). knows (alone_plan c.args.self.now) pair ≡ true)) (sym c.deref.ensures.value)
     c.in_ok-found.ensures.known in
-    hidden_is c.self.inside _ c.reserve.new.self c.deref.result.now c.self.invariant refl refl refl refl refl
-    (ap (λ (p : PlanState). p.known) c.in_ok-reserve.ensures.ok)
-    (ap (λ (p : PlanState). p.hidden) c.in_ok-reserve.ensures.ok) c.hide_all.ensures.hidden
+    hidden_is c.self.inside _ c.deref.result.now c.self.invariant refl refl refl refl refl
+    c.in_ok-hide_all.ensures.ok c.hide_all.ensures.in_order
     (subst (λ (a : Alone). All (λ (pair : Pair). knows (alone_plan a) pair ≡ true) c.deref.result.now)
-    (sym c.self.view_is) known) c.hide_all.ensures.kept
+    (sym c.self.view_is) known)

@@ -1,5 +1,5 @@
 use Rattle.std.proofs.Common.{◌≡◌, ◌≤◌, ◌<◌, ◌+◌, ℕ, Bool, true, false, cond, List, [], ◌∷◌, ◌++◌, append-nil, length}
-use Rattle.std.proofs.Common.{get_or, take, sym, ap, ◌∙◌, subst, arith}
+use Rattle.std.proofs.Common.{get_or, take, refl, sym, ap, ◌∙◌, subst, arith}
 use Rattle.std.specs.Ordering.{is_eq}
 use Rattle.std.proofs.lemmas.Bool.{true≢false}
 use Rattle.std.proofs.lemmas.List.{take_more, take_all}
@@ -12,10 +12,12 @@ use Rattle.repo_plan.specs.Sound.{PlanIsSound}
 use Rattle.repo_catalog.specs.declared.entry.Entry.{Entry}
 use Rattle.repo_catalog.specs.Entries.{publication_of, entry_has_name, IsCatalogue}
 use Rattle.repo_member.specs.declared.member.Member.TheInside.{Inside}
+use Rattle.repo_holdings.specs.HoldingsState.{held_plan}
 use Rattle.repo_holdings.specs.Records.{Packet}
 use Rattle.repo_holdings.specs.Listed.{alone_catalogue}
 use Rattle.repo_member.specs.Alone.{Alone, alone_plan}
-use Rattle.repo_member.specs.Deleting.{publications_named, outside_all, catalogued_named}
+use Rattle.repo_member.specs.Deleting.{publications_named, catalogued_named}
+use Rattle.repo_holdings.specs.Hiding.{outside_all}
 use Rattle.repo_member.specs.Members.{alone, IsMember}
 use Rattle.repo_member.proofs.FoundLemmas.{IsEntryAt, entry_is_at, named_append, outside_shorter}
 use Rattle.repo_member.proofs.member.Member.found.Goals.{then-is_eq+else-prove+in_ok-push, else-is_eq}
@@ -23,11 +25,12 @@ use Rattle.repo_member.proofs.member.Member.found.Goals as goal
 
 -- the entry at a place, in a member
 entry_at_place : (m : Inside) (name : List Component) (entries : List Entry) (i : ℕ) (e : Entry) → IsMember m
-    → PlanIsSound m.plan
-    → entries ≡ m.catalogue.entries → IsCatalogue m.catalogue.entries → i < length entries → e ≡ get_or entries i e
-    → IsEntryAt m.plan m.store.packets name entries i e
-entry_at_place m name entries i e is sound same order low found =
-    entry_is_at m.plan m.store.packets name entries i e e sound is.kept.tied (same ∙ is.kept.listed)
+    → PlanIsSound (held_plan m.held) → (listed : List Entry)
+    → entries ≡ listed → listed ≡ alone_catalogue m.held.store → IsCatalogue listed → i < length entries
+    → e ≡ get_or entries i e → IsEntryAt (held_plan m.held) m.held.store name entries i e
+entry_at_place m name entries i e is sound listed same kept order low found =
+    entry_is_at (held_plan m.held) m.held.store name entries i e e sound
+    (record { in_order = is.alone.in_order; held = refl; shapes = refl }) (same ∙ kept)
     (subst IsCatalogue (sym same) order) low found
 
 -- one name more, or none
@@ -41,14 +44,14 @@ named_more name entries i e b low found is =
     ∙ ap (λ (c : Bool). publications_named name (take i entries) ++ cond c (publication_of e ∷ []) []) is
 
 -- what the plan of a member says is what the member says
-known_alone : (m : Inside) (a : Alone) (pair : Pair) → IsMember m → alone m ≡ a → knows m.plan pair ≡ true
+known_alone : (m : Inside) (a : Alone) (pair : Pair) → IsMember m → alone m ≡ a → knows (held_plan m.held) pair ≡ true
     → knows (alone_plan a) pair ≡ true
 known_alone m a pair is same h =
     ap (λ (b : Alone). knows (alone_plan b) pair) (sym same)
-    ∙ ap (λ (known : List ℕ). knows (record m.plan { known = known }) pair) (sym is.known)
+    ∙ ap (λ (known : List ℕ). knows (record (held_plan m.held) { known = known }) pair) (sym is.known)
     ∙ h
 
-unclaimed_alone : (m : Inside) (a : Alone) (pair : Pair) → alone m ≡ a → claims_part_in m.plan pair ≡ false
+unclaimed_alone : (m : Inside) (a : Alone) (pair : Pair) → alone m ≡ a → claims_part_in (held_plan m.held) pair ≡ false
     → claims_part_in (alone_plan a) pair ≡ false
 unclaimed_alone m a pair same h = ap (λ (b : Alone). claims_part_in (alone_plan b) pair) (sym same) ∙ h
 
@@ -56,7 +59,7 @@ pub loop-entry-init : goal.loop-entry-init
 loop-entry-init c = record {
   named = c.new-publications.ensures.items;
   left =
-      c.len-left.ensures.number
+      c.len-left.ensures
       ∙ ap (λ (a : Alone). length a.store) c.self.view_is
       ∙ ap (λ (pairs : List Pair). length (outside_all pairs c.args.self.now.store))
       (sym c.new-publications.ensures.items);
@@ -70,7 +73,8 @@ prove-unreachable-requires c =
     let at =
     entry_at_place c.self.inside c.args.name.now c.entries-entry-items.result.now c.loop-entry.entry-index
     c.entry-item.result c.self.invariant c.holds-held.ensures.sound
-    c.entries-entry-items.ensures.entries c.entries-entry-items.ensures.ordered c.loop-entry-test.true
+    _ c.entries-entry-items.ensures.entries c.catalogue.ensures c.entries-entry-items.ensures.ordered
+    c.loop-entry-test.true
     c.entry-item.is in
     true≢false (sym at.held ∙ sym c.holds-held.ensures.held ∙ c.if-prove.true)
 
@@ -79,12 +83,13 @@ overflow_sub-left c =
     let at =
     entry_at_place c.self.inside c.args.name.now c.entries-entry-items.result.now c.loop-entry.entry-index
     c.entry-item.result c.self.invariant c.holds-held.ensures.sound
-    c.entries-entry-items.ensures.entries c.entries-entry-items.ensures.ordered c.loop-entry-test.true
+    _ c.entries-entry-items.ensures.entries c.catalogue.ensures c.entries-entry-items.ensures.ordered
+    c.loop-entry-test.true
     c.entry-item.is in
     let here : c.loop-entry.left
     ≡ length
     (outside_all (publications_named c.args.name.now (take c.loop-entry.entry-index c.entries-entry-items.result.now))
-    c.self.inside.store.packets) =
+    c.self.inside.held.store) =
     c.loop-entry.invariant.left
     ∙ ap (λ (pairs : List Pair). length (outside_all pairs c.args.self.now.store)) c.loop-entry.invariant.named
     ∙ ap (λ (a : Alone). length
@@ -107,7 +112,8 @@ loop-entry-preserved c =
     elim c.if-is_eq.branch [
       | then-is_eq+else-prove+in_ok-push w ↦
           let at = entry_at_place c.self.inside name entries i e c.self.invariant w.holds-held.ensures.sound
-          c.entries-entry-items.ensures.entries c.entries-entry-items.ensures.ordered c.loop-entry-test.true
+          _ c.entries-entry-items.ensures.entries c.catalogue.ensures
+          c.entries-entry-items.ensures.ordered c.loop-entry-test.true
           c.entry-item.is in
           let pushed : w.push.new.self.items ≡ c.loop-entry.publications.items ++ publication_of e ∷ [] =
           w.in_ok-push.ensures.items in
@@ -116,14 +122,14 @@ loop-entry-preserved c =
           let store : List Packet = c.args.self.now.store in
           let same = ap (λ (a : Alone). a.store) c.self.view_is in
           let here : c.loop-entry.left
-          ≡ length (outside_all (publications_named name (take i entries)) c.self.inside.store.packets) =
+          ≡ length (outside_all (publications_named name (take i entries)) c.self.inside.held.store) =
           invariant.left
           ∙ ap (λ (pairs : List Pair). length (outside_all pairs store)) invariant.named
           ∙ ap (λ (stored : List Packet). length (outside_all (publications_named name (take i entries)) stored))
           (sym same) in
           let there : length (outside_all w.push.new.self.items store)
           ≡ length (outside_all (publications_named name (take i entries) ++ publication_of e ∷ [])
-          c.self.inside.store.packets) =
+          c.self.inside.held.store) =
           ap (λ (pairs : List Pair). length (outside_all pairs store))
           (pushed ∙ ap (λ (pairs : List Pair). pairs ++ publication_of e ∷ []) invariant.named)
           ∙ ap (λ (stored : List Packet).
@@ -154,31 +160,33 @@ loop-entry-preserved c =
 
 -- at the end
 all_named : (m : Inside) (a : Alone) (name : List Component) (entries : List Entry) (i : ℕ) → IsMember m → alone m ≡ a
-    → entries ≡ m.catalogue.entries → length entries ≤ i
+    → entries ≡ alone_catalogue m.held.store → length entries ≤ i
     → publications_named name (take i entries) ≡ publications_named name (alone_catalogue a.store)
 all_named m a name entries i is same listed high =
     ap (publications_named name)
-    (take_all i entries high ∙ listed ∙ is.kept.listed ∙ ap (λ (b : Alone). alone_catalogue b.store) same)
+    (take_all i entries high ∙ listed ∙ ap (λ (b : Alone). alone_catalogue b.store) same)
 
 pub overflow_sub-result : goal.overflow_sub-result
 overflow_sub-result c =
     let fewer = outside_shorter c.loop-entry.publications.items c.args.self.now.store in
     let stored = ap (λ (a : Alone). length a.store) c.self.view_is in
-    omega (arith, c.loop-entry.invariant.left, c.len.ensures.number, stored, fewer)
+    omega (arith, c.loop-entry.invariant.left, c.len.ensures, stored, fewer)
 
 pub returns-clause-publications : goal.returns-clause-publications
 returns-clause-publications c =
     c.loop-entry.invariant.named
     ∙ all_named c.self.inside c.args.self.now c.args.name.now c.entries-entry-items.result.now c.loop-entry.entry-index
-    c.self.invariant c.self.view_is c.entries-entry-items.ensures.entries (omega (arith, c.loop-entry-test.false))
+    c.self.invariant c.self.view_is (c.entries-entry-items.ensures.entries ∙ c.catalogue.ensures)
+    (omega (arith, c.loop-entry-test.false))
 
 pub returns-clause-packets : goal.returns-clause-packets
 returns-clause-packets c =
     let named : c.loop-entry.publications.items ≡ catalogued_named c.args.name.now c.args.self.now =
     c.loop-entry.invariant.named
     ∙ all_named c.self.inside c.args.self.now c.args.name.now c.entries-entry-items.result.now c.loop-entry.entry-index
-    c.self.invariant c.self.view_is c.entries-entry-items.ensures.entries (omega (arith, c.loop-entry-test.false)) in
-    let stored = c.len.ensures.number ∙ ap (λ (a : Alone). length a.store) c.self.view_is in
+    c.self.invariant c.self.view_is (c.entries-entry-items.ensures.entries ∙ c.catalogue.ensures)
+    (omega (arith, c.loop-entry-test.false)) in
+    let stored = c.len.ensures ∙ ap (λ (a : Alone). length a.store) c.self.view_is in
     let left =
     c.loop-entry.invariant.left ∙ ap (λ (pairs : List Pair). length (outside_all pairs c.args.self.now.store)) named in
     omega (arith, stored, left)

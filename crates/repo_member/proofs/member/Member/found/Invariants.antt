@@ -2,7 +2,8 @@ use Rattle.std.proofs.Common.{◌≡◌, true, false, take, length}
 use Rattle.std.specs.List.{All}
 use Rattle.repo_plan.specs.Plan.{knows, claims_part_in}
 use Rattle.repo_member.specs.Alone.{alone_plan}
-use Rattle.repo_member.specs.Deleting.{publications_named, outside_all}
+use Rattle.repo_member.specs.Deleting.{publications_named}
+use Rattle.repo_holdings.specs.Hiding.{outside_all}
 use Rattle.repo_member.proofs.member.Member.found.Given as goal
 
 abbrev pub invariant-loop-entry : goal.invariant-loop-entry

@@ -10,4 +10,4 @@ invariant_of-self c =
     (c.requires.width ∙ sym (ap (λ (a : Alone). length a.known) c.self.view_is))
     (subst (λ (a : Alone). slice_index c.args.told.now a.number ≤ length a.log) (sym c.self.view_is)
     c.in_ok-not_ahead.ensures.own)
-    c.learn.ensures.vector c.learn.ensures.plan (still_wide _ _ _ _ _ _ c.heard-mode.ensures.kept)
+    c.learn.ensures.vector c.learn.ensures.held (still_wide _ _ _ _ _ _ c.heard-mode.ensures.kept)

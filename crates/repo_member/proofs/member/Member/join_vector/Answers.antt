@@ -10,4 +10,4 @@ invariant_of-self c =
     (c.requires.width ∙ sym (ap (λ (a : Alone). length a.known) c.self.view_is))
     (subst (λ (a : Alone). slice_index c.args.told.now a.number ≤ length a.log) (sym c.self.view_is)
     c.in_ok-not_ahead.ensures.own)
-    c.learn.ensures.vector c.learn.ensures.plan refl
+    c.learn.ensures.vector c.learn.ensures.held refl

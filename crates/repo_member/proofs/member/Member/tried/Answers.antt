@@ -6,11 +6,16 @@ use Rattle.std.specs.Iterator.Adapters.{zip_first, zip_second}
 use Rattle.std.proofs.lemmas.List.{append-nil}
 use Rattle.std.proofs.lemmas.List.Elements.{All-push}
 use Rattle.repo_object.specs.Verdict.{CheckedPart}
-use Rattle.repo_holdings.specs.declared.gaining.Arrival.{Arrival}
-use Rattle.repo_member.specs.declared.member.outcome.Tried.{Tried}
-use Rattle.repo_member.specs.Alone.{alone_plan, Fetched}
+use Rattle.repo_holdings.specs.declared.holdings.gaining.Arrival.{Arrival}
+use Rattle.repo_holdings.specs.declared.holdings.gaining.Tried.{Tried}
+use Rattle.repo_holdings.specs.Records.{Packet}
+use Rattle.repo_holdings.specs.StoredRecords.{IsStored}
+use Rattle.repo_member.specs.Alone.{Alone, alone_plan}
+use Rattle.repo_member.proofs.MemberLemmas.{asked_of}
+use Rattle.repo_holdings.specs.Taking.{Fetched}
 use Rattle.repo_holdings.specs.Gaining.{IsArrival}
-use Rattle.repo_member.specs.Outcomes.{outcome_of, came, CanBeTaken}
+use Rattle.repo_member.specs.Outcomes.{outcome_of}
+use Rattle.repo_holdings.specs.Taking.{came, CanBeTaken}
 use Rattle.repo_member.proofs.OutcomeLemmas.{IsSmallPart, nothing_left, first_fetched, one_more, fetched_asked}
 use Rattle.repo_member.proofs.OutcomeLemmas.{can_be_taken, all_apart, few_tried}
 use Rattle.repo_member.proofs.member.Member.tried.Goals.{in-Some-checked+in_ok-arrived-in-Some-checked, in-None-checked}
@@ -26,13 +31,20 @@ same_packet c = elim c.match-checked.branch [
   | in-None-checked w ↦ rw (w.arrival-is, w.in-None-checked.is) refl
 ]
 
-arrived : (c : goal.In_ok-push)
+arrived_here : (c : goal.In_ok-push)
     → IfSome c.match-checked.arrival
-    (λ a. IsArrival c.args.self.now.store c.part-part.result a.packet a.segments a.name)
-arrived c = elim c.match-checked.branch [
+    (λ a. IsArrival c.self.inside.held.store c.part-part.result a.packet a.segments a.name)
+arrived_here c = elim c.match-checked.branch [
   | in-Some-checked+in_ok-arrived-in-Some-checked w ↦ rw w.arrival-is w.in_ok-arrived-in-Some-checked.ensures.arrival
   | in-None-checked w ↦ rw w.arrival-is tt
 ]
+
+arrived : (c : goal.In_ok-push)
+    → IfSome c.match-checked.arrival
+    (λ a. IsArrival c.args.self.now.store c.part-part.result a.packet a.segments a.name)
+arrived c = subst (λ (store : List Packet). IfSome c.match-checked.arrival
+    (λ a. IsArrival store c.part-part.result a.packet a.segments a.name)) (ap (λ (a : Alone). a.store) c.self.view_is)
+    (arrived_here c)
 
 pub record_for-stored-requires-clause-asked : goal.record_for-stored-requires-clause-asked
 record_for-stored-requires-clause-asked c =
@@ -40,8 +52,9 @@ record_for-stored-requires-clause-asked c =
     let is =
     first_fetched c.args.g.now c.args.self.now c.in-Some.job.now c.in-Some.checked.now c.in-Some.tries.now _ _ _ _ _ _
     steps.0.0 steps.0.1 steps.1 c.loop-job.invariant.rest in
-    fetched_asked c.args.g.now c.args.self.now c.in-Some.job.now c.in-Some.checked.now c.in-Some.tries.now
-    c.part-part.result is.0 c.part-part.ensures
+    asked_of c.self.inside c.args.self.now c.part-part.result c.self.invariant c.self.view_is
+    (fetched_asked c.args.g.now c.args.self.now c.in-Some.job.now c.in-Some.checked.now c.in-Some.tries.now
+    c.part-part.result is.0 c.part-part.ensures)
 
 pub loop-job-preserved : goal.loop-job-preserved
 loop-job-preserved c =
@@ -74,7 +87,9 @@ loop-job-preserved c =
           (All-push (λ (x : Tried). IsSmallPart x.part) c.loop-job.all.items one inv.small
           (record { seq = omega (arith, c.part-part.type_inv); part = omega (arith, c.part-part.type_inv) }));
       rest = is.1;
-      stored = c.record_for-stored.ensures.stored;
+      stored =
+          subst (λ (store : List Packet). IfSome c.record_for-stored.result (IsStored store))
+          (ap (λ (a : Alone). a.store) c.self.view_is) c.record_for-stored.ensures.stored;
     }
 
 came_all : (c : goal.In-None)

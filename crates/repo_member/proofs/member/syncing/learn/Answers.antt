@@ -2,26 +2,26 @@ use Rattle.std.proofs.Common.{ℕ, List, take, max, length, sym, ap, ◌∙◌, 
 use Rattle.std.specs.Prelude.{slice_index, slice_set}
 use Rattle.svs_vector.specs.Vectors.{join}
 use Rattle.svs_vector.proofs.JoinLemmas.{join-[]}
-use Rattle.repo_plan.specs.Plan.{PlanState, raises}
+use Rattle.repo_holdings.specs.HoldingsState.{HoldingsState, knows_too}
 use Rattle.repo_member.proofs.VectorLemmas.{join_next, length-join_take}
 use Rattle.repo_member.proofs.member.syncing.learn.Goals as goal
 
 pub loop-member-init : goal.loop-member-init
 loop-member-init c =
-    ap (λ (k : List ℕ). record c.args.plan.now { known = k }) (c.requires.known ∙ sym (join-[] c.args.vector.now))
+    ap (λ (k : List ℕ). record c.args.held.now { known = k }) (c.requires.known ∙ sym (join-[] c.args.vector.now))
 
 pub raise-requires : goal.raise-requires
 raise-requires c =
-    let known = ap (λ (p : PlanState). length p.known) c.loop-member.invariant in
+    let known = ap (λ (p : HoldingsState). length p.known) c.loop-member.invariant in
     let long = length-join_take c.args.vector.now c.args.told.now c.loop-member.member c.requires.width in
     omega (arith, known, long, c.requires.width)
 
 pub loop-member-preserved : goal.loop-member-preserved
 loop-member-preserved c =
     let so_far = join c.args.vector.now (take c.loop-member.member c.args.told.now) in
-    c.raise.ensures ∙ ap (raises c.loop-member.member c.get.result) c.loop-member.invariant
-    ∙ ap (λ (n : ℕ). record c.args.plan.now {
+    c.raise.ensures ∙ ap (knows_too c.loop-member.member c.get.result) c.loop-member.invariant
+    ∙ ap (λ (n : ℕ). record c.args.held.now {
       known = slice_set so_far c.loop-member.member (max (slice_index so_far c.loop-member.member) n);
     }) c.get.ensures
-    ∙ ap (λ (k : List ℕ). record c.args.plan.now { known = k })
+    ∙ ap (λ (k : List ℕ). record c.args.held.now { known = k })
     (join_next c.args.vector.now c.args.told.now c.loop-member.member (omega arith) c.requires.width)

@@ -1,0 +1,253 @@
+-- What came of parts that were asked for, taken part after part.
+use Rattle.std.proofs.Common.{◌≡◌, ℕ, ◌+◌, ◌*◌, ◌<◌, ◌≤◌, Bool, true, false, cond, ◌==◌, List, [], ◌∷◌, map, length}
+use Rattle.std.proofs.Common.{refl}
+use Rattle.std.proofs.Common.{sym, ap, ◌∙◌, subst, Option, Some, None, option_map, is_some, unwrap_or, sum_by, Result}
+use Rattle.std.proofs.Common.{Err}
+use Rattle.std.proofs.Common.{ltb, arith, ◌&&◌}
+use Rattle.std.specs.Prelude.{nat_le, slice_index, IsOk, IfSome}
+use Rattle.std.specs.List.{All}
+use Rattle.std.specs.Option.{option_and_then}
+use Rattle.std.specs.Ordering.{eq_by_cmp}
+use Rattle.std.proofs.lemmas.Bool.{true≢false, and_parts, and_from, or_left, or_right, or_parts, le-leb, ltb-false}
+use Rattle.std.proofs.lemmas.List.Elements.{All-head, All-tail, All-cons, All-nil, All-weaker}
+use Rattle.std.proofs.lemmas.List.Sums.{sum_by-cons}
+use Rattle.ndn_tlv.specs.Listing.{◌>>=◌}
+use Rattle.ndn_tlv.specs.Elements.{Item}
+use Rattle.ndn_tlv.specs.declared.tlv_fault.TlvFault.TheVariants.{Truncated}
+use Rattle.ndn_name.specs.Names.{Component}
+use Rattle.ndn_name.specs.declared.fault.PacketFault.{PacketFault}
+use Rattle.ndn_name.specs.declared.fault.PacketFault.TheVariants.{Tlv, PacketTooLong}
+use Rattle.ndn_packet.specs.Contents.{first_of}
+use Rattle.ndn_packet.specs.Outer.{only_of}
+use Rattle.ndn_data.specs.Data.{Data, data_of, data_fields, data_from}
+use Rattle.repo_plan.specs.declared.part.Part.{Part}
+use Rattle.sorted_lists.specs.SortedList.{contains, value_of, with_value}
+use Rattle.repo_plan.specs.Parts.{Pair, Shape, pair_cmp, part_cmp, pair_of, part_of}
+use Rattle.repo_plan.specs.Plan.{PlanState, holds, knows, is_asked, is_claimed, can_be_asked, shape_of, attempts_of}
+use Rattle.repo_plan.proofs.Orders.{exact_parts}
+use Rattle.sorted_lists.proofs.Sets.{eq_same, eq_itself, value_of-with_value}
+use Rattle.repo_store.specs.StoreList.{StoreList}
+use Rattle.repo_catalog.specs.Entries.{EntryList}
+use Rattle.repo_object.specs.Publication.{Listed}
+use Rattle.repo_object.specs.Verdict.{listing_in}
+use Rattle.repo_holdings.specs.Records.{Packet}
+use Rattle.repo_holdings.specs.Listed.{listing_at, stored_at, listed_shape}
+use Rattle.repo_holdings.specs.Gaining.{AreTied, IsArrival, HaveRoom}
+use Rattle.repo_holdings.specs.declared.holdings.gaining.Arrival.{Arrival}
+use Rattle.repo_holdings.specs.declared.holdings.gaining.Tried.{Tried}
+use Rattle.repo_holdings.specs.declared.holdings.Holdings.TheInside.{Inside}
+use Rattle.repo_holdings.specs.HoldingsState.{HoldingsState, held_plan}
+use Rattle.repo_holdings.specs.HoldingsFields.{state, IsHoldings}
+use Rattle.repo_holdings.specs.Taking.{with_fetched, with_tries, came, arrival_octets}
+use Rattle.repo_holdings.specs.Taking.{CanBeTaken, AreTakable, KeepsButTries}
+use Rattle.repo_holdings.proofs.GainingLemmas.{absent, held_value, shape_told, put_elsewhere}
+use Rattle.repo_holdings.proofs.AskedLemmas.{asked_segment}
+use Rattle.repo_holdings.proofs.HoldingsLemmas.{plan_is}
+
+-- room for fewer
+pub less_room : (plan : PlanState) (store : StoreList) (catalogue : EntryList) (n k : ℕ)
+    → HaveRoom n plan store catalogue → k ≤ n → HaveRoom k plan store catalogue
+less_room plan store catalogue n k room less = record {
+  for_plan = omega (arith, room.for_plan, less);
+  for_store = omega (arith, room.for_store, less);
+  for_catalogue = omega (arith, room.for_catalogue, less);
+}
+
+-- ---- one part is taken: what stays
+
+-- the attempts of other parts
+tries_aside : (t q : Part) (n : ℕ) (attempts : List (Part × ℕ)) → eq_by_cmp part_cmp q t ≡ false
+    → value_of part_cmp (with_tries t n attempts) q ≡ value_of part_cmp attempts q
+tries_aside t q n attempts other = go (n == 0) where
+  more : ℕ
+  more = unwrap_or (value_of part_cmp attempts t) 0 + n
+
+  go : (b : Bool)
+      → value_of part_cmp (cond b attempts (with_value part_cmp t more attempts)) q ≡ value_of part_cmp attempts q
+  go true = refl
+  go false =
+      value_of-with_value exact_parts t more attempts q
+      ∙ ap (λ (b : Bool). cond b (Some more) (value_of part_cmp attempts q)) other
+
+module _ (old new : PlanState) (packets after : List Packet) (x : Tried) (was : AreTied old packets)
+    (tied : AreTied new after) (taken : CanBeTaken old packets x)
+    (puts : after ≡ with_fetched x.part (came x).packet packets)
+    (tries : new.attempts ≡ with_tries x.part x.attempts old.attempts) (others : KeepsButTries old new) where
+  -- the packets of other parts
+  packets_aside : (q : Part) → eq_by_cmp part_cmp q x.part ≡ false
+      → value_of part_cmp after q ≡ value_of part_cmp packets q
+  packets_aside q other = ap (λ (es : List Packet). value_of part_cmp es q) puts ∙ go (came x).packet where
+    go : (o : Option (List ℕ)) → value_of part_cmp (with_fetched x.part o packets) q ≡ value_of part_cmp packets q
+    go None = refl
+    go (Some octets) =
+        put_elsewhere packets x.part octets (absent old packets x.part octets None was taken.not_held) q other
+
+  -- a stored packet is of another part
+  stored_apart : (q : Part) (octets : List ℕ) → value_of part_cmp packets q ≡ Some octets
+      → eq_by_cmp part_cmp q x.part ≡ false
+  stored_apart q octets there = go (eq_by_cmp part_cmp q x.part) refl where
+    go : (b : Bool) → eq_by_cmp part_cmp q x.part ≡ b → b ≡ false
+    go true p =
+        let held : holds old q ≡ true = held_value old packets (pair_of q) was q ∙ ap is_some there in
+        sym held ∙ ap (holds old) (eq_same exact_parts q x.part p) ∙ taken.not_held
+    go false p = refl
+
+  -- what the stored records list
+  listed_still : (pair : Pair) (l : Listed) → listing_at packets pair ≡ Some l → listing_at after pair ≡ Some l
+  listed_still pair l listed = go (stored_at packets pair 0) refl listed where
+    go : (o : Option (List ℕ)) → stored_at packets pair 0 ≡ o → option_and_then listing_in o ≡ Some l
+        → listing_at after pair ≡ Some l
+    go None p h = absurd cc
+    go (Some octets) p h =
+        ap (option_and_then listing_in) (packets_aside (part_of pair 0) (stored_apart (part_of pair 0) octets p) ∙ p)
+        ∙ h
+
+  -- a record that lists something is held
+  record_held : (pair : Pair) (l : Listed) → listing_at after pair ≡ Some l → holds new (part_of pair 0) ≡ true
+  record_held pair l listed = held_value new after pair tied (part_of pair 0) ∙ go (stored_at after pair 0) listed where
+    go : (o : Option (List ℕ)) → option_and_then listing_in o ≡ Some l → is_some o ≡ true
+    go None h = absurd cc
+    go (Some octets) h = refl
+
+  -- what is asked for
+  asked_still : (t : Part) → is_asked old t ≡ true → is_asked new t ≡ true
+  asked_still t asked = and_from (knows new (pair_of t)) _ known (go (t.part == 0) refl) where
+    known : knows new (pair_of t) ≡ true
+    known = ap (λ (known : List ℕ). nat_le 1 t.seq && nat_le t.seq (slice_index known t.publisher)) others.known
+        ∙ (and_parts (knows old (pair_of t)) (can_be_asked old.held (shape_of old (pair_of t)) t) asked).0
+
+    of_record : (s : Option Shape) → (t.part == 0) ≡ true → can_be_asked new.held s t ≡ true
+    of_record None p = p
+    of_record (Some n) p = or_left (t.part == 0) _ p
+
+    go : (b : Bool) → (t.part == 0) ≡ b → can_be_asked new.held (shape_of new (pair_of t)) t ≡ true
+    go true p = of_record (shape_of new (pair_of t)) p
+    go false p =
+        let segment = asked_segment old packets t was asked p in
+        let listed = listed_still (pair_of t) segment.listing segment.listed in
+        ap (λ (s : Option Shape). can_be_asked new.held s t)
+        (shape_told new after (pair_of t) tied ∙ ap (option_map listed_shape) listed)
+        ∙ or_right (t.part == 0) _
+        (and_from (nat_le t.part (listed_shape segment.listing)) _
+        (le-leb t.part (listed_shape segment.listing) segment.counted) (record_held (pair_of t) segment.listing listed))
+
+  -- another part that came
+  arrival_still : (t : Part) (octets : List ℕ) (segments : Option Shape) (name : List Component)
+      → IsArrival packets t octets segments name → IsArrival after t octets segments name
+  arrival_still t octets segments name is =
+      record { reads = is.reads; record_part = is.record_part; told = is.told; named = go (t.part == 0) is.named } where
+        listed : (o : Option Listed) → listing_at packets (pair_of t) ≡ o
+            → option_map (λ (l : Listed). l.name) o ≡ Some name
+            → option_map (λ (l : Listed). l.name) (listing_at after (pair_of t)) ≡ Some name
+        listed None p h = absurd cc
+        listed (Some l) p h = ap (option_map (λ (l : Listed). l.name)) (listed_still (pair_of t) l p) ∙ h
+
+        go : (b : Bool)
+            → option_map (λ (l : Listed). l.name) (cond b (listing_in octets) (listing_at packets (pair_of t)))
+            ≡ Some name
+            → option_map (λ (l : Listed). l.name) (cond b (listing_in octets) (listing_at after (pair_of t)))
+            ≡ Some name
+        go true h = h
+        go false h = listed (listing_at packets (pair_of t)) refl h
+
+  one_takable : (y : Tried) → eq_by_cmp part_cmp y.part x.part ≡ false → CanBeTaken old packets y
+      → CanBeTaken new after y
+  one_takable y other can = record {
+    asked = asked_still y.part can.asked;
+    not_held =
+        held_value new after (pair_of y.part) tied y.part
+        ∙ ap is_some (packets_aside y.part other)
+        ∙ sym (held_value old packets (pair_of y.part) was y.part)
+        ∙ can.not_held;
+    not_hidden = ap (λ (hidden : List Pair). contains pair_cmp hidden (pair_of y.part)) others.hidden ∙ can.not_hidden;
+    not_claimed =
+        ap (λ (claims : List (Option Part)). is_claimed (record old { claims = claims }) y.part) others.claims
+        ∙ can.not_claimed;
+    arrived = go y.arrival can.arrived;
+    few = subst (λ (n : ℕ). n + y.attempts < 2097152) (sym tried) can.few;
+  } where
+    go : (o : Option Arrival) → IfSome o (λ a. IsArrival packets y.part a.packet a.segments a.name)
+        → IfSome o (λ a. IsArrival after y.part a.packet a.segments a.name)
+    go None h = tt
+    go (Some a) h = arrival_still y.part a.packet a.segments a.name h
+
+    tried : attempts_of new y.part ≡ attempts_of old y.part
+    tried =
+        ap (λ (es : List (Part × ℕ)). unwrap_or (value_of part_cmp es y.part) 0) tries
+        ∙ ap (λ (o : Option ℕ). unwrap_or o 0) (tries_aside x.part y.part x.attempts old.attempts other)
+
+  -- all that are still to be taken
+  pub still_takable : (ys : List Tried) → contains part_cmp (map (λ (y : Tried). y.part) ys) x.part ≡ false
+      → All (CanBeTaken old packets) ys → All (CanBeTaken new after) ys
+  still_takable [] apart all = All-nil (CanBeTaken new after)
+  still_takable (y ∷ ys) apart all =
+      let both = or_parts (eq_by_cmp part_cmp x.part y.part) _ apart in
+      All-cons (CanBeTaken new after) y ys
+      (one_takable y (flip (eq_by_cmp part_cmp y.part x.part) refl both.0) (All-head (CanBeTaken old packets) y ys all))
+      (still_takable ys both.1 (All-tail (CanBeTaken old packets) y ys all)) where
+        flip : (b : Bool) → eq_by_cmp part_cmp y.part x.part ≡ b → eq_by_cmp part_cmp x.part y.part ≡ false → b ≡ false
+        flip true p h =
+            sym (eq_itself exact_parts y.part)
+            ∙ ap (λ (t : Part). eq_by_cmp part_cmp t y.part) (eq_same exact_parts y.part x.part p)
+            ∙ h
+        flip false p h = refl
+
+-- ---- one after another
+
+pub keeps_on : (a b c : PlanState) → KeepsButTries a b → KeepsButTries b c → KeepsButTries a c
+keeps_on a b c first then = record {
+  known = then.known ∙ first.known;
+  claims = then.claims ∙ first.claims;
+  hidden = then.hidden ∙ first.hidden;
+  attempts = refl;
+}
+
+-- ---- how many octets came
+
+-- octets that are a Data packet aren't many
+data_fits : (octets : List ℕ) → IsOk (data_of octets) → length octets ≤ 8800
+data_fits octets h =
+    go (first_of (Tlv (Truncated 0)) 0 octets >>= only_of 0x06 (length octets))
+    (λ e. data_fields octets e >>= data_from e.value) (ltb 8800 (length octets)) refl h
+  where
+    go : (r : Result Item PacketFault) (f : Item → Result Data PacketFault) (b : Bool) → ltb 8800 (length octets) ≡ b
+        → IsOk (cond b (Err PacketTooLong) r >>= f) → length octets ≤ 8800
+    go r f true p h = absurd (true≢false (sym h))
+    go r f false p h = ltb-false 8800 (length octets) p
+
+one_fits : (plan : PlanState) (packets : List Packet) (x : Tried) → CanBeTaken plan packets x → arrival_octets x ≤ 8800
+one_fits plan packets x can = go x.arrival can.arrived where
+  go : (o : Option Arrival) → IfSome o (λ a. IsArrival packets x.part a.packet a.segments a.name)
+      → length (unwrap_or (option_map (λ (a : Arrival). a.packet) o) []) ≤ 8800
+  go None h = omega (arith)
+  go (Some a) h = data_fits a.packet h.reads
+
+pub octets_fit : (plan : PlanState) (packets : List Packet) (xs : List Tried) → All (CanBeTaken plan packets) xs
+    → sum_by arrival_octets xs ≤ 8800 * length xs
+octets_fit plan packets [] can = omega (arith)
+octets_fit plan packets (x ∷ xs) can =
+    let one = one_fits plan packets x (All-head (CanBeTaken plan packets) x xs can) in
+    let rest = octets_fit plan packets xs (All-tail (CanBeTaken plan packets) x xs can) in
+    let both = sum_by-cons arrival_octets x xs in
+    omega (arith, one, rest, both)
+
+-- whatever room there is
+takable_in_room : (n : ℕ) (p : PlanState) (packets : List Packet) (xs : List Tried) → AreTakable p packets xs
+    → AreTakable (record p { spare = n }) packets xs
+takable_in_room n p packets xs are = record {
+  each = All-weaker (CanBeTaken p packets) (CanBeTaken (record p { spare = n }) packets) (λ x h. record {
+    asked = h.asked;
+    not_held = h.not_held;
+    not_hidden = h.not_hidden;
+    not_claimed = h.not_claimed;
+    arrived = h.arrived;
+    few = h.few;
+  }) xs are.each;
+  apart = are.apart;
+}
+
+pub takable_still : (m : Inside) (h : HoldingsState) → IsHoldings m → state m ≡ h → (xs : List Tried)
+    → AreTakable (held_plan h) h.store xs → AreTakable m.plan m.store.packets xs
+takable_still m h is view xs are =
+    rw (plan_is m is) (takable_in_room m.plan.spare (held_plan (state m)) m.store.packets xs
+    (subst (λ (x : HoldingsState). AreTakable (held_plan x) x.store xs) (sym view) are))

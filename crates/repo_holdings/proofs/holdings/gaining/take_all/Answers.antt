@@ -1,0 +1,93 @@
+use Rattle.std.proofs.Common.{◌≡◌, ◌+◌, Bool, true, false, cond, ℕ, List, [], map, length, Option, Some, None}
+use Rattle.std.proofs.Common.{option_map}
+use Rattle.std.proofs.Common.{unwrap_or, count_by, sum_by, is_some, refl, sym, ap, ◌∙◌, subst, arith}
+use Rattle.std.specs.List.{All}
+use Rattle.std.specs.Vec.Iter.{into_iter_items}
+use Rattle.std.proofs.lemmas.List.Elements.{All-head, All-tail}
+use Rattle.std.proofs.lemmas.List.Sums.{sum_by-cons}
+use Rattle.repo_holdings.specs.declared.holdings.gaining.Tried.{Tried}
+use Rattle.repo_holdings.specs.declared.holdings.gaining.Arrival.{Arrival}
+use Rattle.repo_holdings.specs.Gaining.{HaveRoom}
+use Rattle.repo_holdings.specs.Taking.{came, arrival_octets, CanBeTaken, AreTakable, with_all_fetched, with_all_tries}
+use Rattle.repo_holdings.proofs.TakingLemmas.{less_room, still_takable, keeps_on}
+use Rattle.repo_holdings.proofs.holdings.gaining.take_all.Goals as goal
+
+pub take_one-came-requires-clause-room : goal.take_one-came-requires-clause-room
+take_one-came-requires-clause-room c =
+    let fewer = ap (λ (r : List Tried). length r) c.in-Some.ensures.steps.0 in
+    less_room c.loop-tried.plan c.loop-tried.store c.loop-tried.catalogue _ 1
+    (c.loop-tried.invariant.room 0
+    (less_room c.args.plan.now c.args.store.now c.args.catalogue.now _ _ c.requires.room
+    (omega (arith, c.args.all.ok.0))))
+    (omega (arith, fewer))
+
+pub take_one-came-requires-clause-takable : goal.take_one-came-requires-clause-takable
+take_one-came-requires-clause-takable c =
+    All-head (CanBeTaken c.loop-tried.plan c.loop-tried.store.packets) c.in-Some.tried (into_iter_items c.next.new.self)
+    (subst (All (CanBeTaken c.loop-tried.plan c.loop-tried.store.packets)) c.in-Some.ensures.steps.0
+    c.loop-tried.invariant.takable.each)
+
+made : (o : Option Arrival) → is_some (option_map (λ (a : Arrival). length a.packet) o) ≡ is_some o
+made None = refl
+made (Some a) = refl
+
+counted : (o : Option Arrival)
+    → unwrap_or (option_map (λ (a : Arrival). length a.packet) o) 0
+    ≡ length (unwrap_or (option_map (λ (a : Arrival). a.packet) o) [])
+counted None = refl
+counted (Some a) = refl
+
+one_came : (c : goal.After-unwrap_or-octets) (b : Bool) → c.is_some.result ≡ b → c.from-parts.result ≡ cond b 1 0
+one_came c true p = rw p at c.from-parts.ensures
+one_came c false p = rw p at c.from-parts.ensures
+
+pub loop-tried-preserved : goal.loop-tried-preserved
+loop-tried-preserved c =
+    let inv = c.loop-tried.invariant in
+    let rest = c.in-Some.ensures.steps.0 in
+    let later = into_iter_items c.next.new.self in
+    let takable = subst (AreTakable c.loop-tried.plan c.loop-tried.store.packets) rest inv.takable in
+    let can = All-head (CanBeTaken c.loop-tried.plan c.loop-tried.store.packets) c.in-Some.tried later takable.each in
+    let one =
+    one_came c (is_some c.in-Some.tried.arrival)
+    (c.is_some.ensures ∙ ap is_some c.take_one-came.ensures.came ∙ made c.in-Some.tried.arrival) in
+    let octets =
+    c.unwrap_or-octets.ensures
+    ∙ ap (λ (o : Option ℕ). unwrap_or o 0) c.take_one-came.ensures.came
+    ∙ counted c.in-Some.tried.arrival in
+    let more_octets = sum_by-cons arrival_octets c.in-Some.tried later in
+    let octets_so_far = ap (sum_by arrival_octets) rest in
+    let more = sum_by-cons (λ (x : Tried). cond (is_some x.arrival) 1 0) c.in-Some.tried later in
+    let so_far = ap (λ (r : List Tried). count_by (λ x. is_some x.arrival) r) rest in
+    record {
+      packets =
+          ap (with_all_fetched (map came later)) c.take_one-came.ensures.packets
+          ∙ sym (ap (λ (r : List Tried). with_all_fetched (map came r) c.loop-tried.store.packets) rest) ∙ inv.packets;
+      attempts =
+          ap (with_all_tries (map came later)) c.take_one-came.ensures.attempts
+          ∙ sym (ap (λ (r : List Tried). with_all_tries (map came r) c.loop-tried.plan.attempts) rest) ∙ inv.attempts;
+      others =
+          keeps_on c.args.plan.now c.loop-tried.plan c.take_one-came.new.plan inv.others c.take_one-came.ensures.others;
+      kept = c.take_one-came.ensures.kept;
+      room = λ n was. c.take_one-came.ensures.room (n + length later)
+          (subst (λ (k : ℕ). HaveRoom k c.loop-tried.plan c.loop-tried.store c.loop-tried.catalogue)
+          (omega (arith, ap (λ (r : List Tried). length r) rest)) (inv.room n was));
+      takable = record {
+        each =
+            still_takable c.loop-tried.plan c.take_one-came.new.plan c.loop-tried.store.packets
+            c.take_one-came.new.store.packets c.in-Some.tried inv.kept.tied c.take_one-came.ensures.kept.tied can
+            c.take_one-came.ensures.packets c.take_one-came.ensures.attempts c.take_one-came.ensures.others later
+            takable.apart.0
+            (All-tail (CanBeTaken c.loop-tried.plan c.loop-tried.store.packets) c.in-Some.tried later takable.each);
+        apart = takable.apart.1;
+      };
+      count = omega (arith, one, more, so_far, inv.count);
+      octets = omega (arith, octets, more_octets, octets_so_far, inv.octets);
+    }
+
+pub returns-clause-room : goal.returns-clause-room
+returns-clause-room c = λ n was.
+    less_room c.loop-tried.plan c.loop-tried.store c.loop-tried.catalogue _ n
+    (c.loop-tried.invariant.room n
+    (less_room c.args.plan.now c.args.store.now c.args.catalogue.now _ _ was (omega (arith, c.args.all.ok.0))))
+    (omega (arith))

@@ -1,0 +1,79 @@
+-- What came of parts that were asked for, and how it is taken.
+use Rattle.std.specs.Prelude.{◌≡◌, ℕ, ◌+◌, ◌-◌, ◌<◌, ◌==◌, true, false, List, [], ◌∷◌, map, length, Option, Some, None}
+use Rattle.std.specs.Prelude.{option_map, unwrap_or, IfSome, if◌then◌else◌}
+use Rattle.std.specs.List.{All}
+use Rattle.repo_plan.specs.declared.part.Part.{Part}
+use Rattle.repo_plan.specs.Parts.{part_cmp, pair_of}
+use Rattle.sorted_lists.specs.SortedList.{contains, value_of, with_value}
+use Rattle.repo_plan.specs.Plan.{PlanState, holds, hides, is_asked, is_claimed, attempts_of}
+use Rattle.repo_store.specs.StoreList.{with_packet}
+use Rattle.repo_holdings.specs.Records.{Packet}
+use Rattle.repo_holdings.specs.Gaining.{KeepsOthers, IsArrival}
+use Rattle.repo_holdings.specs.HoldingsState.{HoldingsState}
+use Rattle.repo_holdings.specs.declared.holdings.gaining.Tried.{Tried}
+
+-- what came of a part that was asked for: its packet, if one came, and how often it was tried
+pub record Fetched : Type 0 where
+  pub part : Part
+  pub packet : Option (List ℕ)
+  pub attempts : ℕ
+
+abbrev pub with_fetched : Part → Option (List ℕ) → List Packet → List Packet
+with_fetched t None stored = stored
+with_fetched t (Some octets) stored = with_packet t octets stored
+
+-- attempts with so many more for a part
+abbrev pub with_tries : Part → ℕ → List (Part × ℕ) → List (Part × ℕ)
+with_tries t n attempts =
+    if n == 0 then attempts
+    else with_value part_cmp t (unwrap_or (value_of part_cmp attempts t) 0 + n) attempts
+
+-- no part stands twice in the list
+abbrev pub PartsDiffer : List Part → Type 0
+PartsDiffer [] = Unit {0}
+PartsDiffer (t ∷ ts) = (contains part_cmp ts t ≡ false) × PartsDiffer ts
+
+-- what came of a tried part
+abbrev pub came : Tried → Fetched
+came x = record { part = x.part; packet = option_map (λ a. a.packet) x.arrival; attempts = x.attempts }
+
+-- how many octets came for it, if a packet came
+abbrev pub arrival_octets : Tried → ℕ
+arrival_octets x = length (unwrap_or (came x).packet [])
+
+-- what came of a tried part can be taken: the part is wanted and unclaimed, the packet is of it, and it was not tried
+-- too often
+pub record CanBeTaken (plan : PlanState) (packets : List Packet) (x : Tried) : Type 0 where
+  pub asked : is_asked plan x.part ≡ true
+  pub not_held : holds plan x.part ≡ false
+  pub not_hidden : hides plan (pair_of x.part) ≡ false
+  pub not_claimed : is_claimed plan x.part ≡ false
+  pub arrived : IfSome x.arrival (λ a. IsArrival packets x.part a.packet a.segments a.name)
+  pub few : attempts_of plan x.part + x.attempts < 2097152
+
+-- the same of each of different parts
+pub record AreTakable (plan : PlanState) (packets : List Packet) (xs : List Tried) : Type 0 where
+  pub each : All (CanBeTaken plan packets) xs
+  pub apart : PartsDiffer (map (λ (x : Tried). x.part) xs)
+
+-- stored packets with all that came
+abbrev pub with_all_fetched : List Fetched → List Packet → List Packet
+with_all_fetched [] stored = stored
+with_all_fetched (x ∷ xs) stored = with_all_fetched xs (with_fetched x.part x.packet stored)
+
+-- attempts with all that were made
+abbrev pub with_all_tries : List Fetched → List (Part × ℕ) → List (Part × ℕ)
+with_all_tries [] attempts = attempts
+with_all_tries (x ∷ xs) attempts = with_all_tries xs (with_tries x.part x.attempts attempts)
+
+-- all of it is taken, where there is room for it
+abbrev pub takes_too : List Fetched → HoldingsState → HoldingsState
+takes_too xs h = record h {
+  store = with_all_fetched xs h.store;
+  attempts = with_all_tries xs h.attempts;
+  spare = h.spare - length xs;
+}
+
+-- a plan in which nothing changed but what is held and how often parts were tried
+abbrev pub KeepsButTries : PlanState → PlanState → Type 0
+KeepsButTries old new = KeepsOthers old (record new { attempts = old.attempts })

@@ -1,0 +1,34 @@
+-- The wants of parts that are asked for.
+use Rattle.std.specs.Prelude.{◌≤◌, List, [], length, slice_get, unwrap_or, ◌==◌, if◌then◌else◌}
+use Rattle.std.specs.List.{All}
+use Rattle.ndn_name.specs.Names.{Component, encoding}
+use Rattle.repo_plan.specs.declared.part.Part.{Part}
+use Rattle.repo_plan.specs.Parts.{pair_of}
+use Rattle.repo_plan.specs.Plan.{attempts_of}
+use Rattle.repo_object.specs.declared.job.Job.{Job}
+use Rattle.repo_object.specs.Limits.{node_name_limit}
+use Rattle.repo_object.specs.Publication.{Listed}
+use Rattle.repo_object.specs.Wants.{WantedPart, want_record, want_segment}
+use Rattle.repo_holdings.specs.Records.{Packet}
+use Rattle.repo_holdings.specs.Listed.{listing_at}
+use Rattle.repo_holdings.specs.HoldingsState.{HoldingsState, held_plan}
+
+abbrev pub nothing_listed : Listed
+nothing_listed = record { name = []; digests = [] }
+
+-- the want of a part, in a group of this name of publishers with these names: a record is asked for by its publisher's
+-- name, a segment as the stored record lists it
+abbrev pub want_at : List (List Component) → List Component → List Packet → Part → WantedPart
+want_at publishers group stored t =
+    if t.part == 0 then want_record t (unwrap_or (slice_get publishers t.publisher) []) group
+    else want_segment t (unwrap_or (listing_at stored (pair_of t)) nothing_listed)
+
+-- the job of a part: its attempts go on from those that were made
+abbrev pub job_at : List (List Component) → List Component → HoldingsState → Part → Job
+job_at publishers group h t =
+    record { want = want_at publishers group h.store t; base = attempts_of (held_plan h) t }
+
+-- names of publishers and their group from which the names of their packets can be made
+pub record AreShortNames (names : List (List Component)) (group_name : List Component) : Type 0 where
+  pub publishers : All (λ name. length (encoding name) ≤ node_name_limit) names
+  pub group : length (encoding group_name) ≤ node_name_limit

@@ -1,0 +1,145 @@
+ghost use Rattle.std.specs.Prelude.{◌≡◌, ◌<◌, ℕ, max, Ok, Err, length, option_map, IfOk, OnOk, OnErr, MatchResult};
+ghost use Rattle.sorted_lists.specs.SortedList.{value_of};
+ghost use Rattle.repo_plan.specs.Parts.{part_cmp};
+ghost use Rattle.repo_plan.specs.Plan.{holds};
+ghost use Rattle.repo_plan.specs.Sound.{PlanIsSound};
+ghost use Rattle.repo_store.specs.Served.{served};
+ghost use Rattle.repo_holdings.specs.Listed.{alone_catalogue};
+ghost use Rattle.repo_holdings.specs.Gaining.{HaveRoom};
+ghost use Rattle.repo_holdings.specs.HoldingsState.{nothing_held, held_plan, knows_too};
+
+mod claiming;
+mod gaining;
+mod hiding;
+mod publishing;
+mod stored_record;
+mod wanting;
+
+pub use gaining::{Arrival, Taken, Tried};
+use ndn_name::PacketFault;
+use repo_catalog::Catalogue;
+use repo_plan::{Part, Plan};
+use repo_store::Store;
+use std::alloc::{AllocError, Global};
+use std::marker::Model;
+pub use stored_record::StoredRecord;
+
+/// What is held of publications: which parts are known, held, wanted, claimed and hidden, their packets, and the
+/// catalogue of the publications of which no part is missing.
+///
+/// A call that is refused has changed nothing, want of memory included. Room is made first, by `reserve`; a call that
+/// uses it takes no memory.
+#[derive(Drop)]
+pub struct Holdings {
+    plan: Plan,
+    store: Store,
+    catalogue: Catalogue,
+    // There is room for so many more parts, each of which may be held and be tried, and for as many entries.
+    spare: usize,
+}
+
+impl Model for Holdings {
+    ghost use Rattle.repo_holdings.specs.HoldingsState.{HoldingsState};
+
+    ghost Value = { HoldingsState };
+
+    ghost use Rattle.repo_holdings.specs.HoldingsFields.{state, IsHoldings};
+
+    ghost view = { state };
+
+    ghost invariant = { IsHoldings };
+}
+
+impl Holdings {
+    /// Nothing is known of so many publishers.
+    pub fn new(alloc: Global, publishers: usize) -> Result<Holdings, AllocError>
+        ensures { IfOk result (λ held. held ≡ nothing_held publishers) }
+    {
+        Ok(Holdings {
+            plan: Plan::new(alloc, publishers)?,
+            store: Store::new(alloc),
+            catalogue: Catalogue::new(alloc),
+            spare: 0,
+        })
+    }
+
+    /// Makes room for so many parts, each of which may be held and be tried, and for as many entries of the catalogue.
+    pub fn reserve(&mut self, n: usize) -> Result<(), AllocError>
+        ensures ok { OnOk result (self.new ≡ record self.old { spare = max self.old.spare n }) }
+        ensures err { OnErr result (self.new ≡ self.old) }
+    {
+        make_room(&mut self.plan, &mut self.store, &mut self.catalogue, n)?;
+        self.spare = self.spare.max(n);
+        Ok(())
+    }
+
+    /// The publisher's publications up to number `seq` are known, besides those that are known already.
+    pub fn raise(&mut self, publisher: u32, seq: u16)
+        requires { publisher < length self.old.known }
+        ensures { self.new ≡ knows_too publisher seq self.old }
+    {
+        self.plan.raise(publisher, seq);
+    }
+
+    /// Whether the part is held.
+    //
+    // A caller sees the value alone, so `sound` states what holds of every plan.
+    pub fn holds(&self, part: Part) -> bool
+        ensures held { result ≡ holds (held_plan self.now) part }
+        ensures sound { PlanIsSound (held_plan self.now) }
+    {
+        self.plan.holds(part)
+    }
+
+    /// How many parts are held.
+    pub fn len(&self) -> usize
+        ensures { result ≡ length self.now.store }
+    {
+        self.store.len()
+    }
+
+    /// The packet of a part that is held. It takes no memory.
+    pub fn packet(&self, part: Part) -> Option<&[u8]>
+        ensures { option_map (λ octets. octets.now) result ≡ value_of part_cmp self.now.store part }
+    {
+        self.store.get(part)
+    }
+
+    /// What an Interest is answered by: the packet of the least part that satisfies it. It takes no memory.
+    pub fn serve(&self, interest: &[u8]) -> Result<Option<&[u8]>, PacketFault>
+        ensures { MatchResult result
+            (λ found. served interest.now self.now.store ≡ Ok (option_map (λ octets. octets.now) found))
+            (λ fault. served interest.now self.now.store ≡ Err fault) }
+    {
+        self.store.serve(interest)
+    }
+
+    /// The publications of which no part is missing.
+    pub fn catalogue(&self) -> &Catalogue
+        ensures { result.now.entries ≡ alone_catalogue self.now.store }
+    {
+        &self.catalogue
+    }
+}
+
+// Makes room for so many parts and entries.
+fn make_room(
+    plan: &mut Plan,
+    store: &mut Store,
+    catalogue: &mut Catalogue,
+    n: usize,
+) -> Result<(), AllocError>
+    ensures room { OnOk result (HaveRoom n plan.new store.new catalogue.new) }
+    ensures still { (k : ℕ) → HaveRoom k plan.old store.old catalogue.old
+        → HaveRoom k plan.new store.new catalogue.new }
+    ensures plan { plan.new ≡ record plan.old { spare = plan.new.spare } }
+    ensures store { store.new.packets ≡ store.old.packets }
+    ensures catalogue { catalogue.new.entries ≡ catalogue.old.entries }
+{
+    let Some(twice) = n.checked_mul(2) else {
+        return Err(AllocError);
+    };
+    plan.reserve(twice)?;
+    store.reserve(n)?;
+    catalogue.reserve(n)
+}

@@ -1,0 +1,62 @@
+ghost use Rattle.std.specs.Prelude.{◌≡◌, ◌+◌, ◌≤◌, false, length, OnOk, OnErr};
+ghost use Rattle.std.specs.List.{All};
+ghost use Rattle.repo_plan.specs.Plan.{claims_part_in};
+ghost use Rattle.repo_holdings.specs.Gaining.{AreKept};
+ghost use Rattle.repo_holdings.specs.HoldingsState.{held_plan, AreInOrder};
+ghost use Rattle.repo_holdings.specs.Hiding.{outside_all, IsHiding, hides_all};
+
+use super::Holdings;
+use repo_catalog::Catalogue;
+use repo_plan::Plan;
+use repo_store::Store;
+use std::alloc::AllocError;
+
+impl Holdings {
+    /// These publications are hidden for good: none of their packets is held or listed any more, and none of their
+    /// parts is wanted. The room that was made stays.
+    pub fn hide_all(&mut self, publications: &[(u32, u16)]) -> Result<(), AllocError>
+        requires { All (λ pair. claims_part_in (held_plan self.old) pair ≡ false) publications.now }
+        ensures ok { OnOk result (self.new ≡ hides_all publications.now self.old) }
+        ensures in_order { AreInOrder self.new }
+        ensures err { OnErr result (self.new ≡ self.old) }
+    {
+        let Some(twice) = self.spare.checked_mul(2) else {
+            return Err(AllocError);
+        };
+        let Some(room) = twice.checked_add(publications.len()) else {
+            return Err(AllocError);
+        };
+        self.plan.reserve(room)?;
+        hide_all(
+            &mut self.plan,
+            &mut self.store,
+            &mut self.catalogue,
+            publications,
+        );
+        Ok(())
+    }
+}
+
+// These publications are hidden for good, for which room was made: none of their packets is held or listed any more.
+fn hide_all(
+    plan: &mut Plan,
+    store: &mut Store,
+    catalogue: &mut Catalogue,
+    publications: &[(u32, u16)],
+)
+    requires room { length publications.now ≤ plan.old.spare }
+    requires unclaimed { All (λ pair. claims_part_in plan.old pair ≡ false) publications.now }
+    requires kept { AreKept plan.old store.old.packets catalogue.old.entries }
+    ensures hidden { IsHiding publications.now plan.old plan.new }
+    ensures packets { store.new.packets ≡ outside_all publications.now store.old.packets }
+    ensures kept { AreKept plan.new store.new.packets catalogue.new.entries }
+    ensures plan_room { plan.new.spare + length publications.now ≡ plan.old.spare }
+    ensures store_room { store.new.spare ≡ store.old.spare }
+    ensures catalogue_room { catalogue.new.spare ≡ catalogue.old.spare }
+{
+    for (publisher, seq) in publications {
+        plan.hide_reserved(*publisher, *seq);
+        store.drop_parts(*publisher, *seq);
+        catalogue.remove(*publisher, *seq);
+    }
+}

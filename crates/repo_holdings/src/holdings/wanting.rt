@@ -1,0 +1,104 @@
+ghost use Rattle.std.specs.Prelude.{◌≡◌, true, None, length, map, take, IfSome, IfOk};
+ghost use Rattle.std.specs.List.{All, filter};
+ghost use Rattle.repo_plan.specs.Plan.{is_asked, is_after, unclaimed};
+ghost use Rattle.repo_holdings.specs.HoldingsState.{held_plan};
+ghost use Rattle.repo_holdings.specs.StoredRecords.{IsListedIn};
+ghost use Rattle.repo_holdings.specs.Wanting.{want_at, job_at, AreShortNames};
+
+use super::Holdings;
+use super::stored_record::StoredRecord;
+use ndn_name::Name;
+use repo_object::{Expected, Job, Want, expect_record};
+use repo_plan::Part;
+use std::alloc::{AllocError, Global};
+use svs_vector::Roster;
+
+impl Holdings {
+    /// The least parts that are wanted, that no fetcher claims and that are greater than `after`, at most `most` of
+    /// them, as jobs whose attempts go on from those that were made. `group` is the name of the group of the
+    /// publishers.
+    pub fn jobs(
+        &self,
+        alloc: Global,
+        publishers: &Roster,
+        group: &Name,
+        after: Option<Part>,
+        most: usize,
+    ) -> Result<Vec<Job>, AllocError>
+        requires width { length publishers.now ≡ length self.now.known }
+        requires names { AreShortNames publishers.now group.now }
+        ensures { IfOk result (λ jobs. jobs.items ≡ map (job_at publishers.now group.now self.now)
+            (take most (filter (is_after after) (unclaimed (held_plan self.now))))) }
+    {
+        let parts = self.plan.wanted_after(alloc, after, most)?;
+        self.jobs_of(alloc, publishers, group, &parts)
+    }
+
+    // The jobs of these parts.
+    fn jobs_of(
+        &self,
+        alloc: Global,
+        publishers: &Roster,
+        group: &Name,
+        parts: &[Part],
+    ) -> Result<Vec<Job>, AllocError>
+        requires width { length publishers.now ≡ length self.now.known }
+        requires names { AreShortNames publishers.now group.now }
+        requires asked { All (λ part. is_asked (held_plan self.now) part ≡ true) parts.now }
+        ensures { IfOk result (λ jobs. jobs.items ≡ map (job_at publishers.now group.now self.now) parts.now) }
+    {
+        let mut jobs = Vec::with_capacity(alloc, parts.len())?;
+        let mut stored = None;
+        for part in parts {
+            stored = self.record_for(*part, stored);
+            let want = self.want(alloc, publishers, group, *part, stored.as_ref())?;
+            let base = self.plan.attempts(*part);
+            jobs.push(Job { want, base })?;
+        }
+        Ok(jobs)
+    }
+
+    /// The want of a part that is asked for, and that `stored` lists, if it is a segment.
+    pub fn want(
+        &self,
+        alloc: Global,
+        publishers: &Roster,
+        group: &Name,
+        part: Part,
+        stored: Option<&StoredRecord<'_>>,
+    ) -> Result<Want, AllocError>
+        requires width { length publishers.now ≡ length self.now.known }
+        requires names { AreShortNames publishers.now group.now }
+        requires asked { is_asked (held_plan self.now) part ≡ true }
+        requires listed { IfSome stored (λ r. IsListedIn self.now.store part r.now) }
+        requires none { stored ≡ None → part.part ≡ 0 }
+        ensures { IfOk result (λ want. want ≡ want_at publishers.now group.now self.now.store part) }
+    {
+        Want::new(
+            alloc,
+            self.expected(alloc, publishers, group, part, stored)?,
+        )
+    }
+
+    /// What is expected for such a part: of a segment the record tells it.
+    pub fn expected(
+        &self,
+        alloc: Global,
+        publishers: &Roster,
+        group: &Name,
+        part: Part,
+        stored: Option<&StoredRecord<'_>>,
+    ) -> Result<Expected, AllocError>
+        requires width { length publishers.now ≡ length self.now.known }
+        requires names { AreShortNames publishers.now group.now }
+        requires asked { is_asked (held_plan self.now) part ≡ true }
+        requires listed { IfSome stored (λ r. IsListedIn self.now.store part r.now) }
+        requires none { stored ≡ None → part.part ≡ 0 }
+        ensures { IfOk result (λ expected. expected ≡ want_at publishers.now group.now self.now.store part) }
+    {
+        match stored {
+            Some(stored) => stored.view.expect_segment(alloc, part),
+            None => expect_record(part, publishers.name(part.publisher), group),
+        }
+    }
+}
