@@ -3,7 +3,7 @@ use Rattle.std.proofs.Common.{◌≡◌, ℕ, ◌+◌, ◌*◌, ◌<◌, ◌≤�
 use Rattle.std.proofs.Common.{refl}
 use Rattle.std.proofs.Common.{sym, ap, ◌∙◌, subst, Option, Some, None, option_map, is_some, unwrap_or, sum_by, Result}
 use Rattle.std.proofs.Common.{Err}
-use Rattle.std.proofs.Common.{ltb, arith, ◌&&◌, ◌||◌}
+use Rattle.std.proofs.Common.{ltb, arith, ◌&&◌}
 use Rattle.std.specs.Prelude.{nat_le, slice_index, IsOk, IfSome}
 use Rattle.std.specs.List.{All}
 use Rattle.std.specs.Option.{option_and_then}
@@ -38,8 +38,8 @@ use Rattle.repo_holdings.specs.declared.holdings.gaining.Tried.{Tried}
 use Rattle.repo_holdings.specs.declared.holdings.Holdings.TheInside.{Inside}
 use Rattle.repo_holdings.specs.HoldingsState.{HoldingsState, held_plan}
 use Rattle.repo_holdings.specs.HoldingsFields.{state, IsHoldings}
-use Rattle.repo_holdings.specs.Taking.{Fetched, with_fetched, with_tries, came, arrival_octets, with_all_fetched}
-use Rattle.repo_holdings.specs.Taking.{with_all_tries, CanBeTaken, AreTakable, KeepsButTries}
+use Rattle.repo_holdings.specs.Taking.{with_fetched, with_tries, came, arrival_octets}
+use Rattle.repo_holdings.specs.Taking.{CanBeTaken, AreTakable, KeepsButTries}
 use Rattle.repo_holdings.proofs.GainingLemmas.{absent, held_value, shape_told, put_elsewhere}
 use Rattle.repo_holdings.proofs.AskedLemmas.{asked_segment}
 use Rattle.repo_holdings.proofs.HoldingsLemmas.{plan_is}

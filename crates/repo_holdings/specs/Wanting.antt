@@ -1,5 +1,5 @@
 -- The wants of parts that are asked for.
-use Rattle.std.specs.Prelude.{ℕ, ◌≤◌, List, [], length, slice_get, unwrap_or, ◌==◌, if◌then◌else◌}
+use Rattle.std.specs.Prelude.{◌≤◌, List, [], length, slice_get, unwrap_or, ◌==◌, if◌then◌else◌}
 use Rattle.std.specs.List.{All}
 use Rattle.ndn_name.specs.Names.{Component, encoding}
 use Rattle.repo_plan.specs.declared.part.Part.{Part}

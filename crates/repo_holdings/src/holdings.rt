@@ -1,5 +1,4 @@
-ghost use Rattle.std.specs.Prelude.{◌≡◌, ◌+◌, ◌<◌, ◌≤◌, ℕ, max, Ok, Err, length, option_map, IfOk, OnOk, OnErr};
-ghost use Rattle.std.specs.Prelude.{MatchResult};
+ghost use Rattle.std.specs.Prelude.{◌≡◌, ◌<◌, ℕ, max, Ok, Err, length, option_map, IfOk, OnOk, OnErr, MatchResult};
 ghost use Rattle.sorted_lists.specs.SortedList.{value_of};
 ghost use Rattle.repo_plan.specs.Parts.{part_cmp};
 ghost use Rattle.repo_plan.specs.Plan.{holds};

@@ -1,9 +1,9 @@
 -- A member's plan, as its value says it.
-use Rattle.std.proofs.Common.{◌≡◌, ℕ, ◌+◌, ◌-◌, ◌≤◌, ◌<◌, Bool, true, false, cond, length, unwrap_or, arith, ◌==◌, []}
+use Rattle.std.proofs.Common.{◌≡◌, ℕ, ◌+◌, ◌≤◌, ◌<◌, Bool, true, false, cond, length, unwrap_or, arith, ◌==◌, []}
 use Rattle.std.proofs.Common.{map, take}
 use Rattle.std.proofs.Common.{Option, Some, None, refl, sym, ap, ◌∙◌, subst, List}
-use Rattle.std.specs.Prelude.{IsSome, slice_index, nat_le, Result, Ok, Err, IfOk, OnOk, IsErr, ◌↔◌}
-use Rattle.std.proofs.lemmas.Bool.{false_from_ne_true, eqb-true, and_parts, and_from, leb-true, le-leb}
+use Rattle.std.specs.Prelude.{slice_index, nat_le, Result, Ok, Err, IfOk, OnOk, IsErr, ◌↔◌}
+use Rattle.std.proofs.lemmas.Bool.{and_parts, and_from, leb-true, le-leb}
 use Rattle.repo_plan.specs.declared.part.Part.{Part}
 use Rattle.repo_plan.specs.Parts.{Pair, pair_of}
 use Rattle.repo_plan.specs.Plan.{is_asked, is_after, knows, claim_of, unclaimed}
@@ -13,7 +13,6 @@ use Rattle.svs_vector.specs.Vectors.{join, covers}
 use Rattle.svs_vector.proofs.JoinLemmas.{length-join, join-at}
 use Rattle.svs_sync.specs.Suppression.{suppression}
 use Rattle.svs_sync.specs.KeptVector.{Keeper, steady_kept, hears_kept}
-use Rattle.repo_object.specs.Publication.{Listed}
 use Rattle.repo_plan.specs.Plan.{PlanState}
 use Rattle.repo_member.specs.declared.member.Member.TheInside.{Inside}
 use Rattle.repo_holdings.specs.Listed.{listing_at}
@@ -21,12 +20,12 @@ use Rattle.repo_holdings.specs.HoldingsState.{HoldingsState, held_plan, claims_t
 use Rattle.repo_holdings.specs.Wanting.{AreShortNames, want_at, job_at}
 use Rattle.repo_member.specs.Outcomes.{job_for}
 use Rattle.repo_object.specs.Limits.{node_name_limit}
-use Rattle.std.specs.List.{All, filter, slice_get}
+use Rattle.std.specs.List.{filter, slice_get}
 use Rattle.std.proofs.lemmas.List.Elements.{All-weaker}
 use Rattle.ndn_name.specs.Names.{Component, encoding}
 use Rattle.repo_object.specs.Wants.{want_record, want_segment}
 use Rattle.repo_holdings.specs.Records.{Packet}
-use Rattle.repo_member.specs.Groups.{GroupKeys, HaveKeys, IsGroup, IsPlainNodeName, node_at}
+use Rattle.repo_member.specs.Groups.{GroupKeys, HaveKeys, IsGroup, IsPlainNodeName}
 use Rattle.repo_member.specs.Alone.{Alone, IsOfGroup, alone_plan, want_of}
 use Rattle.repo_holdings.specs.Wanting.{nothing_listed}
 use Rattle.repo_member.specs.Members.{alone, IsMember}

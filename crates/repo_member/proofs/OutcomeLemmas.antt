@@ -1,50 +1,38 @@
 -- What came of a fetch, taken part after part.
-use Rattle.std.proofs.Common.{◌≡◌, ◌⊎◌, inl, inr, ℕ, ◌+◌, ◌*◌, ◌^◌, ◌<◌, ◌≤◌, Bool, true, false, cond, not, ◌&&◌, ◌||◌}
+use Rattle.std.proofs.Common.{◌≡◌, ◌⊎◌, inl, inr, ℕ, ◌+◌, ◌*◌, ◌^◌, ◌<◌, ◌≤◌, Bool, true, false, cond, not, ◌||◌}
 use Rattle.std.proofs.Common.{◌==◌, List, [], ◌∷◌, ◌++◌, map, length, append_assoc, refl, sym, ap, ◌∙◌, subst, Option}
-use Rattle.std.proofs.Common.{Some, None, option_map, is_some, unwrap_or, count_by, sum_by, Result, Err, ltb, take}
+use Rattle.std.proofs.Common.{Some, None, option_map, is_some, unwrap_or, count_by, sum_by, take}
 use Rattle.std.proofs.Common.{zero, suc, arith}
-use Rattle.std.specs.Prelude.{nat_le, slice_index, IsOk, IfSome}
+use Rattle.std.specs.Prelude.{IfSome}
 use Rattle.std.specs.List.{All, AllByRecursion, IsDistinct, list_any, filter}
-use Rattle.std.specs.Option.{option_and_then}
 use Rattle.std.specs.Ordering.{eq_by_cmp, is_eq}
 use Rattle.std.specs.declared.cmp.Ordering.{Ordering}
-use Rattle.std.proofs.lemmas.Bool.{true≢false, and_parts, and_from, or_left, or_right, or_parts, or_cases, not-true}
-use Rattle.std.proofs.lemmas.Bool.{eqb-true, false_from_ne_true, le-leb, ltb-false}
+use Rattle.std.proofs.lemmas.Bool.{true≢false, and_parts, or_parts, or_cases, not-true}
+use Rattle.std.proofs.lemmas.Bool.{eqb-true, false_from_ne_true}
 use Rattle.std.proofs.lemmas.List.{map-append, length-map}
 use Rattle.std.proofs.lemmas.Map.Keys.{IsDistinct-cons}
 use Rattle.std.proofs.lemmas.Map.Steps.{length-le_from_distinct_below}
-use Rattle.std.proofs.lemmas.List.Elements.{All-head, All-tail, All-cons, All-nil, All-map, All-weaker, All-take}
+use Rattle.std.proofs.lemmas.List.Elements.{All-head, All-tail, All-map, All-weaker, All-take}
 use Rattle.std.proofs.lemmas.List.Elements.{All-filter, filter_passes}
 use Rattle.std.proofs.lemmas.List.Sums.{sum_by-cons}
-use Rattle.ndn_tlv.specs.Listing.{◌>>=◌}
-use Rattle.ndn_tlv.specs.Elements.{Item}
-use Rattle.ndn_tlv.specs.declared.tlv_fault.TlvFault.TheVariants.{Truncated}
-use Rattle.ndn_name.specs.Names.{Component}
-use Rattle.ndn_name.specs.declared.fault.PacketFault.{PacketFault}
-use Rattle.ndn_name.specs.declared.fault.PacketFault.TheVariants.{Tlv, PacketTooLong}
-use Rattle.ndn_packet.specs.Contents.{first_of}
-use Rattle.ndn_packet.specs.Outer.{only_of}
-use Rattle.ndn_data.specs.Data.{Data, data_of, data_fields, data_from}
 use Rattle.repo_plan.specs.declared.part.Part.{Part}
-use Rattle.sorted_lists.specs.SortedList.{IsBefore, Rises, contains, value_of, with_value}
-use Rattle.repo_plan.specs.Parts.{Pair, Shape, pair_cmp, part_cmp, pair_of, part_of}
-use Rattle.repo_plan.specs.Plan.{PlanState, holds, hides, knows, is_asked, is_wanted, is_claimed, is_unclaimed}
+use Rattle.sorted_lists.specs.SortedList.{IsBefore, Rises, contains}
+use Rattle.repo_plan.specs.Parts.{part_cmp, pair_of}
+use Rattle.repo_plan.specs.Plan.{PlanState, holds, hides, is_asked, is_wanted, is_claimed, is_unclaimed}
 use Rattle.repo_plan.specs.Plan.{is_after}
-use Rattle.repo_plan.specs.Plan.{unclaimed, known_parts, can_be_asked, shape_of, attempts_of}
+use Rattle.repo_plan.specs.Plan.{unclaimed, known_parts, attempts_of}
 use Rattle.repo_plan.proofs.Changes.{wanted_parts}
 use Rattle.repo_plan.proofs.Known.{unclaimed_rises}
 use Rattle.repo_plan.proofs.Orders.{exact_parts}
-use Rattle.sorted_lists.proofs.Sets.{eq_same, eq_itself, rises_filter, value_of-with_value}
+use Rattle.sorted_lists.proofs.Sets.{eq_itself, rises_filter}
 use Rattle.repo_object.specs.declared.job.Job.{Job}
-use Rattle.repo_object.specs.Publication.{Listed}
-use Rattle.repo_object.specs.Verdict.{CheckedPart, listing_in}
+use Rattle.repo_object.specs.Verdict.{CheckedPart}
 use Rattle.repo_member.specs.Groups.{GroupKeys, HaveKeys}
 use Rattle.repo_holdings.specs.Records.{Packet}
-use Rattle.repo_holdings.specs.Listed.{listing_at, stored_at, listed_shape}
 use Rattle.group_model.specs.Member.{with_tries}
 use Rattle.repo_member.specs.Alone.{Alone, IsOfGroup, alone_plan, want_of, alone_takes}
 use Rattle.repo_holdings.specs.Taking.{Fetched, with_fetched}
-use Rattle.repo_holdings.specs.Gaining.{AreTied, IsArrival}
+use Rattle.repo_holdings.specs.Gaining.{IsArrival}
 use Rattle.repo_holdings.specs.declared.holdings.gaining.Arrival.{Arrival}
 use Rattle.repo_member.specs.Members.{alone, IsMember}
 use Rattle.repo_member.specs.declared.member.Member.TheInside.{Inside}
@@ -52,14 +40,13 @@ use Rattle.repo_holdings.specs.declared.holdings.gaining.Tried.{Tried}
 use Rattle.repo_member.specs.Outcomes.{job_for, IsPlannedJob, WereTried, JobsArePlanned, PlannedJobsAreOutcomes}
 use Rattle.repo_member.specs.Outcomes.{IsOutcome, outcome_of, IsFetched, AreFetched}
 use Rattle.repo_holdings.specs.Taking.{PartsDiffer, CanBeTaken}
-use Rattle.repo_holdings.specs.Taking.{AreTakable, KeepsButTries, came, arrival_octets, with_all_fetched}
+use Rattle.repo_holdings.specs.Taking.{AreTakable, came, arrival_octets, with_all_fetched}
 use Rattle.repo_member.specs.Outcomes.{octets_in}
 use Rattle.repo_holdings.specs.Taking.{with_all_tries}
-use Rattle.repo_holdings.proofs.GainingLemmas.{absent, held_value, shape_told, put_elsewhere}
 use Rattle.repo_holdings.specs.HoldingsState.{HoldingsState, held_plan}
 use Rattle.repo_holdings.specs.Taking.{takes_too}
 use Rattle.repo_member.proofs.GroupLemmas.{ring_length}
-use Rattle.repo_holdings.proofs.AskedLemmas.{asked_segment, asked_member}
+use Rattle.repo_holdings.proofs.AskedLemmas.{asked_member}
 use Rattle.repo_member.proofs.MemberLemmas.{plan_is, want_part}
 
 -- ---- what is taken in all

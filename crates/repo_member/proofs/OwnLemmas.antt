@@ -1,5 +1,5 @@
 -- What a member publishes: its number is new, its packets are read, and the member afterwards.
-use Rattle.std.proofs.Common.{◌≡◌, inl, inr, ℕ, ◌+◌, ◌≤◌, ◌<◌, ◌^◌, max, suc, Bool, true, false, cond, ◌&&◌, List, []}
+use Rattle.std.proofs.Common.{◌≡◌, inl, inr, ℕ, ◌+◌, ◌≤◌, ◌<◌, ◌^◌, max, suc, Bool, true, cond, ◌&&◌, List, []}
 use Rattle.std.proofs.Common.{◌∷◌, ◌++◌, length, length-append, refl, sym, ap, ◌∙◌, subst, Option, Some, None}
 use Rattle.std.proofs.Common.{option_map, arith}
 use Rattle.std.specs.Prelude.{nat_le, slice_index, slice_set, slice_index_or, Result, Ok, Err, IsOk}
@@ -14,9 +14,7 @@ use Rattle.ndn_tlv.specs.Listing.{◌>>=◌}
 use Rattle.ndn_name.specs.declared.fault.PacketFault.{PacketFault}
 use Rattle.ndn_name.specs.Names.{Component, encoding}
 use Rattle.ndn_data.specs.Data.{Data, data_of}
-use Rattle.svs_sync.specs.KeptVector.{Keeper}
 use Rattle.repo_plan.specs.declared.part.Part.{Part}
-use Rattle.sorted_lists.specs.SortedList.{contains, keys, Rises}
 use Rattle.repo_plan.specs.Parts.{Pair, part_cmp, pair_of, part_of}
 use Rattle.repo_plan.specs.Plan.{PlanState, knows, holds, hides, is_asked, is_claimed, is_claim_of, can_be_asked}
 use Rattle.repo_plan.specs.Plan.{shape_of, raises}
@@ -24,25 +22,19 @@ use Rattle.repo_plan.specs.Sound.{PlanIsSound}
 use Rattle.repo_plan.proofs.Orders.{exact_parts}
 use Rattle.sorted_lists.proofs.Sets.{eq_same}
 use Rattle.repo_plan.proofs.Known.{wanted_is_asked}
-use Rattle.repo_plan.proofs.Changes.{sound_room}
 use Rattle.repo_object.specs.Objects.{NamedContents, IsObject, Publisher, IsPublisher, key_name}
-use Rattle.repo_object.specs.Publication.{Listed, packets, record_packet, published_listing, published_segments}
+use Rattle.repo_object.specs.Publication.{Listed, packets, published_listing, published_segments}
 use Rattle.repo_object.specs.Wants.{WantedPart, want_record, want_segment}
-use Rattle.repo_object.specs.Verdict.{read_packet, packet_verdict, part_verdict, listing_in}
+use Rattle.repo_object.specs.Verdict.{read_packet, packet_verdict, part_verdict}
 use Rattle.repo_object.proofs.Publications.{listing_within_limits, record_listed, record_passes, segment_passes}
 use Rattle.repo_member.specs.declared.member.Member.TheInside.{Inside}
 use Rattle.repo_member.specs.Groups.{GroupKeys, IsGroup, IsPlainNodeName, node_at, publisher_at}
-use Rattle.repo_catalog.specs.declared.entry.Entry.{Entry}
-use Rattle.std.specs.Option.{option_and_then}
-use Rattle.repo_holdings.specs.Records.{Packet}
-use Rattle.repo_holdings.specs.Listed.{listed_shape, listing_at, entry_at, alone_catalogue}
+use Rattle.repo_holdings.specs.Listed.{listed_shape}
 use Rattle.repo_member.specs.Alone.{alone_plan}
-use Rattle.repo_holdings.specs.NewPublications.{as_parts, with_packets}
 use Rattle.repo_holdings.specs.HoldingsState.{HoldingsState, held_plan, knows_too, AreInOrder}
 use Rattle.repo_holdings.specs.NewPublications.{IsNew, ArePackets, NamesTheObject}
 use Rattle.repo_member.specs.Members.{alone, AreWaiting, IsMember}
 use Rattle.repo_member.proofs.MemberLemmas.{knows_more}
-use Rattle.repo_holdings.proofs.PublishLemmas.{record_stored, relisted_publication}
 
 -- ---- who publishes
 

@@ -8,7 +8,7 @@ use Rattle.ndn_name.specs.Names.{Component}
 use Rattle.sorted_lists.specs.SortedList.{value_of, contains, insert_key}
 use Rattle.sorted_lists.specs.Range.{numbers_from}
 use Rattle.repo_plan.specs.Parts.{Pair, pair_cmp}
-use Rattle.repo_plan.specs.Plan.{PlanState, knows}
+use Rattle.repo_plan.specs.Plan.{knows}
 use Rattle.repo_plan.proofs.Orders.{exact_pairs}
 use Rattle.sorted_lists.proofs.Sets.{In, eq_same, contains-insert_key, value_of-with_value}
 use Rattle.repo_process.specs.Processes.{Process, starting, has_block, is_whole}

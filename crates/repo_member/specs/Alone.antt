@@ -1,17 +1,17 @@
 -- A member by itself: what it has, without what it can't know of others.
-use Rattle.std.specs.Prelude.{◌≡◌, ℕ, ◌+◌, ◌-◌, ◌<◌, true, List, [], ◌∷◌, ◌++◌, length, Option, Some, None, slice_get}
-use Rattle.std.specs.Prelude.{slice_set, slice_index, unwrap_or, replicate, ◌==◌, if◌then◌else◌}
+use Rattle.std.specs.Prelude.{◌≡◌, ℕ, ◌+◌, ◌-◌, ◌<◌, true, List, [], ◌∷◌, ◌++◌, length, Option, None, slice_get}
+use Rattle.std.specs.Prelude.{slice_set, slice_index, replicate, ◌==◌, if◌then◌else◌}
 use Rattle.std.specs.Option.{option_and_then}
 use Rattle.svs_vector.specs.Vectors.{join}
 use Rattle.svs_sync.specs.KeptVector.{Keeper, steady_kept, hears_kept, fired_kept}
 use Rattle.svs_sync.specs.Suppression.{periodic}
 use Rattle.repo_plan.specs.declared.part.Part.{Part}
-use Rattle.repo_plan.specs.Parts.{Pair, part_cmp, pair_of, part_of}
+use Rattle.repo_plan.specs.Parts.{Pair, part_cmp}
 use Rattle.sorted_lists.specs.SortedList.{Rises, keys}
 use Rattle.repo_plan.specs.Plan.{PlanState, no_claims, knows, hides}
 use Rattle.repo_object.specs.Objects.{NamedContents, Publisher}
-use Rattle.repo_object.specs.Publication.{Listed, packets}
-use Rattle.repo_object.specs.Wants.{WantedPart, want_record, want_segment}
+use Rattle.repo_object.specs.Publication.{packets}
+use Rattle.repo_object.specs.Wants.{WantedPart}
 use Rattle.repo_process.specs.Insertions.{Insertions}
 use Rattle.repo_store.specs.StoreList.{with_packet}
 use Rattle.group_model.specs.Member.{with_tries}
@@ -20,8 +20,8 @@ pub use Rattle.repo_holdings.specs.Taking.{Fetched, with_fetched}
 pub use Rattle.repo_holdings.specs.Wanting.{nothing_listed}
 use Rattle.repo_holdings.specs.Wanting.{want_at}
 use Rattle.repo_holdings.specs.Records.{Packet}
-use Rattle.repo_holdings.specs.Listed.{shapes_in, listing_at}
-use Rattle.repo_member.specs.Groups.{GroupKeys, node_at, publisher_at}
+use Rattle.repo_holdings.specs.Listed.{shapes_in}
+use Rattle.repo_member.specs.Groups.{GroupKeys, publisher_at}
 
 -- what a member has
 pub record Alone : Type 0 where

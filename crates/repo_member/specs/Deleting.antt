@@ -1,14 +1,10 @@
 -- Publications that a member hides for good.
-use Rattle.std.specs.Prelude.{◌≡◌, ℕ, ◌-◌, List, [], ◌∷◌, map, length}
+use Rattle.std.specs.Prelude.{ℕ, ◌-◌, List, map, length}
 use Rattle.std.specs.List.{filter}
 use Rattle.ndn_name.specs.Names.{Component}
-use Rattle.repo_plan.specs.Parts.{Pair, pair_cmp}
-use Rattle.sorted_lists.specs.SortedList.{insert_key}
-use Rattle.repo_plan.specs.Plan.{PlanState}
-use Rattle.repo_store.specs.StoreList.{packets_outside}
+use Rattle.repo_plan.specs.Parts.{Pair}
 use Rattle.repo_catalog.specs.declared.entry.Entry.{Entry}
 use Rattle.repo_catalog.specs.Entries.{publication_of, entry_has_name}
-use Rattle.repo_holdings.specs.Records.{Packet}
 use Rattle.repo_holdings.specs.Listed.{alone_catalogue}
 use Rattle.repo_holdings.specs.Hiding.{outside_all, with_hidden}
 use Rattle.repo_member.specs.Alone.{Alone}

@@ -1,4 +1,4 @@
-ghost use Rattle.std.specs.Prelude.{◌≡◌, ◌-◌, ◌<◌, ◌≤◌, true, false, length, option_map, IfOk, OnOk, OnErr, IsTrue};
+ghost use Rattle.std.specs.Prelude.{◌≡◌, ◌-◌, ◌<◌, ◌≤◌, true, false, option_map, IfOk, OnOk, OnErr, IsTrue};
 ghost use Rattle.std.specs.List.{All};
 ghost use Rattle.std.specs.Ordering.{nat_cmp};
 ghost use Rattle.repo_object.specs.Objects.{is_object_name};
@@ -7,10 +7,8 @@ ghost use Rattle.repo_plan.specs.Plan.{knows, claims_part_in};
 ghost use Rattle.repo_command.specs.Commands.{is_command, CommandIsSpelled};
 ghost use Rattle.repo_process.specs.Insertions.{next_number};
 ghost use Rattle.group_model.specs.Steps.{check_answer};
-ghost use Rattle.repo_holdings.specs.Gaining.{AreKept};
 ghost use Rattle.repo_member.specs.Alone.{IsOfGroup, alone_plan};
 ghost use Rattle.repo_member.specs.Deleting.{catalogued_named, alone_deletes, alone_drops};
-ghost use Rattle.repo_holdings.specs.Hiding.{outside_all, IsHiding};
 ghost use Rattle.repo_member.specs.Commanded.{coded, order_of, alone_after_order, alone_order_answer, alone_obeys};
 ghost use Rattle.repo_member.specs.Commanded.{alone_starts, answer_to, start_answer, delete_answer, reply_to_octets};
 ghost use Rattle.repo_member.specs.Commanded.{reply_named};

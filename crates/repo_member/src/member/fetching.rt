@@ -1,15 +1,12 @@
-ghost use Rattle.std.specs.Prelude.{◌≡◌, ◌⊎◌, ◌↔◌, Ok, Err, Some, None, IsSome, IsOk, IsErr, IsSomeAnd};
-ghost use Rattle.std.specs.Prelude.{IfSome, IfOk, IfErr, OnOk, OnErr, true, map, take};
-ghost use Rattle.std.specs.List.{All, filter};
+ghost use Rattle.std.specs.Prelude.{◌≡◌, ◌⊎◌, ◌↔◌, Ok, Err, Some, None, IsOk, IsErr, IsSomeAnd, IfSome, IfOk, IfErr};
+ghost use Rattle.std.specs.Prelude.{OnOk, OnErr, true, map, take};
+ghost use Rattle.std.specs.List.{filter};
 ghost use Rattle.repo_plan.specs.Plan.{claim_of, unclaimed, first, is_after, is_asked, is_wanted};
 ghost use Rattle.repo_plan.specs.Calls.{IsFetcher};
-ghost use Rattle.sha2.specs.Sha256.{sha256};
-ghost use Rattle.ndn_data.specs.Data.{data_of};
-ghost use Rattle.repo_object.specs.Verdict.{listing_in, ring_verdict};
+ghost use Rattle.repo_object.specs.Verdict.{ring_verdict};
 ghost use Rattle.repo_member.specs.Alone.{IsOfGroup, alone_plan, alone_claims, want_of, alone_accepts};
 ghost use Rattle.repo_member.specs.Verdicts.{passed, accept_verdict};
 ghost use Rattle.repo_holdings.specs.Gaining.{IsArrival};
-ghost use Rattle.repo_holdings.specs.StoredRecords.{IsListedIn};
 ghost use Rattle.repo_member.specs.Outcomes.{job_for, IsCheckedFor};
 
 use super::Member;

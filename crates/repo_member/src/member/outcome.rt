@@ -1,13 +1,7 @@
-ghost use Rattle.std.specs.Prelude.{◌≡◌, ◌+◌, ◌<◌, ◌^◌, ℕ, count_by, sum_by, is_some, option_map, length, IfOk, OnOk};
-ghost use Rattle.std.specs.Prelude.{OnErr, map, vec_len};
-ghost use Rattle.group_model.specs.Member.{with_tries};
+ghost use Rattle.std.specs.Prelude.{◌≡◌, ◌<◌, ◌^◌, count_by, sum_by, is_some, IfOk, OnOk, OnErr, map, vec_len};
 ghost use Rattle.repo_member.specs.Alone.{IsOfGroup, alone_plan, alone_takes};
-ghost use Rattle.repo_holdings.specs.Taking.{with_fetched};
-ghost use Rattle.repo_holdings.specs.Gaining.{AreKept, HaveRoom};
+ghost use Rattle.repo_holdings.specs.Taking.{came, AreTakable};
 ghost use Rattle.repo_member.specs.Outcomes.{IsOutcome, outcome_of, octets_in};
-ghost use Rattle.repo_holdings.specs.Taking.{came, arrival_octets, CanBeTaken};
-ghost use Rattle.repo_holdings.specs.Taking.{AreTakable};
-ghost use Rattle.repo_holdings.specs.Taking.{KeepsButTries, with_all_fetched, with_all_tries};
 
 use super::Member;
 use crate::group::Group;

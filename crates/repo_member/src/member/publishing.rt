@@ -1,15 +1,11 @@
 ghost use Rattle.std.specs.Prelude.{◌≡◌, ◌<◌, ◌≤◌, ◌^◌, ◌↔◌, ℕ, Err, IsTrue, IfOk, IfErr, OnOk, OnErr, length, map};
-ghost use Rattle.std.specs.Prelude.{option_map, vec_len};
+ghost use Rattle.std.specs.Prelude.{option_map};
 ghost use Rattle.std.specs.List.{All};
 ghost use Rattle.repo_object.specs.Objects.{is_object_name, IsContent, IsObject, IsPublisher};
 ghost use Rattle.repo_member.specs.Groups.{publisher_at};
-ghost use Rattle.repo_member.specs.Alone.{IsOfGroup, publication_limit, next_seq};
-ghost use Rattle.repo_holdings.specs.NewPublications.{as_parts, with_packets};
-ghost use Rattle.repo_member.specs.Alone.{alone_publishes, logged};
-ghost use Rattle.repo_holdings.specs.Gaining.{AreTied, KeepsOthers};
+ghost use Rattle.repo_member.specs.Alone.{IsOfGroup, publication_limit, next_seq, alone_publishes, logged};
 ghost use Rattle.repo_member.specs.Verdicts.{sync_of};
 ghost use Rattle.repo_member.specs.Publishing.{IsPrepared};
-ghost use Rattle.repo_holdings.specs.NewPublications.{ArePackets, IsNew};
 
 use super::Member;
 use super::syncing::sync_of;

@@ -1,5 +1,4 @@
-use Rattle.std.proofs.Common.{◌+◌, ◌-◌, ℕ, subst, ap, ◌∙◌, arith}
-use Rattle.repo_holdings.specs.Gaining.{HaveRoom}
+use Rattle.std.proofs.Common.{◌-◌, ap, arith}
 use Rattle.repo_holdings.specs.HoldingsState.{HoldingsState}
 use Rattle.repo_holdings.proofs.TakingLemmas.{less_room, takable_still, octets_fit}
 use Rattle.repo_holdings.proofs.holdings.Holdings.take.Goals as goal

@@ -1,6 +1,6 @@
-use Rattle.std.proofs.Common.{List, map, ap, ◌∙◌, arith}
+use Rattle.std.proofs.Common.{List, map, ap, ◌∙◌}
 use Rattle.repo_holdings.specs.Taking.{Fetched}
-use Rattle.repo_member.specs.Alone.{alone_plan, alone_takes}
+use Rattle.repo_member.specs.Alone.{alone_takes}
 use Rattle.repo_holdings.specs.Taking.{came}
 use Rattle.repo_member.proofs.OutcomeLemmas.{takable_still, taken_is, all_counted, all_octets}
 use Rattle.repo_member.proofs.member.Member.take_outcome.Goals as goal
