@@ -3,24 +3,22 @@ use Rattle.std.proofs.Common.{◌≡◌, ℕ, zero, suc, Bool, ◌⊎◌, inl, i
 use Rattle.std.proofs.Common.{None, refl, sym, ap, subst, ◌∙◌, arith}
 use Rattle.std.specs.Prelude.{IsSome, is_some, unwrap_or}
 use Rattle.std.specs.List.{filter, list_any}
-use Rattle.std.proofs.lemmas.List.Sums.{length-filter}
 use Rattle.std.specs.Ordering.{nat_cmp, eq_by_cmp}
 use Rattle.std.specs.Cmp.Lexicographic.{slice_cmp}
 use Rattle.std.specs.declared.cmp.Ordering.{Ordering}
 use Rattle.std.specs.declared.cmp.Ordering.TheVariants.{Less, Equal, Greater}
-use Rattle.std.proofs.lemmas.Bool.{true≢false, or_cases, or_left, or_right}
-use Rattle.slab.specs.Slab.{Slab, get, slab_len}
+use Rattle.std.proofs.lemmas.Bool.{or_cases, or_left, or_right}
 use Rattle.repo_plan.specs.declared.part.Part.{Part}
 use Rattle.sorted_lists.specs.SortedList.{by_order, Rises, contains, insert_key}
-use Rattle.sorted_lists.proofs.Orders.{less_back}
-use Rattle.sorted_lists.proofs.Sets.{In, each_before, rises_insert, eq_same, eq_itself, contains-insert_key}
-use Rattle.sorted_lists.proofs.Sets.{contains_in}
-use Rattle.sorted_lists.proofs.Sets.{in_contains, in_map, from_map}
-use Rattle.repo_store.specs.declared.index.Held.{Held}
+use Rattle.sorted_lists.proofs.Sets.{In, rises_insert, eq_same, eq_itself, contains-insert_key}
+use Rattle.sorted_lists.proofs.Sets.{contains_in, in_contains, in_map, from_map}
+use Rattle.sorted_lists.proofs.SameSets.{same_sets}
 use Rattle.repo_store.specs.StoreList.{different_octets}
-use Rattle.repo_store.specs.Kept.{octets_at, entries_of}
+use Rattle.repo_store.specs.Kept.{Slots, at, octets_at, Held, entries_of}
 use Rattle.repo_store.specs.Slots.{IsHeldIn, AreSlots}
 use Rattle.repo_store.proofs.IndexLemmas.{exact_octets}
+use Rattle.repo_store.proofs.LeastLemmas.{both_or_none}
+use Rattle.repo_store.proofs.SlotLemmas.{octets_of}
 
 abbrev Octets : Type 0
 Octets = List ℕ
@@ -58,40 +56,6 @@ insert_fresh k (x ∷ xs) fresh = go (insert_fresh k xs (λ i. fresh (inr i))) (
   go rest Less e = refl
   go rest Equal e = absurd (fresh (inl (exact_octets.same k x e)))
   go rest Greater e = ap suc rest
-
-not_before_itself : (x : Octets) → by_octets x x ≡ Less → ⊥
-not_before_itself x less = let tied = exact_octets.itself x in absurd cc
-
--- sets with the same members are as long
-same_members : (a b : List Octets) → Rises by_octets a → Rises by_octets b → ((x : Octets) → In x a → In x b)
-    → ((x : Octets) → In x b → In x a) → length a ≡ length b
-same_members [] [] ra rb ab ba = refl
-same_members [] (y ∷ ys) ra rb ab ba = absurd (ba y (inl refl))
-same_members (x ∷ xs) [] ra rb ab ba = absurd (ab x (inl refl))
-same_members (x ∷ xs) (y ∷ ys) ra rb ab ba =
-    ap suc (same_members xs ys ra.1 rb.1 (λ z i. forth z i (ab z (inr i))) (λ z i. back z i (ba z (inr i)))) where
-      first : x ≡ y
-      first = elim (let i : (x ≡ y) ⊎ In x ys = ab x (inl refl) in i) [
-        | inl e ↦ e
-        | inr i ↦ elim (let j : (y ≡ x) ⊎ In y xs = ba y (inl refl) in j) [
-          | inl e ↦ sym e
-          | inr j ↦
-              let less = each_before exact_octets.total y ys rb.0 x i in
-              let more = less_back exact_octets.total x y (each_before exact_octets.total x xs ra.0 y j) in
-              absurd cc
-        ]
-      ]
-
-      forth : (z : Octets) → In z xs → (z ≡ y) ⊎ In z ys → In z ys
-      forth z i (inl e) =
-          absurd (not_before_itself x (ap (by_octets x) (first ∙ sym e) ∙ each_before exact_octets.total x xs ra.0 z i))
-      forth z i (inr j) = j
-
-      back : (z : Octets) → In z ys → (z ≡ x) ⊎ In z xs → In z xs
-      back z i (inl e) =
-          absurd
-          (not_before_itself y (ap (by_octets y) (sym first ∙ sym e) ∙ each_before exact_octets.total y ys rb.0 z i))
-      back z i (inr j) = j
 
 -- ---- the different octets of packets
 
@@ -170,43 +134,37 @@ length-filled (Some o ∷ slots) apart =
     let clash : zero ≡ suc r.0 = apart zero (suc r.0) o refl r.1 in absurd (omega arith) in
     insert_fresh o (filled slots) fresh ∙ ap suc (length-filled slots (apart_rest (Some o) slots apart))
 
-some_of : (o : Option Octets) → IsSome o → (x : Octets) × (o ≡ Some x)
-some_of None h = absurd (true≢false (sym h))
-some_of (Some x) h = (x, refl)
+pub kept_is : (slots : Slots) (held : List Held) → AreSlots slots held
+    → length (filter is_some slots) ≡ length (different_octets (entries_of slots held))
+kept_is slots held are = sym (length-filled slots apart) ∙ ap length same where
+  entry : Held → Part × Octets
+  entry h = (h.0, octets_at slots h.1)
 
-pub kept_is : (packets : Slab Octets) (held : List Held) → AreSlots packets held
-    → slab_len packets ≡ length (different_octets (entries_of packets held))
-kept_is packets held slots =
-    sym (length-filter is_some packets.slots)
-    ∙ sym (length-filled packets.slots apart)
-    ∙ same_members (filled packets.slots) (different_octets (entries_of packets held)) (rises_filled packets.slots)
-    (rises_different (entries_of packets held)) forth back
-  where
-    entry : Held → Part × Octets
-    entry = λ h. (h.part, octets_at packets h.slot)
+  apart : Apart slots
+  apart i j o a b = are.different i j (subst IsSome (sym a) refl) (a ∙ sym b)
 
-    apart : Apart packets.slots
-    apart i j o a b = slots.different i j (subst IsSome (sym a) refl) (subst IsSome (sym b) refl) (a ∙ sym b)
+  forth : (o : Octets) → In o (filled slots) → In o (different_octets (entries_of slots held))
+  forth o i =
+      let place : (j : ℕ) × (at slots j ≡ Some o) = in_filled slots o i in
+      let by : IsHeldIn held place.0 = are.used place.0 (subst IsSome (sym place.1) refl) in
+      let is : octets_at slots place.0 ≡ o = ap (λ (x : Option Octets). unwrap_or x []) place.1 in
+      subst (λ (x : Octets). In x (different_octets (entries_of slots held))) is
+      (different_in (entries_of slots held) (entry (by.by, place.0)) (in_map entry held (by.by, place.0) by.there))
 
-    forth : (o : Octets) → In o (filled packets.slots) → In o (different_octets (entries_of packets held))
-    forth o i =
-        let at : (j : ℕ) × (get packets j ≡ Some o) = in_filled packets.slots o i in
-        let by : IsHeldIn held at.0 = slots.used at.0 (subst IsSome (sym at.1) refl) in
-        let there =
-        different_in (entries_of packets held) (by.by.part, octets_at packets by.by.slot)
-        (in_map (λ (h : Held). (h.part, octets_at packets h.slot)) held by.by by.there) in
-        let is : octets_at packets by.by.slot ≡ o =
-        ap (octets_at packets) by.at ∙ ap (λ (x : Option Octets). unwrap_or x []) at.1 in
-        subst (λ (x : Octets). In x (different_octets (entries_of packets held))) is there
+  back : (o : Octets) → In o (different_octets (entries_of slots held)) → In o (filled slots)
+  back o i =
+      let e : (e : Part × Octets) × (In e (entries_of slots held)) × (o ≡ e.1) =
+      in_different (entries_of slots held) o i in
+      let h : (h : Held) × (In h held) × (e.0 ≡ entry h) = from_map entry held e.0 e.1 in
+      let is : octets_at slots h.0.1 ≡ o = sym (ap (λ (x : Part × Octets). x.1) h.2) ∙ sym e.2 in
+      subst (λ (x : Octets). In x (filled slots)) is
+      (filled_in slots h.0.1 (octets_at slots h.0.1) (octets_of (at slots h.0.1) (are.kept h.0 h.1)))
 
-    back : (o : Octets) → In o (different_octets (entries_of packets held)) → In o (filled packets.slots)
-    back o i =
-        let e : (e : Part × Octets) × (In e (entries_of packets held)) × (o ≡ e.1) =
-        in_different (entries_of packets held) o i in
-        let h : (h : Held) × (In h held) × (e.0 ≡ (h.part, octets_at packets h.slot)) =
-        from_map (λ (h : Held). (h.part, octets_at packets h.slot)) held e.0 e.1 in
-        let some : (x : Octets) × (get packets h.0.slot ≡ Some x) =
-        some_of (get packets h.0.slot) (slots.kept h.0 h.1) in
-        let is : some.0 ≡ o =
-        sym (ap (λ (v : Option Octets). unwrap_or v []) some.1) ∙ sym (ap (λ (x : Part × Octets). x.1) h.2) ∙ sym e.2 in
-        subst (λ (x : Octets). In x (filled packets.slots)) is (filled_in packets.slots h.0.slot some.0 some.1)
+  same : filled slots ≡ different_octets (entries_of slots held)
+  same =
+      same_sets exact_octets (filled slots) (different_octets (entries_of slots held)) (rises_filled slots)
+      (rises_different (entries_of slots held)) (λ o. both_or_none _ _
+      (λ e. contains_in exact_octets (different_octets (entries_of slots held)) o
+      (forth o (in_contains exact_octets (filled slots) o e)))
+      (λ e. contains_in exact_octets (filled slots) o
+      (back o (in_contains exact_octets (different_octets (entries_of slots held)) o e))))

@@ -13,7 +13,7 @@ use Rattle.ndn_tlv.specs.Spelling.{number, element}
 use Rattle.ndn_name.specs.Names.{Component, IsName, IsComponent, encoding, full_name}
 use Rattle.ndn_name.specs.CanonicalOrder.{IsPrefix, canonical_cmp, canonical_cmp_total}
 use Rattle.ndn_name.proofs.Encodings.{encoding-push, encoding-same, IsName-append}
-use Rattle.ndn_name.proofs.Prefixes.{canonical_cmp-equal, prefix-octets, prefix-encoding}
+use Rattle.ndn_name.proofs.Prefixes.{canonical_cmp-equal}
 use Rattle.ndn_data.specs.Data.{Data, data_of, Satisfies}
 use Rattle.ndn_interest.proofs.DigestLemmas.{IsOctets-sha256}
 use Rattle.sorted_lists.proofs.Orders.{equal_from_is_eq}
@@ -147,72 +147,6 @@ pub octets-full : (name own : List Component) (octets : List ℕ) → name ≡ f
     → encoding name ≡ encoding own ++ element 1 (sha256 octets)
 octets-full name own octets e = ap encoding e ∙ encoding-push own (1, sha256 octets)
 
--- a name that goes on by a digest goes on by that digest
-pub goes_on : (asked own last claimed octets : List ℕ) → asked ≡ own ++ last → last ≡ (1 ∷ 32 ∷ []) ++ claimed
-    → claimed ≡ sha256 octets → asked ≡ own ++ element 1 (sha256 octets)
-goes_on asked own last claimed octets e f g =
-    e
-    ∙ ap (λ (x : List ℕ). own ++ x)
-    (f ∙ ap (λ (x : List ℕ). (1 ∷ 32 ∷ []) ++ x) g ∙ sym (digest_element (sha256 octets) (length-sha256 octets)))
-
 pub append-same : (a b d : List ℕ) → a ++ b ≡ a ++ d → b ≡ d
 append-same [] b d e = e
 append-same (x ∷ a) b d e = append-same a b d (ap (λ (o : List ℕ). drop 1 o) e)
-
-pub behind_own : (asked own last octets : List ℕ) → asked ≡ own ++ last → asked ≡ own ++ element 1 (sha256 octets)
-    → last ≡ (1 ∷ 32 ∷ []) ++ sha256 octets
-behind_own asked own last octets e f =
-    append-same own last (element 1 (sha256 octets)) (sym e ∙ f) ∙ digest_element (sha256 octets) (length-sha256 octets)
-
-pub claimed_is : (claimed last octets : List ℕ) → last ≡ (1 ∷ 32 ∷ []) ++ claimed
-    → last ≡ (1 ∷ 32 ∷ []) ++ sha256 octets → claimed ≡ sha256 octets
-claimed_is claimed last octets e f = append-same (1 ∷ 32 ∷ []) claimed (sha256 octets) (sym e ∙ f)
-
--- ---- what a packet answers, by octets
-
--- a name and the name of a packet, with their octets
-pub record AreNames (name : List Component) (d : Data) (asked own : List ℕ) : Type 0 where
-  pub is_name : IsName name
-  pub is_own_name : IsName d.name
-  pub spelled : asked ≡ encoding name
-  pub spelled_own : own ≡ encoding d.name
-
-pub exact_satisfies : (name : List Component) (p : Bool) (octets : List ℕ) (d : Data) (asked own : List ℕ)
-    → data_of octets ≡ Ok d → AreNames name d asked own → asked ≡ own → true ≡ satisfies name p octets
-exact_satisfies name p octets d asked own read names e =
-    let same : name ≡ d.name =
-    encoding-same name d.name names.is_name names.is_own_name (sym names.spelled ∙ e ∙ names.spelled_own) in
-    satisfied name p octets d true read ((λ t. inl same), λ h. refl)
-
-pub front_satisfies : (name : List Component) (p : Bool) (octets : List ℕ) (d : Data) (asked own rest : List ℕ)
-    → data_of octets ≡ Ok d → AreNames name d asked own → p ≡ true → own ≡ asked ++ rest
-    → true ≡ satisfies name p octets
-front_satisfies name p octets d asked own rest read names allowed e =
-    let front =
-    prefix-octets name d.name rest names.is_name names.is_own_name
-    (sym names.spelled_own ∙ e ∙ ap (λ (x : List ℕ). x ++ rest) names.spelled) in
-    satisfied name p octets d true read ((λ t. inr (inl (allowed, front))), λ h. refl)
-
-pub full_satisfies : (name : List Component) (p : Bool) (octets : List ℕ) (d : Data) (asked own : List ℕ) (r : Bool)
-    → data_of octets ≡ Ok d → AreNames name d asked own → (asked ≡ own → ⊥)
-    → (p ≡ true → (rest : List ℕ) → own ≡ asked ++ rest → ⊥) → Decides r (asked ≡ own ++ element 1 (sha256 octets))
-    → r ≡ satisfies name p octets
-full_satisfies name p octets d asked own r read names other none decides =
-    satisfied name p octets d r read (
-      λ t. inr
-          (inr (full-octets name d.name octets names.is_name names.is_own_name
-          (sym names.spelled ∙ decides.0 t ∙ ap (λ (x : List ℕ). x ++ element 1 (sha256 octets)) names.spelled_own))),
-      λ h. elim h [
-        | inl same ↦ absurd (other (names.spelled ∙ ap encoding same ∙ sym names.spelled_own))
-        | inr b ↦
-            elim b [
-              | inl front ↦
-                  absurd (none front.0 (encoding (drop (length name) d.name))
-                  (names.spelled_own ∙ prefix-encoding name d.name front.1
-                  ∙ ap (λ (x : List ℕ). x ++ encoding (drop (length name) d.name)) (sym names.spelled)))
-              | inr full ↦
-                  decides.1 (names.spelled ∙ octets-full name d.name octets full
-                  ∙ ap (λ (x : List ℕ). x ++ element 1 (sha256 octets)) (sym names.spelled_own))
-            ]
-      ],
-    )

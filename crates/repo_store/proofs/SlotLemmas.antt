@@ -1,34 +1,39 @@
--- Slots: what is kept once, what is still used, and what is dropped.
-use Rattle.std.proofs.Common.{◌≡◌, ◌≢◌, ℕ, ◌+◌, ◌^◌, ◌<◌, Bool, true, false, cond, not, inl, inr, List, [], ◌∷◌, ◌++◌}
+-- Slots: what is kept once, what is put, and what is dropped.
+use Rattle.std.proofs.Common.{◌≡◌, ◌≢◌, ℕ, ◌+◌, Bool, true, false, ◌⊎◌, inl, inr, List, []}
 use Rattle.std.proofs.Common.{Option, Some, None, refl, sym, ap, subst, ◌∙◌, arith}
-use Rattle.std.specs.Prelude.{IsSome, is_some, OnSome, IfNone}
-use Rattle.std.specs.List.{All, filter}
+use Rattle.std.specs.Prelude.{IsSome, unwrap_or, ◌==◌}
+use Rattle.std.specs.Ordering.{eq_by_cmp}
+use Rattle.std.specs.Bool.{nat_eq}
+use Rattle.std.specs.Cmp.{unsigned_Decides}
+use Rattle.std.specs.Cmp.Lexicographic.{pointwise}
+use Rattle.std.proofs.lemmas.Slice.Eq.{slice_eq-Decides}
 use Rattle.std.proofs.lemmas.Bool.{true≢false, cases_eq}
 use Rattle.sha2.specs.Sha256.{sha256}
-use Rattle.slab.specs.Slab.{Slab, get, slab_len, ContainsKey, HasRoomFor, Updates}
+use Rattle.slab.specs.Slab.{Slab, slab_len, HasRoomFor}
 use Rattle.repo_plan.specs.declared.part.Part.{Part}
-use Rattle.std.proofs.lemmas.List.Elements.{All-head, All-tail}
-use Rattle.sorted_lists.specs.SortedList.{IsBefore, Rises, keys, value_of}
-use Rattle.repo_plan.specs.Parts.{Pair, part_cmp, pair_of}
-use Rattle.repo_plan.proofs.Orders.{exact_pairs}
-use Rattle.repo_store.specs.Kept.{front_of, held_list}
-use Rattle.repo_store.proofs.SlotMaps.{kept_at, slot_is, nothing_of}
-use Rattle.repo_plan.specs.Plan.{is_in}
-use Rattle.sorted_lists.proofs.Sets.{In, eq_same, in_filter, in_append, append_left, append_right}
-use Rattle.repo_store.specs.declared.index.Held.{Held}
-use Rattle.repo_store.specs.declared.store.Kept.{Kept}
-use Rattle.repo_store.specs.declared.index.Order.{Order}
-use Rattle.repo_store.specs.declared.index.Order.TheVariants.{FullNames}
-use Rattle.repo_store.specs.Indexes.{KeyTriple, front_in, key_cmp, key_of, key_in, keys_in, AreFronts, IsData}
-use Rattle.repo_store.specs.Indexes.{IsSlotOf, GainsOne}
-use Rattle.repo_store.specs.declared.layers.Layers.{Layers}
-use Rattle.repo_store.specs.Layers.{all_of, AreInOrder, HasSame, IsIndexOf}
+use Rattle.sorted_lists.specs.SortedList.{Rises, keys, value_of, with_value, without_key}
+use Rattle.sorted_lists.proofs.Sets.{In, eq_same, eq_itself}
+use Rattle.repo_plan.specs.Parts.{part_cmp}
+use Rattle.repo_plan.proofs.Orders.{exact_parts}
+use Rattle.repo_store.specs.declared.kept.Fronted.{Fronted}
+use Rattle.repo_store.specs.declared.kept.Sought.{Sought}
 use Rattle.repo_store.specs.Places.{IsPacket}
-use Rattle.repo_store.specs.Slots.{IsHeldIn, AreSlots, KeepsOne, IsUsed, held_outside}
+use Rattle.repo_store.specs.Kept.{front_of, Slots, at, octets_at, front_at, Held, KeptState}
+use Rattle.repo_store.specs.Slots.{IsHeldIn, AreSlots, KeepsOne, fronted_cmp, fronted, AreFronts, IsUsed, is_sought}
+use Rattle.repo_store.specs.declared.kept.Kept.TheInside.{Inside}
+use Rattle.repo_store.specs.Slots.{is_sought_at, IsKeptIn, IsKept, KeptIsSound}
+use Rattle.repo_store.specs.Indexes.{GainsOne, IsFirstOf}
+use Rattle.repo_store.proofs.MapLemmas.{value_there, with_there, with_only, with_kept}
+use Rattle.repo_store.proofs.MapLemmas.{without_only, without_kept, keys_with_only, keys_with_there, keys_with_kept}
+use Rattle.repo_store.proofs.MapLemmas.{keys_without_only, keys_without_kept}
+use Rattle.repo_store.proofs.FrontLemmas.{exact_fronts, both_hold, both_true, is_nat}
 
 pub some_or_none : (o : Option (List ℕ)) → IsSome o → o ≡ None → ⊥
 some_or_none None h e = true≢false (sym h)
 some_or_none (Some x) h e = absurd cc
+
+some_as : (o p : Option (List ℕ)) → o ≡ p → IsSome p → IsSome o
+some_as o p e h = subst IsSome (sym e) h
 
 abbrev some_octets : List ℕ → Option (List ℕ)
 some_octets o = Some o
@@ -36,369 +41,310 @@ some_octets o = Some o
 some_same : (a b : List ℕ) → some_octets a ≡ some_octets b → a ≡ b
 some_same a b e = cc
 
-some_as : (o p : Option (List ℕ)) → o ≡ p → IsSome p → IsSome o
-some_as o p e h = subst IsSome (sym e) h
+pub octets_of : (o : Option (List ℕ)) → IsSome o → o ≡ Some (unwrap_or o [])
+octets_of None h = absurd (true≢false (sym h))
+octets_of (Some x) h = refl
 
--- keys of slots that keep their packets
-pub keys_same : (order : Order) (old new : Slab (List ℕ)) (held : List Held)
-    → ((h : Held) → In h held → get new h.slot ≡ get old h.slot) → keys_in order new held ≡ keys_in order old held
-keys_same order old new [] same = refl
-keys_same order old new (h ∷ held) same =
-    ap (λ (o : Option (List ℕ)). ((front_in order h.front, key_of order o), h.part) ∷ keys_in order new held)
-    (same h (inl refl))
-    ∙ ap (λ (ks : List (KeyTriple × Part)). key_in order old h ∷ ks)
-    (keys_same order old new held (λ o i. same o (inr i)))
+-- what is seen of the fields
+abbrev pub seen : Inside → KeptState
+seen k = record { slots = k.packets.slots; held = k.parts.entries; spare = k.spare }
+
+pub sound_seen : (k : Inside) → IsKept k → KeptIsSound (seen k)
+sound_seen k kept = record {
+  rises = kept.in_order;
+  kept = kept.slots.kept;
+  packets = λ h i. kept.slots.named h.1 (octets_at k.packets.slots h.1)
+      (octets_of (at k.packets.slots h.1) (kept.slots.kept h i));
+}
 
 -- ---- one more
 
-pub keep_found : (held : List Held) (packets : Slab (List ℕ)) (octets : List ℕ) (slot : ℕ)
-    → IsSlotOf held packets octets (Some slot) → KeepsOne held octets packets packets slot
-keep_found held packets octets slot at =
-    record { there = at.3; others = λ s h. refl; only = λ s h. inr h; once = inl at.3 }
+pub keep_found : (slots : Slots) (held : List Held) (octets : List ℕ) (slot : ℕ) → AreSlots slots held
+    → at slots slot ≡ Some octets → KeepsOne octets slots slots slot
+keep_found slots held octets slot are there = record {
+  there = there;
+  others = λ s h. refl;
+  only = λ s h. inr h;
+  once = λ s e. sym (are.different slot s (subst IsSome (sym there) refl) (there ∙ sym e));
+}
 
-pub keep_new : (held : List Held) (old new : Slab (List ℕ)) (octets : List ℕ) (slot : ℕ) → IsSlotOf held old octets None
-    → get old slot ≡ None → Updates old new slot (Some octets) → KeepsOne held octets old new slot
-keep_new held old new octets slot none vacant updates = record {
-  there = updates.changed;
-  others = λ s h. updates.others s (λ e. some_or_none (get old s) h (ap (get old) e ∙ vacant));
+pub keep_new : (old new : Slots) (held : List Held) (octets : List ℕ) (slot : ℕ) → AreSlots old held
+    → ((h : Held) → In h held → at old h.1 ≢ Some octets) → at old slot ≡ None → at new slot ≡ Some octets
+    → ((s : ℕ) → s ≢ slot → at new s ≡ at old s) → KeepsOne octets old new slot
+keep_new old new held octets slot are none vacant there others = record {
+  there = there;
+  others = λ s h. others s (λ e. some_or_none (at old s) h (ap (at old) e ∙ vacant));
   only = λ s h. elim (cases_eq s slot) [
     | inl e ↦ inl e
-    | inr n ↦ inr (some_as (get old s) (get new s) (sym (updates.others s n)) h)
+    | inr n ↦ inr (some_as (at old s) (at new s) (sym (others s n)) h)
   ];
-  once = inr none;
+  once = λ s e.
+      let by : IsHeldIn held s = are.used s (subst IsSome (sym e) refl) in
+      absurd (none (by.by, s) by.there e);
 }
 
-pub slots_more : (old new : Slab (List ℕ)) (octets : List ℕ) (held more : List Held) (index : Layers) (h : Held)
-    → IsPacket octets → h.front ≡ front_of (sha256 octets) → AreSlots old held → IsIndexOf FullNames old held index
-    → KeepsOne (all_of index) octets old new h.slot → GainsOne h held more → AreSlots new more
-slots_more old new octets held more index h packet front slots indexed keeps gains = record {
-  kept = λ o i. elim (gains.only o i) [
-    | inl e ↦ subst (λ (x : Held). IsSome (get new x.slot)) (sym e) new_there
-    | inr j ↦ some_as (get new o.slot) (get old o.slot) (keeps.others o.slot (slots.kept o j)) (slots.kept o j)
-  ];
-  fronts = λ o x i e. elim (gains.only o i) [
-    | inl own ↦
-        let is : octets ≡ x = some_same octets x (sym keeps.there ∙ ap (λ (y : Held). get new y.slot) (sym own) ∙ e) in
-        ap (λ (y : Held). y.front) own ∙ front ∙ ap (λ (y : List ℕ). front_of (sha256 y)) is
-    | inr j ↦ slots.fronts o x j (sym (keeps.others o.slot (slots.kept o j)) ∙ e)
-  ];
-  named = λ s k. elim (keeps.only s k) [
-    | inl e ↦ subst IsData (sym (ap (get new) e ∙ keeps.there)) packet
-    | inr j ↦ subst IsData (sym (keeps.others s j)) (slots.named s j)
-  ];
-  used = λ s k. elim (keeps.only s k) [
-    | inl e ↦ record { by = h; there = gains.there; at = sym e }
-    | inr j ↦
-        let by : IsHeldIn held s = slots.used s j in
-        record { by = by.by; there = gains.kept by.by by.there; at = by.at }
-  ];
-  different = λ a b p q e. elim (keeps.only a p) [
-    | inl x ↦ elim (keeps.only b q) [ inl y ↦ x ∙ sym y | inr y ↦ x ∙ sym (same b y (sym e ∙ ap (get new) x)) ]
-    | inr x ↦ elim (keeps.only b q) [
-      | inl y ↦ same a x (e ∙ ap (get new) y) ∙ sym y
-      | inr y ↦ slots.different a b x y (sym (keeps.others a x) ∙ e ∙ keeps.others b y)
-    ]
-  ];
-}
-  where
-    new_there : IsSome (get new h.slot)
-    new_there = subst IsSome (sym keeps.there) refl
+-- the slot of octets that were looked for, or a new one
+pub keeps_one : (held : List Held) (front : ℕ) (sought : Sought) (octets : List ℕ) (found : Option Held)
+    (old new : Slab (List ℕ)) (slot : ℕ) → AreSlots old.slots held → front ≡ front_of (sha256 octets)
+    → ((o : List ℕ) → is_sought sought o ≡ pointwise nat_eq o octets)
+    → IsFirstOf held (is_sought_at old.slots front sought) found → IsKeptIn found octets old new slot
+    → KeepsOne octets old.slots new.slots slot
+keeps_one held front sought octets None old new slot are is seeks first kept =
+    keep_new old.slots new.slots held octets slot are (λ h i e.
+    first h (
+      i,
+      both_true (front_at old.slots h.1 == front) (is_sought sought (octets_at old.slots h.1))
+          (is_nat (front_at old.slots h.1) front
+          (ap (λ (o : Option (List ℕ)). front_of (sha256 (unwrap_or o []))) e ∙ sym is))
+          (seeks (octets_at old.slots h.1)
+          ∙ (slice_eq-Decides unsigned_Decides (octets_at old.slots h.1) octets _ refl).1
+          (ap (λ (o : Option (List ℕ)). unwrap_or o []) e)),
+    )) kept.0 kept.1.changed (λ s n. kept.1.others s n)
+keeps_one held front sought octets (Some h) old new slot are is seeks first kept =
+    let same =
+    (slice_eq-Decides unsigned_Decides (octets_at old.slots h.1) octets _ refl).0
+    (sym (seeks (octets_at old.slots h.1))
+    ∙ (both_hold (front_at old.slots h.1 == front) (is_sought sought (octets_at old.slots h.1)) first.there.1).1) in
+    let there : at old.slots h.1 ≡ Some octets =
+    octets_of (at old.slots h.1) (are.kept h first.there.0) ∙ ap (λ (o : List ℕ). some_octets o) same in
+    subst (λ (s : ℕ). KeepsOne octets old.slots new.slots s) (sym kept.0)
+    (subst (λ (n : Slab (List ℕ)). KeepsOne octets old.slots n.slots h.1) (sym kept.1)
+    (keep_found old.slots held octets h.1 are there))
 
-    -- a slot that was there has the octets only where it is theirs
-    same : (s : ℕ) → ContainsKey old s → get new s ≡ get new h.slot → s ≡ h.slot
-    same s there e =
-        let was : get old s ≡ Some octets = sym (keeps.others s there) ∙ e ∙ keeps.there in
-        elim keeps.once [
-          | inl once ↦ slots.different s h.slot there (subst IsSome (sym once) refl) (was ∙ sym once)
-          | inr none ↦
-              let by : IsHeldIn held s = slots.used s there in
-              absurd (none by.by (indexed.all_held by.by by.there) (ap (get old) by.at ∙ was))
-        ]
-
-pub index_more : (order : Order) (packets : Slab (List ℕ)) (held more : List Held) (index indexed : Layers) (h : Held)
-    → AreInOrder order packets indexed → ((o : Held) → In o (all_of index) → In o held)
-    → ((o : Held) → In o held → In o (all_of index)) → GainsOne h held more → GainsOne h (all_of index) (all_of indexed)
-    → IsIndexOf order packets more indexed
-index_more order packets held more index indexed h rises only all gains gained = record {
-  in_order = rises;
-  held_only = λ o i. elim (gained.only o i) [
-    | inl e ↦ subst (λ (x : Held). In x more) (sym e) gains.there
-    | inr j ↦ gains.kept o (only o j)
-  ];
-  all_held = λ o i. elim (gains.only o i) [
-    | inl e ↦ subst (λ (x : Held). In x (all_of indexed)) (sym e) gained.there
-    | inr j ↦ gained.kept o (all o j)
-  ];
-}
-
--- ---- use
-
-pub used_by : (held : List Held) (packets : Slab (List ℕ)) (octets : List ℕ) (slot : ℕ) (r : Option ℕ)
-    → get packets slot ≡ Some octets → IsSlotOf held packets octets r → IsUsed packets held slot (is_some r)
-used_by held packets octets slot None there none = λ k h i e. none h i (e ∙ there)
-used_by held packets octets slot (Some s) there at = (at.0, at.1, ap (get packets) at.2 ∙ at.3 ∙ sym there)
-
-pub unused_empty : (held : List Held) (packets : Slab (List ℕ)) (slot : ℕ) → get packets slot ≡ None
-    → IsUsed packets held slot false
-unused_empty held packets slot none = λ k. absurd (some_or_none (get packets slot) k none)
-
--- ---- dropping
-
-in_filtered : (p : Held → Bool) (xs : List Held) (x : Held) → In x (filter p xs) → In x xs × (p x ≡ true)
-in_filtered p [] x i = absurd i
-in_filtered p (y ∷ ys) x i = go (in_filtered p ys x) (p y) refl i where
-  go : (In x (filter p ys) → In x ys × (p x ≡ true)) → (b : Bool) → p y ≡ b
-      → In x (cond b (y ∷ filter p ys) (filter p ys)) → In x (y ∷ ys) × (p x ≡ true)
-  go rest true e (inl same) = (inl same, ap p same ∙ e)
-  go rest true e (inr j) = let r = rest j in (inr r.0, r.1)
-  go rest false e j = let r = rest j in (inr r.0, r.1)
-
-pub in_outside : (pair : Pair) (held : List Held) (h : Held) → In h held → is_in pair h.part ≡ false
-    → In h (held_outside pair held)
-in_outside pair held h i out = in_filter (λ (x : Held). not (is_in pair x.part)) held h i (ap not out)
-
-pub from_outside : (pair : Pair) (held : List Held) (h : Held) → In h (held_outside pair held) → In h held
-from_outside pair held h i = (in_filtered (λ (x : Held). not (is_in pair x.part)) held h i).0
-
--- the part of a publication that has this number
-abbrev pub part_at : Pair → ℕ → Part
-part_at pair x = record { publisher = pair.0; seq = pair.1; part = x }
-
-is_part_at : (pair : Pair) (t : Part) (x : ℕ) → is_in pair t ≡ true → t.part ≡ x → t ≡ part_at pair x
-is_part_at pair t x inside same =
-    let of_pair : pair ≡ pair_of t = eq_same exact_pairs pair (pair_of t) inside in
-    λ i. record { publisher = (sym of_pair i).0; seq = (sym of_pair i).1; part = same i }
-
--- how far a publication's packets that nothing else uses are dropped: those of the parts below a number
-pub record Dropping (old now : Slab (List ℕ)) (held : List Held) (pair : Pair) (x : ℕ) : Type 0 where
-  pub kept : (h : Held) → In h (held_outside pair held) → get now h.slot ≡ get old h.slot
-  pub only : (s : ℕ) → ContainsKey now s → get now s ≡ get old s
-  pub gone : (h : Held) → In h held → is_in pair h.part ≡ true → h.part.part < x → ContainsKey now h.slot
-      → IsHeldIn (held_outside pair held) h.slot
-  pub room : (n : ℕ) → HasRoomFor old n → HasRoomFor now n
-
-pub dropping_none : (old : Slab (List ℕ)) (held : List Held) (pair : Pair) → Dropping old old held pair 0
-dropping_none old held pair = record {
-  kept = λ h i. refl;
-  only = λ s k. refl;
-  gone = λ h i inside low k. absurd (omega (arith, low));
-  room = λ n h. h;
-}
-
-module _ (old now : Slab (List ℕ)) (es : List (Part × Kept)) (index : Layers) (pair : Pair) (x : ℕ)
-    (rises : Rises part_cmp (keys es)) (slots : AreSlots old (held_list es))
-    (indexed : IsIndexOf FullNames old (held_outside pair (held_list es)) index)
-    (dropping : Dropping old now (held_list es) pair x) where
-  -- one that stays
-  dropping_stays : ((h : Held) → In h (held_list es) → h.part ≡ part_at pair x → ContainsKey now h.slot
-      → IsHeldIn (held_outside pair (held_list es)) h.slot)
-      → Dropping old now (held_list es) pair (x + 1)
-  dropping_stays stays = record {
-    kept = dropping.kept;
-    only = dropping.only;
-    gone = λ h i inside low k. elim (cases_eq h.part.part x) [
-      | inl same ↦ stays h i (is_part_at pair h.part x inside same) k
-      | inr other ↦ dropping.gone h i inside (omega (arith, low, other)) k
+module _ (old new : Slots) (octets : List ℕ) (held more : List Held) (h : Held) (are : AreSlots old held)
+    (keeps : KeepsOne octets old new h.1) (gains : GainsOne h held more) where
+  pub slots_more : IsPacket octets → AreSlots new more
+  slots_more packet = record {
+    kept = λ o i. elim (gains.only o i) [
+      | inl e ↦ subst (λ (x : Held). IsSome (at new x.1)) (sym e) (subst IsSome (sym keeps.there) refl)
+      | inr j ↦ some_as (at new o.1) (at old o.1) (keeps.others o.1 (are.kept o j)) (are.kept o j)
     ];
-    room = dropping.room;
+    named = λ s x e. elim (keeps.only s (subst IsSome (sym e) refl)) [
+      | inl own ↦ subst IsPacket (some_same octets x (sym keeps.there ∙ ap (at new) (sym own) ∙ e)) packet
+      | inr j ↦ are.named s x (sym (keeps.others s j) ∙ e)
+    ];
+    used = λ s k. elim (keeps.only s k) [
+      | inl own ↦ record { by = h.0; there = subst (λ (x : ℕ). In (h.0, x) more) (sym own) gains.there }
+      | inr j ↦ let by : IsHeldIn held s = are.used s j in record { by = by.by; there = gains.kept (by.by, s) by.there }
+    ];
+    different = λ a b p e. elim (keeps.only a p) [
+      | inl x ↦
+          elim (keeps.only b (subst IsSome e p)) [
+            | inl y ↦ x ∙ sym y
+            | inr y ↦ x ∙ sym (keeps.once b (sym (keeps.others b y) ∙ sym e ∙ ap (at new) x ∙ keeps.there))
+          ]
+      | inr x ↦
+          elim (keeps.only b (subst IsSome e p)) [
+            | inl y ↦ keeps.once a (sym (keeps.others a x) ∙ e ∙ ap (at new) y ∙ keeps.there) ∙ sym y
+            | inr y ↦ are.different a b x (sym (keeps.others a x) ∙ e ∙ keeps.others b y)
+          ]
+    ];
   }
 
-  -- nothing is held of the part
-  pub none_stays : value_of part_cmp es (part_at pair x) ≡ None → Dropping old now (held_list es) pair (x + 1)
-  none_stays none = dropping_stays (λ h i is k. absurd (nothing_of es (part_at pair x) rises none h i is))
+  same_front : (o : Held) → In o held → front_at new o.1 ≡ front_at old o.1
+  same_front o i =
+      ap (λ (x : Option (List ℕ)). front_of (sha256 (unwrap_or x []))) (keeps.others o.1 (are.kept o i))
 
-  module _ (at : Kept) (there : value_of part_cmp es (part_at pair x) ≡ Some at) where
-    abbrev slot : ℕ
-    slot = at.slot
+  own_front : front_at new h.1 ≡ front_of (sha256 octets)
+  own_front = ap (λ (x : Option (List ℕ)). front_of (sha256 (unwrap_or x []))) keeps.there
 
-    slot_of_part : (h : Held) → In h (held_list es) → h.part ≡ part_at pair x → h.slot ≡ slot
-    slot_of_part h i is =
-        same_slot (kept_at h) at (sym (slot_is es h rises i) ∙ ap (value_of part_cmp es) is ∙ there) where
-          some_kept : Kept → Option Kept
-          some_kept k = Some k
+  pub fronts_more : (front : ℕ) (fs : List (Fronted × Unit {0})) → front ≡ front_of (sha256 octets)
+      → AreFronts old held (keys fs)
+      → AreFronts new more (keys (with_value fronted_cmp (record { front = front; slot = h.1; part = h.0 }) tt fs))
+  fronts_more front fs is fronts = record {
+    only = λ x i. elim (keys_with_only exact_fronts own tt fs x i) [
+      | inl same ↦
+          subst (λ (y : Fronted). In (y.part, y.slot) more × (y.front ≡ front_at new y.slot)) (sym same)
+          (gains.there, is ∙ sym own_front)
+      | inr j ↦
+          let was = fronts.only x j in
+          (gains.kept (x.part, x.slot) was.0, was.1 ∙ sym (same_front (x.part, x.slot) was.0))
+    ];
+    all = λ o i. elim (gains.only o i) [
+      | inl e ↦
+          subst (λ (y : Held). In (fronted new y) after) (sym e)
+          (subst (λ (f : ℕ). In (at_front f h) after) (is ∙ sym own_front) (keys_with_there exact_fronts own tt fs))
+      | inr j ↦
+          subst (λ (f : ℕ). In (at_front f o) after) (sym (same_front o j))
+          (keys_with_kept exact_fronts own tt fs (fronted old o) (fronts.all o j))
+    ];
+  }
+    where
+      at_front : ℕ → Held → Fronted
+      at_front f o = record { front = f; slot = o.1; part = o.0 }
 
-          same_slot : (a b : Kept) → some_kept a ≡ some_kept b → a.slot ≡ b.slot
-          same_slot a b e = let same : a ≡ b = cc in ap (λ (k : Kept). k.slot) same
+      own : Fronted
+      own = at_front front h
 
-    -- what is used stays
-    pub used_stays : IsUsed now (all_of index) slot true → Dropping old now (held_list es) pair (x + 1)
-    used_stays used = dropping_stays (λ h i is k.
-        let at = slot_of_part h i is in
-        let o = used.0 in
-        let among = indexed.held_only o used.1 in
-        let was : get old o.slot ≡ get old slot =
-        sym (dropping.kept o among) ∙ used.2 ∙ dropping.only slot (subst (ContainsKey now) at k) in
-        let some = slots.kept o (from_outside pair (held_list es) o among) in
-        let same = slots.different o.slot slot some (subst IsSome was some) was in
-        record { by = o; there = among; at = same ∙ sym at })
+      after : List Fronted
+      after = keys (with_value fronted_cmp own tt fs)
 
-    -- what nothing uses is dropped
-    pub unused_dropped : (new : Slab (List ℕ)) → IsUsed now (all_of index) slot false → Updates now new slot None
-        → ((n : ℕ) → HasRoomFor now n → HasRoomFor new n) → Dropping old new (held_list es) pair (x + 1)
-    unused_dropped new unused updates room = record {
-      kept = λ h j. updates.others h.slot (λ e.
-          let some =
-          some_as (get now h.slot) (get old h.slot) (dropping.kept h j)
-          (slots.kept h (from_outside pair (held_list es) h j)) in
-          unused (subst (λ (s : ℕ). IsSome (get now s)) e some) h (indexed.all_held h j) (ap (get now) e))
-          ∙ dropping.kept h j;
-      only = λ s k. updates.others s (apart s k) ∙ dropping.only s (was s k);
-      gone = λ h i inside low k. elim (cases_eq h.part.part x) [
-        | inl same ↦ absurd (apart h.slot k (slot_of_part h i (is_part_at pair h.part x inside same)))
-        | inr other ↦ dropping.gone h i inside (omega (arith, low, other)) (was h.slot k)
-      ];
-      room = λ n h. room n (dropping.room n h);
-    }
-      where
-        apart : (s : ℕ) → ContainsKey new s → s ≢ slot
-        apart s k e = some_or_none (get new s) k (ap (get new) e ∙ updates.changed)
+-- what is put under a part of which there was nothing
+pub gains_part : (held : List Held) (h : Held) → value_of part_cmp held h.0 ≡ None → Rises part_cmp (keys held)
+    → GainsOne h held (with_value part_cmp h.0 h.1 held)
+gains_part held h none rises = record {
+  there = with_there exact_parts h.0 h.1 held;
+  kept = λ o i. with_kept exact_parts h.0 h.1 held o (λ same.
+      let some = value_there exact_parts held o rises i in
+      let is : value_of part_cmp held o.0 ≡ None = ap (value_of part_cmp held) same ∙ none in
+      absurd cc) i;
+  only = λ o i. with_only exact_parts h.0 h.1 held o i;
+}
 
-        was : (s : ℕ) → ContainsKey new s → ContainsKey now s
-        was s k = some_as (get now s) (get new s) (sym (updates.others s (apart s k))) k
+-- ---- one less
+
+-- one is gone, and no other of its part is there
+pub record LosesOne (h : Held) (old new : List Held) : Type 0 where
+  pub only : (o : Held) → In o new → In o old
+  pub kept : (o : Held) → In o old → (o ≡ h) ⊎ In o new
+  pub apart : (o : Held) → In o new → o.0 ≢ h.0
+
+pub loses_part : (held : List Held) (h : Held) → In h held → Rises part_cmp (keys held)
+    → LosesOne h held (without_key part_cmp h.0 held)
+loses_part held h there rises = record {
+  only = λ o i. (without_only exact_parts h.0 held o rises i).0;
+  kept = λ o i. elim (same_or_not o (eq_by_cmp part_cmp o.0 h.0) refl) [
+    | inl same ↦ inl (own o i same)
+    | inr other ↦ inr (without_kept exact_parts h.0 held o other i)
+  ];
+  apart = λ o i. (without_only exact_parts h.0 held o rises i).1;
+}
+  where
+    same_or_not : (o : Held) (b : Bool) → eq_by_cmp part_cmp o.0 h.0 ≡ b → (o.0 ≡ h.0) ⊎ (o.0 ≢ h.0)
+    same_or_not o true e = inl (eq_same exact_parts o.0 h.0 e)
+    same_or_not o false e =
+        inr (λ same. true≢false
+        (sym (eq_itself exact_parts h.0) ∙ ap (λ (t : Part). eq_by_cmp part_cmp t h.0) (sym same) ∙ e))
+
+    own : (o : Held) → In o held → o.0 ≡ h.0 → o ≡ h
+    own o i same =
+        let a = value_there exact_parts held o rises i in
+        let b = value_there exact_parts held h rises there in
+        let c : value_of part_cmp held o.0 ≡ value_of part_cmp held h.0 = ap (value_of part_cmp held) same in
+        let slot : o.1 ≡ h.1 = cc in
+        λ i. (same i, slot i)
+
+module _ (old new : Slots) (held left : List Held) (h : Held) (are : AreSlots old held)
+    (loses : LosesOne h held left) (same : (o : Held) → In o left → at new o.1 ≡ at old o.1) where
+  pub slots_less : ((s : ℕ) → IsSome (at new s) → at new s ≡ at old s) → (IsSome (at new h.1) → IsHeldIn left h.1)
+      → AreSlots new left
+  slots_less only still = record {
+    kept = λ o i. some_as (at new o.1) (at old o.1) (same o i) (are.kept o (loses.only o i));
+    named = λ s x e. are.named s x (sym (only s (subst IsSome (sym e) refl)) ∙ e);
+    used = λ s k.
+        let by : IsHeldIn held s = are.used s (subst IsSome (only s k) k) in
+        elim (loses.kept (by.by, s) by.there) [
+          | inl own ↦
+              let at_slot : h.1 ≡ s = sym (ap (λ (o : Held). o.1) own) in
+              subst (IsHeldIn left) at_slot (still (subst (λ (n : ℕ). IsSome (at new n)) (sym at_slot) k))
+          | inr j ↦ record { by = by.by; there = j }
+        ];
+    different = λ a b p e.
+        are.different a b (subst IsSome (only a p) p) (sym (only a p) ∙ e ∙ only b (subst IsSome e p));
+  }
+
+  pub fronts_less : (fs : List (Fronted × Unit {0})) → Rises fronted_cmp (keys fs) → AreFronts old held (keys fs)
+      → AreFronts new left (keys (without_key fronted_cmp (fronted old h) fs))
+  fronts_less fs rises fronts = record {
+    only = λ x i.
+        let there = keys_without_only exact_fronts (fronted old h) fs x rises i in
+        let was = fronts.only x there.0 in
+        elim (loses.kept (x.part, x.slot) was.0) [
+          | inl own ↦ absurd (there.1 (λ i.
+              record {
+                front = (was.1 ∙ ap (λ (o : Held). front_at old o.1) own) i;
+                slot = (own i).1;
+                part = (own i).0;
+              }))
+          | inr j ↦ (j, was.1 ∙ sym (front_same (x.part, x.slot) j))
+        ];
+    all = λ o i.
+        subst (λ (f : ℕ). In (at_front f o) (keys (without_key fronted_cmp (fronted old h) fs))) (sym (front_same o i))
+        (keys_without_kept exact_fronts (fronted old h) fs (fronted old o)
+        (λ e. loses.apart o i (ap (λ (x : Fronted). x.part) e)) (fronts.all o (loses.only o i)));
+  }
+    where
+      at_front : ℕ → Held → Fronted
+      at_front f o = record { front = f; slot = o.1; part = o.0 }
+
+      front_same : (o : Held) → In o left → front_at new o.1 ≡ front_at old o.1
+      front_same o i = ap (λ (x : Option (List ℕ)). front_of (sha256 (unwrap_or x []))) (same o i)
 
 -- a removal takes no room
-pub room_kept : (old new : Slab (List ℕ)) (r : Option (List ℕ)) → OnSome r (slab_len new + 1 ≡ slab_len old)
-    → IfNone r (new ≡ old) → new.capacity ≡ old.capacity → (n : ℕ) → HasRoomFor old n → HasRoomFor new n
-room_kept old new None some none capacity n h = omega (arith, ap (λ (s : Slab (List ℕ)). slab_len s) none)
-room_kept old new (Some o) some none capacity n h = omega arith
+pub room_kept : (old new : Slab (List ℕ)) → slab_len new + 1 ≡ slab_len old → new.capacity ≡ old.capacity → (n : ℕ)
+    → HasRoomFor old n → HasRoomFor new n
+room_kept old new len capacity n h = omega arith
 
-pub dropped_all : (old now : Slab (List ℕ)) (held : List Held) (pair : Pair)
-    → All (λ (h : Held). h.part.part < 2 ^ 8) held → AreSlots old held → Dropping old now held pair 256
-    → AreSlots now (held_outside pair held)
-dropped_all old now held pair small slots dropping = record {
-  kept =
-      λ h j. some_as (get now h.slot) (get old h.slot) (dropping.kept h j) (slots.kept h (from_outside pair held h j));
-  fronts = λ h o j e. slots.fronts h o (from_outside pair held h j) (sym (dropping.kept h j) ∙ e);
-  named =
-      λ s k. subst IsData (sym (dropping.only s k))
-      (slots.named s (some_as (get old s) (get now s) (sym (dropping.only s k)) k));
-  used = λ s k. still s k (slots.used s (some_as (get old s) (get now s) (sym (dropping.only s k)) k));
-  different =
-      λ a b p q e. slots.different a b (some_as (get old a) (get now a) (sym (dropping.only a p)) p)
-      (some_as (get old b) (get now b) (sym (dropping.only b q)) q) (sym (dropping.only a p) ∙ e ∙ dropping.only b q);
-}
-  where
-    low : (held : List Held) (h : Held) → All (λ (h : Held). h.part.part < 2 ^ 8) held → In h held → h.part.part < 256
-    low [] h all i = absurd i
-    low (y ∷ ys) h all (inl e) =
-        omega (arith, ap (λ (z : Held). z.part.part) e, All-head (λ (h : Held). h.part.part < 2 ^ 8) y ys all)
-    low (y ∷ ys) h all (inr i) = low ys h (All-tail (λ (h : Held). h.part.part < 2 ^ 8) y ys all) i
+-- what is left where a part goes
+pub record PartGone (old new : Slots) (left : List Held) (after : List Fronted) : Type 0 where
+  pub slots : AreSlots new left
+  pub fronts : AreFronts new left after
+  pub same : (o : Held) → In o left → at new o.1 ≡ at old o.1
 
-    still : (s : ℕ) → ContainsKey now s → IsHeldIn held s → IsHeldIn (held_outside pair held) s
-    still s k by = go (is_in pair by.by.part) refl where
-      go : (b : Bool) → is_in pair by.by.part ≡ b → IsHeldIn (held_outside pair held) s
-      go true inside =
-          subst (IsHeldIn (held_outside pair held)) by.at
-          (dropping.gone by.by by.there inside (low held by.by small by.there)
-          (subst (λ (n : ℕ). IsSome (get now n)) (sym by.at) k))
-      go false out = record { by = by.by; there = in_outside pair held by.by by.there out; at = by.at }
+module _ (old : Slots) (held : List Held) (fs : List (Fronted × Unit {0})) (h : Held) (are : AreSlots old held)
+    (fronts : AreFronts old held (keys fs)) (rises : Rises part_cmp (keys held))
+    (fronts_rise : Rises fronted_cmp (keys fs))
+    (there : In h held) where
+  abbrev left : List Held
+  left = without_key part_cmp h.0 held
 
-before_outside : (order : Order) (packets : Slab (List ℕ)) (pair : Pair) (k : KeyTriple × Part) (xs : List Held)
-    → IsBefore key_cmp k (keys_in order packets xs) → IsBefore key_cmp k (keys_in order packets (held_outside pair xs))
-before_outside order packets pair k [] b = tt
-before_outside order packets pair k (x ∷ xs) b =
-    go (before_outside order packets pair k xs b.1) (not (is_in pair x.part)) where
-      go : IsBefore key_cmp k (keys_in order packets (held_outside pair xs)) → (t : Bool)
-          → IsBefore key_cmp k (keys_in order packets (cond t (x ∷ held_outside pair xs) (held_outside pair xs)))
-      go r true = (b.0, r)
-      go r false = r
+  abbrev fronts_left : List Fronted
+  fronts_left = keys (without_key fronted_cmp (fronted old h) fs)
 
-rises_outside : (order : Order) (packets : Slab (List ℕ)) (pair : Pair) (xs : List Held)
-    → Rises key_cmp (keys_in order packets xs) → Rises key_cmp (keys_in order packets (held_outside pair xs))
-rises_outside order packets pair [] r = tt
-rises_outside order packets pair (x ∷ xs) r =
-    go (rises_outside order packets pair xs r.1) (not (is_in pair x.part)) where
-      go : Rises key_cmp (keys_in order packets (held_outside pair xs)) → (t : Bool)
-          → Rises key_cmp (keys_in order packets (cond t (x ∷ held_outside pair xs) (held_outside pair xs)))
-      go s true = (before_outside order packets pair (key_in order packets x) xs r.0, s)
-      go s false = s
+  loses : LosesOne h held left
+  loses = loses_part held h there rises
 
--- an index without a publication's parts
-pub index_outside : (order : Order) (packets : Slab (List ℕ)) (pair : Pair) (held : List Held) (index left : Layers)
-    → left.settled.items ≡ held_outside pair index.settled.items
-    → left.recent.items ≡ held_outside pair index.recent.items → IsIndexOf order packets held index
-    → IsIndexOf order packets (held_outside pair held) left
-index_outside order packets pair held index left settled recent indexed = record {
-  in_order = record {
-    settled =
-        subst (λ (xs : List Held). Rises key_cmp (keys_in order packets xs)) (sym settled)
-        (rises_outside order packets pair index.settled.items indexed.in_order.settled);
-    recent =
-        subst (λ (xs : List Held). Rises key_cmp (keys_in order packets xs)) (sym recent)
-        (rises_outside order packets pair index.recent.items indexed.in_order.recent);
-    apart =
-        λ h o i j. indexed.in_order.apart h o (from_outside pair index.settled.items h (subst (In h) settled i))
-        (from_outside pair index.recent.items o (subst (In o) recent j));
-  };
-  held_only = λ h i. elim (in_append left.settled.items left.recent.items h i) [
-    | inl j ↦
-        let both = in_filtered out index.settled.items h (subst (In h) settled j) in
-        in_filter out held h (indexed.held_only h (append_left index.settled.items index.recent.items h both.0)) both.1
-    | inr j ↦
-        let both = in_filtered out index.recent.items h (subst (In h) recent j) in
-        in_filter out held h (indexed.held_only h (append_right index.settled.items index.recent.items h both.0)) both.1
-  ];
-  all_held = λ h i.
-      let both = in_filtered out held h i in
-      elim (in_append index.settled.items index.recent.items h (indexed.all_held h both.0)) [
-        | inl j ↦
-            append_left left.settled.items left.recent.items h
-            (subst (In h) (sym settled) (in_filter out index.settled.items h j both.1))
-        | inr j ↦
-            append_right left.settled.items left.recent.items h
-            (subst (In h) (sym recent) (in_filter out index.recent.items h j both.1))
-      ];
-}
-  where
-    out : Held → Bool
-    out = λ h. not (is_in pair h.part)
+  still_fronts : AreFronts old left fronts_left
+  still_fronts = fronts_less old old held left h are loses (λ o i. refl) fs fronts_rise fronts
 
-pub index_same : (order : Order) (old new : Slab (List ℕ)) (held : List Held) (index : Layers)
-    → ((h : Held) → In h held → get new h.slot ≡ get old h.slot) → IsIndexOf order old held index
-    → IsIndexOf order new held index
-index_same order old new held index same indexed = record {
-  in_order = record {
-    settled =
-        subst (Rises key_cmp)
-        (sym (keys_same order old new index.settled.items
-        (λ h i. same h (indexed.held_only h (append_left index.settled.items index.recent.items h i)))))
-        indexed.in_order.settled;
-    recent =
-        subst (Rises key_cmp)
-        (sym (keys_same order old new index.recent.items
-        (λ h i. same h (indexed.held_only h (append_right index.settled.items index.recent.items h i)))))
-        indexed.in_order.recent;
-    apart = indexed.in_order.apart;
-  };
-  held_only = indexed.held_only;
-  all_held = indexed.all_held;
-}
+  pub part_used : IsUsed fronts_left (front_at old h.1) h.1 true → PartGone old old left fronts_left
+  part_used used = record {
+    slots =
+        slots_less old old held left h are loses (λ o i. refl) (λ s k. refl)
+        (λ k. record { by = used.0; there = (still_fronts.only _ used.1).0 });
+    fronts = still_fronts;
+    same = λ o i. refl;
+  }
 
--- the fronts of what an index holds are right, also where slots lost their packets
-pub index_fronts : (order : Order) (packets now : Slab (List ℕ)) (held outer : List Held) (index : Layers)
-    → ((h : Held) → In h held → In h outer) → ((h : Held) → In h held → get now h.slot ≡ get packets h.slot)
-    → AreFronts packets outer → IsIndexOf order packets held index → AreFronts now (all_of index)
-index_fronts order packets now held outer index among same fronts indexed h octets i e =
-    let j = indexed.held_only h i in
-    fronts h octets (among h j) (sym (same h j) ∙ e)
+  pub part_unused : (new : Slots) → IsUsed fronts_left (front_at old h.1) h.1 false → at new h.1 ≡ None
+      → ((s : ℕ) → s ≢ h.1 → at new s ≡ at old s) → PartGone old new left fronts_left
+  part_unused new unused vacant others = record {
+    slots =
+        slots_less old new held left h are loses same (λ s k. others s (apart s k)) (λ k. absurd (apart h.1 k refl));
+    fronts = fronts_less old new held left h are loses same fs fronts_rise fronts;
+    same = same;
+  }
+    where
+      apart : (s : ℕ) → IsSome (at new s) → s ≢ h.1
+      apart s k e = some_or_none (at new s) k (ap (at new) e ∙ vacant)
 
--- an index whose layers have the same
-pub index_moved : (order : Order) (packets : Slab (List ℕ)) (held : List Held) (index moved : Layers)
-    → HasSame index moved → IsIndexOf order packets held index → IsIndexOf order packets held moved
-index_moved order packets held index moved same indexed = record {
-  in_order = record {
-    settled =
-        subst (λ (xs : List Held). Rises key_cmp (keys_in order packets xs)) (sym same.settled)
-        indexed.in_order.settled;
-    recent =
-        subst (λ (xs : List Held). Rises key_cmp (keys_in order packets xs)) (sym same.recent) indexed.in_order.recent;
-    apart = λ h o i j. indexed.in_order.apart h o (subst (In h) same.settled i) (subst (In o) same.recent j);
-  };
-  held_only = λ h i. indexed.held_only h (subst (In h) all i);
-  all_held = λ h i. subst (In h) (sym all) (indexed.all_held h i);
-}
-  where
-    all : all_of moved ≡ all_of index
-    all =
-        ap (λ (xs : List Held). xs ++ moved.recent.items) same.settled
-        ∙ ap (λ (xs : List Held). index.settled.items ++ xs) same.recent
+      same : (o : Held) → In o left → at new o.1 ≡ at old o.1
+      same o i = others o.1 (λ e.
+          unused o.0 (subst (λ (s : ℕ). In (record { front = front_at old s; slot = s; part = o.0 }) fronts_left) e
+          (still_fronts.all o i)))
+
+  -- the same of lists and a front that are these
+  module _ (front : ℕ) (gone : List Held) (after : List (Fronted × Unit {0})) (is : front ≡ front_at old h.1)
+      (parts : gone ≡ left)
+      (others : after ≡ without_key fronted_cmp (record { front = front; slot = h.1; part = h.0 }) fs) where
+    these : keys after ≡ fronts_left
+    these =
+        ap (λ (es : List (Fronted × Unit {0})). keys es) others
+        ∙ ap (λ (f : ℕ). keys (without_key fronted_cmp (record { front = f; slot = h.1; part = h.0 }) fs)) is
+
+    as_used : (b : Bool) → IsUsed (keys after) front h.1 b → IsUsed fronts_left (front_at old h.1) h.1 b
+    as_used b used =
+        subst (λ (f : ℕ). IsUsed fronts_left f h.1 b) is
+        (subst (λ (ks : List Fronted). IsUsed ks front h.1 b) these used)
+
+    as_gone : (new : Slots) → PartGone old new left fronts_left → PartGone old new gone (keys after)
+    as_gone new is =
+        subst (λ (ks : List Fronted). PartGone old new gone ks) (sym these)
+        (subst (λ (xs : List Held). PartGone old new xs fronts_left) (sym parts) is)
+
+    pub used_gone : IsUsed (keys after) front h.1 true → PartGone old old gone (keys after)
+    used_gone used = as_gone old (part_used (as_used true used))
+
+    pub unused_gone : (new : Slots) → IsUsed (keys after) front h.1 false → at new h.1 ≡ None
+        → ((s : ℕ) → s ≢ h.1 → at new s ≡ at old s) → PartGone old new gone (keys after)
+    unused_gone new unused vacant rest = as_gone new (part_unused new (as_used false unused) vacant rest)

@@ -1,15 +1,11 @@
 -- How packets are kept, each different one once, in slots.
-use Rattle.std.specs.Prelude.{ℕ, List, [], map, take, unwrap_or, Result, Ok, Err}
+use Rattle.std.specs.Prelude.{ℕ, List, [], map, take, slice_index_or, Option, None, unwrap_or, Result, Ok, Err}
 use Rattle.std.specs.Int.{w64, from_be_bytes}
-use Rattle.slab.specs.Slab.{Slab, get}
+use Rattle.sha2.specs.Sha256.{sha256}
 use Rattle.ndn_name.specs.declared.fault.PacketFault.{PacketFault}
 use Rattle.ndn_name.specs.Names.{encoding}
 use Rattle.ndn_data.specs.Data.{Data, data_of}
 use Rattle.repo_plan.specs.declared.part.Part.{Part}
-use Rattle.sorted_lists.specs.SortedList.{in_order}
-use Rattle.repo_plan.specs.Parts.{part_cmp}
-use Rattle.repo_store.specs.declared.index.Held.{Held}
-use Rattle.repo_store.specs.declared.store.Kept.{Kept}
 
 -- The value of the name of what was read as Data.
 abbrev pub name_octets : Result Data PacketFault → List ℕ
@@ -24,18 +20,32 @@ packet_name octets = name_octets (data_of octets)
 unfoldable pub front_of : List ℕ → ℕ
 front_of digest = from_be_bytes w64 (take 8 digest)
 
+-- What is in each slot: a packet's octets, or nothing.
+abbrev pub Slots : Type 0
+Slots = List (Option (List ℕ))
+
+abbrev pub at : Slots → ℕ → Option (List ℕ)
+at slots slot = slice_index_or slots slot None
+
 -- The octets in a slot.
-abbrev pub octets_at : Slab (List ℕ) → ℕ → List ℕ
-octets_at packets slot = unwrap_or (get packets slot) []
+abbrev pub octets_at : Slots → ℕ → List ℕ
+octets_at slots slot = unwrap_or (at slots slot) []
 
--- What is held, by where the packets of parts are kept.
-abbrev pub held_list : List (Part × Kept) → List Held
-held_list slots = map (λ e. record { part = e.0; slot = e.1.slot; front = e.1.front }) slots
+-- The front of the digest of the packet in a slot.
+abbrev pub front_at : Slots → ℕ → ℕ
+front_at slots slot = front_of (sha256 (octets_at slots slot))
 
--- The same, in order of the parts, where the slots come in any.
-abbrev pub held_of : List (Part × Kept) → List Held
-held_of slots = held_list (in_order part_cmp slots)
+-- A part that is held, and the slot of its packet.
+abbrev pub Held : Type 0
+Held = Part × ℕ
 
 -- The parts that are held, each with its packet.
-abbrev pub entries_of : Slab (List ℕ) → List Held → List (Part × List ℕ)
-entries_of packets held = map (λ (h : Held). (h.part, octets_at packets h.slot)) held
+abbrev pub entries_of : Slots → List Held → List (Part × List ℕ)
+entries_of slots held = map (λ (h : Held). (h.0, octets_at slots h.1)) held
+
+-- What is kept: the slots, the parts in order with the slots of their packets, and for how many parts more there is
+-- room.
+pub record KeptState : Type 0 where
+  pub slots : Slots
+  pub held : List Held
+  pub spare : ℕ

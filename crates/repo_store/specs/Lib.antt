@@ -8,7 +8,7 @@ pub mod Served
 pub mod Answers
 pub mod Places
 pub mod Kept
-pub mod Indexes
-pub mod Layers
 pub mod Slots
+pub mod Indexes
+pub mod NameLayers
 pub mod StoreFields

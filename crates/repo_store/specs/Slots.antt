@@ -1,43 +1,143 @@
 -- Which slots packets are kept in.
-use Rattle.std.specs.Prelude.{◌≡◌, ◌≢◌, ℕ, Bool, true, false, not, ◌⊎◌, List, Some}
+use Rattle.std.specs.Prelude.{◌≡◌, ◌≢◌, ℕ, ◌-◌, ◌<◌, ◌≤◌, Bool, true, false, ◌&&◌, not, ◌⊎◌, List, ◌++◌, Option, Some}
+use Rattle.std.specs.Prelude.{None, IsSome}
+use Rattle.std.specs.Prelude.{◌==◌}
 use Rattle.std.specs.List.{filter}
-use Rattle.slab.specs.Slab.{Slab, get, ContainsKey}
-use Rattle.repo_plan.specs.Parts.{Pair}
-use Rattle.repo_plan.specs.Plan.{is_in}
+use Rattle.std.specs.Bool.{nat_eq}
+use Rattle.std.specs.Ordering.{nat_cmp, ordering_then}
+use Rattle.std.specs.Cmp.Lexicographic.{pointwise}
+use Rattle.std.specs.declared.cmp.Ordering.{Ordering}
+use Rattle.std.specs.declared.cmp.Ordering.TheVariants.{Less}
+use Rattle.slab.specs.Slab.{Slab, get, HasRoomFor, Updates}
+use Rattle.sha2.specs.Sha256.{sha256}
+use Rattle.ndn_tlv.specs.Spelling.{element}
+use Rattle.repo_plan.specs.declared.part.Part.{Part}
+use Rattle.sorted_lists.specs.SortedList.{Rises, keys, contains, with_value}
 use Rattle.sorted_lists.proofs.Sets.{In}
-use Rattle.repo_store.specs.declared.index.Held.{Held}
-use Rattle.repo_store.specs.Indexes.{AreFronts, IsData}
+use Rattle.repo_plan.specs.Parts.{Pair, part_cmp}
+use Rattle.repo_plan.specs.Plan.{is_in}
+use Rattle.repo_store.specs.declared.kept.Fronted.{Fronted}
+use Rattle.repo_store.specs.declared.kept.Sought.{Sought}
+use Rattle.repo_store.specs.declared.kept.Sought.TheVariants.{Octets, FullName}
+use Rattle.repo_store.specs.declared.kept.Kept.TheInside.{Inside}
+use Rattle.repo_store.specs.StoreList.{is_in_any}
+use Rattle.repo_store.specs.Places.{IsPacket}
+use Rattle.repo_store.specs.Kept.{packet_name, Slots, at, octets_at, front_at, Held, KeptState}
+
+-- ---- slots
 
 -- A part is held, and its packet is in this slot.
 pub record IsHeldIn (held : List Held) (slot : ℕ) : Type 0 where
-  pub by : Held
-  pub there : In by held
-  pub at : by.slot ≡ slot
+  pub by : Part
+  pub there : In (by, slot) held
 
--- What is held has a Data packet each, with the front of its digest; each slot is some part's, and no two
--- have the same octets.
-pub record AreSlots (packets : Slab (List ℕ)) (held : List Held) : Type 0 where
-  pub kept : (h : Held) → In h held → ContainsKey packets h.slot
-  pub fronts : AreFronts packets held
-  pub named : (slot : ℕ) → ContainsKey packets slot → IsData (get packets slot)
-  pub used : (slot : ℕ) → ContainsKey packets slot → IsHeldIn held slot
-  pub different : (a b : ℕ) → ContainsKey packets a → ContainsKey packets b
-      → get packets a ≡ get packets b → a ≡ b
+-- What is held has a Data packet each; each slot is some part's, and no two have the same octets.
+pub record AreSlots (slots : Slots) (held : List Held) : Type 0 where
+  pub kept : (h : Held) → In h held → IsSome (at slots h.1)
+  pub named : (slot : ℕ) (octets : List ℕ) → at slots slot ≡ Some octets → IsPacket octets
+  pub used : (slot : ℕ) → IsSome (at slots slot) → IsHeldIn held slot
+  pub different : (a b : ℕ) → IsSome (at slots a) → at slots a ≡ at slots b → a ≡ b
 
--- Octets are kept in this slot; they were there, or what is held had none of the same octets.
-pub record KeepsOne (held : List Held) (octets : List ℕ) (old new : Slab (List ℕ)) (slot : ℕ) : Type 0 where
-  pub there : get new slot ≡ Some octets
-  pub others : (s : ℕ) → ContainsKey old s → get new s ≡ get old s
-  pub only : (s : ℕ) → ContainsKey new s → (s ≡ slot) ⊎ ContainsKey old s
-  pub once : (get old slot ≡ Some octets) ⊎ ((h : Held) → In h held → get old h.slot ≢ Some octets)
+-- Octets are kept in this slot; they were there, or no slot had them.
+pub record KeepsOne (octets : List ℕ) (old new : Slots) (slot : ℕ) : Type 0 where
+  pub there : at new slot ≡ Some octets
+  pub others : (s : ℕ) → IsSome (at old s) → at new s ≡ at old s
+  pub only : (s : ℕ) → IsSome (at new s) → (s ≡ slot) ⊎ IsSome (at old s)
+  pub once : (s : ℕ) → at old s ≡ Some octets → s ≡ slot
 
--- Whether a part that is held has the packet in the slot.
-abbrev pub IsUsed : Slab (List ℕ) → List Held → ℕ → Bool → Type 0
-IsUsed packets held slot true =
-    (h : Held) × (In h held) × (get packets h.slot ≡ get packets slot)
-IsUsed packets held slot false =
-    ContainsKey packets slot → (h : Held) → In h held → get packets h.slot ≢ get packets slot
+-- ---- fronts
 
--- What is held of other publications than this.
+-- By front, then by slot, then by part.
+abbrev pub fronted_cmp : Fronted → Fronted → Ordering
+fronted_cmp a b =
+    ordering_then (nat_cmp a.front b.front) (ordering_then (nat_cmp a.slot b.slot) (part_cmp a.part b.part))
+
+-- What is held, as it is found by the front of its packet's digest.
+abbrev pub fronted : Slots → Held → Fronted
+fronted slots h = record { front = front_at slots h.1; slot = h.1; part = h.0 }
+
+-- These are what is held.
+pub record AreFronts (slots : Slots) (held : List Held) (fronts : List Fronted) : Type 0 where
+  pub only : (k : Fronted) → In k fronts → In (k.part, k.slot) held × (k.front ≡ front_at slots k.slot)
+  pub all : (h : Held) → In h held → In (fronted slots h) fronts
+
+-- Of what is found by this front in the slots from one on, it is in the least slot, and there of the least part; or
+-- there is none.
+abbrev pub IsNextOf : List Fronted → ℕ → ℕ → Option Held → Type 0
+IsNextOf fronts front from None = (k : Fronted) → In k fronts → k.front ≡ front → from ≤ k.slot → ⊥
+IsNextOf fronts front from (Some next) =
+    In (record { front = front; slot = next.1; part = next.0 }) fronts × (from ≤ next.1)
+    × ((k : Fronted) → In k fronts → k.front ≡ front → from ≤ k.slot
+    → (next.1 < k.slot) ⊎ ((next.1 ≡ k.slot) × (part_cmp k.part next.0 ≢ Less)))
+
+-- Whether a part is found by this front in this slot.
+abbrev pub IsUsed : List Fronted → ℕ → ℕ → Bool → Type 0
+IsUsed fronts front slot true = (t : Part) × In (record { front = front; slot = slot; part = t }) fronts
+IsUsed fronts front slot false = (t : Part) → In (record { front = front; slot = slot; part = t }) fronts → ⊥
+
+-- ---- what is sought
+
+-- Whether a packet's full name has these octets: its name, and a component with its digest.
+abbrev pub is_full_name : List ℕ → Option (List ℕ) → Bool
+is_full_name asked None = false
+is_full_name asked (Some octets) = pointwise nat_eq asked (packet_name octets ++ element 1 (sha256 octets))
+
+-- Whether what is held has these octets as its packet's full name.
+abbrev pub has_full_name : Slots → List ℕ → Held → Bool
+has_full_name slots asked h = is_full_name asked (at slots h.1)
+
+-- Whether octets are those that are sought, or have the digest and the name that are.
+abbrev pub is_sought : Sought → List ℕ → Bool
+is_sought (Octets sought) octets = pointwise nat_eq octets sought.now
+is_sought (FullName digest name) octets =
+    pointwise nat_eq (sha256 octets) digest.now && pointwise nat_eq (packet_name octets) name.now
+
+-- The same of what is held, where the front of its packet's digest is this.
+abbrev pub is_sought_at : Slots → ℕ → Sought → Held → Bool
+is_sought_at slots front sought h = front_at slots h.1 == front && is_sought sought (octets_at slots h.1)
+
+-- ---- what is put
+
+-- What is held is in order of the parts, and has a Data packet each.
+pub record KeptIsSound (k : KeptState) : Type 0 where
+  pub rises : Rises part_cmp (keys k.held)
+  pub kept : (h : Held) → In h k.held → IsSome (at k.slots h.1)
+  pub packets : (h : Held) → In h k.held → IsPacket (octets_at k.slots h.1)
+
+-- Octets that were found are in their slot already; others are put into an empty one.
+abbrev pub IsKeptIn : Option Held → List ℕ → Slab (List ℕ) → Slab (List ℕ) → ℕ → Type 0
+IsKeptIn None octets old new slot = (get old slot ≡ None) × Updates old new slot (Some octets)
+IsKeptIn (Some h) octets old new slot = (slot ≡ h.1) × (new ≡ old)
+
+-- The packet is put under its part, of which there was none, into a slot of its own or that of the same octets.
+pub record IsPut (part : Part) (octets : List ℕ) (slot : ℕ) (old new : KeptState) : Type 0 where
+  pub fresh : contains part_cmp (keys old.held) part ≡ false
+  pub held : new.held ≡ with_value part_cmp part slot old.held
+  pub keeps : KeepsOne octets old.slots new.slots slot
+  pub sound : KeptIsSound old
+  pub spare : new.spare ≡ old.spare - 1
+
+-- ---- what is dropped
+
+-- What is held of other publications than this, or than these.
 abbrev pub held_outside : Pair → List Held → List Held
-held_outside pair held = filter (λ h. not (is_in pair h.part)) held
+held_outside pair held = filter (λ (h : Held). not (is_in pair h.0)) held
+
+abbrev pub held_outside_all : List Pair → List Held → List Held
+held_outside_all pairs held = filter (λ (h : Held). not (is_in_any pairs h.0)) held
+
+-- What stays held has the packet that it had.
+abbrev pub AreSame : KeptState → KeptState → Type 0
+AreSame old new = (h : Held) → In h new.held → at new.slots h.1 ≡ at old.slots h.1
+
+-- ---- what is kept
+
+-- What is kept true of the fields.
+pub record IsKept (k : Inside) : Type 0 where
+  pub in_order : Rises part_cmp (keys k.parts.entries)
+  pub fronts_in_order : Rises fronted_cmp (keys k.fronts.entries)
+  pub slots : AreSlots k.packets.slots k.parts.entries
+  pub fronts : AreFronts k.packets.slots k.parts.entries (keys k.fronts.entries)
+  pub room_of_packets : HasRoomFor k.packets k.spare
+  pub room_of_parts : k.spare ≤ k.parts.spare
+  pub room_of_fronts : k.spare ≤ k.fronts.spare

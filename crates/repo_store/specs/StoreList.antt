@@ -1,6 +1,6 @@
 -- Packets by their parts, as a list in order of the parts.
-use Rattle.std.specs.Prelude.{ℕ, not, List, [], ◌∷◌, IsOk, if◌then◌else◌}
-use Rattle.std.specs.List.{All, filter}
+use Rattle.std.specs.Prelude.{ℕ, Bool, not, List, [], ◌∷◌, IsOk, if◌then◌else◌}
+use Rattle.std.specs.List.{All, filter, list_any}
 use Rattle.std.specs.Ordering.{nat_cmp}
 use Rattle.std.specs.Cmp.Lexicographic.{slice_cmp}
 use Rattle.ndn_data.specs.Data.{data_of}
@@ -31,6 +31,17 @@ packets_in pair packets = filter (λ e. is_in pair e.0) packets
 
 abbrev pub packets_outside : Pair → List (Part × List ℕ) → List (Part × List ℕ)
 packets_outside pair packets = filter (λ e. not (is_in pair e.0)) packets
+
+-- Whether the part is of one of these publications.
+abbrev pub is_in_any : List Pair → Part → Bool
+is_in_any pairs t = list_any (λ pair. is_in pair t) pairs
+
+-- The packets of the parts of these publications, and those of no listed one.
+abbrev pub packets_in_any : List Pair → List (Part × List ℕ) → List (Part × List ℕ)
+packets_in_any pairs packets = filter (λ e. is_in_any pairs e.0) packets
+
+abbrev pub packets_outside_all : List Pair → List (Part × List ℕ) → List (Part × List ℕ)
+packets_outside_all pairs packets = filter (λ e. not (is_in_any pairs e.0)) packets
 
 -- What every store keeps: its parts are in order, each once, and its packets read as Data.
 pub record StoreIsSound (packets : List (Part × List ℕ)) : Type 0 where

@@ -3,8 +3,9 @@
 #![tactic(auto)]
 
 mod index;
+mod kept;
 mod laws;
-mod layers;
+mod names;
 mod packet;
 mod store;
 

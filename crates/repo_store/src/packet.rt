@@ -3,11 +3,10 @@ ghost use Rattle.sha2.specs.Sha256.{sha256};
 ghost use Rattle.ndn_tlv.specs.Elements.{item};
 ghost use Rattle.ndn_data.specs.Data.{data_of};
 ghost use Rattle.repo_store.specs.Places.{first_of_type, IsNamed, IsPacket};
-ghost use Rattle.repo_store.specs.Kept.{packet_name, front_of, octets_at};
+ghost use Rattle.repo_store.specs.Kept.{packet_name, front_of};
 
 use ndn_packet::outer_element;
 use ndn_tlv::{Element, Reader, types};
-use slab::Slab;
 use std::marker::Model;
 
 // A Data packet, with the place of its name in its octets, and its digest.
@@ -82,19 +81,6 @@ pub(crate) fn front_of(digest: &[u8]) -> u64
     ensures { result ≡ front_of digest.now }
 {
     u64::from_be_bytes(*digest.first_chunk().unwrap())
-}
-
-// Packets, each different one once, in slots that the slab picks.
-pub(crate) type Packets = Slab<Packet>;
-
-// The octets in a slot.
-pub(crate) fn octets_at(packets: &Packets, slot: usize) -> &[u8]
-    ensures { result.now ≡ octets_at packets.now slot }
-{
-    match packets.get(slot) {
-        Some(packet) => packet.octets(),
-        None => &[],
-    }
 }
 
 // Where the name of a Data packet stands in its octets: it is the first element of its type.

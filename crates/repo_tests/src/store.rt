@@ -4,6 +4,7 @@ use ndn_name::{Field, Name, PacketFault};
 use repo_plan::Part;
 use repo_store::*;
 use std::alloc::Global;
+use std::process::Abort;
 use std::test::*;
 
 fn part(publisher: u32, seq: u16, part: u8) -> Part {
@@ -28,9 +29,7 @@ fn stored(alloc: Global) -> Result<Store, Fail> {
     Ok(store)
 }
 
-#[test]
-fn interests_are_served(rt: HostRuntime) -> Result<(), Fail> {
-    let store = stored(rt.alloc())?;
+fn all_are_served(rt: &impl Abort, store: &Store) -> Result<(), Fail> {
     let served: [(&[u8], Option<&[u8]>); 12] = [
         (&RECORD_ASKED, Some(&RECORD)),
         (&FRESH_ASKED, None),
@@ -51,6 +50,14 @@ fn interests_are_served(rt: HostRuntime) -> Result<(), Fail> {
     let missing = PacketFault::Missing { field: Field::Name };
     assert_eq!(rt; store.serve(&[0x05, 0x00]), Err(missing));
     Ok(())
+}
+
+#[test]
+fn interests_are_served(rt: HostRuntime) -> Result<(), Fail> {
+    let mut store = stored(rt.alloc())?;
+    all_are_served(&rt, &store)?;
+    store.order_names();
+    all_are_served(&rt, &store)
 }
 
 #[test]
@@ -95,12 +102,15 @@ fn named(alloc: Global, i: u16) -> Result<Name, Fail> {
     Ok(name)
 }
 
-// More than may be recent, in falling order of the names.
+// More than may be recent, in falling order of the names, of which some are put in their place in turn.
 fn put_falling(alloc: Global, store: &mut Store) -> Result<(), Fail> {
     for i in 0..1_100_u16 {
         let number = 1_100 - i;
         let octets = numbered(alloc, &named(alloc, number)?)?;
         put(store, part(0, number, 0), &octets)?;
+        if i % 3 == 0 {
+            store.order_names();
+        }
     }
     Ok(())
 }
@@ -111,10 +121,11 @@ fn packets_in_falling_order_are_found(rt: HostRuntime) -> Result<(), Fail> {
     let mut store = Store::new(alloc);
     put_falling(alloc, &mut store)?;
     assert_eq!(rt; (store.len(), store.drop_parts(0, 76)), (1_100, 1));
-    for i in [1_u16, 74, 75, 76, 77, 600, 1_100] {
+    assert_eq!(rt; store.drop_all(&[(0, 600), (1, 75), (0, 74), (0, 600)]), 2);
+    for i in [1_u16, 74, 75, 76, 77, 600, 1_099, 1_100] {
         let name = named(alloc, i)?;
         let octets = numbered(alloc, &name)?;
-        let kept = if i == 76 {
+        let kept = if [74, 76, 600].contains(&i) {
             None
         } else {
             Some(octets.as_slice())

@@ -1,9 +1,8 @@
 use Rattle.std.proofs.Common.{rules}
 use Rattle.std.specs.Ordering.{is_lt}
 use Rattle.std.proofs.lemmas.List.Sorted.{IsPartitionPoint-from_clause}
-use Rattle.repo_plan.specs.declared.part.Part.{Part}
-use Rattle.repo_store.specs.declared.index.Held.{Held}
-use Rattle.repo_store.specs.Indexes.{KeyTriple, triple_of, key_cmp, key_in}
+use Rattle.repo_store.specs.Kept.{Held}
+use Rattle.repo_store.specs.Indexes.{Key, key_cmp, key_in}
 use Rattle.repo_store.proofs.IndexLemmas.{parted, placed}
 use Rattle.repo_store.proofs.index.Index.place.Goals as goal
 
@@ -11,8 +10,8 @@ pub returns : goal.returns
 returns c =
     let index = c.args.self.now in
     let held = index.held.now in
-    let key = key_in index.order index.packets.now in
-    let asked : KeyTriple × Part = (triple_of c.args.key.now, c.args.part) in
+    let key = key_in index.kept.now.slots in
+    let asked : Key = (c.args.name.now, c.args.part) in
     let point =
     IsPartitionPoint-from_clause (λ (h : Held). is_lt (key_cmp (key h) asked)) held c.partition_point.result
     c.partition_point.ensures.partitioned (parted key held asked c.requires) (λ a r f called. search rules) in

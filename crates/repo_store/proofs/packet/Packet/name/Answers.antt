@@ -1,6 +1,6 @@
 use Rattle.std.proofs.Common.{ℕ, List, slice_range, sym, ap, ◌∙◌}
 use Rattle.repo_store.specs.Kept.{packet_name}
-use Rattle.repo_store.proofs.Names.{name_of-read}
+use Rattle.repo_store.proofs.ReadNames.{name_of-read}
 use Rattle.repo_store.proofs.packet.Packet.name.Goals as goal
 
 pub returns : goal.returns

@@ -1,8 +1,13 @@
-use Rattle.std.proofs.Common.{refl}
-use Rattle.repo_store.proofs.StoredLemmas.{stored_none}
+use Rattle.std.proofs.Common.{[], sym, subst}
+use Rattle.repo_store.specs.Kept.{KeptState}
+use Rattle.repo_store.specs.NameLayers.{HasRoom, IsIndexOf}
+use Rattle.repo_store.proofs.NameLayerLemmas.{index_none}
 use Rattle.repo_store.proofs.store.Store.new.Goals as goal
 
 pub invariant_of-result : goal.invariant_of-result
-invariant_of-result c =
-    stored_none _ c.new-2.ensures.empty c.new.ensures.empty refl c.new-3.ensures.settled c.new-3.ensures.recent
-    c.new-3.ensures.room c.new-4.ensures.settled c.new-4.ensures.recent c.new-4.ensures.room
+invariant_of-result c = record {
+  names =
+      subst (λ (k : KeptState). IsIndexOf k.slots k.held c.new-2.result) (sym c.new.ensures)
+      (index_none [] c.new-2.result c.new-2.ensures.settled c.new-2.ensures.recent c.new-2.ensures.waiting);
+  room = subst (λ (k : KeptState). HasRoom c.new-2.result k.spare) (sym c.new.ensures) c.new-2.ensures.room;
+}

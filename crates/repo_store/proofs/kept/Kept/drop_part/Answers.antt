@@ -1,0 +1,98 @@
+use Rattle.std.proofs.Common.{◌≡◌, ℕ, List, [], Option, subst, sym, ap, ◌∙◌, arith, rules}
+use Rattle.std.specs.Prelude.{IsSome, option_copied, unwrap_or}
+use Rattle.sha2.specs.Sha256.{sha256}
+use Rattle.sorted_lists.specs.SortedList.{Rises, keys}
+use Rattle.sorted_lists.proofs.Sets.{In}
+use Rattle.sorted_lists.proofs.MapChanges.{rises_without}
+use Rattle.repo_plan.specs.Parts.{part_cmp}
+use Rattle.repo_plan.proofs.Orders.{exact_parts}
+use Rattle.repo_store.specs.declared.kept.Fronted.{Fronted}
+use Rattle.repo_store.specs.Kept.{front_of, at, front_at, Held, KeptState}
+use Rattle.repo_store.specs.Slots.{fronted_cmp}
+use Rattle.repo_store.proofs.SlotLemmas.{used_gone, unused_gone, room_kept}
+use Rattle.repo_store.proofs.FrontLemmas.{exact_fronts}
+use Rattle.repo_store.proofs.kept.Kept.drop_part.Goals as goal
+
+pub unwrap-requires : goal.unwrap-requires
+unwrap-requires c =
+    let there : In (c.args.part, c.args.slot) c.self.inside.parts.entries =
+    subst (λ (k : KeptState). In (c.args.part, c.args.slot) k.held) (sym c.self.view_is) c.requires in
+    let some : IsSome (at c.self.inside.packets.slots c.args.slot) =
+    c.self.invariant.slots.kept (c.args.part, c.args.slot) there in
+    search rules
+
+pub invariant_of-self : goal.invariant_of-self
+invariant_of-self c =
+    let k = c.self.inside in
+    let h : Held = (c.args.part, c.args.slot) in
+    let there : In h k.parts.entries = subst (λ (s : KeptState). In h s.held) (sym c.self.view_is) c.requires in
+    let front : c.front-front.result ≡ front_at k.packets.slots c.args.slot =
+    c.front-front.ensures
+    ∙ ap (λ (o : Option (List ℕ)). front_of (sha256 (unwrap_or o [])))
+    (sym (ap option_copied c.unwrap.ensures) ∙ c.get.ensures) in
+    let gone =
+    unused_gone k.packets.slots k.parts.entries k.fronts.entries h c.self.invariant.slots c.self.invariant.fronts
+    c.self.invariant.in_order c.self.invariant.fronts_in_order there c.front-front.result c.remove.new.self.entries
+    c.remove-2.new.self.entries front c.remove.ensures.entries c.remove-2.ensures.entries
+    c.remove-then-not-is_used.new.self.slots c.if-not-is_used.ensures c.remove-then-not-is_used.ensures.updates.changed
+    (λ s n. c.remove-then-not-is_used.ensures.updates.others s n) in
+    record {
+      in_order =
+          subst (λ (es : List Held). Rises part_cmp (keys es)) (sym c.remove.ensures.entries)
+          (rises_without exact_parts.total c.args.part k.parts.entries c.self.invariant.in_order);
+      fronts_in_order =
+          subst (λ (es : List (Fronted × Unit {0})). Rises fronted_cmp (keys es)) (sym c.remove-2.ensures.entries)
+          (rises_without exact_fronts.total _ k.fronts.entries c.self.invariant.fronts_in_order);
+      slots = gone.slots;
+      fronts = gone.fronts;
+      room_of_packets =
+          room_kept k.packets c.remove-then-not-is_used.new.self c.remove-then-not-is_used.ensures.len
+          c.remove-then-not-is_used.ensures.capacity k.spare c.self.invariant.room_of_packets;
+      room_of_parts = omega (arith, c.self.invariant.room_of_parts, c.remove.ensures.spare);
+      room_of_fronts = omega (arith, c.self.invariant.room_of_fronts, c.remove-2.ensures.spare);
+    }
+
+pub invariant_of-self-else-not-is_used : goal.invariant_of-self-else-not-is_used
+invariant_of-self-else-not-is_used c =
+    let k = c.self.inside in
+    let h : Held = (c.args.part, c.args.slot) in
+    let there : In h k.parts.entries = subst (λ (s : KeptState). In h s.held) (sym c.self.view_is) c.requires in
+    let front : c.front-front.result ≡ front_at k.packets.slots c.args.slot =
+    c.front-front.ensures
+    ∙ ap (λ (o : Option (List ℕ)). front_of (sha256 (unwrap_or o [])))
+    (sym (ap option_copied c.unwrap.ensures) ∙ c.get.ensures) in
+    let gone =
+    used_gone k.packets.slots k.parts.entries k.fronts.entries h c.self.invariant.slots c.self.invariant.fronts
+    c.self.invariant.in_order c.self.invariant.fronts_in_order there c.front-front.result c.remove.new.self.entries
+    c.remove-2.new.self.entries front c.remove.ensures.entries c.remove-2.ensures.entries
+    c.if-not-is_used.ensures in
+    record {
+      in_order =
+          subst (λ (es : List Held). Rises part_cmp (keys es)) (sym c.remove.ensures.entries)
+          (rises_without exact_parts.total c.args.part k.parts.entries c.self.invariant.in_order);
+      fronts_in_order =
+          subst (λ (es : List (Fronted × Unit {0})). Rises fronted_cmp (keys es)) (sym c.remove-2.ensures.entries)
+          (rises_without exact_fronts.total _ k.fronts.entries c.self.invariant.fronts_in_order);
+      slots = gone.slots;
+      fronts = gone.fronts;
+      room_of_packets = c.self.invariant.room_of_packets;
+      room_of_parts = omega (arith, c.self.invariant.room_of_parts, c.remove.ensures.spare);
+      room_of_fronts = omega (arith, c.self.invariant.room_of_fronts, c.remove-2.ensures.spare);
+    }
+
+pub returns-then-not-is_used-clause-same : goal.returns-then-not-is_used-clause-same
+returns-then-not-is_used-clause-same c =
+    let k = c.self.inside in
+    let h : Held = (c.args.part, c.args.slot) in
+    let there : In h k.parts.entries = subst (λ (s : KeptState). In h s.held) (sym c.self.view_is) c.requires in
+    let front : c.front-front.result ≡ front_at k.packets.slots c.args.slot =
+    c.front-front.ensures
+    ∙ ap (λ (o : Option (List ℕ)). front_of (sha256 (unwrap_or o [])))
+    (sym (ap option_copied c.unwrap.ensures) ∙ c.get.ensures) in
+    let gone =
+    unused_gone k.packets.slots k.parts.entries k.fronts.entries h c.self.invariant.slots c.self.invariant.fronts
+    c.self.invariant.in_order c.self.invariant.fronts_in_order there c.front-front.result c.remove.new.self.entries
+    c.remove-2.new.self.entries front c.remove.ensures.entries c.remove-2.ensures.entries
+    c.remove-then-not-is_used.new.self.slots c.if-not-is_used.ensures c.remove-then-not-is_used.ensures.updates.changed
+    (λ s n. c.remove-then-not-is_used.ensures.updates.others s n) in
+    λ o i. gone.same o i ∙ ap (λ (s : KeptState). at s.slots o.1) c.self.view_is

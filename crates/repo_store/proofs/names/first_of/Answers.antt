@@ -1,0 +1,29 @@
+use Rattle.std.proofs.Common.{◌+◌, Option, take, sym, subst, ◌∙◌}
+use Rattle.repo_store.specs.Kept.{Held}
+use Rattle.repo_store.specs.Indexes.{first_part, is_asked, IsFirstOf}
+use Rattle.repo_store.proofs.MergeLemmas.{scanned_more, scanned_past, scanned_all}
+use Rattle.repo_store.proofs.names.first_of.Goals as goal
+use Rattle.repo_store.proofs.names.first_of.Goals.{then-is_asked, else-is_asked}
+
+pub loop-next-preserved : goal.loop-next-preserved
+loop-next-preserved c =
+    let held = c.args.held.now in
+    let test = is_asked c.args.kept.now.slots c.args.asked.now c.args.can_be_prefix in
+    let i = c.loop-next.next-index in
+    let none : Held = (first_part, 0) in
+    let Next = λ (least : Option Held). IsFirstOf (take (i + 1) held) test least in
+    elim c.if-is_asked.branch [
+      | then-is_asked w ↦
+          subst Next (sym (w.least-is ∙ w.lesser-least.ensures))
+          (scanned_more held test i none c.loop-next.least c.loop-next-test.true
+          (sym c.is_asked.ensures ∙ w.if-is_asked.true) c.loop-next.invariant)
+      | else-is_asked w ↦
+          subst Next (sym w.least-is)
+          (scanned_past held test i none c.loop-next.least c.loop-next-test.true
+          (sym c.is_asked.ensures ∙ w.if-is_asked.false) c.loop-next.invariant)
+    ]
+
+pub returns : goal.returns
+returns c =
+    scanned_all c.args.held.now (is_asked c.args.kept.now.slots c.args.asked.now c.args.can_be_prefix)
+    c.loop-next.next-index c.loop-next.least c.loop-next-test.false c.loop-next.invariant

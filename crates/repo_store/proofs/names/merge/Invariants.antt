@@ -1,0 +1,10 @@
+use Rattle.std.proofs.Common.{◌≡◌, ◌+◌, ◌≤◌, length, vec_len, vec_capacity}
+use Rattle.repo_store.proofs.MergeLemmas.{Merging}
+use Rattle.repo_store.proofs.names.merge.Given as goal
+
+abbrev pub invariant-loop-held : goal.invariant-loop-held
+invariant-loop-held l = record {
+  merging : Merging l.kept.slots l.settled l.recent l.merged.items l.rest l.held-index;
+  len : vec_len l.merged + length l.rest ≡ length l.settled + l.held-index;
+  capacity : vec_capacity l.initial.merged ≤ vec_capacity l.merged;
+}

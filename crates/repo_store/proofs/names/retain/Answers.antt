@@ -1,0 +1,10 @@
+use Rattle.std.proofs.Common.{rules}
+use Rattle.std.proofs.lemmas.Fn.{filter_same}
+use Rattle.repo_store.specs.Kept.{Held}
+use Rattle.repo_store.specs.NameLayers.{is_left}
+use Rattle.repo_store.proofs.names.retain.Goals as goal
+
+pub returns-clause-left : goal.returns-clause-left
+returns-clause-left c =
+    filter_same _ (λ (h : Held). is_left c.args.pairs.now c.args.kept.now.held h.0) _ (λ x b f' called. search rules)
+    c.args.held.now.items c.retain.new.self.items c.retain.ensures.filtered

@@ -1,0 +1,66 @@
+use Rattle.std.proofs.Common.{◌≡◌, ℕ, List, not, length, subst, sym, ap, ◌∙◌, arith}
+use Rattle.sorted_lists.proofs.Sets.{In}
+use Rattle.repo_plan.specs.declared.part.Part.{Part}
+use Rattle.repo_store.specs.StoreList.{StoreList, is_in_any, packets_in_any, packets_outside_all}
+use Rattle.repo_store.specs.Kept.{at, Held, entries_of}
+use Rattle.repo_store.specs.Slots.{held_outside_all}
+use Rattle.repo_store.specs.NameLayers.{HasRoom, IsIndexOf, left_of}
+use Rattle.repo_store.proofs.StoreLemmas.{length-entries, entries_same, entries_filter, lengths_in_any}
+use Rattle.repo_store.proofs.NameLayerLemmas.{index_left}
+use Rattle.repo_store.proofs.store.Store.drop_all.Goals as goal
+
+pub invariant_of-self : goal.invariant_of-self
+invariant_of-self c =
+    let k = c.self.inside.kept in
+    let names = c.self.inside.names in
+    let new = c.drop_all-number.new.self in
+    let pairs = c.args.pairs.now in
+    let held = c.drop_all-number.ensures.held in
+    let same : (h : Held) → In h (held_outside_all pairs k.held) → at new.slots h.1 ≡ at k.slots h.1 =
+    λ h i. c.drop_all-number.ensures.same h (subst (In h) (sym held) i) in
+    let left = λ (xs : List Held). ap (λ (hs : List Held). left_of pairs hs xs) held in
+    record {
+      names =
+          subst (λ (hs : List Held). IsIndexOf new.slots hs c.drop_all.new.self) (sym held)
+          (index_left k.slots new.slots k.held names c.self.invariant.names pairs same c.drop_all.new.self
+          (c.drop_all.ensures.settled ∙ left names.settled.items)
+          (c.drop_all.ensures.recent ∙ left names.recent.items)
+          (c.drop_all.ensures.waiting ∙ left names.waiting.items));
+      room =
+          subst (HasRoom c.drop_all.new.self) (sym c.drop_all-number.ensures.spare)
+          (c.drop_all.ensures.room k.spare c.self.invariant.room);
+    }
+
+pub returns-clause-number : goal.returns-clause-number
+returns-clause-number c =
+    let k = c.self.inside.kept in
+    let pairs = c.args.pairs.now in
+    let entries = entries_of k.slots k.held in
+    let number : c.drop_all-number.result ≡ length (packets_in_any pairs entries) =
+    omega (
+      arith,
+      c.drop_all-number.ensures.number,
+      ap length c.drop_all-number.ensures.held,
+      lengths_in_any pairs entries,
+      ap length (entries_filter (λ t. not (is_in_any pairs t)) k.slots k.held),
+      length-entries k.slots (held_outside_all pairs k.held),
+      length-entries k.slots k.held,
+    ) in
+    number ∙ ap (λ (s : StoreList). length (packets_in_any pairs s.packets)) c.self.view_is
+
+pub returns-clause-dropped : goal.returns-clause-dropped
+returns-clause-dropped c =
+    let k = c.self.inside.kept in
+    let new = c.drop_all-number.new.self in
+    let pairs = c.args.pairs.now in
+    let put =
+    entries_same k.slots new.slots new.held c.drop_all-number.ensures.same
+    ∙ ap (entries_of k.slots) c.drop_all-number.ensures.held
+    ∙ entries_filter (λ t. not (is_in_any pairs t)) k.slots k.held in
+    ap (λ (p : List (Part × List ℕ)). let s : StoreList = record { packets = p; spare = new.spare } in s) put
+    ∙ ap (λ (n : ℕ).
+    let s : StoreList = record { packets = packets_outside_all pairs (entries_of k.slots k.held); spare = n } in
+    s) c.drop_all-number.ensures.spare
+    ∙ ap (λ (s : StoreList).
+    let t : StoreList = record { packets = packets_outside_all pairs s.packets; spare = s.spare } in
+    t) c.self.view_is

@@ -1,0 +1,55 @@
+-- The names of what is held, in layers: what is settled, what came last in front of others, and what waits.
+use Rattle.std.specs.Prelude.{◌≡◌, ℕ, ◌+◌, ◌≤◌, ◌↔◌, Bool, not, List, [], ◌∷◌, ◌++◌, vec_len, vec_capacity}
+use Rattle.std.specs.List.{filter}
+use Rattle.sorted_lists.specs.SortedList.{contains, keys}
+use Rattle.sorted_lists.proofs.Sets.{In}
+use Rattle.repo_plan.specs.declared.part.Part.{Part}
+use Rattle.repo_plan.specs.Parts.{Pair, part_cmp}
+use Rattle.repo_plan.specs.Plan.{is_in}
+use Rattle.repo_store.specs.declared.names.Names.{Names}
+use Rattle.repo_store.specs.Kept.{Slots, Held}
+use Rattle.repo_store.specs.Indexes.{AreInOrder}
+
+-- All that the layers have.
+abbrev pub all_of : Names → List Held
+all_of l = l.settled.items ++ (l.recent.items ++ l.waiting.items)
+
+-- What is settled and what is recent are in order; what waits is in none.
+pub record LayersAreInOrder (slots : Slots) (l : Names) : Type 0 where
+  pub settled : AreInOrder slots l.settled.items
+  pub recent : AreInOrder slots l.recent.items
+
+-- There is room for so many more, and for all of them to be recent, and to settle.
+pub record HasRoom (l : Names) (n : ℕ) : Type 0 where
+  pub waiting : n + vec_len l.waiting ≤ vec_capacity l.waiting
+  pub recent : n + (vec_len l.recent + vec_len l.waiting) ≤ vec_capacity l.recent
+  pub settled : n + (vec_len l.settled + (vec_len l.recent + vec_len l.waiting)) ≤ vec_capacity l.settled
+  pub merged : n + (vec_len l.settled + (vec_len l.recent + vec_len l.waiting)) ≤ vec_capacity l.merged
+
+-- The layers have the same.
+pub record HasSame (old new : Names) : Type 0 where
+  pub settled : new.settled.items ≡ old.settled.items
+  pub recent : new.recent.items ≡ old.recent.items
+  pub waiting : new.waiting.items ≡ old.waiting.items
+
+-- Two layers in one, in order.
+pub record IsMerged (slots : Slots) (settled recent merged : List Held) : Type 0 where
+  pub in_order : AreInOrder slots merged
+  pub same : (h : Held) → In h merged ↔ In h (settled ++ recent)
+
+-- The names of what is held: the same, in their layers.
+pub record IsIndexOf (slots : Slots) (held : List Held) (index : Names) : Type 0 where
+  pub in_order : LayersAreInOrder slots index
+  pub held_only : (h : Held) → In h (all_of index) → In h held
+  pub all_held : (h : Held) → In h held → In h (all_of index)
+
+-- Whether a part that was held still is, where all parts of these publications were dropped: with one publication that
+-- is compared, with more the part is looked up.
+abbrev pub is_left : List Pair → List Held → Part → Bool
+is_left [] held t = contains part_cmp (keys held) t
+is_left (pair ∷ []) held t = not (is_in pair t)
+is_left (pair ∷ other ∷ pairs) held t = contains part_cmp (keys held) t
+
+-- What is left of what was held.
+abbrev pub left_of : List Pair → List Held → List Held → List Held
+left_of pairs held named = filter (λ (h : Held). is_left pairs held h.0) named

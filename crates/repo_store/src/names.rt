@@ -1,0 +1,224 @@
+ghost use Rattle.std.specs.Prelude.{◌≡◌, ◌↔◌, ◌+◌, ◌≤◌, ℕ, [], ◌++◌, length, OnOk, vec_len, vec_capacity};
+ghost use Rattle.sorted_lists.proofs.Sets.{In};
+ghost use Rattle.repo_store.specs.Kept.{Held as held_type};
+ghost use Rattle.repo_store.specs.Indexes.{is_asked, AreInOrder, IsFirstOf, GainsOne};
+ghost use Rattle.repo_store.specs.NameLayers.{all_of, LayersAreInOrder, HasRoom, HasSame, IsMerged};
+ghost use Rattle.repo_store.specs.NameLayers.{is_left, left_of};
+
+use crate::index::{Index, insert};
+use crate::kept::{Held, Kept, lesser};
+use repo_plan::Part;
+use std::alloc::{AllocError, Global};
+use std::mem;
+
+// The names of what is held. What is put waits, and no name is read, until an asker comes. Of what was put in its
+// place then most is settled, and what came last is recent until it is merged with that. So few others are moved for
+// each that comes, in whatever order they do.
+#[derive(Drop)]
+pub(crate) struct Names {
+    settled: Vec<Held>,
+    recent: Vec<Held>,
+    // Both are merged into this.
+    merged: Vec<Held>,
+    waiting: Vec<Held>,
+}
+
+impl Names {
+    pub(crate) fn new(alloc: Global) -> Names
+        ensures settled { result.settled.items ≡ [] }
+        ensures recent { result.recent.items ≡ [] }
+        ensures waiting { result.waiting.items ≡ [] }
+        ensures room { HasRoom result 0 }
+    {
+        Names {
+            settled: Vec::new(alloc),
+            recent: Vec::new(alloc),
+            merged: Vec::new(alloc),
+            waiting: Vec::new(alloc),
+        }
+    }
+
+    pub(crate) fn allocator(&self) -> Global {
+        *self.settled.allocator()
+    }
+
+    // Makes room for so many more.
+    pub(crate) fn reserve(&mut self, n: usize) -> Result<(), AllocError>
+        ensures same { HasSame self.old self.new }
+        ensures kept { (m : ℕ) → HasRoom self.old m → HasRoom self.new m }
+        ensures room { OnOk result (HasRoom self.new n) }
+    {
+        self.waiting.reserve(n)?;
+        let Some(waiting) = self.waiting.len().checked_add(n) else {
+            return Err(AllocError);
+        };
+        self.recent.reserve(waiting)?;
+        let Some(recent) = self.recent.len().checked_add(waiting) else {
+            return Err(AllocError);
+        };
+        self.settled.reserve(recent)?;
+        let Some(all) = self.settled.len().checked_add(recent) else {
+            return Err(AllocError);
+        };
+        self.merged.clear();
+        self.merged.reserve(all)
+    }
+
+    // What is held waits from now on. There is room for one more.
+    pub(crate) fn put(&mut self, held: Held)
+        requires { HasRoom self.old 1 }
+        ensures settled { self.new.settled.items ≡ self.old.settled.items }
+        ensures recent { self.new.recent.items ≡ self.old.recent.items }
+        ensures gains { GainsOne held (all_of self.old) (all_of self.new) }
+        ensures room { (n : ℕ) → HasRoom self.old (n + 1) → HasRoom self.new n }
+    {
+        self.waiting.push(held).unwrap();
+    }
+
+    // What has this name, or begins with it where that is asked for, of the least part. Of what waits all is read.
+    pub(crate) fn first(&self, kept: &Kept, asked: &[u8], can_be_prefix: bool) -> Option<Held>
+        requires { LayersAreInOrder kept.now.slots self.now }
+        ensures { IsFirstOf (all_of self.now) (is_asked kept.now.slots asked.now can_be_prefix) result }
+    {
+        let settled = Index {
+            held: &self.settled,
+            kept,
+        };
+        let recent = Index {
+            held: &self.recent,
+            kept,
+        };
+        let waiting = first_of(&self.waiting, kept, asked, can_be_prefix);
+        let ordered = lesser(recent.first(asked, can_be_prefix), waiting);
+        lesser(settled.first(asked, can_be_prefix), ordered)
+    }
+
+    // What waits is put in its place. There is room for that.
+    pub(crate) fn order(&mut self, kept: &Kept)
+        requires in_order { LayersAreInOrder kept.now.slots self.old }
+        requires room { HasRoom self.old 0 }
+        ensures in_order { LayersAreInOrder kept.now.slots self.new }
+        ensures same { (h : held_type) → In h (all_of self.new) ↔ In h (all_of self.old) }
+        ensures room { (n : ℕ) → HasRoom self.old n → HasRoom self.new n }
+    {
+        let index = Index { held: &[], kept };
+        self.waiting
+            .sort_unstable_by(|held, other| index.cmp_held(held, other));
+        insert_all(&mut self.recent, kept, &self.waiting);
+        self.waiting.clear();
+        if self.has_many_recent() {
+            self.settle(kept);
+        }
+    }
+
+    // Whether more is recent than the root of what is settled. What is put in its place moves the one, and what is
+    // merged the other.
+    fn has_many_recent(&self) -> bool {
+        self.recent.len().saturating_mul(self.recent.len()) > self.settled.len()
+    }
+
+    // What is recent becomes settled. There is room for that.
+    fn settle(&mut self, kept: &Kept)
+        requires in_order { LayersAreInOrder kept.now.slots self.old }
+        requires room { HasRoom self.old 0 }
+        ensures in_order { LayersAreInOrder kept.now.slots self.new }
+        ensures same { (h : held_type) → In h (all_of self.new) ↔ In h (all_of self.old) }
+        ensures room { (n : ℕ) → HasRoom self.old n → HasRoom self.new n }
+    {
+        self.merged.clear();
+        merge(&mut self.merged, &self.settled, &self.recent, kept);
+        mem::swap(&mut self.settled, &mut self.merged);
+        self.recent.clear();
+    }
+
+    // Drops what is held of these publications, whose parts are kept no more.
+    pub(crate) fn drop_all(&mut self, kept: &Kept, pairs: &[(u32, u16)])
+        ensures settled { self.new.settled.items ≡ left_of pairs.now kept.now.held self.old.settled.items }
+        ensures recent { self.new.recent.items ≡ left_of pairs.now kept.now.held self.old.recent.items }
+        ensures waiting { self.new.waiting.items ≡ left_of pairs.now kept.now.held self.old.waiting.items }
+        ensures room { (n : ℕ) → HasRoom self.old n → HasRoom self.new n }
+    {
+        retain(&mut self.settled, kept, pairs);
+        retain(&mut self.recent, kept, pairs);
+        retain(&mut self.waiting, kept, pairs);
+    }
+}
+
+// What has this name, or begins with it where that is asked for, of the least part. All is read.
+fn first_of(held: &[Held], kept: &Kept, asked: &[u8], can_be_prefix: bool) -> Option<Held>
+    ensures { IsFirstOf held.now (is_asked kept.now.slots asked.now can_be_prefix) result }
+{
+    let mut least = None;
+    for next in held {
+        if is_asked(kept, asked, can_be_prefix, next) {
+            least = lesser(least, Some(*next));
+        }
+    }
+    least
+}
+
+fn is_asked(kept: &Kept, asked: &[u8], can_be_prefix: bool, held: &Held) -> bool
+    ensures { result ≡ is_asked kept.now.slots asked.now can_be_prefix held.now }
+{
+    let name = kept.name(held.1);
+    if can_be_prefix {
+        name.starts_with(asked)
+    } else {
+        name == asked
+    }
+}
+
+// What is in order gains all of these, for which there is room. Where they come in order too, little is moved.
+fn insert_all(index: &mut Vec<Held>, kept: &Kept, held: &[Held])
+    requires in_order { AreInOrder kept.now.slots index.old.items }
+    requires room { vec_len index.old + length held.now ≤ vec_capacity index.old }
+    ensures in_order { AreInOrder kept.now.slots index.new.items }
+    ensures same { (h : held_type) → In h index.new.items ↔ In h (index.old.items ++ held.now) }
+    ensures len { vec_len index.new ≡ vec_len index.old + length held.now }
+    ensures capacity { vec_capacity index.old ≤ vec_capacity index.new }
+{
+    for next in held {
+        insert(index, kept, *next);
+    }
+}
+
+// Two that are in order are merged into one, for which there is room. Names that come one after the other mostly stand
+// close together, so most places are near the front of the rest.
+fn merge(merged: &mut Vec<Held>, settled: &[Held], recent: &[Held], kept: &Kept)
+    requires empty { merged.old.items ≡ [] }
+    requires settled { AreInOrder kept.now.slots settled.now }
+    requires recent { AreInOrder kept.now.slots recent.now }
+    requires room { length settled.now + length recent.now ≤ vec_capacity merged.old }
+    ensures merged { IsMerged kept.now.slots settled.now recent.now merged.new.items }
+    ensures len { vec_len merged.new ≡ length settled.now + length recent.now }
+    ensures capacity { vec_capacity merged.old ≤ vec_capacity merged.new }
+{
+    let mut rest = settled;
+    for held in recent {
+        let index = Index { held: rest, kept };
+        let (before, behind) = rest.split_at(index.place_near_front(held));
+        merged.extend_from_slice(before).unwrap();
+        merged.push(*held).unwrap();
+        rest = behind;
+    }
+    merged.extend_from_slice(rest).unwrap();
+}
+
+// Drops what is held of these publications, whose parts are kept no more.
+fn retain(held: &mut Vec<Held>, kept: &Kept, pairs: &[(u32, u16)])
+    ensures left { held.new.items ≡ left_of pairs.now kept.now.held held.old.items }
+    ensures len { vec_len held.new ≤ vec_len held.old }
+    ensures capacity { vec_capacity held.new ≡ vec_capacity held.old }
+{
+    held.retain(|held| is_left(kept, pairs, held.0));
+}
+
+// Whether a part that was kept still is, where those of these publications were dropped.
+fn is_left(kept: &Kept, pairs: &[(u32, u16)], part: Part) -> bool
+    ensures { result ≡ is_left pairs.now kept.now.held part }
+{
+    match pairs {
+        [pair] => (part.publisher, part.seq) != *pair,
+        _ => kept.has(part),
+    }
+}
