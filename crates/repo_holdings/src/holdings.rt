@@ -105,6 +105,14 @@ impl Holdings {
         self.store.get(part)
     }
 
+    /// Puts what waits in order of the packets' names, so that it is found faster. Nothing that is held changes. It takes
+    /// no memory.
+    pub fn order_names(&mut self)
+        ensures { self.new ≡ self.old }
+    {
+        self.store.order_names();
+    }
+
     /// What an Interest is answered by: the packet of the least part that satisfies it. It takes no memory.
     pub fn serve(&self, interest: &[u8]) -> Result<Option<&[u8]>, PacketFault>
         ensures { MatchResult result

@@ -127,6 +127,14 @@ impl Member {
         self.held.packet(part)
     }
 
+    /// Puts the packets that came since in order of their names, so that an Interest is answered fast. The member stays as
+    /// it is. It takes no memory.
+    pub fn order_names(&mut self)
+        ensures { self.new ≡ self.old }
+    {
+        self.holdings.order_names();
+    }
+
     /// What the member answers to an Interest: the packet of the least part that satisfies it. It takes no memory.
     pub fn serve(&self, interest: &[u8]) -> Result<Option<&[u8]>, PacketFault>
         ensures { MatchResult result
