@@ -132,7 +132,7 @@ impl Member {
     pub fn order_names(&mut self)
         ensures { self.new ≡ self.old }
     {
-        self.holdings.order_names();
+        self.held.order_names();
     }
 
     /// What the member answers to an Interest: the packet of the least part that satisfies it. It takes no memory.

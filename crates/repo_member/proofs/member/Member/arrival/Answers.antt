@@ -15,7 +15,8 @@ check-requires c =
     c.requires.group c.members.ensures.keys c.requires.asked in
     let part =
     ap (λ (w : WantedPart). w.part.publisher) c.in_ok-expected.ensures
-    ∙ ap (λ (t : Part). t.publisher) (want_at_part c.roster.result.now c.name.result.now c.self.inside.held.store c.args.part) in
+    ∙ ap (λ (t : Part). t.publisher)
+    (want_at_part c.roster.result.now c.name.result.now c.self.inside.held.store c.args.part) in
     let ring = ap (λ (r : List NamedKey). length r) c.members.ensures.ring in
     omega (arith, inside, part, ring)
 
