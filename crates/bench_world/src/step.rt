@@ -45,10 +45,48 @@ impl World {
     {
         // Read for its clauses alone: the invariant holds.
         let _count = self.members();
-        self.carry_out(rt, event, net, draws)
+        self.carry_out_in_order(rt, event, net, draws)
     }
 
     // The same, where the members are counted by themselves.
+    fn carry_out_in_order<N: Net + Sync, D: Draws, R: Threads + Sync>(
+        &mut self,
+        rt: &R,
+        event: &Event,
+        net: &N,
+        draws: &D,
+    ) -> Result<Happened, StepFault>
+        requires ready { IsReady (length self.old.members) (event_value event.now) }
+        requires clients { NamesClient (length self.old.keys.clients.names) (event_value event.now) }
+        requires few { self.old.steps < 100000 }
+        ensures { IsStep (outside self.old.keys (D.draw draws.now) (N.passes net.now)) (event_value event.now)
+            self.old result self.new }
+    {
+        self.order_names(event);
+        self.carry_out(rt, event, net, draws)
+    }
+
+    // Who is about to be asked by name has the names of its packets in order.
+    fn order_names(&mut self, event: &Event)
+        requires { IsReady (length self.old.members) (event_value event.now) }
+        ensures { self.new ≡ self.old }
+    {
+        match event {
+            Event::Ask { m, .. } => self.order_names_of(*m),
+            Event::Answer { q, .. } => self.order_names_of(*q),
+            _ => {}
+        }
+    }
+
+    // The same of one member.
+    fn order_names_of(&mut self, m: u32)
+        requires { m < length self.old.members }
+        ensures { self.new ≡ self.old }
+    {
+        self.members[m as usize].order_names();
+    }
+
+    // The same, where names are in order.
     fn carry_out<N: Net + Sync, D: Draws, R: Threads + Sync>(
         &mut self,
         rt: &R,

@@ -42,7 +42,6 @@ impl World {
             (group_event self.old.keys (EventValue.Answer m f q)))) }
         ensures err { OnErr result (self.new ≡ self.old) }
     {
-        self.order_names(q);
         let kept = match ask(self.alloc, &self.group, &mut self.members, m, f as u8, q) {
             Ok(kept) => kept,
             Err(fault) => return Err(fault),
@@ -52,14 +51,6 @@ impl World {
         self.octets += kept.unwrap_or(0);
         self.steps += 1;
         Ok(answered(m, u64::from(f), kept.is_some()))
-    }
-
-    // A member is about to be asked by name.
-    fn order_names(&mut self, m: u32)
-        requires { m < length self.old.members }
-        ensures { self.new ≡ self.old }
-    {
-        self.members[m as usize].order_names();
     }
 
     /// Octets come as a packet of what a member's fetcher claims.
@@ -111,7 +102,6 @@ impl World {
         ensures refused { IfErr result (IsFaultOf None) }
         ensures err { OnErr result (self.new ≡ self.old) }
     {
-        self.order_names(m);
         let happened = asked(self.alloc, m, &self.members[m as usize], octets)?;
         self.count();
         Ok(happened)
