@@ -62,28 +62,20 @@ impl World {
         ensures { IsStep (outside self.old.keys (D.draw draws.now) (N.passes net.now)) (event_value event.now)
             self.old result self.new }
     {
-        self.order_names(event);
+        self.order_names_for(event);
         self.carry_out(rt, event, net, draws)
     }
 
     // Who is about to be asked by name has the names of its packets in order.
-    fn order_names(&mut self, event: &Event)
+    fn order_names_for(&mut self, event: &Event)
         requires { IsReady (length self.old.members) (event_value event.now) }
         ensures { self.new ≡ self.old }
     {
         match event {
-            Event::Ask { m, .. } => self.order_names_of(*m),
-            Event::Answer { q, .. } => self.order_names_of(*q),
+            Event::Ask { m, .. } => self.order_names(*m),
+            Event::Answer { q, .. } => self.order_names(*q),
             _ => {}
         }
-    }
-
-    // The same of one member.
-    fn order_names_of(&mut self, m: u32)
-        requires { m < length self.old.members }
-        ensures { self.new ≡ self.old }
-    {
-        self.members[m as usize].order_names();
     }
 
     // The same, where names are in order.

@@ -22,6 +22,14 @@ use std::alloc::{AllocError, Global};
 use svs_sync::Mode;
 
 impl World {
+    /// A member is about to be asked by name: it puts the names of its packets in order. The world stays as it is.
+    pub(crate) fn order_names(&mut self, m: u32)
+        requires { m < length self.old.members }
+        ensures { self.new ≡ self.old }
+    {
+        self.members[m as usize].order_names();
+    }
+
     /// A member's fetcher asks another member for what it claims.
     ///
     /// The answer is foreign where what came passes for the part and isn't its publisher's packet.
