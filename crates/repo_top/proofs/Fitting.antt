@@ -1,7 +1,7 @@
 -- What a line that is taken states can be carried out: an event names members and clients that are there and is within
 -- its limits, and what is declared has a name and a key that a group takes.
 use Rattle.std.proofs.Common.{◌≡◌, ℕ, zero, suc, ◌+◌, ◌-◌, ◌*◌, ◌<◌, ◌≤◌, Bool, true, false, not, ◌||◌, nat_lt, nat_le}
-use Rattle.std.proofs.Common.{List, [], ◌∷◌, length, Option, Some, None, unwrap_or, Ok, Err, refl, sym, ap, subst}
+use Rattle.std.proofs.Common.{List, [], ◌∷◌, length, Option, Some, None, Ok, Err, refl, sym, ap, subst}
 use Rattle.std.proofs.Common.{arith, if◌then◌else◌}
 use Rattle.std.specs.Prelude.{IsTrue}
 use Rattle.std.specs.Int.{div_ceil}
@@ -9,7 +9,7 @@ use Rattle.std.specs.List.{All, list_all, list_any, prefix_len}
 use Rattle.std.specs.Option.{IfSome}
 use Rattle.std.specs.Str.{bytes_eq}
 use Rattle.std.proofs.Math.Nat.{lt_of_mul-lt-mul_right}
-use Rattle.std.proofs.lemmas.Bool.{false≢true, or_parts}
+use Rattle.std.proofs.lemmas.Bool.{false≢true, lt-ltb, or_parts}
 use Rattle.std.proofs.lemmas.Bool.Decides.{nat_tests}
 use Rattle.std.proofs.lemmas.Grind.{div_ceil_times}
 use Rattle.std.proofs.lemmas.List.{length-map}
@@ -26,7 +26,7 @@ use Rattle.script_lang.specs.declared.verb.Verb.TheVariants as verb
 use Rattle.script_lang.specs.Kinds.{Kind, Value, Text, Number, Named, Octets}
 use Rattle.script_lang.specs.Forms.{Stated, form, said}
 use Rattle.script_lang.specs.Lines.{are_within, line_of}
-use Rattle.script_lang.specs.Checking.{Declared, Party, has_label, labels_in, are_known, are_known_by}
+use Rattle.script_lang.specs.Checking.{Declared, Party, has_label, labels_in, are_known, are_known_by, party_place}
 use Rattle.script_lang.specs.Checking.{are_within_limits, with_totals, adds, after_by, after_event, after_line}
 use Rattle.script_lang.specs.Texts.{AreOf, AreWordTexts, IsLineText, IsWordText}
 use Rattle.script_lang.proofs.Conditions.{and_left, and_right, and_both, le_test, le_tested, lt_tested}
@@ -49,15 +49,18 @@ any_within test (x ∷ xs) h = go (test x) h (any_within test xs) where
   go true k behind = omega arith
   go false k behind = omega (arith, behind k)
 
-place_within : (n : ℕ) (len : ℕ) → n < len → unwrap_or (if nat_lt n len then Some n else None) 0 < len
-place_within n len h = grind (arith, nat_tests)
-
 -- a label that is known has the number of a party
 number_within : (label : List ℕ) (a b : List Party) → b ≡ a → has_label label a ≡ true → party_number label b < length b
-number_within label a b same known = rw same (
-    place_within (prefix_len (λ (p : Party). not (bytes_eq p.label label)) a) (length a)
-    (any_within (λ (p : Party). bytes_eq p.label label) a known)
-    )
+number_within label a b same known = rw same (any_within (λ (p : Party). bytes_eq p.label label) a known)
+
+-- so it has a place
+pub place_of_known : (label : List ℕ) (parties : List Party) → has_label label parties ≡ true
+    → party_place label parties ≡ Some (party_number label parties)
+place_of_known label parties known =
+    let n : ℕ = party_number label parties in
+    let inside : nat_lt n (length parties) ≡ true =
+    lt-ltb n (length parties) (any_within (λ (p : Party). bytes_eq p.label label) parties known) in
+    ap (λ (b : Bool). if b then Some n else None) inside
 
 -- ---- names and contents
 
@@ -339,13 +342,13 @@ event_fits octets d e s v read after says =
 -- ---- what is declared
 
 -- A value of a kind has a text as a word.
-abbrev AreWritten : List Kind → List Value → Type 0
+abbrev pub AreWritten : List Kind → List Value → Type 0
 AreWritten [] [] = Unit {0}
 AreWritten (kind ∷ kinds) (value ∷ values) =
     ((text : List ℕ) × IsWordText kind value text) × AreWritten kinds values
 AreWritten kinds values = ⊥
 
-written : (kinds : List Kind) (values : List Value) (texts : List (List ℕ)) → AreWordTexts kinds values texts
+pub written : (kinds : List Kind) (values : List Value) (texts : List (List ℕ)) → AreWordTexts kinds values texts
     → AreWritten kinds values
 written [] [] [] h = tt
 written (kind ∷ kinds) (value ∷ values) (text ∷ texts) h = ((text, h.0), written kinds values texts h.1)

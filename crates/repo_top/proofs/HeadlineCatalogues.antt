@@ -1,11 +1,10 @@
 -- What `catalogue` lines print.
-use Rattle.std.proofs.Common.{◌≡◌, ◌∙◌, ◌⊎◌, inl, inr, ℕ, suc, ◌+◌, ◌<◌, Bool, true, false, not, ◌||◌, nat_lt, List, []}
-use Rattle.std.proofs.Common.{◌∷◌, length, get_or, map, Some, None, unwrap_or, refl, sym, ap, subst, arith}
+use Rattle.std.proofs.Common.{◌≡◌, ◌∙◌, ◌⊎◌, inl, inr, ℕ, suc, ◌+◌, ◌<◌, Bool, true, false, not, ◌||◌, List, []}
+use Rattle.std.proofs.Common.{◌∷◌, length, get_or, map, refl, sym, ap, subst, arith}
 use Rattle.std.proofs.Common.{if◌then◌else◌}
 use Rattle.std.specs.List.{prefix_len}
 use Rattle.std.specs.Str.{bytes_eq}
 use Rattle.std.proofs.lemmas.Bool.{true≢false, cases_Bool}
-use Rattle.std.proofs.lemmas.Bool.Decides.{nat_tests}
 use Rattle.std.proofs.lemmas.Slice.Eq.{bytes_eq-Decides}
 use Rattle.repo_plan.specs.Parts.{Pair}
 use Rattle.sorted_lists.proofs.Sets.{In, from_map}
@@ -26,7 +25,7 @@ use Rattle.script_lang.specs.Checking.{Declared, Party, has_label, party_label}
 use Rattle.script_lang.proofs.Conditions.{and_left}
 use Rattle.bench_world.specs.EventValues.{EventValue}
 use Rattle.repo_top.specs.SaidEvents.{party_number}
-use Rattle.repo_top.specs.ToldTexts.{label_at}
+use Rattle.repo_top.specs.Labels.{label_at}
 use Rattle.repo_top.specs.Judging.{Given, State, acted_by, found_world, outside_of}
 use Rattle.repo_top.specs.Story.{Reached}
 use Rattle.repo_top.specs.Headline.{HoldsAllOf, IsCatalogueLine, IsCatalogueOf, IsToBeListed, ListExactly}
@@ -114,14 +113,9 @@ at_place label (p ∷ ps) known = go (bytes_eq p.label label) refl known (at_pla
       record { there = omega (arith, behind.there); labelled = behind.labelled } in
       subst (IsNumberOf label (p ∷ ps)) more here
 
-found_number : (n count : ℕ) → n < count → n ≡ unwrap_or (if nat_lt n count then Some n else None) 0
-found_number n count inside = grind (arith, nat_tests)
-
 named_by : (label : List ℕ) (parties : List Party) → has_label label parties ≡ true
     → IsNumberOf label parties (party_number label parties)
-named_by label parties known =
-    let found = at_place label parties known in
-    subst (IsNumberOf label parties) (found_number (place label parties) (length parties) found.there) found
+named_by label parties known = at_place label parties known
 
 -- ---- the line
 

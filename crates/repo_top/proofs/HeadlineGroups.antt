@@ -44,7 +44,7 @@ use Rattle.repo_top.specs.Judging.{Given, State, acted, acted_by, acted_if, chec
 use Rattle.repo_top.specs.Judging.{found_world, judged, judged_line, line_taken, opening_state, outside_of, read, says}
 use Rattle.repo_top.specs.Judging.{stepped, taken_by, with_client, with_group, declaring_member}
 use Rattle.repo_top.specs.Story.{Reached, nothing_reached}
-use Rattle.repo_top.specs.Headline.{LinesAreTaken, AreTakenFirst, LineIsTaken, ReachSoundGroups}
+use Rattle.repo_top.specs.Headline.{LinesAreTaken, AreTakenFirst, LineIsTaken}
 use Rattle.repo_top.proofs.Fitting.{event_fits}
 use Rattle.repo_top.proofs.HeadlineLines.{judged_by}
 
@@ -434,15 +434,3 @@ pub sound_from_start : (given : Given) (lines reports : List (List ℕ)) (r : Re
     → AreTakenFirst given lines reports r → IsSoundState given r.state
 sound_from_start given lines reports r taken =
     sound_lines given nothing_reached lines reports r taken (sound_beginning given)
-
-pub reach_sound : ReachSoundGroups
-reach_sound given lines reports r taken =
-    let s : IsSoundState given r.state = sound_from_start given lines reports r taken in
-    let count : length (map party_label r.state.declared.members) ≡ length r.state.declared.members =
-    length-map r.state.declared.members party_label in
-    record {
-      sound = s.sound;
-      members = s.many ∙ sym count;
-      names = s.names ∙ sym count;
-      labels = s.labels;
-    }

@@ -7,10 +7,11 @@ use Rattle.script_report.specs.Texts.{foreign_text}
 use Rattle.repo_top.specs.declared.ending.Ending.TheVariants.{Refused, Foreign}
 use Rattle.repo_top.specs.declared.refusal.Refusal.TheVariants.{Limit, TooLarge}
 use Rattle.repo_top.specs.Refusals.{refusal_number, refusal_text}
-use Rattle.repo_top.specs.Judging.{Given, State, Verdict, says, foreign, judged}
+use Rattle.repo_top.specs.Judging.{Given, State, Verdict, says, foreign, judged, unjudged}
 use Rattle.repo_top.specs.Judging as verdict
 use Rattle.repo_top.specs.Story.{Reached, Story, reached_behind, behind_text, is_within_script, judged_next}
 use Rattle.repo_top.specs.Story.{nothing_reached, story_from, story_of_line, within_report}
+use Rattle.repo_top.proofs.Sayings.{is_judged}
 use Rattle.repo_top.specs.Headline.{LinesAreTaken, BeginsWithReports, EachIsTaken, EndsBy, LineIsTaken, IsToldBy}
 
 -- ---- one line
@@ -25,6 +26,7 @@ within r (says text next) report new h = go (nat_le (r.reported + length text) r
   go false k = cc
 within r (verdict.refused why) report new h = h
 within r foreign report new h = h
+within r unjudged report new h = h
 
 pub judged_by : (given : Given) (r : Reached) (line report : List ℕ) (new : State)
     → judged_next given r line ≡ says report new → judged given r.state line ≡ says report new
@@ -33,6 +35,22 @@ judged_by given r line report new h = go (is_within_script r line) h where
       → (if b then within_report r (judged given r.state line) else verdict.refused Limit) ≡ says report new
       → judged given r.state line ≡ says report new
   go true k = within r (judged given r.state line) report new k
+  go false k = cc
+
+next_is_judged : (given : Given) (r : Reached) (line : List ℕ) → judged_next given r line ≡ unjudged → ⊥
+next_is_judged given r line h = go (is_within_script r line) h where
+  by_room : (v : Verdict) → judged given r.state line ≡ v → within_report r v ≡ unjudged → ⊥
+  by_room (says text next) is k = by_length (nat_le (r.reported + length text) report_octets) k where
+    by_length : (b : Bool) → (if b then says text next else verdict.refused TooLarge) ≡ unjudged → ⊥
+    by_length true e = cc
+    by_length false e = cc
+  by_room (verdict.refused why) is k = cc
+  by_room foreign is k = cc
+  by_room unjudged is k = is_judged given r.state line is
+
+  go : (b : Bool)
+      → (if b then within_report r (judged given r.state line) else verdict.refused Limit) ≡ unjudged → ⊥
+  go true k = by_room (judged given r.state line) refl k
   go false k = cc
 
 -- ---- stories
@@ -109,6 +127,7 @@ told_by given r (line ∷ others) = go (judged_next given r line) refl (λ next.
     keys = refl;
     world = refl;
   }
+  go unjudged is rest = absurd (next_is_judged given r line is)
 
 begins_from : (given : Given) (r : Reached) (first others reports : List (List ℕ)) (last : Reached)
     → LinesAreTaken given r first reports last

@@ -114,7 +114,7 @@ pub telling_changes_nothing : TellingChangesNothing
 telling_changes_nothing given r line report new taken tell =
     line_tells given r line report new (taken_line given r line report new taken) tell
 
-lines_tell : (given : Given) (r : Reached) (lines reports : List (List ℕ)) (later : Reached)
+pub lines_tell : (given : Given) (r : Reached) (lines reports : List (List ℕ)) (later : Reached)
     → LinesAreTaken given r lines reports later → list_all (λ line. changes_nothing (line_of line)) lines ≡ true
     → IsSameGroup given r later
 lines_tell given r [] [] later taken tell =

@@ -1,5 +1,5 @@
 -- What lines come to, case by case.
-use Rattle.std.proofs.Common.{◌≡◌, ◌∙◌, ℕ, ◌<◌, Bool, true, false, not, ◌||◌, List, [], ◌∷◌, ◌++◌, length, map, Option}
+use Rattle.std.proofs.Common.{◌≡◌, ◌∙◌, ℕ, ◌<◌, Bool, true, false, not, ◌&&◌, ◌||◌, List, [], ◌∷◌, ◌++◌, length, map, Option}
 use Rattle.std.proofs.Common.{Some, None, Ok, Err, ◌⊎◌, inl, inr, nat_le, ◌+◌, refl, sym, ap, subst, arith}
 use Rattle.std.proofs.Common.{if◌then◌else◌}
 use Rattle.std.specs.List.{list_any}
@@ -11,6 +11,7 @@ use Rattle.std.proofs.lemmas.Bool.Decides.{nat_tests}
 use Rattle.ndn_name.specs.Names.{Component, encoding}
 use Rattle.script_lang.specs.declared.line.Line.{Line}
 use Rattle.script_lang.specs.declared.line.Line.TheVariants as line
+use Rattle.script_lang.specs.declared.verb.Verb.{Verb}
 use Rattle.script_lang.specs.declared.verb.Verb.TheVariants as verb
 use Rattle.script_lang.specs.declared.line_fault.LineFault.{LineFault}
 use Rattle.script_lang.specs.declared.line_fault.LineFault.TheVariants as line_fault
@@ -20,7 +21,8 @@ use Rattle.script_lang.specs.Kinds.{Text, Named, Octets}
 use Rattle.script_lang.specs.Forms.{Stated, said, stated}
 use Rattle.script_lang.specs.Lines.{line_of}
 use Rattle.script_lang.specs.Reading.{FaultTells}
-use Rattle.script_lang.specs.Checking.{Declared, Party, after_line, after_event, are_known, are_within_limits}
+use Rattle.script_lang.specs.Checking.{Declared, LineTotals, Party, after_line, after_event, are_known, are_known_by}
+use Rattle.script_lang.specs.Checking.{are_clients, are_those, are_within_limits, has_label, labels_in}
 use Rattle.script_lang.specs.Checking.{with_totals, adds, declared_then, is_party_among, is_there, party_label}
 use Rattle.script_lang.specs.Checking.{may_declare, party}
 use Rattle.svs_vector.specs.Rosters.{has_same_octets, member_of}
@@ -37,7 +39,7 @@ use Rattle.repo_top.specs.Judging.{Given, State, says, refused, acted, acted_by,
 use Rattle.repo_top.specs.Judging.{judged_line, line_taken, outside_of, read, stepped, with_client_too, with_member_too}
 use Rattle.repo_top.specs.declared.stop.Stop.{Stop}
 use Rattle.repo_top.specs.declared.stop.Stop.TheVariants as stop
-use Rattle.repo_top.specs.Progressing.{IsStop, IsStopOf, node_of}
+use Rattle.repo_top.specs.Progressing.{IsEventLine, IsStop, IsStopOf, node_of}
 use Rattle.repo_top.specs.Stopping.{check_stop, line_stop}
 
 -- ---- octets
@@ -147,7 +149,7 @@ group_declares d e name h = go d.group refl h where
   go false g k = (g, cc)
 
 -- A name that no party has is that of nobody in the group.
-nobody_has : (label : List ℕ) (node : List Component) (parties : List Party)
+pub nobody_has : (label : List ℕ) (node : List Component) (parties : List Party)
     → is_party_among (party label node) parties ≡ false
     → list_any (has_same_octets node) (map node_of parties) ≡ false
 nobody_has label node [] h = refl
@@ -169,33 +171,48 @@ is_free d keys label node members clients h =
 
 -- ---- events
 
--- The line is no declaration.
-abbrev pub IsEventLine : Line → Type 0
-IsEventLine (line.Group name) = ⊥
-IsEventLine (line.Member label name key) = ⊥
-IsEventLine (line.Client label name key) = ⊥
-IsEventLine _ = Unit {0}
-
--- An event line that is taken: the group is there, and nothing is declared but that there was an event.
-pub record IsEvent (d e : Declared) : Type 0 where
+-- An event line that is taken: the group is there, its labels are known, and nothing is declared but that there was an
+-- event.
+pub record IsEvent (d e : Declared) (l : Stated) : Type 0 where
   pub group : e.group ≡ true
   pub there : d.group ≡ true
   pub events : e.events ≡ true
   pub members : e.members ≡ d.members
   pub clients : e.clients ≡ d.clients
+  pub known : are_known e l ≡ true
 
-event_after : (d e : Declared) (l : Stated) → after_event d l ≡ Ok e → IsEvent d e
+-- That there was an event makes no label known.
+same_clients : (d : Declared) (totals : LineTotals) (labels : List (List ℕ))
+    → are_clients (record d { events = true; totals = totals }) labels ≡ are_clients d labels
+same_clients d totals [] = refl
+same_clients d totals (client ∷ []) = refl
+same_clients d totals (client ∷ other ∷ clients) =
+    ap (λ (b : Bool). has_label client d.clients && b) (same_clients d totals (other ∷ clients))
+
+same_those : (d : Declared) (totals : LineTotals) (labels : List (List ℕ))
+    → are_those (record d { events = true; totals = totals }) labels ≡ are_those d labels
+same_those d totals [] = refl
+same_those d totals (m ∷ clients) = ap (λ (b : Bool). has_label m d.members && b) (same_clients d totals clients)
+
+same_by : (form : Verb) (d : Declared) (totals : LineTotals) (labels : List (List ℕ))
+    → are_known_by form (record d { events = true; totals = totals }) labels ≡ are_known_by form d labels
+same_by verb.Insert d totals labels = same_those d totals labels
+same_by verb.Status d totals labels = same_those d totals labels
+same_by verb.Delete d totals labels = same_those d totals labels
+same_by form d totals labels = refl
+
+event_after : (d e : Declared) (l : Stated) → after_event d l ≡ Ok e → IsEvent d e l
 event_after d e l h =
-    go d.group (are_known d l) (are_within_limits (with_totals d.totals (adds l.verb l.values))) refl h where
-      go : (group known within : Bool) → d.group ≡ group
+    go d.group (are_known d l) (are_within_limits (with_totals d.totals (adds l.verb l.values))) refl refl h where
+      go : (group known within : Bool) → d.group ≡ group → are_known d l ≡ known
           → (if not group then Err check_fault.NoGroup else if not known then Err check_fault.UnknownLabel
           else if not within then Err check_fault.TooLarge
           else Ok (record d { events = true; totals = with_totals d.totals (adds l.verb l.values) })) ≡ Ok e
-          → IsEvent d e
-      go false known within g k = absurd cc
-      go true false within g k = absurd cc
-      go true true false g k = absurd cc
-      go true true true g k =
+          → IsEvent d e l
+      go false known within g is k = absurd cc
+      go true false within g is k = absurd cc
+      go true true false g is k = absurd cc
+      go true true true g is k =
           let after : record d { events = true; totals = with_totals d.totals (adds l.verb l.values) } ≡ e = cc in
           record {
             group = ap (λ (f : Declared). f.group) (sym after) ∙ g;
@@ -203,6 +220,8 @@ event_after d e l h =
             events = ap (λ (f : Declared). f.events) (sym after);
             members = ap (λ (f : Declared). f.members) (sym after);
             clients = ap (λ (f : Declared). f.clients) (sym after);
+            known = ap (λ (f : Declared). are_known f l) (sym after)
+                ∙ same_by l.verb d (with_totals d.totals (adds l.verb l.values)) (labels_in l.values) ∙ is;
           }
 
 pub event_says : (given : Given) (s : State) (d : Declared) (l : Line) → IsEventLine l
@@ -213,7 +232,8 @@ event_says given s d (line.Member label name key) is = absurd is
 event_says given s d (line.Client label name key) is = absurd is
 event_says given s d l is = refl
 
-pub event_declares : (d e : Declared) (l : Line) → IsEventLine l → after_line d (stated l) ≡ Ok e → IsEvent d e
+pub event_declares : (d e : Declared) (l : Line) → IsEventLine l → after_line d (stated l) ≡ Ok e
+    → IsEvent d e (stated l)
 event_declares d e (line.Group name) is h = absurd is
 event_declares d e (line.Member label name key) is h = absurd is
 event_declares d e (line.Client label name key) is h = absurd is
@@ -224,10 +244,12 @@ pub acts : (given : Given) (s : State) (d : Declared) (l : Stated) (e : EventVal
 unfolding acted_by
 acts given s d l e h = rw (sym h) refl
 
-pub acts_not : (given : Given) (s : State) (d : Declared) (l : Stated) → None ≡ said_event d l
-    → acted_by given s d l ≡ refused refusal.Syntax
-unfolding acted_by
-acts_not given s d l h = rw (sym h) refl
+-- A line that is no declaration states an event.
+pub states_some : (d : Declared) (l : Line) → IsEventLine l → None ≡ said_event d (stated l) → ⊥
+states_some d (line.Group name) is h = absurd is
+states_some d (line.Member label name key) is h = absurd is
+states_some d (line.Client label name key) is h = absurd is
+states_some d l is h = cc
 
 pub acted_says : (given : Given) (s : State) (d : Declared) (e : EventValue)
     → group.refusal (outside_of given s.keys) (found_world given s) (group_event s.keys e) ≡ None

@@ -2,7 +2,7 @@
 use Rattle.std.proofs.Common.{◌≡◌, ℕ, ◌+◌, List, [], ◌∷◌, ◌++◌, length, length-append, map, refl, subst, append_assoc}
 use Rattle.std.proofs.Math.Seq.{get_or-append_seam}
 use Rattle.sorted_lists.specs.Range.{numbers_from}
-use Rattle.repo_top.specs.ToldTexts.{label_at}
+use Rattle.repo_top.specs.Labels.{label_at, no_label}
 
 labels_behind : (front rest : List (List ℕ))
     → map (label_at (front ++ rest)) (numbers_from (length front) (length rest)) ≡ rest
@@ -10,7 +10,7 @@ labels_behind front [] = refl
 labels_behind front (label ∷ rest) =
     let all = front ++ label ∷ rest in
     let longer = front ++ label ∷ [] in
-    let here : label_at all (length front) ≡ label = get_or-append_seam front label rest [] in
+    let here : label_at all (length front) ≡ label = get_or-append_seam front label rest no_label in
     let named : map (label_at all) (numbers_from (length longer) (length rest)) ≡ rest =
     subst (λ (labels : List (List ℕ)). map (label_at labels) (numbers_from (length longer) (length rest)) ≡ rest)
     (append_assoc front (label ∷ []) rest) (labels_behind longer rest) in

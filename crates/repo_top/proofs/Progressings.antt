@@ -24,13 +24,14 @@ use Rattle.repo_top.specs.declared.progress.Standing.TheVariants.{Opening, Decla
 use Rattle.repo_top.specs.Judging.{Given, State, Verdict, says, acted, acted_by, acted_if, found_world, group_named}
 use Rattle.repo_top.specs.Judging.{outside_of, judged_line, line_taken, no_group, taken_by, with_client_too}
 use Rattle.repo_top.specs.Judging.{with_member_too}
-use Rattle.repo_top.specs.Progressing.{NamesAreDeclared, LineIsChecked, IsStop, IsStopOf, StatesFit, has_group}
+use Rattle.repo_top.specs.Progressing.{IsEventLine, NamesAreDeclared, LineIsChecked, IsStop, IsStopOf, StatesFit}
+use Rattle.repo_top.specs.Progressing.{has_group}
 use Rattle.repo_top.specs.Progressing.{has_world, standing_keys, node_of, state_of, world_in}
 use Rattle.repo_top.specs.declared.stop.Stop.{Stop}
 use Rattle.repo_top.specs.ToldTexts.{told_text}
 use Rattle.repo_top.specs.SaidEvents.{said_event}
 use Rattle.repo_top.proofs.Fitting.{client_fits, event_fits, group_fits, member_fits}
-use Rattle.repo_top.proofs.Judgings.{acted_says, acted_stops, IsEventLine, client_declares, client_says, event_declares}
+use Rattle.repo_top.proofs.Judgings.{acted_says, acted_stops, client_declares, client_says, event_declares}
 use Rattle.repo_top.proofs.Judgings.{event_says, group_declares, group_says, is_free, member_declares, member_says}
 use Rattle.repo_top.proofs.Judgings.{taken_line}
 
@@ -260,7 +261,10 @@ event_acts given labels standing e l is c =
     let event = event_declares c.before e l is c.after in
     let was = c.stands.named in
     record {
-      fit = record { fits = λ v says. event_fits c.line.octets c.before e (stated l) v c.line.read c.after says };
+      fit = record {
+        fits = λ v says. event_fits c.line.octets c.before e (stated l) v c.line.read c.after says;
+        known = event.known;
+      };
       named = record {
         labels = was.labels ∙ ap (map party_label) (sym event.members);
         members = ap (map node_of) event.members ∙ was.members;

@@ -18,7 +18,7 @@ use Rattle.repo_top.specs.declared.status.Status.TheVariants.{Done, ReadFault, W
 use Rattle.repo_top.specs.declared.refusal.Refusal.TheVariants.{Limit}
 use Rattle.repo_top.specs.Outside.{GainsText, GainsFront}
 use Rattle.repo_top.specs.Lines.{IsWhole, has_feed, lines}
-use Rattle.repo_top.specs.Judging.{Given, Verdict, foreign, refused, says}
+use Rattle.repo_top.specs.Judging.{Given, Verdict, foreign, refused, says, unjudged}
 use Rattle.repo_top.specs.Reading.{HasLine, LineIsBegun, IsTooLong}
 use Rattle.repo_top.specs.Story.{Reached, Story, reached_behind, behind_text, ended, judged_next, nothing_reached}
 use Rattle.repo_top.specs.Story.{story_from, story_of}
@@ -153,6 +153,9 @@ fewer_lines given r (line ∷ front) others =
           ) (omega arith)
       by_verdict fewer foreign e =
           rw (refused_story given r line foreign front e, refused_story given r line foreign (front ++ others) e)
+          (omega arith)
+      by_verdict fewer unjudged e =
+          rw (refused_story given r line unjudged front e, refused_story given r line unjudged (front ++ others) e)
           (omega arith)
 
 -- ---- how a run ends

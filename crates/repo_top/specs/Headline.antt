@@ -13,6 +13,7 @@ use Rattle.group_model.specs.Member.{member_holds, member_hides}
 use Rattle.group_model.specs.World.{World, catalogue_at, logs, member}
 use Rattle.group_model.specs.Sound.{IsPublished, IsSoundGroup}
 use Rattle.group_model.specs.Laws.{AllJoined, NothingHidden}
+use Rattle.repo_member.specs.InGroup.{AreLogs}
 use Rattle.script_lang.specs.declared.line_fault.LineFault.{LineFault}
 use Rattle.script_lang.specs.declared.verb.Verb.{Verb}
 use Rattle.script_lang.specs.declared.verb.Verb.TheVariants as verb
@@ -24,8 +25,9 @@ use Rattle.script_report.specs.Texts.{catalogue_text, foreign_text}
 use Rattle.repo_top.specs.declared.ending.Ending.{Ending}
 use Rattle.repo_top.specs.declared.ending.Ending.TheVariants.{Done, Refused, Foreign}
 use Rattle.repo_top.specs.Refusals.{refusal_number, refusal_text}
-use Rattle.repo_top.specs.ToldTexts.{label_at, publisher_label}
-use Rattle.repo_top.specs.Judging.{Given, Verdict, says, foreign, found_world}
+use Rattle.repo_top.specs.Labels.{label_at}
+use Rattle.repo_top.specs.ToldTexts.{publisher_label}
+use Rattle.repo_top.specs.Judging.{Given, Verdict, says, foreign, unjudged, found_world}
 use Rattle.repo_top.specs.Judging as verdict
 use Rattle.repo_top.specs.Story.{Reached, Story, reached_behind, behind_text, judged_next, nothing_reached, story_from}
 
@@ -62,12 +64,13 @@ pub record IsTakenAmid (given : Given) (r : Reached) (before : List (List ℕ)) 
 
 -- ---- stories
 
--- How a story ends behind a line of this number that comes to this: a taken line ends none.
+-- How a story ends behind a line of this number that comes to this: a taken line ends none, and each line is judged.
 abbrev pub EndsBy : ℕ → Verdict → List ℕ → Ending → Type 0
 EndsBy number (says report next) text ending = ⊥
 EndsBy number (verdict.refused why) text ending =
     (text ≡ refusal_text number why) × (ending ≡ Refused number (refusal_number why))
 EndsBy number foreign text ending = (text ≡ foreign_text number) × (ending ≡ Foreign number)
+EndsBy number unjudged text ending = ⊥
 
 -- How it ends with these lines left: there are none, or the first of them is refused or foreign, and its number is
 -- written.
@@ -101,12 +104,14 @@ group_at given r = found_world given r.state
 abbrev pub labels_at : Reached → List (List ℕ)
 labels_at r = map party_label r.state.declared.members
 
--- A sound group of the declared members, no two under one label.
+-- A sound group of the declared members, no two under one label. Behind the group's line, what they published is what
+-- members of that group can publish: objects within the limits.
 pub record IsGroupOfLines (given : Given) (r : Reached) : Type 0 where
   pub sound : IsSoundGroup (group_at given r)
   pub members : length (group_at given r).members ≡ length (labels_at r)
   pub names : length r.state.keys.members.names ≡ length (labels_at r)
   pub labels : IsDistinct bytes_eq (labels_at r)
+  pub published : r.state.declared.group ≡ true → AreLogs r.state.keys (logs (group_at given r))
 
 -- ---- catalogues
 

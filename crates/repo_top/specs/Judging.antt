@@ -1,5 +1,5 @@
 -- What a line comes to, behind those before it.
-use Rattle.std.specs.Prelude.{ℕ, Bool, List, [], ◌∷◌, map, length, Option, Some, None, Result, Ok, Err, unwrap_or}
+use Rattle.std.specs.Prelude.{◌≡◌, ◌≢◌, ◌↔◌, ℕ, Bool, List, [], ◌∷◌, map, length, Option, Some, None, Result, Ok, Err, unwrap_or}
 use Rattle.script_lang.specs.declared.verb.Verb.{Verb}
 use Rattle.script_lang.specs.declared.verb.Verb.TheVariants as verb
 use Rattle.script_lang.specs.declared.line_fault.LineFault.{LineFault}
@@ -44,11 +44,13 @@ no_group = record { name = []; members = no_nodes; clients = no_nodes }
 abbrev pub opening_state : State
 opening_state = record { declared = nothing_declared; keys = no_group; world = None }
 
--- What a line comes to: it is refused; it brings what no member made; or it has a report, and others may follow.
+-- What a line comes to: it is refused; it brings what no member made; or it has a report, and others may follow. What
+-- is left is that no row here is for it: there is no such line.
 pub data Verdict : Type 0 where
   refused : Refusal → Verdict
   foreign : Verdict
   says : (report : List ℕ) (next : State) → Verdict
+  unjudged : Verdict
 
 -- ---- events
 
@@ -92,21 +94,21 @@ with_client_too node key keys = record keys { clients = with_node node key keys.
 
 abbrev pub with_group : State → Declared → List Value → Verdict
 with_group s d (Named name ∷ []) = says [] (record { declared = d; keys = group_named name; world = s.world })
-with_group s d _ = refused refusal.Syntax
+with_group s d _ = unjudged
 
 abbrev pub declaring_member : State → Declared → List Value → Verdict
 declaring_member s d (Text label ∷ Named node ∷ Octets key ∷ []) =
     says [] (record { declared = d; keys = with_member_too node key s.keys; world = s.world })
-declaring_member s d _ = refused refusal.Syntax
+declaring_member s d _ = unjudged
 
 abbrev pub with_client : State → Declared → List Value → Verdict
 with_client s d (Text label ∷ Named node ∷ Octets key ∷ []) =
     says [] (record { declared = d; keys = with_client_too node key s.keys; world = s.world })
-with_client s d _ = refused refusal.Syntax
+with_client s d _ = unjudged
 
 abbrev pub acted_if : Given → State → Declared → Option EventValue → Verdict
 acted_if given s d (Some e) = acted given s d e
-acted_if given s d None = refused refusal.Syntax
+acted_if given s d None = unjudged
 
 unfoldable pub acted_by : Given → State → Declared → Stated → Verdict
 acted_by given s d line = acted_if given s d (said_event d line)
@@ -128,7 +130,7 @@ check_refused check_fault.UnknownLabel = refused refusal.UnknownLabel
 check_refused check_fault.Duplicate = refused refusal.Duplicate
 check_refused check_fault.Limit = refused refusal.Limit
 check_refused check_fault.TooLarge = refused refusal.TooLarge
-check_refused check_fault.NoMemory = refused refusal.TooLarge
+check_refused check_fault.NoMemory = unjudged
 
 abbrev pub checked : Given → State → Stated → Result Declared CheckFault → Verdict
 checked given s line (Ok d) = line_taken given s d line
@@ -145,8 +147,19 @@ read given s (Ok (Some line)) = judged_line given s line
 read given s (Ok None) = says [] s
 read given s (Err line_fault.Syntax) = refused refusal.Syntax
 read given s (Err line_fault.Limit) = refused refusal.Limit
-read given s (Err line_fault.NoMemory) = refused refusal.Limit
+read given s (Err line_fault.NoMemory) = unjudged
 
 -- What the octets of a line come to, its line feed among them.
 unfoldable pub judged : Given → State → List ℕ → Verdict
 judged given s octets = read given s (line_of octets)
+
+-- ---- what is promised
+
+-- No line is left unjudged.
+abbrev pub EachLineIsJudged : Type 0
+EachLineIsJudged = (given : Given) (s : State) (octets : List ℕ) → judged given s octets ≢ unjudged
+
+-- Syntax is told of a line exactly where the grammar refuses it.
+abbrev pub SyntaxIsOfTheGrammar : Type 0
+SyntaxIsOfTheGrammar = (given : Given) (s : State) (octets : List ℕ)
+    → (judged given s octets ≡ refused refusal.Syntax) ↔ (line_of octets ≡ Err line_fault.Syntax)

@@ -3,6 +3,7 @@ pub mod InMemory
 pub mod Lines
 pub mod Words
 pub mod Refusals
+pub mod Labels
 pub mod RefusalTexts
 pub mod ToldTexts
 pub mod SaidEvents
@@ -18,3 +19,6 @@ pub mod Generator
 pub mod Forms
 pub mod Answers
 pub mod Headline
+pub mod HeldPackets
+pub mod ShownCatalogues
+pub mod Workers

@@ -1,9 +1,11 @@
 -- What the lines so far came to, as the run keeps it.
 use Rattle.std.specs.Prelude.{ℕ, ◌≡◌, zero, Bool, true, false, List, map, length, string_bytes, Option, Some, None, Ok}
 use Rattle.ndn_name.specs.Names.{Component}
+use Rattle.script_lang.specs.declared.line.Line.{Line}
+use Rattle.script_lang.specs.declared.line.Line.TheVariants as line
 use Rattle.script_lang.specs.Forms.{Stated}
 use Rattle.script_lang.specs.Lines.{line_of}
-use Rattle.script_lang.specs.Checking.{Declared, Party, after_line, party_label}
+use Rattle.script_lang.specs.Checking.{Declared, Party, after_line, are_known, party_label}
 use Rattle.group_model.specs.World.{World}
 use Rattle.group_model.specs.Refusals as group
 use Rattle.repo_member.specs.Groups.{GroupKeys}
@@ -85,10 +87,18 @@ pub record LineIsChecked (labels : List (List ℕ)) (standing : Standing) (d : D
   pub stands : Stands labels standing before
   pub after : after_line before s ≡ Ok d
 
+-- The line is no declaration.
+abbrev pub IsEventLine : Line → Type 0
+IsEventLine (line.Group name) = ⊥
+IsEventLine (line.Member label name key) = ⊥
+IsEventLine (line.Client label name key) = ⊥
+IsEventLine _ = Unit {0}
+
 -- An event that a line states can be carried out where so much is declared.
 pub record StatesFit (d : Declared) (line : Stated) : Type 0 where
   pub fits : (e : EventValue) → said_event d line ≡ Some e
       → IsReady (length d.members) e × NamesClient (length d.clients) e
+  pub known : are_known d line ≡ true
 
 -- Memory was wanting, or the line stops the run so.
 abbrev pub IsStop : Verdict → Stop → Type 0

@@ -1,6 +1,6 @@
 -- How a report writes why octets were refused: the refusal's word, with the offset, type, field, label or number that
 -- it has.
-use Rattle.std.specs.Prelude.{ℕ, List, [], ◌++◌, codes, slice_index_or}
+use Rattle.std.specs.Prelude.{ℕ, List, ◌++◌, codes}
 use Rattle.std.specs.Fmt.{decimal}
 use Rattle.ndn_tlv.specs.declared.tlv_fault.TlvFault.{TlvFault}
 use Rattle.ndn_tlv.specs.declared.tlv_fault.TlvFault.TheVariants as tlv
@@ -16,6 +16,7 @@ use Rattle.repo_object.specs.declared.part_refusal.PartRefusal.{PartRefusal}
 use Rattle.repo_object.specs.declared.part_refusal.PartRefusal.TheVariants as part
 use Rattle.repo_member.specs.declared.refusals.HearRefusal.{HearRefusal}
 use Rattle.repo_member.specs.declared.refusals.HearRefusal.TheVariants as hear
+use Rattle.repo_top.specs.Labels.{label_at}
 
 abbrev pub tlv_fault_text : TlvFault → List ℕ
 tlv_fault_text (tlv.Truncated at) = codes "Truncated " ++ decimal at
@@ -53,7 +54,7 @@ packet_fault_text (packet.BadField named at) = codes "BadField " ++ (field_word 
 abbrev pub vector_fault_text : List (List ℕ) → VectorFault → List ℕ
 vector_fault_text labels (vector.BadVector at) = codes "BadVector " ++ decimal at
 vector_fault_text labels (vector.NumberTooLarge m number) =
-    codes "NumberTooLarge " ++ (slice_index_or labels m [] ++ (codes " " ++ decimal number))
+    codes "NumberTooLarge " ++ (label_at labels m ++ (codes " " ++ decimal number))
 vector_fault_text labels vector.NoMemory = codes "NoMemory"
 
 abbrev pub sync_refusal_text : List (List ℕ) → SyncRefusal → List ℕ

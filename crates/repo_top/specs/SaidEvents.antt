@@ -1,15 +1,18 @@
 -- The event that a line states: each label stands for the number of its member or client.
-use Rattle.std.specs.Prelude.{ℕ, List, [], ◌∷◌, Option, Some, None, unwrap_or}
+use Rattle.std.specs.Prelude.{ℕ, List, [], ◌∷◌, Option, Some, None}
+use Rattle.std.specs.List.{position_or_len}
+use Rattle.std.specs.Str.{bytes_eq}
 use Rattle.script_lang.specs.declared.verb.Verb.{Verb}
 use Rattle.script_lang.specs.declared.verb.Verb.TheVariants as verb
 use Rattle.script_lang.specs.Kinds.{Value, Text, Number, Named, Octets}
 use Rattle.script_lang.specs.Forms.{Stated}
-use Rattle.script_lang.specs.Checking.{Party, Declared, party_place}
+use Rattle.script_lang.specs.Checking.{Party, Declared}
 use Rattle.bench_world.specs.EventValues.{EventValue}
 
--- The number of the member or client with this label.
+-- The number of the first member or client with this label. Where nobody has it this is nobody's number, which is how
+-- many there are.
 abbrev pub party_number : List ℕ → List Party → ℕ
-party_number label parties = unwrap_or (party_place label parties) 0
+party_number label parties = position_or_len (λ (p : Party). bytes_eq p.label label) parties
 
 -- A declaration states no event.
 abbrev pub said_by : Verb → Declared → List Value → Option EventValue

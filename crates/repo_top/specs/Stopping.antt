@@ -1,11 +1,10 @@
 -- Why a line is not taken, by the faults of what it calls for.
-use Rattle.std.specs.Prelude.{ℕ, ◌==◌, if◌then◌else◌}
+use Rattle.std.specs.Prelude.{ℕ, Option, Some, None, ◌==◌, if◌then◌else◌}
+use Rattle.std.specs.Option.{option_map}
 use Rattle.script_lang.specs.declared.line_fault.LineFault.{LineFault}
 use Rattle.script_lang.specs.declared.line_fault.LineFault.TheVariants as line_fault
 use Rattle.script_lang.specs.declared.check_fault.CheckFault.{CheckFault}
 use Rattle.script_lang.specs.declared.check_fault.CheckFault.TheVariants as check_fault
-use Rattle.repo_member.specs.declared.group_fault.GroupFault.{GroupFault}
-use Rattle.repo_member.specs.declared.group_fault.GroupFault.TheVariants as group_fault
 use Rattle.bench_world.specs.declared.event.StepFault.{StepFault}
 use Rattle.bench_world.specs.declared.event.StepFault.TheVariants as step_fault
 use Rattle.repo_top.specs.declared.refusal.Refusal.{Refusal}
@@ -27,18 +26,13 @@ check_stop check_fault.Limit = Refused refusal.Limit
 check_stop check_fault.TooLarge = Refused refusal.TooLarge
 check_stop check_fault.NoMemory = NoMemory
 
-abbrev pub group_stop : GroupFault → Stop
-group_stop group_fault.Duplicate = Refused refusal.Duplicate
-group_stop group_fault.Full = Refused refusal.Limit
-group_stop group_fault.NoMemory = NoMemory
-
--- The refusal of an event that has this number.
-abbrev pub step_refusal : ℕ → Refusal
+-- The refusal of an event that has this number. There are four.
+abbrev pub step_refusal : ℕ → Option Refusal
 step_refusal number =
-    if number == 5 then refusal.NoSuchPacket else if number == 6 then refusal.FetcherBusy
-    else if number == 7 then refusal.FetcherIdle else refusal.NumbersSpent
+    if number == 5 then Some refusal.NoSuchPacket else if number == 6 then Some refusal.FetcherBusy
+    else if number == 7 then Some refusal.FetcherIdle else if number == 8 then Some refusal.NumbersSpent else None
 
-abbrev pub step_stop : StepFault → Stop
-step_stop (step_fault.Refused number) = Refused (step_refusal number)
-step_stop step_fault.Foreign = Foreign
-step_stop step_fault.NoMemory = NoMemory
+abbrev pub step_stop : StepFault → Option Stop
+step_stop (step_fault.Refused number) = option_map (λ why. Refused why) (step_refusal number)
+step_stop step_fault.Foreign = Some Foreign
+step_stop step_fault.NoMemory = Some NoMemory

@@ -12,7 +12,7 @@ use Rattle.repo_top.specs.declared.refusal.Refusal.{Refusal}
 use Rattle.repo_top.specs.declared.refusal.Refusal.TheVariants.{Limit, TooLarge}
 use Rattle.repo_top.specs.Refusals.{refusal_number, refusal_text}
 use Rattle.repo_top.specs.Lines.{lines}
-use Rattle.repo_top.specs.Judging.{Given, State, Verdict, no_group, opening_state, judged, says, foreign}
+use Rattle.repo_top.specs.Judging.{Given, State, Verdict, no_group, opening_state, judged, says, foreign, unjudged}
 use Rattle.repo_top.specs.Judging as verdict
 
 -- ---- what the lines so far came to
@@ -48,6 +48,7 @@ within_report r (says report next) =
     if nat_le (r.reported + length report) report_octets then says report next else verdict.refused TooLarge
 within_report r (verdict.refused why) = verdict.refused why
 within_report r foreign = foreign
+within_report r unjudged = unjudged
 
 -- What the next line comes to.
 abbrev pub judged_next : Given → Reached → List ℕ → Verdict
@@ -72,12 +73,14 @@ behind_text text s = record { text = text ++ s.text; ending = s.ending; keys = s
 abbrev pub ended : State → List ℕ → Ending → Story
 ended s text ending = record { text = text; ending = ending; keys = s.keys; world = s.world }
 
--- The story of a line and of those behind it. A line that is refused or foreign ends it.
+-- The story of a line and of those behind it. A line that is refused or foreign ends it. One that no row judges would
+-- end it as refused under 0, which is the number of no refusal.
 abbrev pub story_of_line : (Reached → Story) → Reached → List ℕ → Verdict → Story
 story_of_line others r line (says report next) = behind_text report (others (reached_behind r line report next))
 story_of_line others r line (verdict.refused why) =
     ended r.state (refusal_text (r.lines + 1) why) (Refused (r.lines + 1) (refusal_number why))
 story_of_line others r line foreign = ended r.state (foreign_text (r.lines + 1)) (Foreign (r.lines + 1))
+story_of_line others r line unjudged = ended r.state [] (Refused (r.lines + 1) 0)
 
 -- The story of lines that follow those so far.
 unfoldable pub story_from : Given → Reached → List (List ℕ) → Story

@@ -1,5 +1,5 @@
 -- The line of a report for what is told of an event, under the labels of the members.
-use Rattle.std.specs.Prelude.{ℕ, List, [], map, slice_index_or, codes}
+use Rattle.std.specs.Prelude.{ℕ, List, map, codes}
 use Rattle.repo_catalog.specs.declared.entry.Entry.{Entry}
 use Rattle.script_report.specs.Texts.{publish_text, deliver_steady_text, deliver_suppressed_text, sync_text}
 use Rattle.script_report.specs.Texts.{advance_text, fire_early_text, fire_quiet_text, fire_sent_text, restart_text}
@@ -10,11 +10,8 @@ use Rattle.script_report.specs.Texts.{ask_none_text, ask_refused_text, command_t
 use Rattle.script_report.specs.Texts.{block_200_text, block_published_text, vector_text, catalogue_text, summary_text}
 use Rattle.script_report.specs.Texts.{traffic_text}
 use Rattle.bench_world.specs.EventValues.{Told}
+use Rattle.repo_top.specs.Labels.{label_at}
 use Rattle.repo_top.specs.RefusalTexts.{hear_refusal_text, part_refusal_text, packet_fault_text}
-
--- The label of a member.
-abbrev pub label_at : List (List ℕ) → ℕ → List ℕ
-label_at labels m = slice_index_or labels m []
 
 -- The label of an entry's publisher.
 abbrev pub publisher_label : List (List ℕ) → Entry → List ℕ

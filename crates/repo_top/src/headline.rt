@@ -1,9 +1,12 @@
 ghost use Rattle.std.specs.Prelude.{ℕ, List};
 ghost use Rattle.repo_top.specs.Headline.{BeginsWithReports, EachIsTaken, HidesByDeletionAlone, IsToldBy};
 ghost use Rattle.repo_top.specs.Headline.{PrintsCatalogues, ReachSoundGroups, SettlesJoin, TellingChangesNothing};
+ghost use Rattle.repo_top.specs.HeldPackets.{EntriesTellOfDumped, MembersHoldChecked};
 ghost use Rattle.repo_top.specs.Judging.{Given};
 ghost use Rattle.repo_top.specs.Lines.{lines};
+ghost use Rattle.repo_top.specs.ShownCatalogues.{CatalogueLinesShow, SettleLinesShow};
 ghost use Rattle.repo_top.specs.Story.{nothing_reached, story_of};
+ghost use Rattle.repo_top.specs.Workers.{WorkersMakeNoDifference};
 
 /// The story of an input is told by its lines: the first of them are taken one after the other, their reports are its
 /// text, and the next line, if there is one, is refused or foreign. Each line that is taken has its report at its
@@ -15,8 +18,8 @@ pub fn stories_are_their_lines()
     ensures begins { BeginsWithReports }
 {}
 
-/// Behind any lines that are taken the group is sound, and its members are those that the lines declared, no two under
-/// one label. Lines that only tell of the group leave it as it is.
+/// Behind any lines that are taken the group is sound, its members are those that the lines declared, no two under one
+/// label, and what they published is within the limits of objects. Lines that only tell of the group leave it as it is.
 pub fn lines_reach_sound_groups()
     ensures sound { ReachSoundGroups }
     ensures unchanged { TellingChangesNothing }
@@ -34,4 +37,31 @@ pub fn printed_catalogues_list_what_is_held()
 pub fn a_settle_line_joins()
     ensures joins { SettlesJoin }
     ensures undeleted { HidesByDeletionAlone }
+{}
+
+/// In every story the packet of each part that a member holds passes for the want of that part: by its name, its
+/// publisher's key and signature, and for a segment the digest that the publication's record lists.
+pub fn held_parts_passed_their_checks()
+    ensures { MembersHoldChecked }
+{}
+
+/// In every story each entry of a catalogue tells what the dumped segments of its publication have: their contents,
+/// joined, have the entry's number of octets, and their SHA-256 is its digest.
+pub fn entries_tell_what_dumps_show()
+    ensures { EntriesTellOfDumped }
+{}
+
+/// Where the story of an input is done and one of its lines says `catalogue` and a label, the text is the reports of
+/// the lines before it, then the entries of exactly the objects that the member published or wholly fetched and checked
+/// and hasn't deleted, then the rest. Right after a `settle` line, where nothing was deleted, these are all objects
+/// that were published.
+pub fn catalogue_lines_show_what_is_held()
+    ensures held { CatalogueLinesShow }
+    ensures settled { SettleLinesShow }
+{}
+
+/// Two inputs that are read as the same lines, but for how many workers their `fetch` and `settle` lines ask for, have
+/// the same story, where neither has more octets than a script may have.
+pub fn workers_make_no_difference()
+    ensures { WorkersMakeNoDifference }
 {}

@@ -3,7 +3,7 @@ ghost use Rattle.std.specs.List.{concat};
 ghost use Rattle.repo_top.specs.declared.ending.Ending.TheVariants.{Done, Refused};
 ghost use Rattle.repo_top.specs.Forms.{asked_of, asked_story};
 ghost use Rattle.repo_top.specs.Inspection.{inspect_story};
-ghost use Rattle.repo_top.specs.Judging.{Given};
+ghost use Rattle.repo_top.specs.Judging.{EachLineIsJudged, Given, SyntaxIsOfTheGrammar};
 ghost use Rattle.repo_top.specs.Lines.{AreLines, lines};
 ghost use Rattle.repo_top.specs.Story.{Reports, plain_story};
 
@@ -12,6 +12,12 @@ pub fn lines_are_the_input()
     ensures joined { (input : List ℕ) → concat (lines input) ≡ input }
     ensures each { (input : List ℕ) → AreLines (lines input) }
     ensures only { (cut : List (List ℕ)) → AreLines cut → lines (concat cut) ≡ cut }
+{}
+
+/// What every line comes to is told, and it is Syntax exactly where the grammar refuses the line.
+pub fn syntax_is_of_the_grammar()
+    ensures judged { EachLineIsJudged }
+    ensures syntax { SyntaxIsOfTheGrammar }
 {}
 
 /// What small scripts report, worked out, whatever the draws and the network are.

@@ -13,18 +13,17 @@ ghost use Rattle.bench_world.specs.Worlds.{drawing, world_of};
 ghost use Rattle.repo_top.specs.ToldTexts.{told_text};
 ghost use Rattle.repo_top.specs.Judging.{acted, acted_by, given_by, group_named, judged, judged_line, line_taken};
 ghost use Rattle.repo_top.specs.Judging.{opening_state, says, with_client_too, with_member_too};
-ghost use Rattle.repo_top.specs.Progressing.{NamesAreDeclared, LineIsChecked, IsLine, IsProgress, IsStop, IsStopOf};
+ghost use Rattle.repo_top.specs.Progressing.{IsEventLine, NamesAreDeclared, LineIsChecked, IsLine, IsProgress, IsStop, IsStopOf};
 ghost use Rattle.repo_top.specs.Progressing.{StatesFit, has_group, has_world, standing_keys, progress_state, steps};
 ghost use Rattle.repo_top.specs.Progressing.{steps_in, world_in};
 
-use crate::refusal::Refusal;
 use crate::said::said;
-use crate::stop::Stop;
+use crate::stop::{Stop, step_stop};
 use crate::telling::put_happened;
 use bench_net::{Draws, Net};
 use bench_world::{Event, World};
 use ndn_name::Name;
-use repo_member::Group;
+use repo_member::{Group, GroupFault};
 use script_lang::{Line, Words, read_line};
 use std::alloc::Global;
 use std::mem;
@@ -221,6 +220,7 @@ impl Progress {
         net: &N,
         draws: &D,
     ) -> Result<(), Stop>
+        requires event { IsEventLine line }
         requires fit { StatesFit self.old.words (stated line) }
         requires named { NamesAreDeclared (map string_bytes self.old.labels.items)
             (standing_keys self.old.standing) self.old.words }
@@ -238,7 +238,7 @@ impl Progress {
         ensures steps { OnOk result (steps self.new ≤ steps self.old + 1) }
     {
         let Some(event) = said(&self.words, line) else {
-            return Err(Stop::Refused(Refusal::Syntax));
+            unreachable!()
         };
         self.carry_out(rt, &event, report, net, draws)
     }
@@ -305,13 +305,13 @@ impl Standing {
         ensures steps { OnOk result (steps_in self.new ≡ 0) }
         ensures err { IfErr result (λ stop. stop ≡ Stop.NoMemory) }
     {
-        match self {
-            Standing::Opening => Err(Stop::Refused(Refusal::NoGroup)),
-            Standing::Declaring(group) => {
-                group.add_member(node, key)?;
-                Ok(())
-            }
-            Standing::Acting(_) => Err(Stop::Refused(Refusal::Late)),
+        let Standing::Declaring(group) = self else {
+            unreachable!()
+        };
+        match group.add_member(node, key) {
+            Ok(_) => Ok(()),
+            Err(GroupFault::NoMemory) => Err(Stop::NoMemory),
+            Err(GroupFault::Duplicate | GroupFault::Full) => unreachable!(),
         }
     }
 
@@ -330,13 +330,13 @@ impl Standing {
         ensures steps { OnOk result (steps_in self.new ≡ 0) }
         ensures err { IfErr result (λ stop. stop ≡ Stop.NoMemory) }
     {
-        match self {
-            Standing::Opening => Err(Stop::Refused(Refusal::NoGroup)),
-            Standing::Declaring(group) => {
-                group.add_client(node, key)?;
-                Ok(())
-            }
-            Standing::Acting(_) => Err(Stop::Refused(Refusal::Late)),
+        let Standing::Declaring(group) = self else {
+            unreachable!()
+        };
+        match group.add_client(node, key) {
+            Ok(_) => Ok(()),
+            Err(GroupFault::NoMemory) => Err(Stop::NoMemory),
+            Err(GroupFault::Duplicate | GroupFault::Full) => unreachable!(),
         }
     }
 
@@ -350,7 +350,7 @@ impl Standing {
         ensures err { IfErr result (λ stop. stop ≡ Stop.NoMemory) }
     {
         match self {
-            Standing::Opening => Err(Stop::Refused(Refusal::NoGroup)),
+            Standing::Opening => unreachable!(),
             Standing::Declaring(group) => Ok(World::new(alloc, group, draws)?),
             Standing::Acting(world) => Ok(world),
         }
@@ -385,7 +385,10 @@ fn step<N: Net + Sync, D: Draws, R: Threads + Sync>(
     ensures stopped { IfErr result (IsStopOf (refusal (outside world.old.keys (D.draw draws.now) (N.passes net.now))
         (world_of world.old) (group_event world.old.keys (event_value event.now)))) }
 {
-    let happened = world.step(rt, event, net, draws)?;
+    let happened = match world.step(rt, event, net, draws) {
+        Ok(happened) => happened,
+        Err(fault) => return Err(step_stop(fault)),
+    };
     put_happened(report, labels, &happened)?;
     Ok(())
 }

@@ -1,14 +1,16 @@
-ghost use Rattle.std.specs.Prelude.{◌≡◌};
+ghost use Rattle.std.specs.Prelude.{◌≡◌, true};
 ghost use Rattle.std.specs.Option.{option_map};
 ghost use Rattle.script_lang.specs.Forms.{stated};
+ghost use Rattle.script_lang.specs.Checking.{are_known, has_label};
 ghost use Rattle.bench_world.specs.EventValues.{event_value};
 ghost use Rattle.repo_top.specs.SaidEvents.{party_number, said_event};
 
 use bench_world::Event;
 use script_lang::{Line, Words};
 
-// The event that a line states, where the words have declared its labels; none of a declaration.
+// The event that a line states, whose labels the words have declared; none of a declaration.
 pub(crate) fn said(words: &Words, line: Line) -> Option<Event>
+    requires { are_known words.now (stated line) ≡ true }
     ensures { option_map event_value result ≡ said_event words.now (stated line) }
 {
     let event = match line {
@@ -140,14 +142,22 @@ pub(crate) fn said(words: &Words, line: Line) -> Option<Event>
 
 // The number of the member with this label.
 fn member(words: &Words, label: &str) -> u32
+    requires { has_label label.now words.now.members ≡ true }
     ensures { result ≡ party_number label.now words.now.members }
 {
-    words.member(label).unwrap_or(0)
+    let Some(number) = words.member(label) else {
+        unreachable!()
+    };
+    number
 }
 
 // The number of the client with this label.
 fn client(words: &Words, label: &str) -> u32
+    requires { has_label label.now words.now.clients ≡ true }
     ensures { result ≡ party_number label.now words.now.clients }
 {
-    words.client(label).unwrap_or(0)
+    let Some(number) = words.client(label) else {
+        unreachable!()
+    };
+    number
 }

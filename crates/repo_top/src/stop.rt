@@ -1,6 +1,8 @@
+ghost use Rattle.std.specs.Prelude.{◌≡◌, Some, IsSome};
+ghost use Rattle.repo_top.specs.Stopping.{step_stop};
+
 use crate::refusal::Refusal;
 use bench_world::StepFault;
-use repo_member::GroupFault;
 use script_lang::{CheckFault, LineFault};
 use std::alloc::{AllocError, AllocFailed};
 
@@ -69,35 +71,18 @@ impl From<CheckFault> for Stop {
     }
 }
 
-impl From<GroupFault> for Stop {
-    ghost use Rattle.std.specs.Prelude.{◌≡◌};
-    ghost use Rattle.repo_top.specs.Stopping.{group_stop};
-
-    ghost from_gives = { λ fault stop. stop ≡ group_stop fault };
-
-    fn from(fault: GroupFault) -> Stop {
-        match fault {
-            GroupFault::Duplicate => Stop::Refused(Refusal::Duplicate),
-            GroupFault::Full => Stop::Refused(Refusal::Limit),
-            GroupFault::NoMemory => Stop::NoMemory,
-        }
-    }
-}
-
-impl From<StepFault> for Stop {
-    ghost use Rattle.std.specs.Prelude.{◌≡◌};
-    ghost use Rattle.repo_top.specs.Stopping.{step_stop};
-
-    ghost from_gives = { λ fault stop. stop ≡ step_stop fault };
-
-    fn from(fault: StepFault) -> Stop {
-        match fault {
-            StepFault::Refused { number: 5 } => Stop::Refused(Refusal::NoSuchPacket),
-            StepFault::Refused { number: 6 } => Stop::Refused(Refusal::FetcherBusy),
-            StepFault::Refused { number: 7 } => Stop::Refused(Refusal::FetcherIdle),
-            StepFault::Refused { .. } => Stop::Refused(Refusal::NumbersSpent),
-            StepFault::Foreign => Stop::Foreign,
-            StepFault::NoMemory => Stop::NoMemory,
-        }
+// A step is refused for one of four reasons, which it tells by their numbers.
+pub(crate) fn step_stop(fault: StepFault) -> Stop
+    requires { IsSome (step_stop fault) }
+    ensures { step_stop fault ≡ Some result }
+{
+    match fault {
+        StepFault::Refused { number: 5 } => Stop::Refused(Refusal::NoSuchPacket),
+        StepFault::Refused { number: 6 } => Stop::Refused(Refusal::FetcherBusy),
+        StepFault::Refused { number: 7 } => Stop::Refused(Refusal::FetcherIdle),
+        StepFault::Refused { number: 8 } => Stop::Refused(Refusal::NumbersSpent),
+        StepFault::Refused { .. } => unreachable!(),
+        StepFault::Foreign => Stop::Foreign,
+        StepFault::NoMemory => Stop::NoMemory,
     }
 }

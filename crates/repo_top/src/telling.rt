@@ -2,7 +2,8 @@ ghost use Rattle.std.specs.Prelude.{◌≡◌, map, length, string_bytes, IfOk};
 ghost use Rattle.script_report.specs.Pieces.{Appends};
 ghost use Rattle.bench_world.specs.EventValues.{told_value};
 ghost use Rattle.bench_world.specs.Steps.{NamesAll};
-ghost use Rattle.repo_top.specs.ToldTexts.{label_at, publisher_label, told_text};
+ghost use Rattle.repo_top.specs.Labels.{label_at};
+ghost use Rattle.repo_top.specs.ToldTexts.{publisher_label, told_text};
 
 mod refusal_text;
 
@@ -190,13 +191,13 @@ pub(crate) fn put_happened(
     }
 }
 
-// The label of a member, or nothing where there is none.
+// The label of a member. What stands for nobody's is no label.
 pub(crate) fn label(labels: &[String], m: u32) -> &str
     ensures { result.now ≡ label_at (map string_bytes labels.now) m }
 {
     match labels.get(m as usize) {
         Some(label) => label.as_str(),
-        None => "",
+        None => "?",
     }
 }
 

@@ -1,4 +1,4 @@
-use Rattle.repo_top.proofs.HeadlineGroups.{reach_sound}
+use Rattle.repo_top.proofs.HeadlineMembers.{reach_sound}
 use Rattle.repo_top.proofs.HeadlineSettles.{telling_changes_nothing}
 use Rattle.repo_top.proofs.headline.lines_reach_sound_groups.Goals as goal
 

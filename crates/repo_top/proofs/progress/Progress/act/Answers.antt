@@ -5,13 +5,13 @@ use Rattle.script_lang.specs.Forms.{stated}
 use Rattle.bench_world.specs.EventValues.{event_value}
 use Rattle.repo_top.specs.Judging.{Verdict, given_by, says}
 use Rattle.repo_top.specs.Progressing.{IsStop, progress_state}
-use Rattle.repo_top.proofs.Judgings.{acts, acts_not}
+use Rattle.repo_top.proofs.Judgings.{acts, states_some}
 use Rattle.repo_top.proofs.progress.Progress.act.Goals as goal
 
-pub returns-in_default-clause-stopped : goal.returns-in_default-clause-stopped
-returns-in_default-clause-stopped g c = acts_not (given_by (g.D.Draws.draw c.args.draws.now) (g.N.Net.passes
-    c.args.net.now)) (progress_state c.args.self.now)
-    c.args.self.now.words (stated c.args.line) (ap (option_map event_value) (sym c.in_default.is) ∙ c.said.ensures)
+pub unreachable-requires : goal.unreachable-requires
+unreachable-requires g c =
+    states_some c.args.self.now.words c.args.line c.requires.event
+    (ap (option_map event_value) (sym c.in_default.is) ∙ c.said.ensures)
 
 pub returns-clause-taken : goal.returns-clause-taken
 returns-clause-taken g c =

@@ -76,6 +76,10 @@ returns-in-Client-clause-taken g c =
     declared_says c.declare_client.result _ c.args.report.now.items _ _ one.0.says c.requires.empty
     c.declare_client.ensures.state
 
+pub act-requires-clause-event : goal.act-requires-clause-event
+act-requires-clause-event g c κs within =
+    is_event c.args.line c.in_default.not-Group c.in_default.not-Member c.in_default.not-Client
+
 pub act-requires-clause-fit : goal.act-requires-clause-fit
 act-requires-clause-fit g c κs within =
     (event_acts (given_by (g.D.Draws.draw c.args.draws.now) (g.N.Net.passes c.args.net.now))
