@@ -1,5 +1,5 @@
 -- What the ports of an inbox and its mouth know, and what each step tells them.
-use Rattle.std.specs.Prelude.{ℕ, ◌+◌, ◌<◌, ◌≡◌, ◌==◌, true, false, List, [], ◌∷◌, ◌++◌, map}
+use Rattle.std.specs.Prelude.{ℕ, ◌<◌, ◌≡◌, ◌==◌, true, false, List, [], ◌∷◌, ◌++◌, map}
 use Rattle.std.specs.List.{All, filter}
 use Rattle.live_inbox.specs.declared.knowledge.Sent.{Sent}
 use Rattle.live_inbox.specs.declared.knowledge.Returned.{Returned}

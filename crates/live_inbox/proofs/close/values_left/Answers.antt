@@ -1,4 +1,4 @@
-use Rattle.std.proofs.Common.{◌∙◌, ◌++◌, ◌∷◌, [], ap, sym}
+use Rattle.std.proofs.Common.{◌∙◌}
 use Rattle.crossbeam_queue.specs.Passes.{view}
 use Rattle.live_inbox.proofs.Moves.{takes_at, all_there_at}
 use Rattle.live_inbox.proofs.Ending.{emptied_closing, emptied_none, emptied_next, emptied_all}
