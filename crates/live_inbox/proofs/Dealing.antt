@@ -1,7 +1,7 @@
 -- A port that is dealt out, and one that is taken back, keep the rule.
-use Rattle.std.proofs.Common.{◌≡◌, ◌≢◌, ℕ, zero, suc, ◌+◌, ◌<◌, ◌≤◌, ◌==◌, ◌⊎◌, inl, inr, Bool, true, false, true≢false, List, [], ◌∷◌, ◌++◌, length, set, refl, ap, sym, ◌∙◌, subst, ⊎_elim, arith}
+use Rattle.std.proofs.Common.{◌≡◌, ◌≢◌, ℕ, ◌+◌, ◌<◌, ◌==◌, true, false, true≢false, List, [], ◌∷◌, ◌++◌, length, set}
+use Rattle.std.proofs.Common.{refl, ap, sym, ◌∙◌, subst, ⊎_elim, arith}
 use Rattle.std.specs.Prelude.{if◌then◌else◌}
-use Rattle.std.specs.List.{All}
 use Rattle.std.proofs.lemmas.List.Elements.{All-push}
 use Rattle.std.proofs.lemmas.Bool.{ne_eqb}
 use mathlib.Core.Option.{some}
@@ -48,13 +48,15 @@ module _ {T : Type 0} where
 
   pub deals : (count place ports dealt : ℕ) (taken waiting : List (Sent T)) (returned : List (Returned T))
       → dealt < count → (0 < dealt → ports ≡ count)
-      → Forks Delivers place (mouth_knows ports dealt taken waiting returned) (mouth_knows count (dealt + 1) taken waiting returned) (port_knows dealt count [])
+      → Forks Delivers place (mouth_knows ports dealt taken waiting returned)
+      (mouth_knows count (dealt + 1) taken waiting returned) (port_knows dealt count [])
   deals count place ports dealt taken waiting returned few told items views d at =
       let h = d.history in
       let l : Knowledge T = mouth_knows count (dealt + 1) taken waiting returned in
       let r : Knowledge T = port_knows dealt count [] in
       let vs : List (Knowledge T) = set views place l in
-      let mine : IsMouth h items place (mouth_knows ports dealt taken waiting returned) = d.mouth place (mouth_knows ports dealt taken waiting returned) at refl in
+      let mine : IsMouth h items place (mouth_knows ports dealt taken waiting returned) =
+      d.mouth place (mouth_knows ports dealt taken waiting returned) at refl in
       let h' : History T = after_deal count (length vs) h in
       let told' : 0 < h.dealt → h.count ≡ count = λ some. sym mine.ports ∙ told (omega (arith, some, mine.dealt)) in
       let ports' : (j : ℕ) (u : Knowledge T) → get_elem? vs j ≡ some u → u.puts ≡ true → IsPort h' j u =
@@ -73,13 +75,20 @@ module _ {T : Type 0} where
       (λ j u apart e s. absurd (apart ((d.mouth j u e s).only ∙ sym mine.only))) in
       record {
         history = h';
-        whole = record { each = d.whole.each; few = omega (arith, few, mine.dealt); undealt = λ q most. d.whole.undealt q (omega (arith, most)) };
+        whole = record {
+          each = d.whole.each;
+          few = omega (arith, few, mine.dealt);
+          undealt = λ q most. d.whole.undealt q (omega (arith, most));
+        };
         ports = λ j u e s. ⊎_elim (λ x. ports' j u x s)
-            (λ (x : (j ≡ length vs) × (r ≡ u)). subst (λ (y : ℕ × Knowledge T). IsPort h' y.0 y.1) (λ i. (sym x.0 i, x.1 i))
-            (subst (λ n. IsPort h' (length vs) (port_knows n count [])) (sym mine.dealt) (new_port h items count (length vs) d.whole)))
+            (λ (x : (j ≡ length vs) × (r ≡ u)). subst (λ (y : ℕ × Knowledge T). IsPort h' y.0 y.1)
+            (λ i. (sym x.0 i, x.1 i))
+            (subst (λ n. IsPort h' (length vs) (port_knows n count [])) (sym mine.dealt)
+            (new_port h items count (length vs) d.whole)))
             (at_longer vs r u j e);
         mouth = λ j u e s. ⊎_elim (λ x. mouth' j u x s)
-            (λ (x : (j ≡ length vs) × (r ≡ u)). absurd (true≢false (sym s ∙ sym (ap (λ (y : Knowledge T). y.takes) x.1)))) (at_longer vs r u j e);
+            (λ (x : (j ≡ length vs) × (r ≡ u)). absurd
+            (true≢false (sym s ∙ sym (ap (λ (y : Knowledge T). y.takes) x.1)))) (at_longer vs r u j e);
       }
 
   -- ---- a port is taken back
@@ -93,10 +102,13 @@ module _ {T : Type 0} where
   own_back : (h : History T) (number : ℕ) → (after_return number h).returned number ≡ true
   own_back h number = ap (λ b. if b then true else h.returned number) (same_number number number refl)
 
-  still_back : (h : History T) (number q : ℕ) → h.returned number ≡ false → h.returned q ≡ true → (after_return number h).returned q ≡ true
-  still_back h number q out back = other_out h number q (λ same. true≢false (sym back ∙ ap h.returned (sym same) ∙ out)) ∙ back
+  still_back : (h : History T) (number q : ℕ) → h.returned number ≡ false → h.returned q ≡ true
+      → (after_return number h).returned q ≡ true
+  still_back h number q out back = other_out h number q
+      (λ same. true≢false (sym back ∙ ap h.returned (sym same) ∙ out)) ∙ back
 
-  port_after_return : (h : History T) (number j : ℕ) (u : Knowledge T) → number ≢ u.port → IsPort h j u → IsPort (after_return number h) j u
+  port_after_return : (h : History T) (number j : ℕ) (u : Knowledge T) → number ≢ u.port → IsPort h j u
+      → IsPort (after_return number h) j u
   port_after_return h number j u apart one = record {
     there = one.there;
     ports = one.ports;
@@ -105,21 +117,26 @@ module _ {T : Type 0} where
     put = one.put;
   }
 
-  pub returns : (place ports dealt : ℕ) (taken waiting : List (Sent T)) (returned : List (Returned T)) (other number count : ℕ) (put : List T)
+  pub returns : (place ports dealt : ℕ) (taken waiting : List (Sent T)) (returned : List (Returned T))
+      (other number count : ℕ) (put : List T)
       → Merges Delivers place (mouth_knows ports dealt taken waiting returned) other (port_knows number count put)
       (mouth_knows ports dealt taken waiting (returned ++ record { port = number; put = put } ∷ [])) knows_nothing
   returns place ports dealt taken waiting returned other number count put items views d at two at' =
       let h = d.history in
       let back : Returned T = record { port = number; put = put } in
       let both : Knowledge T = mouth_knows ports dealt taken waiting (returned ++ back ∷ []) in
-      let mine : IsMouth h items place (mouth_knows ports dealt taken waiting returned) = d.mouth place (mouth_knows ports dealt taken waiting returned) at refl in
+      let mine : IsMouth h items place (mouth_knows ports dealt taken waiting returned) =
+      d.mouth place (mouth_knows ports dealt taken waiting returned) at refl in
       let vs : List (Knowledge T) = set views place both in
       let was : get_elem? views other ≡ some (port_knows number count put) =
-      ⊎_elim (λ (x : (other ≡ place) × (both ≡ port_knows number count put)). absurd (two x.0)) (λ x. x.1) (at_set views place other both (port_knows number count put) at') in
-      let theirs : IsPort h other (port_knows number count put) = d.ports other (port_knows number count put) was refl in
+      ⊎_elim (λ (x : (other ≡ place) × (both ≡ port_knows number count put)). absurd (two x.0)) (λ x. x.1)
+      (at_set views place other both (port_knows number count put) at') in
+      let theirs : IsPort h other (port_knows number count put) =
+      d.ports other (port_knows number count put) was refl in
       let h' : History T = after_return number h in
       let ports' : (j : ℕ) (u : Knowledge T) → get_elem? vs j ≡ some u → j ≢ other → u.puts ≡ true → IsPort h' j u =
-      each_set (λ j u. j ≢ other → u.puts ≡ true → IsPort h' j u) views place both (λ apart s. absurd (true≢false (sym s)))
+      each_set (λ j u. j ≢ other → u.puts ≡ true → IsPort h' j u) views place both
+      (λ apart s. absurd (true≢false (sym s)))
       (λ j u _ e apart s. let one = d.ports j u e s in
       port_after_return h number j u (λ same. apart (sym one.only ∙ ap h.place (sym same) ∙ theirs.only)) one) in
       let mouth' : (j : ℕ) (u : Knowledge T) → get_elem? vs j ≡ some u → u.takes ≡ true → IsMouth h' items j u =
@@ -131,7 +148,8 @@ module _ {T : Type 0} where
         taken = mine.taken;
         waiting = mine.waiting;
         returned = All-push (IsReturned h') returned back
-            (All_to (IsReturned h) (IsReturned h') (λ r y. (y.0, still_back h number r.port theirs.out y.1)) returned mine.returned)
+            (All_to (IsReturned h) (IsReturned h') (λ r y.
+            (y.0, still_back h number r.port theirs.out y.1)) returned mine.returned)
             (sym theirs.put, own_back h number);
       })
       (λ j u apart e s. absurd (apart ((d.mouth j u e s).only ∙ sym mine.only))) in
@@ -140,24 +158,33 @@ module _ {T : Type 0} where
         whole = record {
           each = d.whole.each;
           few = d.whole.few;
-          undealt = λ q most. ((d.whole.undealt q most).0, other_out h number q (λ is. omega (arith, theirs.there, most, is)) ∙ (d.whole.undealt q most).1);
+          undealt = λ q most. (
+            (d.whole.undealt q most).0,
+            other_out h number q (λ is. omega (arith, theirs.there, most, is)) ∙ (d.whole.undealt q most).1,
+          );
         };
-        ports = each_set (λ j u. u.puts ≡ true → IsPort h' j u) vs other knows_nothing (λ s. absurd (true≢false (sym s))) (λ j u apart e s. ports' j u e apart s);
-        mouth = each_set (λ j u. u.takes ≡ true → IsMouth h' items j u) vs other knows_nothing (λ s. absurd (true≢false (sym s))) (λ j u apart e s. mouth' j u e s);
+        ports = each_set (λ j u. u.puts ≡ true → IsPort h' j u) vs other knows_nothing
+            (λ s. absurd (true≢false (sym s))) (λ j u apart e s. ports' j u e apart s);
+        mouth = each_set (λ j u. u.takes ≡ true → IsMouth h' items j u) vs other knows_nothing
+            (λ s. absurd (true≢false (sym s))) (λ j u apart e s. mouth' j u e s);
       }
 
   -- ---- the same of knowledge that is known to be such
 
   pub deals_at : (count place dealt : ℕ) (v : Knowledge T) → dealt < count → IsDealing count dealt v
-      → Forks Delivers place v (mouth_knows count (v.dealt + 1) v.taken v.waiting v.returned) (port_knows v.dealt count [])
+      → Forks Delivers place v (mouth_knows count (v.dealt + 1) v.taken v.waiting v.returned)
+      (port_knows v.dealt count [])
   deals_at count place dealt v few is =
-      subst (λ (u : Knowledge T). Forks Delivers place u (mouth_knows count (u.dealt + 1) u.taken u.waiting u.returned) (port_knows u.dealt count [])) (sym is.mouth)
+      subst (λ (u : Knowledge T). Forks Delivers place u
+      (mouth_knows count (u.dealt + 1) u.taken u.waiting u.returned) (port_knows u.dealt count [])) (sym is.mouth)
       (deals count place v.ports dealt [] [] [] few is.told)
 
-  pub returns_at : (place other number : ℕ) (v w : Knowledge T) (returned : List (Returned T)) → IsClosing returned v → w ≡ port_knows number w.ports w.put
+  pub returns_at : (place other number : ℕ) (v w : Knowledge T) (returned : List (Returned T)) → IsClosing returned v
+      → w ≡ port_knows number w.ports w.put
       → Merges Delivers place v other w (took_back w v) knows_nothing
   returns_at place other number v w returned is was =
       subst (λ (u : Knowledge T). Merges Delivers place u other w (took_back w u) knows_nothing) (sym is)
-      (subst (λ (u : Knowledge T). Merges Delivers place (mouth_knows v.ports v.dealt v.taken v.waiting returned) other u
+      (subst (λ (u : Knowledge T). Merges Delivers place
+      (mouth_knows v.ports v.dealt v.taken v.waiting returned) other u
       (took_back u (mouth_knows v.ports v.dealt v.taken v.waiting returned)) knows_nothing) (sym was)
       (returns place v.ports v.dealt v.taken v.waiting returned other number w.ports w.put))

@@ -1,5 +1,6 @@
 -- What is left of an inbox.
-use Rattle.std.proofs.Common.{◌≡◌, ℕ, ◌<◌, List, [], ◌∷◌, ◌++◌, map, length, refl, ap, sym, ◌∙◌, subst, append_assoc, Result, Ok, Err, arith}
+use Rattle.std.proofs.Common.{◌≡◌, ℕ, ◌<◌, List, [], ◌∷◌, ◌++◌, map, length, refl, ap, sym, ◌∙◌, subst, append_assoc}
+use Rattle.std.proofs.Common.{Result, Ok, Err, arith}
 use Rattle.std.specs.Prelude.{IfOk, slice_index_or}
 use Rattle.std.specs.List.{All}
 use Rattle.std.proofs.lemmas.List.{append-nil, length-map, map-append}
@@ -33,32 +34,39 @@ module _ {T : Type 0} where
     first = ([], append-nil v.waiting);
   }
 
-  pub emptied_closing : (v : Knowledge T) (values : List T) (w : Knowledge T) → HasEmptied v values w → IsClosing v.returned w
+  pub emptied_closing : (v : Knowledge T) (values : List T) (w : Knowledge T) → HasEmptied v values w
+      → IsClosing v.returned w
   emptied_closing v values w h = is_closing v.ports v.dealt (v.taken ++ h.rest) w.waiting v.returned w h.knows
 
-  first_next : (waiting rest between now : List (Sent T)) (x : Sent T) → StandsBefore waiting (rest ++ between) → StandsBefore between (x ∷ now)
+  first_next : (waiting rest between now : List (Sent T)) (x : Sent T) → StandsBefore waiting (rest ++ between)
+      → StandsBefore between (x ∷ now)
       → StandsBefore waiting ((rest ++ x ∷ []) ++ now)
   first_next waiting rest between now x a b = (
     a.0 ++ b.0,
-    sym (append_assoc waiting a.0 b.0) ∙ ap (λ l. l ++ b.0) a.1 ∙ append_assoc rest between b.0 ∙ ap (λ l. rest ++ l) b.1
+    sym (append_assoc waiting a.0 b.0) ∙ ap (λ l. l ++ b.0) a.1 ∙ append_assoc rest between b.0
+        ∙ ap (λ l. rest ++ l) b.1
         ∙ sym (append_assoc rest (x ∷ []) now),
   )
 
-  pub emptied_next : (v : Knowledge T) (values : List T) (w : Knowledge T) (x : Sent T) (u : Knowledge T) → HasEmptied v values w → TakesFirst w x u
+  pub emptied_next : (v : Knowledge T) (values : List T) (w : Knowledge T) (x : Sent T) (u : Knowledge T)
+      → HasEmptied v values w → TakesFirst w x u
       → HasEmptied v (values ++ x.value ∷ []) u
   emptied_next v values w x u h t =
       let knows : u ≡ mouth_knows v.ports v.dealt ((v.taken ++ h.rest) ++ x ∷ []) u.waiting v.returned =
-      t.knows ∙ ap (λ (k : Knowledge T). mouth_knows k.ports k.dealt (k.taken ++ x ∷ []) u.waiting k.returned) h.knows in
+      t.knows ∙ ap (λ (k : Knowledge T). mouth_knows k.ports k.dealt
+      (k.taken ++ x ∷ []) u.waiting k.returned) h.knows in
       record {
         rest = h.rest ++ x ∷ [];
         same = map-append (λ (y : Sent T). y.value) h.rest (x ∷ []) ∙ ap (λ l. l ++ x.value ∷ []) h.same;
-        knows = knows ∙ ap (λ l. mouth_knows v.ports v.dealt l u.waiting v.returned) (append_assoc v.taken h.rest (x ∷ []));
+        knows = knows ∙ ap (λ l. mouth_knows v.ports v.dealt l u.waiting v.returned)
+            (append_assoc v.taken h.rest (x ∷ []));
         first = first_next v.waiting h.rest w.waiting u.waiting x h.first t.first;
       }
 
   -- nothing is left
   none_left : (ports : ℕ) (taken waiting : List (Sent T)) (back : List (Returned T)) (items : List (Sent T))
-      → length items ≡ 0 → StandsBefore waiting items → AllThere ports taken back items → (waiting ≡ []) × AllThere ports taken back []
+      → length items ≡ 0 → StandsBefore waiting items → AllThere ports taken back items
+      → (waiting ≡ []) × AllThere ports taken back []
   none_left ports taken [] back [] none first all = (refl, all)
   none_left ports taken (y ∷ ys) back [] none first all = absurd (omega (arith, ap length first.1))
   none_left ports taken waiting back (x ∷ xs) none first all = absurd (omega arith)
@@ -72,7 +80,8 @@ module _ {T : Type 0} where
       record {
         left = h.rest;
         same = h.same;
-        there = subst (λ (l : List (Sent T)). All (λ x. x.port < v.ports) l × All (λ r. values_of r.port l ≡ r.put) v.returned)
+        there = subst (λ (l : List (Sent T)). All (λ x. x.port < v.ports) l
+            × All (λ r. values_of r.port l ≡ r.put) v.returned)
             (append-nil (v.taken ++ h.rest)) all;
         first = (h.first.0, h.first.1 ∙ ap (λ l. h.rest ++ l) none.0 ∙ append-nil h.rest);
       }
@@ -82,7 +91,8 @@ module _ {T : Type 0} where
   abbrev seen : TableId → Knowledge T → MouthView T
   seen inbox v = record { inbox = inbox; ports = v.ports; taken = v.taken; waiting = v.waiting }
 
-  pub has_taken : (inbox now : TableId) (v : Knowledge T) (x : Sent T) (w : Knowledge T) → now ≡ inbox → TakesFirst v x w
+  pub has_taken : (inbox now : TableId) (v : Knowledge T) (x : Sent T) (w : Knowledge T) → now ≡ inbox
+      → TakesFirst v x w
       → HasTaken (seen inbox v) x.value (seen now w)
   has_taken inbox now v x w same t = record {
     port = x.port;
@@ -100,14 +110,18 @@ module _ {T : Type 0} where
       → All (λ r. values_of r.port (taken ++ left) ≡ r.put) (map returned ports)
       → All (λ port. values_of port.number (taken ++ left) ≡ port.put) ports
   each_port ports taken left h = λ k d less.
-      let is : slice_index_or (map returned ports) k (returned d) ≡ returned (slice_index_or ports k d) = get_or-map returned ports k d in
-      subst (λ (x : Returned T). values_of x.port (taken ++ left) ≡ x.put) is (h k (returned d) (omega (arith, less, length-map ports returned)))
+      let is : slice_index_or (map returned ports) k (returned d) ≡ returned (slice_index_or ports k d) =
+      get_or-map returned ports k d in
+      subst (λ (x : Returned T). values_of x.port (taken ++ left) ≡ x.put) is
+      (h k (returned d) (omega (arith, less, length-map ports returned)))
 
-  pub closes : {V A : Type 0} (items : V → List T) (r : Result V A) (ports : List (PortView T)) (mouth : MouthView T) (dealt : ℕ) (v : Knowledge T)
+  pub closes : {V A : Type 0} (items : V → List T) (r : Result V A) (ports : List (PortView T)) (mouth : MouthView T)
+      (dealt : ℕ) (v : Knowledge T)
       → v ≡ mouth_knows mouth.ports dealt mouth.taken mouth.waiting (map returned ports)
       → IfOk r (λ values. Remain v (items values)) → IfOk r (λ values. AreLeft ports mouth (items values))
   closes items (Ok values) ports mouth dealt v is h =
-      let remain : Remain (mouth_knows mouth.ports dealt mouth.taken mouth.waiting (map returned ports)) (items values) =
+      let remain : Remain (mouth_knows mouth.ports dealt mouth.taken mouth.waiting (map returned ports))
+      (items values) =
       subst (λ (u : Knowledge T). Remain u (items values)) is h in
       record {
         left = remain.left;

@@ -1,8 +1,9 @@
 -- The values of one port, and facts of all places but one.
-use Rattle.std.proofs.Common.{◌≡◌, ◌≢◌, ℕ, zero, suc, ◌<◌, ◌≤◌, ◌==◌, ◌⊎◌, inl, inr, Bool, true, false, true≢false, List, [], ◌∷◌, ◌++◌, length, map, set, refl, ap, sym, ◌∙◌, subst, ⊎_elim, append_assoc, arith}
+use Rattle.std.proofs.Common.{◌≡◌, ◌≢◌, ℕ, zero, suc, ◌<◌, ◌≤◌, ◌==◌, ◌⊎◌, inl, inr, true, false, List, [], ◌∷◌, ◌++◌}
+use Rattle.std.proofs.Common.{length, map, set, refl, ap, sym, ◌∙◌, subst, ⊎_elim, arith}
 use Rattle.std.specs.Prelude.{slice_index_or}
 use Rattle.std.specs.List.{All, filter}
-use Rattle.std.proofs.lemmas.List.{append-nil, map-append}
+use Rattle.std.proofs.lemmas.List.{map-append}
 use Rattle.std.proofs.lemmas.List.Elements.{All-nil, All-cons, All-tail, filter-append}
 use Rattle.std.proofs.lemmas.Bool.{ne_eqb, cases_lt}
 use Rattle.std.proofs.lemmas.Bool.Decides.{eqb_tells}
@@ -14,7 +15,8 @@ use Rattle.live_inbox.specs.Knowledge.{values_of}
 
 pub same_number : (p q : ℕ) → p ≡ q → (p == q) ≡ true
 same_number p q is =
-    ⊎_elim (λ (t : ((p == q) ≡ true) × (p ≡ q)). t.0) (λ (t : ((p == q) ≡ false) × (p ≢ q)). absurd (t.1 is)) (eqb_tells p q)
+    ⊎_elim (λ (t : ((p == q) ≡ true) × (p ≡ q)). t.0) (λ (t : ((p == q) ≡ false) × (p ≢ q)). absurd (t.1 is))
+    (eqb_tells p q)
 
 -- a weaker fact of all elements
 pub All_to : {X : Type 0} (P Q : X → Type 0) → ((x : X) → P x → Q x) → (xs : List X) → All P xs → All Q xs
@@ -30,7 +32,8 @@ pub at_longer : {A : Type 0} (l : List A) (a b : A) (j : ℕ) → get_elem? (l +
 at_longer [] a b zero e = inr (refl, some-injective a b e)
 at_longer [] a b (suc j) e = absurd (some-ne-none b (sym e))
 at_longer (x ∷ xs) a b zero e = inl e
-at_longer (x ∷ xs) a b (suc j) e = ⊎_elim (λ t. inl t) (λ (t : (j ≡ length xs) × (a ≡ b)). inr (ap suc t.0, t.1)) (at_longer xs a b j e)
+at_longer (x ∷ xs) a b (suc j) e = ⊎_elim (λ t. inl t) (λ (t : (j ≡ length xs) × (a ≡ b)). inr (ap suc t.0, t.1))
+    (at_longer xs a b j e)
 
 -- what holds at each place after a change of one
 pub each_set : {V : Type 0} (F : ℕ → V → Type 0) (views : List V) (place : ℕ) (w : V) → F place w
@@ -44,7 +47,8 @@ module _ {T : Type 0} where
   pub values_append : (p : ℕ) (xs ys : List (Sent T)) → values_of p (xs ++ ys) ≡ values_of p xs ++ values_of p ys
   values_append p xs ys =
       ap (map (λ (x : Sent T). x.value)) (filter-append (λ (x : Sent T). x.port == p) xs ys)
-      ∙ map-append (λ (x : Sent T). x.value) (filter (λ (x : Sent T). x.port == p) xs) (filter (λ (x : Sent T). x.port == p) ys)
+      ∙ map-append (λ (x : Sent T). x.value) (filter (λ (x : Sent T). x.port == p) xs)
+      (filter (λ (x : Sent T). x.port == p) ys)
 
   -- what a first value adds
   own_first : (p : ℕ) (x : Sent T) (xs : List (Sent T)) → x.port ≡ p → values_of p (x ∷ xs) ≡ x.value ∷ values_of p xs
@@ -68,9 +72,11 @@ module _ {T : Type 0} where
       (λ (t : ((x.port == p) ≡ false) × (x.port ≢ p)). sym (other_first p x xs t.1) ∙ none) (eqb_tells x.port p)
 
   -- where some numbers have no values, no value is of one of them
-  pub all_below : (n : ℕ) (items : List (Sent T)) → ((p : ℕ) → n ≤ p → values_of p items ≡ []) → All (λ x. x.port < n) items
+  pub all_below : (n : ℕ) (items : List (Sent T)) → ((p : ℕ) → n ≤ p → values_of p items ≡ [])
+      → All (λ x. x.port < n) items
   all_below n [] none = All-nil (λ x. x.port < n)
   all_below n (x ∷ xs) none =
       All-cons (λ x. x.port < n) x xs
-      (⊎_elim (λ less. less) (λ (most : n ≤ x.port). absurd (own_some x.port x xs refl (none x.port most))) (cases_lt x.port n))
+      (⊎_elim (λ less. less) (λ (most : n ≤ x.port). absurd (own_some x.port x xs refl (none x.port most)))
+      (cases_lt x.port n))
       (all_below n xs (λ p most. rest_none p x xs (none p most)))

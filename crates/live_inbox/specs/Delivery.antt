@@ -51,9 +51,10 @@ module _ {T : Type 0} where
     pub history : History T
     pub whole : IsWhole history items
     pub ports : (place : ℕ) (v : Knowledge T) → get_elem? views place ≡ some v → v.puts ≡ true → IsPort history place v
-    pub mouth : (place : ℕ) (v : Knowledge T) → get_elem? views place ≡ some v → v.takes ≡ true → IsMouth history items place v
+    pub mouth : (place : ℕ) (v : Knowledge T) → get_elem? views place ≡ some v → v.takes ≡ true
+        → IsMouth history items place v
 
-  -- What each port had put that was taken back is what was taken of it and then what is left of it, and all this is of the
+  -- What each port had put that was taken back is what was taken of it and then what is left of it. All this is of the
   -- ports.
   abbrev pub AllThere : ℕ → List (Sent T) → List (Returned T) → List (Sent T) → Type 0
   AllThere ports taken returned left =

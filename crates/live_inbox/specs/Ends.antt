@@ -4,7 +4,8 @@ use Rattle.std.specs.List.{All}
 use Rattle.atomic_table.specs.Seated.{TableId}
 use Rattle.live_inbox.specs.declared.knowledge.Sent.{Sent}
 use Rattle.live_inbox.specs.declared.knowledge.Returned.{Returned}
-use Rattle.live_inbox.specs.Knowledge.{values_of, StandsBefore, StandsBehind}
+use Rattle.live_inbox.specs.declared.knowledge.Knowledge.{Knowledge}
+use Rattle.live_inbox.specs.Knowledge.{mouth_knows, values_of, StandsBefore, StandsBehind}
 
 -- What is fixed of an inbox: which it is, and how many values it holds at most.
 pub record InboxView : Type 0 where
@@ -18,8 +19,8 @@ pub record PortView (T : Type 0) : Type 0 where
   pub ports : ℕ
   pub put : List T
 
--- A mouth: of which inbox, how many ports there are, what it has taken, in order, and what stood in the inbox right after
--- its last take.
+-- A mouth: of which inbox, how many ports there are, what it has taken, in order, and what stood in the inbox right
+-- after its last take.
 pub record MouthView (T : Type 0) : Type 0 where
   pub inbox : TableId
   pub ports : ℕ
@@ -72,9 +73,13 @@ module _ {T : Type 0} where
   abbrev pub returned : PortView T → Returned T
   returned port = record { port = port.number; put = port.put }
 
-  -- These values are what is left of an inbox. For each port that came back, what was taken of it and then what is left of it
-  -- is what it put, in its order, each once. Each value taken or left is of one of the ports, and what the mouth knew to stand
-  -- in the inbox comes first.
+  -- What the mouth knows once all these ports are taken back.
+  abbrev pub knows_returned : List (PortView T) → Knowledge T → Knowledge T
+  knows_returned ports v = mouth_knows v.ports v.dealt v.taken v.waiting (map returned ports)
+
+  -- These values are what is left of an inbox. For each port that came back, what was taken of it and then what is
+  -- left of it is what it put, in its order, each once. Each value taken or left is of one of the ports, and what the
+  -- mouth knew to stand in the inbox comes first.
   pub record AreLeft (ports : List (PortView T)) (mouth : MouthView T) (values : List T) : Type 0 where
     pub left : List (Sent T)
     pub same : map (λ x. x.value) left ≡ values

@@ -1,5 +1,5 @@
 -- What the ports of an inbox and its mouth know, and what each step tells them.
-use Rattle.std.specs.Prelude.{ℕ, ◌+◌, ◌<◌, ◌≡◌, ◌==◌, true, false, List, [], ◌∷◌, ◌++◌, map}
+use Rattle.std.specs.Prelude.{ℕ, ◌<◌, ◌≡◌, ◌==◌, true, false, List, [], ◌∷◌, ◌++◌, map}
 use Rattle.std.specs.List.{All, filter}
 use Rattle.live_inbox.specs.declared.knowledge.Sent.{Sent}
 use Rattle.live_inbox.specs.declared.knowledge.Returned.{Returned}
@@ -24,8 +24,8 @@ module _ {T : Type 0} where
     returned = [];
   }
 
-  -- The mouth knows how many ports there are and how many were dealt out, what it has taken, what stood in the queue at its
-  -- last take, and what the ports had put that it took back.
+  -- The mouth knows how many ports there are and how many were dealt out, what it has taken, what stood in the queue
+  -- at its last take, and what the ports had put that it took back.
   abbrev pub mouth_knows : ℕ → ℕ → List (Sent T) → List (Sent T) → List (Returned T) → Knowledge T
   mouth_knows ports dealt taken waiting returned = record {
     puts = false;
@@ -72,7 +72,8 @@ module _ {T : Type 0} where
 
   -- The mouth has taken a port back, with what the port knew.
   abbrev pub took_back : Knowledge T → Knowledge T → Knowledge T
-  took_back port v = mouth_knows v.ports v.dealt v.taken v.waiting (v.returned ++ record { port = port.port; put = port.put } ∷ [])
+  took_back port v = mouth_knows v.ports v.dealt v.taken v.waiting
+      (v.returned ++ record { port = port.port; put = port.put } ∷ [])
 
   -- What was known to stand in the queue stands in front.
   abbrev pub StandsBefore : List (Sent T) → List (Sent T) → Type 0
@@ -86,4 +87,5 @@ module _ {T : Type 0} where
 
   -- Each value in the queue is of one of the ports, and those of this port are the last that it put.
   abbrev pub StandsBehind : ℕ → ℕ → List T → List (Sent T) → Type 0
-  StandsBehind number ports put items = All (λ x. x.port < ports) items × ((before : List T) × (put ≡ before ++ values_of number items))
+  StandsBehind number ports put items = All (λ x. x.port < ports) items
+      × ((before : List T) × (put ≡ before ++ values_of number items))

@@ -1,8 +1,8 @@
-ghost use Rattle.std.specs.Prelude.{◌≡◌, map, All, IfOk};
+ghost use Rattle.std.specs.Prelude.{◌≡◌, All, IfOk};
 ghost use Rattle.crossbeam_queue.specs.Passes.{view, IsPassOf};
-ghost use Rattle.live_inbox.specs.Knowledge.{mouth_knows, IsOpen, IsClosing};
+ghost use Rattle.live_inbox.specs.Knowledge.{IsOpen, IsClosing};
 ghost use Rattle.live_inbox.specs.Delivery.{Remain};
-ghost use Rattle.live_inbox.specs.Ends.{returned};
+ghost use Rattle.live_inbox.specs.Ends.{knows_returned};
 
 use crate::port::Port;
 use crate::rule::{Place, Queue};
@@ -16,7 +16,7 @@ pub fn taken_back<T: Drop>(queue: &Queue<T>, mut place: Place<T>, ports: Vec<Por
     requires mouth { IsOpen (view place) }
     requires ports { All (λ port. port.inbox ≡ queue.now.table.shared.table_id) ports.items }
     ensures queue { IsPassOf queue.now result }
-    ensures mouth { view result ≡ mouth_knows (view place).ports (view place).dealt (view place).taken (view place).waiting (map returned ports.items) }
+    ensures mouth { view result ≡ knows_returned ports.items (view place) }
 {
     for port in ports {
         let Port { place: other, .. } = port;

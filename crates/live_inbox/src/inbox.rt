@@ -1,6 +1,7 @@
 ghost use Rattle.std.specs.Prelude.{◌≡◌, ◌≤◌, All, IfOk, IfErr, OnOk, IfSome, IfNone};
 ghost use Rattle.crossbeam_queue.specs.Fifo.{Held};
-ghost use Rattle.live_inbox.specs.Ends.{IsPortOf, IsMouthOf, fresh_ports, fresh_mouth, puts, HeldOf, HeldBefore, HasTaken, AreLeft};
+ghost use Rattle.live_inbox.specs.Ends.{IsPortOf, IsMouthOf, fresh_ports, fresh_mouth, puts};
+ghost use Rattle.live_inbox.specs.Ends.{HeldOf, HeldBefore, HasTaken, AreLeft};
 
 use crate::close::{taken_back, values_left};
 use crate::knowledge::Sent;
@@ -14,7 +15,8 @@ use std::alloc::{AllocError, Global};
 use std::marker::{Brand, Model};
 use std::sync::Wait;
 
-/// A bounded queue that threads share. Who has a port puts values into it, and who has the mouth takes them.
+/// A bounded queue that threads share. Who has a port puts values into it, and who has the mouth takes
+/// them.
 #[derive(Drop)]
 pub struct Inbox<T> {
     queue: Queue<T>,
@@ -81,7 +83,7 @@ impl<T: Drop> Inbox<T> {
         }
     }
 
-    /// The values left, the first put first. Where memory runs out, they are dropped with the inbox.
+    /// The values left, the first put first. Where memory runs out they are dropped with the inbox.
     pub fn close<R: Wait>(
         self,
         rt: &R,

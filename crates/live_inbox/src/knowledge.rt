@@ -7,7 +7,7 @@ pub struct Sent<T> {
     pub value: T,
 }
 
-/// What a port had put when the mouth took it back. Contracts alone speak of it: no value of it is made.
+/// What a port had put when the mouth took it back. Contracts alone speak of it: no value is made.
 pub struct Returned<T> {
     pub port: usize,
     pub put: LinkedList<T>,

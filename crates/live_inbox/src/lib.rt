@@ -1,5 +1,5 @@
-//! A bounded inbox that threads share: each of its ports puts values, and the one mouth takes them. What comes of a port
-//! is what it put, in its order, each once.
+//! A bounded inbox that threads share: each of its ports puts values, and the one mouth takes them. What
+//! comes of a port is what it put, in its order, each once.
 #![tactic(auto)]
 
 mod close;

@@ -2,7 +2,8 @@ use crate::knowledge::{Knowledge, Sent};
 use crossbeam_queue::protocol::Protocol;
 use crossbeam_queue::{Pass, RuledArrayQueue};
 
-/// The rule of an inbox: what each port has put is what was taken of it and then what the queue holds of it.
+/// The rule of an inbox: what each port has put is what was taken of it and then what the queue holds
+/// of it.
 pub struct InOrder;
 
 impl<T> Protocol<Sent<T>, Knowledge<T>> for InOrder {

@@ -248,7 +248,7 @@ fn pass_two<R: Threads + Wait + Sync>(
     )
 }
 
-// How many values each of two ports put, and the values as they were taken and then as they were left.
+// How many values each of two ports put, and the values as they were taken and then left.
 #[derive(Drop)]
 struct Passed {
     counts: [u32; 2],
