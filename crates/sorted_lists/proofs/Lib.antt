@@ -1,10 +1,12 @@
 pub mod Orders
 pub mod Search
 pub mod Sets
+pub mod Ranges
 pub mod MapChanges
 pub mod Blocks
 pub mod Entries
 pub mod RunOrder
 pub mod RunLists
 pub mod Numbers
+pub mod RunNumbers
 pub mod SameSets

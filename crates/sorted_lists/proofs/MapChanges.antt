@@ -1,13 +1,19 @@
 -- What a changed map has, beside what it had.
 use Rattle.std.proofs.Common.{◌≡◌, suc, ◌+◌, arith, length, cond, List, [], ◌∷◌, Some}
-use Rattle.std.proofs.Common.{None, refl, sym, ap, ◌∙◌}
+use Rattle.std.proofs.Common.{None, Option, unwrap_or, refl, sym, ap, ◌∙◌}
 use Rattle.std.specs.Cmp.{IsTotalOrder}
-use Rattle.std.specs.Ordering.{is_eq}
+use Rattle.std.specs.Ordering.{is_eq, eq_by_cmp}
 use Rattle.std.specs.declared.cmp.Ordering.{Ordering}
 use Rattle.std.specs.declared.cmp.Ordering.TheVariants.{Less, Equal, Greater}
 use Rattle.sorted_lists.specs.SortedList.{by_order, keys, IsBefore, Rises, value_of, with_value, without_key}
+use Rattle.sorted_lists.specs.SortedList.{last_up_to}
 use Rattle.sorted_lists.proofs.Orders.{greater_back}
 use Rattle.sorted_lists.proofs.Sets.{before_more}
+
+-- what the last entry up to a key says of the key itself
+abbrev pub value_found : {K V : Type 0} → (K → K → Ordering) → K → Option (K × V) → Option V
+value_found R k None = None
+value_found R k (Some y) = cond (eq_by_cmp R k y.0) (Some y.1) None
 
 module _ {K : Type 0} {R : K → K → Ordering} (o : IsTotalOrder R) where
   before_tied : (x y : K) (ks : List K) → R x y ≡ Equal → IsBefore R y ks → IsBefore R x ks
@@ -19,6 +25,30 @@ module _ {K V : Type 0} {R : K → K → Ordering} (o : IsTotalOrder R) where
   pub none_value : (k : K) (es : List (K × V)) → IsBefore R k (keys es) → value_of R es k ≡ None
   none_value k [] b = refl
   none_value k (e ∷ es) b = ap (λ c. cond (is_eq c) (Some e.1) (value_of R es k)) b.0 ∙ none_value k es b.1
+
+  none_up_to : (k : K) (es : List (K × V)) → IsBefore R k (keys es) → last_up_to R k es ≡ None
+  none_up_to k [] b = refl
+  none_up_to k (e ∷ es) b =
+      let here : Option (K × V) = Some (unwrap_or (last_up_to R k es) e) in ap (λ c. by_order c None here here) b.0
+
+  -- one look-up finds the value
+  pub value_last : (k : K) (es : List (K × V)) → Rises R (keys es)
+      → value_of R es k ≡ value_found R k (last_up_to R k es)
+  value_last k [] r = refl
+  value_last k (e ∷ es) r = go (value_last k es r.1) (R k e.0) refl where
+    go : value_of R es k ≡ value_found R k (last_up_to R k es) → (c : Ordering) → R k e.0 ≡ c
+        → cond (is_eq c) (Some e.1) (value_of R es k)
+        ≡ value_found R k (by_order c None (Some (unwrap_or (last_up_to R k es) e))
+        (Some (unwrap_or (last_up_to R k es) e)))
+    go i Less p = none_value k es (before_more o k e.0 (keys es) p r.0)
+    go i Equal p =
+        sym (ap (λ c. cond (is_eq c) (Some e.1) None) p)
+        ∙ ap (λ (z : Option (K × V)). value_found R k (Some (unwrap_or z e)))
+        (sym (none_up_to k es (before_tied o k e.0 (keys es) p r.0)))
+    go i Greater p = i ∙ kept (last_up_to R k es) where
+      kept : (z : Option (K × V)) → value_found R k z ≡ value_found R k (Some (unwrap_or z e))
+      kept None = sym (ap (λ c. cond (is_eq c) (Some e.1) None) p)
+      kept (Some y) = refl
 
   pub length-without : (k : K) (w : V) (es : List (K × V)) → Rises R (keys es) → value_of R es k ≡ Some w
       → length (without_key R k es) + 1 ≡ length es

@@ -2,12 +2,14 @@
 use Rattle.std.proofs.Common.{◌≡◌, ◌⊎◌, inl, inr, Bool, true, false, cond, ◌&&◌, ◌||◌, List, [], ◌∷◌, ◌++◌, map, refl}
 use Rattle.std.proofs.Common.{sym, ap, ◌∙◌, subst, Option, Some, None}
 use Rattle.std.proofs.lemmas.Bool.{true≢false, or_cases, or_right, or_left}
+use Rattle.std.specs.Prelude.{is_some}
 use Rattle.std.specs.List.{list_any, filter, flat_map}
 use Rattle.std.specs.Cmp.{IsTotalOrder}
 use Rattle.std.specs.Ordering.{eq_by_cmp, is_eq}
 use Rattle.std.specs.declared.cmp.Ordering.{Ordering}
 use Rattle.std.specs.declared.cmp.Ordering.TheVariants.{Less, Equal, Greater}
-use Rattle.sorted_lists.specs.SortedList.{by_order, keys, IsBefore, Rises, contains, insert_key, value_of, with_value}
+use Rattle.sorted_lists.specs.SortedList.{by_order, keys, IsBefore, Rises, contains, insert_key, insert_keys}
+use Rattle.sorted_lists.specs.SortedList.{value_of, with_value}
 use Rattle.sorted_lists.proofs.Orders.{Exact, greater_back, equal_from_is_eq}
 
 abbrev pub In : {A : Type 0} → A → List A → Type 0
@@ -269,3 +271,41 @@ module _ {A B : Type 0} where
   from_map f [] y i = absurd i
   from_map f (z ∷ zs) y (inl e) = (z, inl refl, e)
   from_map f (z ∷ zs) y (inr i) = let r : (x : A) × (In x zs) × (y ≡ f x) = from_map f zs y i in (r.0, inr r.1, r.2)
+
+pub contains_append : {K : Type 0} (R : K → K → Ordering) (xs ys : List K) (q : K)
+    → contains R (xs ++ ys) q ≡ (contains R xs q || contains R ys q)
+contains_append R [] ys q = refl
+contains_append R (x ∷ xs) ys q = go (eq_by_cmp R q x) (contains_append R xs ys q) where
+  go : (b : Bool) → contains R (xs ++ ys) q ≡ (contains R xs q || contains R ys q)
+      → (b || contains R (xs ++ ys) q) ≡ ((b || contains R xs q) || contains R ys q)
+  go true h = refl
+  go false h = h
+
+or_assoc : (a b c : Bool) → (a || (b || c)) ≡ ((a || b) || c)
+or_assoc true b c = refl
+or_assoc false b c = refl
+
+module _ {K : Type 0} {R : K → K → Ordering} (e : Exact R) where
+  -- ---- many keys more
+
+  pub contains-insert_keys : (ks xs : List K) (q : K)
+      → contains R (insert_keys R ks xs) q ≡ (contains R ks q || contains R xs q)
+  contains-insert_keys [] xs q = refl
+  contains-insert_keys (k ∷ ks) xs q =
+      contains-insert_key e k (insert_keys R ks xs) q
+      ∙ ap (λ (b : Bool). eq_by_cmp R q k || b) (contains-insert_keys ks xs q)
+      ∙ or_assoc (eq_by_cmp R q k) (contains R ks q) (contains R xs q)
+
+  pub rises_insert_keys : (ks xs : List K) → Rises R xs → Rises R (insert_keys R ks xs)
+  rises_insert_keys [] xs r = r
+  rises_insert_keys (k ∷ ks) xs r = rises_insert e.total k (insert_keys R ks xs) (rises_insert_keys ks xs r)
+
+-- a map has something under its keys
+pub value_key : {K V : Type 0} (R : K → K → Ordering) (es : List (K × V)) (q : K)
+    → is_some (value_of R es q) ≡ contains R (keys es) q
+value_key R [] q = refl
+value_key R (x ∷ xs) q = go (eq_by_cmp R q x.0) (value_key R xs q) where
+  go : (b : Bool) → is_some (value_of R xs q) ≡ contains R (keys xs) q
+      → is_some (cond b (Some x.1) (value_of R xs q)) ≡ (b || contains R (keys xs) q)
+  go true h = refl
+  go false h = h

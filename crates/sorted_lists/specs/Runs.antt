@@ -1,9 +1,10 @@
 -- Sets of numbers, of several things each, as runs.
-use Rattle.std.specs.Prelude.{ℕ, ◌≡◌, ◌+◌, Bool, true, ◌&&◌, Option, Some, None, if◌then◌else◌, List, [], ◌∷◌}
-use Rattle.std.specs.List.{list_any}
+use Rattle.std.specs.Prelude.{ℕ, ◌≡◌, ◌+◌, ◌-◌, map, Bool, true, ◌&&◌, Option, Some, None, if◌then◌else◌, List, [], ◌∷◌}
+use Rattle.std.specs.List.{list_any, flat_map}
 use Rattle.std.specs.Ordering.{nat_cmp, ordering_then, is_le, eq_by_cmp}
 use Rattle.std.specs.declared.cmp.Ordering.{Ordering}
 use Rattle.sorted_lists.specs.SortedList.{keys, IsBefore}
+use Rattle.sorted_lists.specs.Range.{numbers_from}
 
 -- a number of something
 abbrev pub Number : Type 0 → Type 0
@@ -56,6 +57,18 @@ module _ {P : Type 0} (R : P → P → Ordering) where
   pub record IsRuns (es : List (Run P)) : Type 0 where
     pub runs : AreRuns number_cmp next es
     pub one : AreOfOne es
+
+-- the numbers of a run
+abbrev pub run_numbers : {P : Type 0} → Run P → List (Number P)
+run_numbers run = map (λ n. (run.0.0, n)) (numbers_from run.0.1 (run.1.1 + 1 - run.0.1))
+
+-- those of a set
+abbrev pub numbers_of : {P : Type 0} → List (Run P) → List (Number P)
+numbers_of runs = flat_map run_numbers runs
+
+-- where its runs end
+abbrev pub lasts : {P : Type 0} → List (Run P) → List (Number P)
+lasts runs = map (λ r. r.1) runs
 
 -- what contracts see of a set
 pub record RunsState (P : Type 0) : Type 0 where

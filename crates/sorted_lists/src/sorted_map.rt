@@ -1,5 +1,5 @@
 ghost use Rattle.std.specs.Prelude.{◌≡◌, ◌+◌, ◌<◌, ◌≤◌, [], length, OnOk};
-ghost use Rattle.sorted_lists.specs.SortedList.{keys, Rises, with_value, without_key, last_up_to, first_from};
+ghost use Rattle.sorted_lists.specs.SortedList.{keys, Rises, value_of, with_value, without_key, last_up_to, first_from};
 
 use crate::block_map::BlockMap;
 use std::alloc::{AllocError, Global};
@@ -54,6 +54,18 @@ impl<K: Ord + Copy, V: Copy> SortedMap<K, V> {
         ensures rises { Rises K.cmp (keys self.now.entries) }
     {
         self.map.len()
+    }
+
+    /// What the map has under the key.
+    pub fn get(&self, key: K) -> Option<V>
+        ensures { result ≡ value_of K.cmp self.now.entries key }
+    {
+        let entry = self.last_up_to(key)?;
+        if key.cmp(&entry.0).is_eq() {
+            Some(entry.1)
+        } else {
+            None
+        }
     }
 
     /// The last entry whose key is not above this one.
