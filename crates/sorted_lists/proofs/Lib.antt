@@ -4,6 +4,7 @@ pub mod Sets
 pub mod Ranges
 pub mod MapChanges
 pub mod Blocks
+pub mod Rooms
 pub mod Entries
 pub mod RunOrder
 pub mod RunLists

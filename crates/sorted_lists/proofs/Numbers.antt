@@ -137,7 +137,8 @@ module _ {P : Type 0} {R : P → P → Ordering} (o : IsTotalOrder R) (exact : I
           (one_without (next q) es set.one);
     }
 
-    pub has_with : (x : Number P) → has (number_cmp R) runs_with x ≡ (eq_by_cmp (number_cmp R) x q || has (number_cmp R) es x)
+    pub has_with : (x : Number P)
+        → has (number_cmp R) runs_with x ≡ (eq_by_cmp (number_cmp R) x q || has (number_cmp R) es x)
     has_with x = longer_has follow es set.runs q lacks start_of end_of begins ends x
 
   -- ---- where a run ends

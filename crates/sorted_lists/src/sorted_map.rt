@@ -7,10 +7,10 @@ use std::marker::Model;
 
 /// A map in order of its keys, with room for entries that is made beforehand.
 ///
-/// A contract sees its entries as a list, and for how many more there is room. A call that takes room uses up at most
-/// one place of it, and none gives room back. A look-up or a change takes a search among the blocks and one in a block
-/// of at most 64 entries, and a change moves what stands behind its place in the block; only when a block is split or
-/// taken out do the blocks behind it move too.
+/// A contract sees its entries as a list, and for how many more there is room. `insert` uses up room for one at most,
+/// and no other call any. Entries stand in blocks of fewer than 64. A look-up or a change is a search among the blocks
+/// and one in a block. A change moves the entries behind its place in the block, and where a block is split or left
+/// empty, also the blocks behind it, of which each is three words.
 #[derive(Debug, Drop)]
 pub struct SortedMap<K: Ord + Copy, V: Copy> {
     map: BlockMap<K, V>,

@@ -6,8 +6,8 @@ use Rattle.sorted_lists.proofs.runs.holds.Goals as goal
 
 pub returns-in-None : goal.returns-in-None
 returns-in-None g c =
-    sym (lacks_none (follow g.met.P.Ord.total c.requires.exact) c.args.runs.now.entries c.requires.set.runs c.args.number
-    (sym c.in-None.ensures.found))
+    sym (lacks_none (follow g.met.P.Ord.total c.requires.exact) c.args.runs.now.entries c.requires.set.runs
+    c.args.number (sym c.in-None.ensures.found))
 
 pub returns-in-Some : goal.returns-in-Some
 returns-in-Some g c =

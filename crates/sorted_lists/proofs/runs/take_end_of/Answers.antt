@@ -15,4 +15,5 @@ returns-in_default-2-clause-runs g c =
     let f = follow g.met.P.Ord.total c.requires.exact in
     let es = c.args.runs.now.entries in
     sym
-    (whole_none f es c.requires.set.runs c.args.number c.requires.lacks (sym c.first_from.ensures.found ∙ c.in_default.is))
+    (whole_none f es c.requires.set.runs c.args.number c.requires.lacks
+    (sym c.first_from.ensures.found ∙ c.in_default.is))

@@ -8,8 +8,10 @@ use Rattle.std.proofs.Math.Numerals.{add-one}
 use Rattle.sorted_lists.specs.SortedList.{keys, Rises, with_value}
 use Rattle.sorted_lists.specs.BlockMap.{joined, room, AreBlocks, IsBlank, IsOpen, IsKept, half, full, entries}
 use Rattle.sorted_lists.proofs.MapChanges.{rises_with}
-use Rattle.sorted_lists.proofs.Blocks.{has_block, block_rises, block_at, with_place, with_some, with_more}
-use Rattle.sorted_lists.proofs.Blocks.{blocks_set, blocks_insert, joined_split, room_is, over_more, over_split}
+use Rattle.sorted_lists.proofs.Blocks.{block_rises, block_at, with_place, with_some, with_more}
+use Rattle.sorted_lists.proofs.Rooms.{has_block}
+use Rattle.sorted_lists.proofs.Blocks.{blocks_set, blocks_insert, joined_split}
+use Rattle.sorted_lists.proofs.Rooms.{room_is, over_more, over_split}
 use Rattle.sorted_lists.proofs.Blocks.{all_last, set_again}
 use Rattle.sorted_lists.proofs.block_map.BlockMap.insert.Goals as goal
 

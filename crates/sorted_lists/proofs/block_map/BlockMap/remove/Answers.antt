@@ -10,7 +10,8 @@ use Rattle.sorted_lists.specs.BlockMap.{joined, room, full, AreBlocks, IsBlank, 
 use Rattle.sorted_lists.proofs.MapChanges.{rises_without}
 use Rattle.sorted_lists.proofs.Blocks.{none_joined, block_rises, block_at, without_place, without_fewer, none_of}
 use Rattle.sorted_lists.proofs.Blocks.{positive, all_one}
-use Rattle.sorted_lists.proofs.Blocks.{blocks_set, blocks_set_remove, joined_remove, room_is, over_more, over_remove}
+use Rattle.sorted_lists.proofs.Blocks.{blocks_set, blocks_set_remove, joined_remove}
+use Rattle.sorted_lists.proofs.Rooms.{room_is, over_more, over_remove}
 use Rattle.sorted_lists.proofs.block_map.BlockMap.remove.Goals as goal
 use Rattle.sorted_lists.proofs.block_map.BlockMap.remove.Goals.{else-place-gt0-via-then-place-gt0+else-is_empty}
 use Rattle.sorted_lists.proofs.block_map.BlockMap.remove.Goals.{else-place-gt0-via-else-place-gt0}
@@ -161,7 +162,8 @@ returns-then-is_empty-clause-map g c =
           (blocks_set_remove blocks.items place new m.sizes (omega (arith, c.if-place-gt0.true)) within);
       spare =
           subst (All IsBlank) (sym pushed)
-          (All-append IsBlank c.args.self.now.spare.items (c.remove-empty.result ∷ []) m.spare (all_one IsBlank _ blank));
+          (All-append IsBlank c.args.self.now.spare.items (c.remove-empty.result ∷ []) m.spare
+          (all_one IsBlank _ blank));
       room = omega (arith, m.room, c.remove-empty.ensures.len, c.remove-empty.ensures.capacity, pushed_len);
       back = omega (arith, m.back, c.remove-empty.ensures.len, c.push.ensures.capacity, pushed_len);
       few = omega (arith, m.few, c.remove-empty.ensures.len, pushed_len);

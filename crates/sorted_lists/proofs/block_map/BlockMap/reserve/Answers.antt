@@ -1,5 +1,5 @@
 use Rattle.std.proofs.Common.{arith, length, ap}
-use Rattle.sorted_lists.proofs.Blocks.{room_is, over_bound}
+use Rattle.sorted_lists.proofs.Rooms.{room_is, over_bound}
 use Rattle.sorted_lists.proofs.block_map.BlockMap.reserve.Goals as goal
 
 pub returns-clause-room : goal.returns-clause-room

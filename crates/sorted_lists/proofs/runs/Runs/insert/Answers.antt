@@ -5,32 +5,35 @@ use Rattle.sorted_lists.proofs.runs.Runs.insert.Goals as goal
 
 pub invariant_of-self : goal.invariant_of-self
 invariant_of-self g c =
+    let o = g.met.P.Ord.total in
     let exact = c.self.invariant.0 in
     let es = c.self.inside.map.entries in
     let lacks = sym c.holds.ensures ∙ c.if-holds.false in
-    let whole : c.insert.new.self.entries ≡ runs_with g.met.P.Ord.total exact es c.self.invariant.1 c.args.number lacks =
+    let whole : c.insert.new.self.entries ≡ runs_with o exact es c.self.invariant.1 c.args.number lacks =
     rw (c.take_end_of-last.ensures.runs, c.start_of-first.ensures, c.take_end_of-last.ensures.end) at
     c.insert.ensures.entries in
-    (exact, rw whole (set_with g.met.P.Ord.total exact es c.self.invariant.1 c.args.number lacks))
+    (exact, rw whole (set_with o exact es c.self.invariant.1 c.args.number lacks))
 
 pub returns-clause-set : goal.returns-clause-set
 returns-clause-set g c =
+    let o = g.met.P.Ord.total in
     let exact = c.self.invariant.0 in
     let es = c.self.inside.map.entries in
     let lacks = sym c.holds.ensures ∙ c.if-holds.false in
-    let whole : c.insert.new.self.entries ≡ runs_with g.met.P.Ord.total exact es c.self.invariant.1 c.args.number lacks =
+    let whole : c.insert.new.self.entries ≡ runs_with o exact es c.self.invariant.1 c.args.number lacks =
     rw (c.take_end_of-last.ensures.runs, c.start_of-first.ensures, c.take_end_of-last.ensures.end) at
     c.insert.ensures.entries in
-    rw whole (set_with g.met.P.Ord.total exact es c.self.invariant.1 c.args.number lacks)
+    rw whole (set_with o exact es c.self.invariant.1 c.args.number lacks)
 
 pub returns-clause-numbers : goal.returns-clause-numbers
 returns-clause-numbers g c =
+    let o = g.met.P.Ord.total in
     let exact = c.self.invariant.0 in
     let es = c.self.inside.map.entries in
     let lacks = sym c.holds.ensures ∙ c.if-holds.false in
-    let whole : c.insert.new.self.entries ≡ runs_with g.met.P.Ord.total exact es c.self.invariant.1 c.args.number lacks =
+    let whole : c.insert.new.self.entries ≡ runs_with o exact es c.self.invariant.1 c.args.number lacks =
     rw (c.take_end_of-last.ensures.runs, c.start_of-first.ensures, c.take_end_of-last.ensures.end) at
     c.insert.ensures.entries in
     rw (← c.self.view_is)
     (λ x. ap (λ (zs : List (Run g.row.P.Denot)). has (number_cmp g.P.Ord.cmp) zs x) whole
-    ∙ has_with g.met.P.Ord.total exact es c.self.invariant.1 c.args.number lacks x)
+    ∙ has_with o exact es c.self.invariant.1 c.args.number lacks x)

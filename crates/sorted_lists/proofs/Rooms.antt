@@ -1,0 +1,77 @@
+-- The room that blocks take, when one of them changes, is split or goes.
+use Rattle.std.proofs.Common.{◌≡◌, ◌≤◌, ◌<◌, ◌+◌, ◌-◌, ◌*◌, ℕ, zero, suc, max, arith, length, set, get_or, inl, inr}
+use Rattle.std.proofs.Common.{List, [], ◌∷◌, refl, Vec, length-set}
+use Rattle.std.specs.List.{insert, remove}
+use Rattle.std.proofs.lemmas.List.Edits.{length-insert, length-remove}
+use Rattle.sorted_lists.specs.BlockMap.{over, room, half, full, IsKept, AreBlocks}
+use Rattle.sorted_lists.proofs.Blocks.{filled_blocks}
+
+module _ {K V A : Type 0} where
+  over_front : (b : Vec (K × V) A) (bs : List (Vec (K × V) A)) → 0 < length bs
+      → over (b ∷ bs) ≡ (length b.items - half) + over bs
+  over_front b [] l = absurd (omega arith)
+  over_front b (c ∷ bs) l = refl
+
+  -- a block has so many more entries at most
+  pub over_more : (bs : List (Vec (K × V) A)) (i n : ℕ) (c d : Vec (K × V) A) → i < length bs
+      → length c.items ≤ length (get_or bs i d).items + n → over (set bs i c) ≤ over bs + n
+  over_more [] i n c d l h = absurd (omega arith)
+  over_more (b ∷ []) zero n c d l h = omega (arith, h)
+  over_more (b ∷ []) (suc i) n c d l h = absurd (omega arith)
+  over_more (b ∷ e ∷ bs) zero n c d l h = omega (arith, h)
+  over_more (b ∷ e ∷ bs) (suc i) n c d l h =
+      omega (
+        arith,
+        over_front b (set (e ∷ bs) i c) (omega (arith, length-set (e ∷ bs) i c)),
+        over_more (e ∷ bs) i n c d (omega arith) h,
+      )
+
+  -- a block that has come to be full is split
+  pub over_split : (bs : List (Vec (K × V) A)) (i : ℕ) (b c d : Vec (K × V) A) → i < length bs
+      → length (get_or bs i d).items + 1 ≡ full → length b.items + length c.items ≡ full
+      → IsKept (length bs) i (length b.items) → over (insert (set bs i b) (suc i) c) + half ≤ over bs + 1
+  over_split [] i b c d l f s k = absurd (omega arith)
+  over_split (x ∷ []) zero b c d l f s (inl h) = omega (arith, f, s, h)
+  over_split (x ∷ []) zero b c d l f s (inr h) = omega (arith, f, s, h.0)
+  over_split (x ∷ []) (suc i) b c d l f s k = absurd (omega arith)
+  over_split (x ∷ y ∷ bs) zero b c d l f s (inl h) = omega (arith, f, s, h)
+  over_split (x ∷ y ∷ bs) zero b c d l f s (inr h) = absurd (omega (arith, h.1))
+  over_split (x ∷ y ∷ bs) (suc i) b c d l f s k =
+      let len = length-insert (set (y ∷ bs) i b) (suc i) c (omega (arith, length-set (y ∷ bs) i b)) in
+      omega (
+        arith,
+        over_front x (insert (set (y ∷ bs) i b) (suc i) c) (omega (arith, len)),
+        over_split (y ∷ bs) i b c d (omega arith) f s (behind k),
+      )
+    where
+      behind : IsKept (length (x ∷ y ∷ bs)) (suc i) (length b.items) → IsKept (length (y ∷ bs)) i (length b.items)
+      behind (inl h) = inl h
+      behind (inr h) = inr (h.0, omega (arith, h.1))
+
+  -- a block goes
+  pub over_remove : (bs : List (Vec (K × V) A)) (i : ℕ) → i < length bs → over (remove bs i) ≤ over bs + half
+  over_remove [] i l = absurd (omega arith)
+  over_remove (b ∷ []) zero l = omega arith
+  over_remove (b ∷ []) (suc i) l = absurd (omega arith)
+  over_remove (b ∷ c ∷ bs) zero l = omega arith
+  over_remove (b ∷ c ∷ []) (suc zero) l = omega arith
+  over_remove (b ∷ c ∷ []) (suc (suc i)) l = absurd (omega arith)
+  over_remove (b ∷ c ∷ d ∷ bs) (suc i) l =
+      omega (
+        arith,
+        over_front b (remove (c ∷ d ∷ bs) i) (omega (arith, length-remove (c ∷ d ∷ bs) i (omega arith))),
+        over_remove (c ∷ d ∷ bs) i (omega arith),
+      )
+
+  pub over_bound : (bs : List (Vec (K × V) A)) → AreBlocks bs → over bs ≤ half * length bs + half
+  over_bound [] f = omega arith
+  over_bound (b ∷ []) f = omega (arith, f.0.0)
+  over_bound (b ∷ c ∷ bs) f = omega (arith, f.0.0, over_bound (c ∷ bs) (filled_blocks (c ∷ bs) f.1))
+
+  pub room_is : (bs : List (Vec (K × V) A)) (n : ℕ) → 0 < length bs → room bs n ≡ max n (half * n - over bs)
+  room_is [] n l = absurd (omega arith)
+  room_is (b ∷ bs) n l = refl
+
+  pub has_block : (bs : List (Vec (K × V) A)) (n : ℕ) → 0 < room bs n → 0 < length bs
+  has_block [] n l = absurd (omega arith)
+  has_block (b ∷ bs) n l = omega arith
