@@ -1,12 +1,14 @@
 -- Where an entry stands in a catalogue, and what an edit at that place makes of it.
 use Rattle.std.proofs.Common.{◌≡◌, ℕ, zero, suc, ◌<◌, ◌≤◌, Bool, true, false, cond, not, List, [], ◌∷◌, map, length}
 use Rattle.std.proofs.Common.{get_or, Option, Some, None, Result, Ok, Err, refl, sym, ap, subst, ◌∙◌, arith}
+use Rattle.std.specs.Prelude.{is_ok, is_some}
 use Rattle.std.specs.List.{insert, remove, filter, HoldsAt, AllWithin}
 use Rattle.std.specs.List.Sorted.{IsSearchInRange, IsBinarySearchResult}
 use Rattle.std.specs.Cmp.{IsTotalOrder}
 use Rattle.std.specs.Ordering.{eq_by_cmp, is_eq}
 use Rattle.std.specs.declared.cmp.Ordering.{Ordering}
 use Rattle.std.specs.declared.cmp.Ordering.TheVariants.{Less, Equal, Greater}
+use Rattle.std.proofs.lemmas.Bool.{true≢false}
 use Rattle.repo_plan.specs.Parts.{Pair, pair_cmp}
 use Rattle.sorted_lists.specs.SortedList.{by_order, insert_key, IsBefore, Rises}
 use Rattle.sorted_lists.proofs.Orders.{less_back, greater_back, equal_back}
@@ -15,7 +17,7 @@ use Rattle.sorted_lists.proofs.Sets.{rises_insert, rises_filter}
 use Rattle.sorted_lists.proofs.Search.{Found, found}
 use Rattle.sorted_lists.proofs.Search.Found.{at_key, at_gap}
 use Rattle.repo_catalog.specs.declared.entry.Entry.{Entry}
-use Rattle.repo_catalog.specs.Entries.{publication_of, is_of, entry_of, with_entry, without, IsCatalogue}
+use Rattle.repo_catalog.specs.Entries.{publication_of, is_of, entry_of, lists, with_entry, without, IsCatalogue}
 
 abbrev order : IsTotalOrder pair_cmp
 order = exact_pairs.total
@@ -136,6 +138,11 @@ module _ (k : Pair) where
   pub without_rises : (es : List Entry) → IsCatalogue es → IsCatalogue (without k es)
   without_rises es r =
       subst (Rises pair_cmp) (sym (keys-without es)) (rises_filter order is_other (map publication_of es) r)
+
+-- a search for a publication that is listed ends at its entry
+pub found_ok : (k : Pair) (es : List Entry) (r : Result ℕ ℕ) → lists k es ≡ true → IsPlace k es r → is_ok r ≡ true
+found_ok k es (Ok i) t p = refl
+found_ok k es (Err i) t p = absurd (true≢false (sym t ∙ ap is_some (no_entry_between k es i p)))
 
 -- ---- one more entry
 

@@ -193,7 +193,7 @@ entries_tell_all (x ∷ xs) (y ∷ ys) r s h =
 
 -- ---- the first of a name
 
-named : (name : List Component) (e : Entry) → entry_has_name name e ≡ true → e.name ≡ name
+pub named : (name : List Component) (e : Entry) → entry_has_name name e ≡ true → e.name ≡ name
 named name e h = canonical_cmp-equal e.name name (equal_from_is_eq (canonical_cmp e.name name) h)
 
 has_named : (name : List Component) (e : Entry) → e.name ≡ name → entry_has_name name e ≡ true

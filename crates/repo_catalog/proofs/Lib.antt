@@ -1,3 +1,9 @@
 pub mod EntryLemmas
 pub mod Same
 pub mod LawLemmas
+pub mod KeyLemmas
+pub mod ManyLemmas
+pub mod IndexLemmas
+pub mod MergeLemmas
+pub mod NamedLemmas
+pub mod PairLemmas

@@ -1,9 +1,14 @@
 -- How a catalogue is kept.
-use Rattle.std.specs.Prelude.{◌+◌, ◌≤◌, length, vec_capacity}
+use Rattle.std.specs.Prelude.{◌≡◌, ◌+◌, ◌≤◌, [], length, vec_capacity}
 use Rattle.repo_catalog.specs.declared.catalogue.Catalogue.TheInside.{Inside}
 use Rattle.repo_catalog.specs.Entries.{IsCatalogue}
+use Rattle.repo_catalog.specs.NameKeys.{IsIndexOf}
 
--- The entries are in order, and there is the room that is spare.
+-- The entries are in order, nothing is set aside, the index has their names, and there is the room that is spare.
 pub record AreEntries (c : Inside) : Type 0 where
   pub in_order : IsCatalogue c.entries.items
+  pub none_aside : c.aside.items ≡ []
+  pub indexed : IsIndexOf c.entries.items c.names.keys
   pub room : c.spare + length c.entries.items ≤ vec_capacity c.entries
+  pub room_aside : c.spare + length c.entries.items ≤ vec_capacity c.aside
+  pub room_for_names : c.spare ≤ c.names.spare

@@ -1,12 +1,14 @@
 -- What the changes and look-ups of a catalogue mean for each publication.
 use Rattle.std.specs.Prelude.{◌≡◌, ◌≢◌, not, ◌&&◌, List, Some, None, MatchOption, if◌then◌else◌}
+use Rattle.std.specs.Option.{option_or}
 use Rattle.std.specs.Ordering.{eq_by_cmp}
 use Rattle.std.specs.declared.cmp.Ordering.TheVariants.{Less}
 use Rattle.ndn_name.specs.Names.{Component}
 use Rattle.repo_plan.specs.Parts.{Pair, pair_cmp}
+use Rattle.sorted_lists.specs.SortedList.{contains}
 use Rattle.repo_catalog.specs.declared.entry.Entry.{Entry}
 use Rattle.repo_catalog.specs.Entries.{publication_of, is_of, entry_of, lists, first_named, with_entry, without}
-use Rattle.repo_catalog.specs.Entries.{IsCatalogue}
+use Rattle.repo_catalog.specs.Entries.{with_entries, without_all, IsCatalogue}
 
 -- An entry that is added is that of its publication, where this had none. All others stay.
 abbrev pub AddsOne : Type 0
@@ -18,6 +20,17 @@ AddsOne = (e : Entry) (entries : List Entry) (pair : Pair) → IsCatalogue entri
 abbrev pub RemovesOne : Type 0
 RemovesOne = (gone : Pair) (entries : List Entry) (pair : Pair)
     → entry_of pair (without gone entries) ≡ (if eq_by_cmp pair_cmp pair gone then None else entry_of pair entries)
+
+-- After entries are added one by one, a publication has the entry that it had, or else the first of these.
+abbrev pub AddsAll : Type 0
+AddsAll = (es entries : List Entry) (pair : Pair) → IsCatalogue entries
+    → entry_of pair (with_entries es entries) ≡ option_or (entry_of pair entries) (entry_of pair es)
+
+-- The publications whose entries are removed have none. All others stay.
+abbrev pub RemovesAll : Type 0
+RemovesAll = (gone : List Pair) (entries : List Entry) (pair : Pair)
+    → entry_of pair (without_all gone entries)
+    ≡ (if contains pair_cmp gone pair then None else entry_of pair entries)
 
 -- Catalogues that have the same entry for each publication are the same.
 abbrev pub EntriesTellAll : Type 0

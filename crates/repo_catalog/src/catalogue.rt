@@ -1,12 +1,19 @@
-ghost use Rattle.std.specs.Prelude.{◌≡◌, ◌-◌, ◌<◌, ◌^◌, ◌↔◌, [], not, max, length, option_map, IfOk, OnOk, OnErr};
-ghost use Rattle.std.specs.Prelude.{IsTrue};
+ghost use Rattle.std.specs.Prelude.{◌≡◌, ◌-◌, ◌<◌, ◌≤◌, ◌^◌, ◌↔◌, [], not, max, length, option_map, find};
+ghost use Rattle.std.specs.Prelude.{Some, true, IfOk, OnOk, OnErr, IsTrue};
 ghost use Rattle.std.specs.List.{sum_by};
 ghost use Rattle.std.specs.List.Sorted.{IsSearchInRange, IsBinarySearchResult};
 ghost use Rattle.std.specs.Option.{option_copied};
-ghost use Rattle.repo_catalog.specs.Entries.{publication_of, beside, entry_of, lists, first_named, with_entry, without};
-ghost use Rattle.repo_catalog.specs.Entries.{IsCatalogue};
+ghost use Rattle.sorted_lists.specs.SortedList.{Rises};
+ghost use Rattle.repo_plan.specs.Parts.{pair_cmp};
+ghost use Rattle.repo_catalog.specs.Entries.{publication_of, beside, entry_of, lists, first_named, all_named};
+ghost use Rattle.repo_catalog.specs.Entries.{is_named_from, with_entry, with_entries, without, without_all};
+ghost use Rattle.repo_catalog.specs.Entries.{IsCatalogue, AreApart};
+ghost use Rattle.repo_catalog.specs.NameKeys.{hash_of};
 
 use crate::entry::Entry;
+use crate::merge::{forget, merge};
+use crate::name_index::{NameIndex, key_of, name_hash};
+use crate::search::{is_among, place_of};
 use ndn_name::NameView;
 use std::alloc::{AllocError, Global};
 use std::marker::Model;
@@ -16,6 +23,9 @@ use std::marker::Model;
 #[derive(Debug, Drop)]
 pub struct Catalogue {
     entries: Vec<Entry>,
+    // Empty. Entries are set aside here while others take their places.
+    aside: Vec<Entry>,
+    names: NameIndex,
     spare: usize,
 }
 
@@ -39,6 +49,8 @@ impl Catalogue {
     {
         Catalogue {
             entries: Vec::new(alloc),
+            aside: Vec::new(alloc),
+            names: NameIndex::new(alloc),
             spare: 0,
         }
     }
@@ -64,6 +76,8 @@ impl Catalogue {
     {
         if self.spare < n {
             self.entries.reserve(n)?;
+            self.aside.reserve(self.entries.capacity())?;
+            self.names.reserve(n)?;
             self.spare = n;
         }
         Ok(())
@@ -81,8 +95,23 @@ impl Catalogue {
         let Err(place) = self.place(entry.publisher, entry.seq) else {
             return false;
         };
+        self.names.insert(key_of(&entry));
         self.entries.insert(place, entry).unwrap();
         true
+    }
+
+    /// Adds many entries as `add_reserved` does, in any order, in the room that was made for them. It takes no memory,
+    /// and goes over them and over what stands behind the least of them once.
+    pub fn add_all_reserved(&mut self, fresh: Vec<Entry>)
+        requires room { length fresh.items ≤ self.old.spare }
+        requires apart { AreApart fresh.items }
+        ensures entries { self.new.entries ≡ with_entries fresh.items self.old.entries }
+        ensures spare { self.new.spare ≡ self.old.spare - length fresh.items }
+    {
+        let mut fresh = fresh;
+        fresh.sort_unstable_by_key(|entry| (entry.publisher, entry.seq));
+        self.spare -= fresh.len();
+        merge(&mut self.entries, fresh, &mut self.aside, &mut self.names);
     }
 
     /// Removes the entry of a publisher and number, and tells whether there was one.
@@ -93,8 +122,18 @@ impl Catalogue {
         let Ok(place) = self.place(publisher, seq) else {
             return false;
         };
-        let _ = self.entries.remove(place);
+        let entry = self.entries.remove(place);
+        self.names.remove(key_of(&entry));
         true
+    }
+
+    /// Removes the entries of many publications, which are in order, in one pass. It takes no memory.
+    pub fn remove_all(&mut self, publications: &[(u32, u16)])
+        requires { Rises pair_cmp publications.now }
+        ensures { self.new ≡ record self.old { entries = without_all publications.now self.old.entries } }
+    {
+        forget(&mut self.names, &self.entries, publications);
+        self.entries.retain(|entry| !is_among(publications, (entry.publisher, entry.seq)));
     }
 
     /// The entries in order.
@@ -121,12 +160,50 @@ impl Catalogue {
     pub fn first_named(&self, name: &NameView<'_>) -> Option<(u32, u16)>
         ensures { result ≡ option_map publication_of (first_named name.now self.now.entries) }
     {
-        for entry in &self.entries {
+        self.next_named(name, name_hash(name), (0, 0))
+    }
+
+    /// The publishers and numbers whose objects have this name, in order.
+    pub fn named(&self, alloc: Global, name: &NameView<'_>) -> Result<Vec<(u32, u16)>, AllocError>
+        ensures { IfOk result (λ pairs. pairs.items ≡ all_named name.now self.now.entries) }
+    {
+        let hash = name_hash(name);
+        let mut pairs = Vec::new(alloc);
+        let mut from = (0, 0);
+        while let Some((publisher, seq)) = self.next_named(name, hash, from) {
+            pairs.push((publisher, seq))?;
+            from = (publisher, u32::from(seq) + 1);
+        }
+        Ok(pairs)
+    }
+
+    // The least publisher and number from this pair on whose object has the name, which has the hash.
+    fn next_named(&self, name: &NameView<'_>, hash: u64, from: (u32, u32)) -> Option<(u32, u16)>
+        requires { hash ≡ hash_of name.now }
+        ensures ordered { IsCatalogue self.now.entries }
+        ensures found { result ≡ option_map publication_of (find (is_named_from name.now from) self.now.entries) }
+    {
+        let mut from = from;
+        while let Some((other, pair)) = self.names.first_from((hash, from)) {
+            if other != hash {
+                return None;
+            }
+            let entry = self.listed(pair);
             if entry.name.view().compare(name).is_eq() {
                 return Some((entry.publisher, entry.seq));
             }
+            from = (entry.publisher, u32::from(entry.seq) + 1);
         }
         None
+    }
+
+    // The entry of a publication that has one.
+    fn listed(&self, pair: (u32, u32)) -> &Entry
+        requires { lists pair self.now.entries ≡ true }
+        ensures { entry_of pair self.now.entries ≡ Some result.now }
+    {
+        let place = place_of(&self.entries, pair).unwrap();
+        &self.entries[place]
     }
 
     /// How many entries there are, and how many segments and octets their objects have together.
@@ -160,8 +237,6 @@ impl Catalogue {
         ensures bound { IsSearchInRange result (length self.now.entries) }
         ensures position { IsBinarySearchResult (beside (publisher, seq)) self.now.entries result }
     {
-        let pair = (publisher, seq);
-        self.entries
-            .binary_search_by_key(&pair, |entry| (entry.publisher, entry.seq))
+        place_of(&self.entries, (publisher, u32::from(seq)))
     }
 }

@@ -1,14 +1,17 @@
 //! The catalogue of a member: the objects that it published or wholly fetched and checked, in order of publisher and
-//! number.
+//! number, and found by name too.
 #![tactic(auto)]
 
 mod catalogue;
 mod entry;
 mod laws;
+mod merge;
+mod name_index;
+mod search;
 
 pub use catalogue::Catalogue;
 pub use entry::Entry;
 pub use laws::{
-    added_entries_are_found, entries_tell_all_of_a_catalogue, first_named_is_least,
-    removed_entries_are_gone,
+    added_entries_are_found, entries_added_together_are_found, entries_removed_together_are_gone,
+    entries_tell_all_of_a_catalogue, first_named_is_least, removed_entries_are_gone,
 };

@@ -1,4 +1,5 @@
-ghost use Rattle.std.specs.Prelude.{◌≡◌, IfOk};
+ghost use Rattle.std.specs.Prelude.{◌≡◌, length, IfOk};
+ghost use Rattle.repo_catalog.specs.Entries.{AreApart};
 
 use ndn_name::Name;
 use repo_catalog::*;
@@ -55,13 +56,48 @@ fn filled(rt: &(impl Abort + AllocGlobal)) -> Result<Catalogue, Fail> {
     Ok(catalogue)
 }
 
-fn compare_order(rt: &impl Abort, catalogue: &Catalogue) {
-    assert_eq!(rt; catalogue.entries().len(), LISTED.len());
-    for (entry, &pair) in catalogue.entries().iter().zip(&LISTED) {
+// Those with three more, of which that of publisher 0 and number 9 is there already.
+const MERGED: [(u32, u16); 6] = [(0, 1), (0, 7), (0, 9), (1, 1), (1, 2), (2, 3)];
+
+// Publications that are removed together. The last has no entry.
+const GONE: [(u32, u16); 3] = [(0, 1), (1, 1), (1, 9)];
+
+const KEPT: [(u32, u16); 4] = [(0, 7), (0, 9), (1, 2), (2, 3)];
+
+fn compare_order(rt: &impl Abort, catalogue: &Catalogue, pairs: &[(u32, u16)]) {
+    assert_eq!(rt; catalogue.entries().len(), pairs.len());
+    for (entry, &pair) in catalogue.entries().iter().zip(pairs) {
         assert_eq!(rt; (entry.publisher, entry.seq), pair);
         assert!(rt; catalogue.entry(pair.0, pair.1) == Some(entry));
     }
     assert!(rt; catalogue.entry(1, 3).is_none());
+}
+
+fn compare_named(
+    rt: &(impl Abort + AllocGlobal),
+    catalogue: &Catalogue,
+    uri: &str,
+    pairs: &[(u32, u16)],
+) -> Result<(), Fail> {
+    let name = Name::from_uri(rt.alloc(), uri)?;
+    let named = catalogue.named(rt.alloc(), &name.view())?;
+    assert!(rt; named.as_slice() == pairs);
+    Ok(())
+}
+
+// Three entries in no order.
+fn fresh(rt: &impl AllocGlobal) -> Result<Vec<Entry>, Fail>
+    ensures apart { IfOk result (λ fresh. AreApart fresh.items) }
+    ensures len { IfOk result (λ fresh. length fresh.items ≡ 3) }
+{
+    let first = entry(rt, 2, 3, "/a")?;
+    let second = entry(rt, 0, 9, "/d")?;
+    let third = entry(rt, 0, 1, "/b")?;
+    let mut fresh = Vec::new(rt.alloc());
+    fresh.push(first)?;
+    fresh.push(second)?;
+    fresh.push(third)?;
+    Ok(fresh)
 }
 
 fn compare_first(
@@ -79,11 +115,26 @@ fn compare_first(
 #[test]
 fn objects_by_publisher_and_number(rt: HostRuntime) -> Result<(), Fail> {
     let mut catalogue = filled(&rt)?;
-    compare_order(&rt, &catalogue);
+    compare_order(&rt, &catalogue, &LISTED);
     compare_first(&rt, &catalogue, &FIRST)?;
     assert!(rt; catalogue.remove(0, 9));
     assert!(rt; !catalogue.remove(0, 9));
     compare_first(&rt, &catalogue, &LEFT)
+}
+
+#[test]
+fn many_objects_at_once(rt: HostRuntime) -> Result<(), Fail> {
+    let mut catalogue = filled(&rt)?;
+    catalogue.reserve(3)?;
+    catalogue.add_all_reserved(fresh(&rt)?);
+    compare_order(&rt, &catalogue, &MERGED);
+    compare_named(&rt, &catalogue, "/a", &[(0, 7), (1, 1), (2, 3)])?;
+    compare_named(&rt, &catalogue, "/b", &[(0, 1), (0, 9), (1, 2)])?;
+    compare_named(&rt, &catalogue, "/d", &[])?;
+    catalogue.remove_all(&GONE);
+    compare_order(&rt, &catalogue, &KEPT);
+    compare_named(&rt, &catalogue, "/a", &[(0, 7), (2, 3)])?;
+    compare_named(&rt, &catalogue, "/b", &[(0, 9), (1, 2)])
 }
 
 #[test]

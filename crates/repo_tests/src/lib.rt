@@ -22,6 +22,8 @@ mod process;
 #[cfg(test)]
 mod store;
 #[cfg(test)]
+mod watch;
+#[cfg(test)]
 mod work;
 #[cfg(test)]
 mod worked;

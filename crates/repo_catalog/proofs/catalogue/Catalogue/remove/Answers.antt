@@ -1,11 +1,16 @@
-use Rattle.std.proofs.Common.{List, sym, ap, ◌∙◌, Ok, Err, arith}
+use Rattle.std.proofs.Common.{◌≡◌, ◌&&◌, Bool, List, Some, not, sym, ap, subst, ◌∙◌, get_or, Ok, Err, arith}
 use Rattle.std.specs.Prelude.{is_some}
 use Rattle.std.specs.List.{remove}
+use Rattle.std.specs.Ordering.{eq_by_cmp}
+use Rattle.sorted_lists.specs.SortedList.{contains}
 use Rattle.repo_plan.specs.Parts.{Pair}
 use Rattle.repo_catalog.specs.declared.entry.Entry.{Entry}
-use Rattle.repo_catalog.specs.Entries.{EntryList}
+use Rattle.repo_catalog.specs.Entries.{EntryList, publication_of, entry_of, without, IsCatalogue}
+use Rattle.repo_catalog.specs.NameKeys.{Key, key_cmp, key_of, is_key}
 use Rattle.repo_catalog.proofs.EntryLemmas.{found_place, entry_at, no_entry_between, without_at, without_between}
 use Rattle.repo_catalog.proofs.EntryLemmas.{without_rises}
+use Rattle.repo_catalog.proofs.IndexLemmas.{is_key-without}
+use Rattle.repo_catalog.proofs.ManyLemmas.{entry_is_of}
 use Rattle.repo_catalog.proofs.catalogue.Catalogue.remove.Goals as goal
 
 pub returns-in_default-clause-removed : goal.returns-in_default-clause-removed
@@ -29,15 +34,33 @@ pub invariant_of-self : goal.invariant_of-self
 invariant_of-self c =
     let k : Pair = (c.args.publisher, c.args.seq) in
     let es = c.args.self.now.entries in
+    let x = c.remove-entry.result in
     let place =
     found_place es k (Ok c.in-Ok.place) c.in-Ok.ensures.ordered c.in-Ok.ensures.bound c.in-Ok.ensures.position in
-    let left =
-    c.remove.ensures.items
+    let left : c.remove-entry.new.self.items ≡ without k es =
+    c.remove-entry.ensures.items
     ∙ ap (λ (l : EntryList). remove l.entries c.in-Ok.place) c.self.view_is
     ∙ sym (without_at k es c.in-Ok.place c.in-Ok.ensures.ordered place) in
+    let there : entry_of k es ≡ Some x =
+    entry_at k es c.in-Ok.place x c.in-Ok.ensures.ordered place
+    ∙ ap (λ (e : Entry). Some e)
+    (sym (c.remove-entry.ensures.value ∙ ap (λ (l : EntryList). get_or l.entries c.in-Ok.place x) c.self.view_is)) in
+    let of : k ≡ publication_of x = entry_is_of k es x there in
     record {
-      in_order = rw left (without_rises k es c.in-Ok.ensures.ordered);
-      room = omega (arith, c.remove.ensures.len, c.remove.ensures.capacity, c.self.invariant.room);
+      in_order = subst IsCatalogue (sym left) (without_rises k es c.in-Ok.ensures.ordered);
+      none_aside = c.self.invariant.none_aside;
+      indexed = λ q.
+          c.remove.ensures.keys q
+          ∙ ap (λ (key : Key). not (eq_by_cmp key_cmp q key) && contains key_cmp c.self.inside.names.keys q)
+          c.key_of.ensures
+          ∙ ap (λ (b : Bool). not (eq_by_cmp key_cmp q (key_of x)) && b)
+          (c.self.invariant.indexed q ∙ ap (λ (l : EntryList). is_key l.entries q) c.self.view_is)
+          ∙ is_key-without x es q (ap (λ (p : Pair). entry_of p es) (sym of) ∙ there)
+          ∙ ap (λ (p : Pair). is_key (without p es) q) (sym of)
+          ∙ ap (λ (xs : List Entry). is_key xs q) (sym left);
+      room = omega (arith, c.remove-entry.ensures.len, c.remove-entry.ensures.capacity, c.self.invariant.room);
+      room_aside = omega (arith, c.remove-entry.ensures.len, c.self.invariant.room_aside);
+      room_for_names = omega (arith, c.remove.ensures.room, c.self.invariant.room_for_names);
     }
 
 pub returns-clause-removed : goal.returns-clause-removed
@@ -46,7 +69,8 @@ returns-clause-removed c =
     let place =
     found_place c.args.self.now.entries k (Ok c.in-Ok.place) c.in-Ok.ensures.ordered c.in-Ok.ensures.bound
     c.in-Ok.ensures.position in
-    sym (ap is_some (entry_at k c.args.self.now.entries c.in-Ok.place c.remove.result c.in-Ok.ensures.ordered place))
+    sym (ap is_some
+    (entry_at k c.args.self.now.entries c.in-Ok.place c.remove-entry.result c.in-Ok.ensures.ordered place))
 
 pub returns-clause-left : goal.returns-clause-left
 returns-clause-left c =
@@ -55,7 +79,7 @@ returns-clause-left c =
     let place =
     found_place es k (Ok c.in-Ok.place) c.in-Ok.ensures.ordered c.in-Ok.ensures.bound c.in-Ok.ensures.position in
     let left =
-    c.remove.ensures.items
+    c.remove-entry.ensures.items
     ∙ ap (λ (l : EntryList). remove l.entries c.in-Ok.place) c.self.view_is
     ∙ sym (without_at k es c.in-Ok.place c.in-Ok.ensures.ordered place) in
     let spare = ap (λ (l : EntryList). l.spare) c.self.view_is in

@@ -1,0 +1,133 @@
+-- What an index has after its entries change.
+use Rattle.std.proofs.Common.{◌≡◌, ℕ, ◌==◌, Bool, true, false, cond, not, ◌&&◌, ◌||◌, List, [], ◌∷◌, ◌++◌, Option}
+use Rattle.std.proofs.Common.{Some, None, refl, sym, ap, ◌∙◌, arith}
+use Rattle.std.specs.Prelude.{is_some}
+use Rattle.std.specs.Ordering.{eq_by_cmp, is_eq, nat_cmp, ordering_then}
+use Rattle.std.specs.declared.cmp.Ordering.{Ordering}
+use Rattle.std.specs.declared.cmp.Ordering.TheVariants.{Less, Equal, Greater}
+use Rattle.std.proofs.lemmas.Bool.Decides.{nat_tests}
+use Rattle.std.proofs.lemmas.List.Folds.{list_any-append}
+use Rattle.repo_plan.specs.Parts.{Pair, pair_cmp}
+use Rattle.repo_plan.proofs.Orders.{exact_pairs}
+use Rattle.sorted_lists.specs.SortedList.{contains}
+use Rattle.sorted_lists.proofs.Sets.{eq_same}
+use Rattle.repo_catalog.specs.declared.entry.Entry.{Entry}
+use Rattle.repo_catalog.specs.Entries.{publication_of, is_of, entry_of, lists, with_entry, without, without_all}
+use Rattle.repo_catalog.specs.Entries.{IsCatalogue}
+use Rattle.repo_catalog.specs.NameKeys.{Key, key_cmp, key_of, hash_of, has_hash, is_key}
+use Rattle.repo_catalog.proofs.LawLemmas.{adds_one, removes_one}
+use Rattle.repo_catalog.proofs.ManyLemmas.{removes_all}
+
+-- ---- keys are the same where hashes and publications are
+
+eq_then : (x y : Ordering) → is_eq (ordering_then x y) ≡ (is_eq x && is_eq y)
+eq_then Less y = refl
+eq_then Equal y = refl
+eq_then Greater y = refl
+
+eq_number : (a b : ℕ) → is_eq (nat_cmp a b) ≡ (a == b)
+eq_number a b = grind (arith, nat_tests)
+
+eq_key : (q k : Key) → eq_by_cmp key_cmp q k ≡ ((q.0 == k.0) && eq_by_cmp pair_cmp q.1 k.1)
+eq_key q k =
+    eq_then (nat_cmp q.0 k.0) (pair_cmp q.1 k.1)
+    ∙ ap (λ (b : Bool). b && eq_by_cmp pair_cmp q.1 k.1) (eq_number q.0 k.0)
+
+-- ---- one more
+
+key_added : (h : ℕ) (e : Entry) (b : Bool) (o : Option Entry) → (b ≡ true → is_some o ≡ false)
+    → has_hash h (cond (b && not (is_some o)) (Some e) o) ≡ (((h == hash_of e.name) && b) || has_hash h o)
+key_added h e true None n = both (h == hash_of e.name) where
+  both : (c : Bool) → c ≡ ((c && true) || false)
+  both true = refl
+  both false = refl
+key_added h e true (Some x) n = absurd (clash (n refl)) where
+  clash : true ≡ false → ⊥
+  clash c = absurd cc
+key_added h e false o n = neither (h == hash_of e.name) where
+  neither : (c : Bool) → has_hash h o ≡ ((c && false) || has_hash h o)
+  neither true = refl
+  neither false = refl
+
+pub is_key-with : (e : Entry) (es : List Entry) (q : Key) → IsCatalogue es → lists (publication_of e) es ≡ false
+    → (eq_by_cmp key_cmp q (key_of e) || is_key es q) ≡ is_key (with_entry e es) q
+is_key-with e es q r missing =
+    ap (λ (b : Bool). b || is_key es q) (eq_key q (key_of e))
+    ∙ sym (ap (has_hash q.0) (adds_one e es q.1 r)
+    ∙ key_added q.0 e (is_of q.1 e) (entry_of q.1 es)
+    (λ t. ap (λ (p : Pair). lists p es) (eq_same exact_pairs q.1 (publication_of e) t) ∙ missing))
+
+-- ---- one less
+
+key_gone : (h : ℕ) (x : Entry) (b : Bool) (o : Option Entry) → (b ≡ true → o ≡ Some x)
+    → has_hash h (cond b None o) ≡ (not ((h == hash_of x.name) && b) && has_hash h o)
+key_gone h x true o there =
+    sym (ap (λ (z : Option Entry). not ((h == hash_of x.name) && true) && has_hash h z) (there refl)
+    ∙ no (h == hash_of x.name)) where
+  no : (c : Bool) → (not (c && true) && c) ≡ false
+  no true = refl
+  no false = refl
+key_gone h x false o there = kept (h == hash_of x.name) where
+  kept : (c : Bool) → has_hash h o ≡ (not (c && false) && has_hash h o)
+  kept true = refl
+  kept false = refl
+
+pub is_key-without : (x : Entry) (es : List Entry) (q : Key) → entry_of (publication_of x) es ≡ Some x
+    → (not (eq_by_cmp key_cmp q (key_of x)) && is_key es q) ≡ is_key (without (publication_of x) es) q
+is_key-without x es q there =
+    ap (λ (b : Bool). not b && is_key es q) (eq_key q (key_of x))
+    ∙ sym (ap (has_hash q.0) (removes_one (publication_of x) es q.1)
+    ∙ key_gone q.0 x (eq_by_cmp pair_cmp q.1 (publication_of x)) (entry_of q.1 es)
+    (λ t. ap (λ (p : Pair). entry_of p es) (eq_same exact_pairs q.1 (publication_of x) t) ∙ there))
+
+-- ---- many less, one by one
+
+one_more_gone : (gone : List Pair) (p q : Pair)
+    → contains pair_cmp (gone ++ p ∷ []) q ≡ (contains pair_cmp gone q || eq_by_cmp pair_cmp q p)
+one_more_gone gone p q =
+    list_any-append (eq_by_cmp pair_cmp q) gone (p ∷ [])
+    ∙ ap (λ (b : Bool). contains pair_cmp gone q || b) (or_false (eq_by_cmp pair_cmp q p)) where
+      or_false : (b : Bool) → (b || false) ≡ b
+      or_false true = refl
+      or_false false = refl
+
+-- a publication that has an entry goes too
+listed_gone : (h : ℕ) (x : Entry) (c b : Bool) (o : Option Entry) → (b ≡ true → o ≡ Some x)
+    → (not ((h == hash_of x.name) && b) && has_hash h (cond c None o)) ≡ has_hash h (cond (c || b) None o)
+listed_gone h x true b o there = none (not ((h == hash_of x.name) && b)) where
+  none : (d : Bool) → (d && false) ≡ false
+  none true = refl
+  none false = refl
+listed_gone h x false b o there = sym (key_gone h x b o there)
+
+pub is_key-listed : (gone : List Pair) (x : Entry) (p : Pair) (es : List Entry) (q : Key) → entry_of p es ≡ Some x
+    → p ≡ publication_of x
+    → (not (eq_by_cmp key_cmp q (key_of x)) && is_key (without_all gone es) q)
+    ≡ is_key (without_all (gone ++ p ∷ []) es) q
+is_key-listed gone x p es q there same =
+    ap (λ (b : Bool). not b && is_key (without_all gone es) q)
+    (eq_key q (key_of x) ∙ ap (λ (z : Pair). (q.0 == hash_of x.name) && eq_by_cmp pair_cmp q.1 z) (sym same))
+    ∙ ap (λ (o : Option Entry). not ((q.0 == hash_of x.name) && eq_by_cmp pair_cmp q.1 p) && has_hash q.0 o)
+    (removes_all gone es q.1)
+    ∙ listed_gone q.0 x (contains pair_cmp gone q.1) (eq_by_cmp pair_cmp q.1 p) (entry_of q.1 es)
+    (λ t. ap (λ (z : Pair). entry_of z es) (eq_same exact_pairs q.1 p t) ∙ there)
+    ∙ sym (ap (has_hash q.0)
+    (removes_all (gone ++ p ∷ []) es q.1
+    ∙ ap (λ (c : Bool). cond c None (entry_of q.1 es)) (one_more_gone gone p q.1)))
+
+-- a publication without an entry changes nothing
+nothing_gone : (h : ℕ) (c b : Bool) (o : Option Entry) → (b ≡ true → o ≡ None)
+    → has_hash h (cond c None o) ≡ has_hash h (cond (c || b) None o)
+nothing_gone h true b o none = refl
+nothing_gone h false true o none = ap (has_hash h) (none refl)
+nothing_gone h false false o none = refl
+
+pub is_key-missing : (gone : List Pair) (p : Pair) (es : List Entry) (q : Key) → entry_of p es ≡ None
+    → is_key (without_all gone es) q ≡ is_key (without_all (gone ++ p ∷ []) es) q
+is_key-missing gone p es q none =
+    ap (has_hash q.0) (removes_all gone es q.1)
+    ∙ nothing_gone q.0 (contains pair_cmp gone q.1) (eq_by_cmp pair_cmp q.1 p) (entry_of q.1 es)
+    (λ t. ap (λ (z : Pair). entry_of z es) (eq_same exact_pairs q.1 p t) ∙ none)
+    ∙ sym (ap (has_hash q.0)
+    (removes_all (gone ++ p ∷ []) es q.1
+    ∙ ap (λ (c : Bool). cond c None (entry_of q.1 es)) (one_more_gone gone p q.1)))

@@ -1,0 +1,72 @@
+use Rattle.std.proofs.Common.{◌≡◌, ◌+◌, ◌&&◌, ◌∷◌, ◌++◌, arith, Bool, not, List, [], take, get_or, Some, None, Ok, Err}
+use Rattle.std.proofs.Common.{sym, ap, subst, ◌∙◌}
+use Rattle.std.specs.Ordering.{eq_by_cmp}
+use Rattle.std.proofs.lemmas.List.{take_all, take_more}
+use Rattle.sorted_lists.specs.SortedList.{contains}
+use Rattle.repo_plan.specs.Parts.{Pair}
+use Rattle.repo_catalog.specs.declared.entry.Entry.{Entry}
+use Rattle.repo_catalog.specs.Entries.{publication_of, entry_of, without_all}
+use Rattle.repo_catalog.specs.NameKeys.{Key, KeyList, key_cmp, key_of, has_hash, is_key, IsIndexOf}
+use Rattle.repo_catalog.proofs.EntryLemmas.{found_place, entry_at, no_entry_between}
+use Rattle.repo_catalog.proofs.IndexLemmas.{is_key-listed, is_key-missing}
+use Rattle.repo_catalog.proofs.ManyLemmas.{removes_all, entry_is_of}
+use Rattle.repo_catalog.proofs.merge.forget.Goals as goal
+use Rattle.repo_catalog.proofs.merge.forget.Goals.{in-Ok, in_default}
+
+pub loop-publisher-init : goal.loop-publisher-init
+loop-publisher-init c = record {
+  indexed = λ q. c.requires.indexed q ∙ sym (ap (has_hash q.0) (removes_all [] c.args.entries.now q.1));
+  room = omega arith;
+}
+
+pub loop-publisher-preserved : goal.loop-publisher-preserved
+loop-publisher-preserved c =
+    let es = c.args.entries.now in
+    let pairs = c.args.publications.now in
+    let i = c.loop-publisher.publisher-index in
+    let p : Pair = get_or pairs i (0, 0) in
+    let k : Pair = (p.0, c.from.result) in
+    let same : k ≡ p = λ j. (p.0, c.from.ensures j) in
+    let more : take (i + 1) pairs ≡ take i pairs ++ p ∷ [] = take_more pairs i (0, 0) c.loop-publisher-test.true in
+    elim c.match-place_of.branch [
+      | in-Ok w ↦
+          let x = w.index-entries-place.result in
+          let at =
+          found_place es k (Ok w.in-Ok.place) c.requires.in_order w.in-Ok.ensures.bound w.in-Ok.ensures.position in
+          let there : entry_of k es ≡ Some x =
+          entry_at k es w.in-Ok.place x c.requires.in_order at
+          ∙ ap (λ (e : Entry). Some e) (sym w.index-entries-place.is) in
+          let of : k ≡ publication_of x = entry_is_of k es x there in
+          record {
+            indexed = λ q.
+                ap (λ (l : KeyList). contains key_cmp l.keys q) w.names-is
+                ∙ w.remove.ensures.keys q
+                ∙ ap (λ (key : Key). not (eq_by_cmp key_cmp q key) && contains key_cmp c.loop-publisher.names.keys q)
+                w.key_of.ensures
+                ∙ ap (λ (b : Bool). not (eq_by_cmp key_cmp q (key_of x)) && b) (c.loop-publisher.invariant.indexed q)
+                ∙ is_key-listed (take i pairs) x k es q there of
+                ∙ ap (λ (z : Pair). is_key (without_all (take i pairs ++ z ∷ []) es) q) same
+                ∙ ap (λ (ps : List Pair). is_key (without_all ps es) q) (sym more);
+            room = omega (arith, ap (λ (l : KeyList). l.spare) w.names-is, w.remove.ensures.room);
+          }
+      | in_default w ↦
+          let none : entry_of k es ≡ None =
+          no_entry_between k es w.in_default.field-0
+          (found_place es k (Err w.in_default.field-0) c.requires.in_order w.in_default.ensures.bound
+          w.in_default.ensures.position) in
+          record {
+            indexed = λ q.
+                ap (λ (l : KeyList). contains key_cmp l.keys q) w.names-is
+                ∙ c.loop-publisher.invariant.indexed q
+                ∙ is_key-missing (take i pairs) k es q none
+                ∙ ap (λ (z : Pair). is_key (without_all (take i pairs ++ z ∷ []) es) q) same
+                ∙ ap (λ (ps : List Pair). is_key (without_all ps es) q) (sym more);
+            room = omega (arith, ap (λ (l : KeyList). l.spare) w.names-is);
+          }
+    ]
+
+pub returns-clause-indexed : goal.returns-clause-indexed
+returns-clause-indexed c =
+    subst (λ (ps : List Pair). IsIndexOf (without_all ps c.args.entries.now) c.loop-publisher.names.keys)
+    (take_all c.loop-publisher.publisher-index c.args.publications.now (omega (arith, c.loop-publisher-test.false)))
+    c.loop-publisher.invariant.indexed

@@ -1,0 +1,8 @@
+use Rattle.std.proofs.Common.{rules}
+use Rattle.std.proofs.lemmas.List.Sorted.{answers_always}
+use Rattle.repo_catalog.specs.Entries.{publication_of}
+use Rattle.repo_catalog.proofs.search.place_of.Goals as goal
+
+pub returns-clause-position : goal.returns-clause-position
+returns-clause-position c =
+    c.binary_search_by_key.ensures.position publication_of (answers_always _ _ _ (λ f a r g called. search rules))

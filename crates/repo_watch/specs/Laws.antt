@@ -1,0 +1,53 @@
+-- What holds over every list of calls, with any catalogues between.
+use Rattle.std.specs.Prelude.{◌≡◌, ◌↔◌, ℕ, Bool, true, false, IsTrue, List, [], ◌∷◌, map, filter, Option, None, Some}
+use Rattle.ndn_name.specs.Names.{Component}
+use Rattle.repo_plan.specs.Parts.{Pair, pair_cmp}
+use Rattle.sorted_lists.specs.SortedList.{contains}
+use Rattle.repo_catalog.specs.declared.entry.Entry.{Entry}
+use Rattle.repo_catalog.specs.Entries.{publication_of}
+use Rattle.repo_watch.specs.declared.pattern.Pattern.{Pattern}
+use Rattle.repo_watch.specs.Patterns.{accepts, Accepts}
+use Rattle.repo_watch.specs.Watching.{Watching, is_for, watch_of, news_of, after_take, after_add}
+
+-- A call of the watchers, with the catalogue that it is given.
+pub data WatchCall : Type 0 where
+  Add : Pattern → List Entry → WatchCall
+  Take : ℕ → List Entry → WatchCall
+
+-- The watchers after a call.
+abbrev pub after_watch_call : WatchCall → List Watching → List Watching
+after_watch_call (Add pattern entries) ws = after_add pattern entries ws
+after_watch_call (Take n entries) ws = after_take n entries ws
+
+-- The watchers after a list of calls.
+abbrev pub after_watch_calls : List WatchCall → List Watching → List Watching
+after_watch_calls [] ws = ws
+after_watch_calls (call ∷ calls) ws = after_watch_calls calls (after_watch_call call ws)
+
+-- What a take tells.
+abbrev pub tells : ℕ → List Entry → List Watching → List Pair
+tells n entries ws = news_of (watch_of n ws) entries
+
+-- The watcher was told the publication, or counts it as told.
+abbrev pub was_told : Option Watching → Pair → Bool
+was_told None pair = false
+was_told (Some w) pair = contains pair_cmp w.told pair
+
+-- A publication that a take told is told by no later take of that watcher.
+abbrev pub IsToldOnce : Type 0
+IsToldOnce = (ws : List Watching) (n : ℕ) (first : List Entry) (between : List WatchCall) (later : List Entry)
+    (pair : Pair)
+    → contains pair_cmp (tells n first ws) pair ≡ true
+    → contains pair_cmp (tells n later (after_watch_calls between (after_take n first ws))) pair ≡ false
+
+-- After a take, and any calls behind it, each entry of its catalogue that the pattern is for is told.
+abbrev pub AllIsTold : Type 0
+AllIsTold = (ws : List Watching) (n : ℕ) (entries : List Entry) (calls : List WatchCall) (w : Watching) (pair : Pair)
+    → watch_of n ws ≡ Some w
+    → contains pair_cmp (map publication_of (filter (is_for w.pattern) entries)) pair ≡ true
+    → was_told (watch_of n (after_watch_calls calls (after_take n entries ws))) pair ≡ true
+
+-- The test is the fact.
+abbrev pub AcceptsByPrefix : Type 0
+AcceptsByPrefix = (pattern : Pattern) (publisher : ℕ) (name : List Component)
+    → IsTrue (accepts pattern publisher name) ↔ Accepts pattern publisher name

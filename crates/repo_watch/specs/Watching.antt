@@ -1,0 +1,59 @@
+-- Watchers: what each asks for and was told, and what a call makes of them.
+use Rattle.std.specs.Prelude.{ℕ, zero, suc, Bool, not, ◌&&◌, List, [], ◌∷◌, ◌++◌, map, filter, Option, Some, None}
+use Rattle.repo_plan.specs.Parts.{Pair, pair_cmp}
+use Rattle.sorted_lists.specs.SortedList.{contains}
+use Rattle.repo_catalog.specs.declared.entry.Entry.{Entry}
+use Rattle.repo_catalog.specs.Entries.{publication_of}
+use Rattle.repo_watch.specs.declared.pattern.Pattern.{Pattern}
+use Rattle.repo_watch.specs.Patterns.{accepts}
+use Rattle.repo_watch.specs.Told.{told_too}
+
+-- What a watcher asks for, and the publications that it was told, in order.
+pub record Watching : Type 0 where
+  pub pattern : Pattern
+  pub told : List Pair
+
+-- A new watcher counts as told what is catalogued already.
+abbrev pub watching : Pattern → List Entry → Watching
+watching pattern entries = record { pattern = pattern; told = map publication_of entries }
+
+-- The pattern is for the entry.
+abbrev pub is_for : Pattern → Entry → Bool
+is_for pattern e = accepts pattern e.publisher e.name
+
+-- The watcher asks for the entry, and was not told it.
+abbrev pub is_news : Watching → Entry → Bool
+is_news w e = is_for w.pattern e && not (contains pair_cmp w.told (publication_of e))
+
+-- What there is to tell a watcher of a catalogue, in order.
+abbrev pub news : Watching → List Entry → List Pair
+news w entries = map publication_of (filter (is_news w) entries)
+
+-- The watcher once it was told that.
+abbrev pub told_news : Watching → List Entry → Watching
+told_news w entries = record w { told = told_too (news w entries) w.told }
+
+-- ---- by number, from 1 on
+
+-- The watcher of a number.
+abbrev pub watch_of : ℕ → List Watching → Option Watching
+watch_of n [] = None
+watch_of zero (w ∷ ws) = None
+watch_of (suc zero) (w ∷ ws) = Some w
+watch_of (suc (suc n)) (w ∷ ws) = watch_of (suc n) ws
+
+-- What there is to tell the watcher of a number.
+abbrev pub news_of : Option Watching → List Entry → List Pair
+news_of None entries = []
+news_of (Some w) entries = news w entries
+
+-- The watchers once the one of a number was told the news.
+abbrev pub after_take : ℕ → List Entry → List Watching → List Watching
+after_take n entries [] = []
+after_take zero entries (w ∷ ws) = w ∷ ws
+after_take (suc zero) entries (w ∷ ws) = told_news w entries ∷ ws
+after_take (suc (suc n)) entries (w ∷ ws) = w ∷ after_take (suc n) entries ws
+
+-- The watchers with one more.
+abbrev pub after_add : Pattern → List Entry → List Watching → List Watching
+after_add pattern entries ws = ws ++ watching pattern entries ∷ []
