@@ -1,11 +1,11 @@
 -- What was told stays told, and is no news.
-use Rattle.std.proofs.Common.{◌≡◌, ◌⊎◌, inl, inr, ℕ, zero, suc, Bool, true, false, cond, not, ◌&&◌, ◌||◌, List, [], ◌∷◌}
+use Rattle.std.proofs.Common.{◌≡◌, ℕ, zero, suc, Bool, true, false, cond, not, ◌||◌, List, [], ◌∷◌}
 use Rattle.std.proofs.Common.{◌++◌}
 use Rattle.std.proofs.Common.{map, refl, sym, ap, subst, ◌∙◌, Option, Some, None, length, take}
-use Rattle.std.specs.Prelude.{◌↔◌, IsTrue, MatchOption}
+use Rattle.std.specs.Prelude.{IsTrue, MatchOption}
 use Rattle.std.specs.List.{filter}
 use Rattle.std.specs.Ordering.{eq_by_cmp, is_eq}
-use Rattle.std.proofs.lemmas.Bool.{true≢false, and_parts, and_from, or_left, or_right, cases_Bool, eqb-true, eq-eqb}
+use Rattle.std.proofs.lemmas.Bool.{true≢false, and_parts, and_from, or_left, or_right, eqb-true, eq-eqb}
 use Rattle.std.proofs.lemmas.Bool.{false_from_ne_true}
 use Rattle.std.proofs.lemmas.Cmp.{tied_itself}
 use Rattle.ndn_name.specs.Names.{Component}
@@ -18,12 +18,11 @@ use Rattle.sorted_lists.proofs.Orders.{equal_from_is_eq}
 use Rattle.sorted_lists.proofs.Sets.{eq_same}
 use Rattle.repo_catalog.specs.declared.entry.Entry.{Entry}
 use Rattle.repo_catalog.specs.Entries.{publication_of}
-use Rattle.repo_watch.specs.declared.pattern.Pattern.{Pattern}
 use Rattle.repo_watch.specs.Patterns.{is_publisher, begins_with, accepts, Accepts}
 use Rattle.repo_watch.specs.Told.{told_too}
-use Rattle.repo_watch.specs.Watching.{Watching, watching, is_for, is_news, news, news_of, told_news, watch_of}
-use Rattle.repo_watch.specs.Watching.{after_take, after_add}
-use Rattle.repo_watch.specs.Laws.{WatchCall, after_watch_call, after_watch_calls, tells, was_told}
+use Rattle.repo_watch.specs.Watching.{Watching, watching, is_for, is_news, news, news_of, watch_of}
+use Rattle.repo_watch.specs.Watching.{after_take}
+use Rattle.repo_watch.specs.Laws.{WatchCall, after_watch_calls, tells, was_told}
 use Rattle.repo_watch.specs.Laws.WatchCall.{Add, Take}
 use Rattle.repo_watch.specs.Laws.{IsToldOnce, AllIsTold, AcceptsByPrefix}
 use Rattle.repo_watch.proofs.ToldLemmas.{told_kept, told_gained}

@@ -1,6 +1,5 @@
-use Rattle.std.proofs.Common.{◌≡◌, ◌∙◌, ◌+◌, ◌<◌, ℕ, suc, List, Option, Some, None, set, length, get_or, sym, ap, subst}
-use Rattle.std.proofs.Common.{arith}
-use Rattle.repo_watch.specs.Watching.{Watching, news, news_of, told_news, watch_of, after_take}
+use Rattle.std.proofs.Common.{◌∙◌, Option, set, sym, ap}
+use Rattle.repo_watch.specs.Watching.{Watching, news_of}
 use Rattle.repo_watch.proofs.Places.{watch_found, taken_found, some_none}
 use Rattle.repo_watch.proofs.watchers.take_from.Goals as goal
 

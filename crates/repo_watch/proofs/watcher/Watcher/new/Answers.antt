@@ -1,6 +1,3 @@
-use Rattle.std.proofs.Common.{◌≡◌, List, sym, ap, ◌∙◌, subst}
-use Rattle.repo_plan.specs.Parts.{Pair, pair_cmp}
-use Rattle.sorted_lists.specs.SortedList.{Rises}
 use Rattle.repo_watch.proofs.watcher.Watcher.new.Goals as goal
 
 pub invariant_of-result : goal.invariant_of-result
