@@ -16,7 +16,7 @@ not_listed x xs p q same differ none =
     ∙ none
 
 pub returns-clause-apart : goal.returns-clause-apart
-returns-clause-apart c =
+returns-clause-apart g c =
     let a = c.in_ok-first.first in
     let b = c.in_ok-second.second in
     let d = c.in_ok-third.third in
