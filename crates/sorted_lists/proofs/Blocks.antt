@@ -2,7 +2,7 @@
 use Rattle.std.specs.Prelude.{is_some}
 use Rattle.std.proofs.Common.{◌≡◌, ◌≤◌, ◌<◌, ◌+◌, ◌-◌, ◌*◌, ℕ, zero, suc, arith, length, take, set, get_or, true}
 use Rattle.std.proofs.Common.{false, List, [], ◌∷◌, ◌++◌, Option, Some, None, unwrap_or, refl, sym, ap, ◌∙◌, subst}
-use Rattle.std.proofs.Common.{Vec, max, length-set, inl, inr}
+use Rattle.std.proofs.Common.{Vec}
 use Rattle.std.specs.List.{All, insert, remove}
 use Rattle.std.specs.Bool.{◌==◌}
 use Rattle.std.specs.Cmp.{IsTotalOrder}

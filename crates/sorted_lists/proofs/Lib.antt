@@ -11,3 +11,7 @@ pub mod RunLists
 pub mod Numbers
 pub mod RunNumbers
 pub mod SameSets
+pub mod Members
+pub mod Climbs
+pub mod LeastOnes
+pub mod Lookups

@@ -10,11 +10,8 @@ use Rattle.std.specs.declared.cmp.Ordering.{Ordering}
 use Rattle.std.specs.declared.cmp.Ordering.TheVariants.{Less, Equal, Greater}
 use Rattle.sorted_lists.specs.SortedList.{by_order, keys, IsBefore, Rises, contains, insert_key, insert_keys}
 use Rattle.sorted_lists.specs.SortedList.{value_of, with_value}
+pub use Rattle.sorted_lists.specs.Members.{In}
 use Rattle.sorted_lists.proofs.Orders.{Exact, greater_back, equal_from_is_eq}
-
-abbrev pub In : {A : Type 0} → A → List A → Type 0
-In x [] = ⊥
-In x (y ∷ ys) = (x ≡ y) ⊎ In x ys
 
 or_idem : (a b : Bool) → (a || b) ≡ (a || (a || b))
 or_idem true b = refl
