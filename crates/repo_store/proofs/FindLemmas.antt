@@ -1,12 +1,11 @@
 -- What answers an Interest among what is held.
 use Rattle.std.proofs.Common.{◌≡◌, ℕ, Bool, true, false, cond, ◌⊎◌, inl, inr, List, [], ◌∷◌, ◌++◌, length, drop}
-use Rattle.std.proofs.Common.{Option, Some, None, option_map, refl, sym, ap, subst, ◌∙◌}
+use Rattle.std.proofs.Common.{Option, Some, option_map, refl, sym, ap, subst, ◌∙◌}
 use Rattle.std.specs.Prelude.{◌||◌, IsSome}
 use Rattle.std.specs.List.{find, starts_with}
 use Rattle.std.specs.Bool.{nat_eq}
 use Rattle.std.specs.Cmp.{unsigned_Decides}
 use Rattle.std.specs.Cmp.Lexicographic.{pointwise}
-use Rattle.std.specs.declared.cmp.Ordering.TheVariants.{Less}
 use Rattle.std.proofs.lemmas.Bool.{true≢false, or_cases, or_left, or_right}
 use Rattle.std.proofs.lemmas.Slice.Eq.{slice_eq-Decides, starts_is}
 use Rattle.sha2.specs.Sha256.{sha256}
@@ -18,7 +17,9 @@ use Rattle.ndn_name.proofs.Prefixes.{prefix-octets, prefix-encoding}
 use Rattle.repo_store.proofs.NameLemmas.{satisfied, full-octets, octets-full}
 use Rattle.repo_store.proofs.ReadNames.{name_of-read}
 use Rattle.sorted_lists.specs.SortedList.{Rises, keys}
-use Rattle.sorted_lists.proofs.Sets.{In, each_before, in_map}
+use Rattle.sorted_lists.specs.Members.{In}
+use Rattle.sorted_lists.specs.Least.{Passes}
+use Rattle.sorted_lists.proofs.LeastOnes.{lesser_first, first_same, find_first, first_is_one}
 use Rattle.repo_plan.specs.Parts.{part_cmp}
 use Rattle.repo_plan.proofs.Orders.{exact_parts}
 use Rattle.repo_store.specs.declared.names.Names.{Names}
@@ -26,9 +27,8 @@ use Rattle.repo_store.specs.Served.{satisfies}
 use Rattle.repo_store.specs.Places.{IsPacket}
 use Rattle.repo_store.specs.Kept.{packet_name, Slots, at, octets_at, Held, entries_of, KeptState}
 use Rattle.repo_store.specs.Slots.{is_full_name, has_full_name, KeptIsSound}
-use Rattle.repo_store.specs.Indexes.{name_of, is_asked, lesser, IsLeastOf, Passes, IsFirstOf, satisfies_held}
+use Rattle.repo_store.specs.Indexes.{name_of, is_asked, held_part, lesser, IsFirstOf, satisfies_held}
 use Rattle.repo_store.specs.NameLayers.{all_of, IsIndexOf}
-use Rattle.repo_store.proofs.LeastLemmas.{lesser_first, first_same}
 use Rattle.repo_store.proofs.SlotLemmas.{octets_of}
 
 -- in order of the parts, it is the first that passes
@@ -36,45 +36,26 @@ module _ (slots : Slots) (test : List ℕ → Bool) where
   abbrev passes : Held → Bool
   passes h = test (octets_at slots h.1)
 
+  found_entry : (held : List Held) → option_map (λ e. e.1) (find (λ e. test e.1) (entries_of slots held))
+      ≡ option_map (λ (h : Held). octets_at slots h.1) (find passes held)
+  found_entry [] = refl
+  found_entry (h ∷ held) = go (passes h) (found_entry held) where
+    go : (b : Bool)
+        → option_map (λ e. e.1) (find (λ e. test e.1) (entries_of slots held))
+        ≡ option_map (λ (o : Held). octets_at slots o.1) (find passes held)
+        → option_map (λ e. e.1) (cond b (Some (h.0, octets_at slots h.1))
+        (find (λ e. test e.1) (entries_of slots held)))
+        ≡ option_map (λ (o : Held). octets_at slots o.1) (cond b (Some h) (find passes held))
+    go true rest = refl
+    go false rest = rest
+
   pub found_is : (held : List Held) (r : Option Held) → Rises part_cmp (keys held) → IsFirstOf held passes r
       → option_map (λ e. e.1) (find (λ e. test e.1) (entries_of slots held))
       ≡ option_map (λ (h : Held). octets_at slots h.1) r
-  found_is [] None rises first = refl
-  found_is [] (Some m) rises first = absurd first.there.0
-  found_is (x ∷ held) r rises first = go (passes x) refl r first (λ s. found_is held s rises.1) where
-    later : (o : Held) → In o held → part_cmp x.0 o.0 ≡ Less
-    later o i =
-        each_before exact_parts.total x.0 (keys held) rises.0 o.0 (in_map (λ (h : Held). h.0) held o i)
-
-    at_first : (m : Held) → IsLeastOf (Passes (x ∷ held) passes) m → passes x ≡ true → m ≡ x
-    at_first m least holds = elim (let i : (m ≡ x) ⊎ In m held = least.there.0 in i) [
-      | inl e ↦ e
-      | inr j ↦ absurd (least.least x (inl refl, holds) (later m j))
-    ]
-
-    in_rest : (m : Held) → IsLeastOf (Passes (x ∷ held) passes) m → passes x ≡ false → IsLeastOf (Passes held passes) m
-    in_rest m least fails = record {
-      there = (
-        elim (let i : (m ≡ x) ⊎ In m held = least.there.0 in i) [
-          | inl e ↦ absurd (true≢false (sym least.there.1 ∙ ap passes e ∙ fails))
-          | inr j ↦ j
-        ],
-        least.there.1,
-      );
-      least = λ o p. least.least o (inr p.0, p.1);
-    }
-
-    go : (b : Bool) → passes x ≡ b → (r : Option Held) → IsFirstOf (x ∷ held) passes r
-        → ((s : Option Held) → IsFirstOf held passes s
-        → option_map (λ e. e.1) (find (λ e. test e.1) (entries_of slots held))
-        ≡ option_map (λ (h : Held). octets_at slots h.1) s)
-        → option_map (λ e. e.1) (cond b (Some (x.0, octets_at slots x.1))
-        (find (λ e. test e.1) (entries_of slots held)))
-        ≡ option_map (λ (h : Held). octets_at slots h.1) r
-    go true e None first rest = absurd (first x (inl refl, e))
-    go true e (Some m) first rest = ap (λ (h : Held). Some (octets_at slots h.1)) (sym (at_first m first e))
-    go false e None first rest = rest None (λ h p. first h (inr p.0, p.1))
-    go false e (Some m) first rest = rest (Some m) (in_rest m first e)
+  found_is held r rises first =
+      found_entry held
+      ∙ ap (option_map (λ (h : Held). octets_at slots h.1))
+      (first_is_one exact_parts held passes (find passes held) r rises (find_first exact_parts passes held rises) first)
 
 -- ---- what the tests of names say
 
@@ -160,12 +141,12 @@ module _ (name : List Component) (asked octets : List ℕ) (packet : IsPacket oc
 module _ (slots : Slots) (name : List Component) (asked : List ℕ) (is_name : IsName name)
     (spelled : asked ≡ encoding name)
   where
-    asks : (p : Bool) (octets : List ℕ) (packet : IsPacket octets) (h : Held) → at slots h.1 ≡ Some octets
+    test_asks : (p : Bool) (octets : List ℕ) (packet : IsPacket octets) (h : Held) → at slots h.1 ≡ Some octets
         → (is_asked slots asked p h || has_full_name slots asked h) ≡ satisfies name p octets
-    asks true octets packet h e =
+    test_asks true octets packet h e =
         ap (λ (o : Option (List ℕ)). starts_with nat_eq (name_of o) asked || is_full_name asked o) e
         ∙ test_front name asked octets packet is_name spelled
-    asks false octets packet h e =
+    test_asks false octets packet h e =
         ap (λ (o : Option (List ℕ)). pointwise nat_eq (name_of o) asked || is_full_name asked o) e
         ∙ test_plain name asked octets packet is_name spelled
 
@@ -174,24 +155,25 @@ module _ (slots : Slots) (name : List Component) (asked : List ℕ) (is_name : I
         → IsFirstOf k.held (has_full_name slots asked) b
         → IsFirstOf k.held (satisfies_held slots name p) (lesser a b)
     answer_found k names p a b is sound index named full =
-        first_same (λ h. Passes (all_of names) (is_asked slots asked p) h ⊎ Passes k.held (has_full_name slots asked) h)
+        first_same exact_parts held_part
+        (λ h. Passes (all_of names) (is_asked slots asked p) h ⊎ Passes k.held (has_full_name slots asked) h)
         (Passes k.held (satisfies_held slots name p))
         (λ h e. elim e [
           | inl x ↦
-              let i = index.held_only h x.0 in
+              let i = index.same.there h x.0 in
               (i, sym (agrees h i) ∙ or_left (is_asked slots asked p h) (has_full_name slots asked h) x.1)
           | inr y ↦ (y.0, sym (agrees h y.0) ∙ or_right (is_asked slots asked p h) (has_full_name slots asked h) y.1)
         ])
         (λ h e. elim (or_cases (is_asked slots asked p h) (has_full_name slots asked h) (agrees h e.0 ∙ e.1)) [
-          | inl x ↦ inl (index.all_held h e.0, x)
+          | inl x ↦ inl (index.same.back h e.0, x)
           | inr y ↦ inr (e.0, y)
         ]) (lesser a b)
-        (lesser_first (Passes (all_of names) (is_asked slots asked p)) (Passes k.held (has_full_name slots asked)) a b
-        named full)
+        (lesser_first exact_parts held_part (Passes (all_of names) (is_asked slots asked p))
+        (Passes k.held (has_full_name slots asked)) a b named full)
       where
         agrees : (h : Held) → In h k.held
             → (is_asked slots asked p h || has_full_name slots asked h) ≡ satisfies_held slots name p h
         agrees h i =
             let packet = subst (λ (s : Slots). IsPacket (octets_at s h.1)) (sym is) (sound.packets h i) in
             let some = subst (λ (s : Slots). IsSome (at s h.1)) (sym is) (sound.kept h i) in
-            asks p (octets_at slots h.1) packet h (octets_of (at slots h.1) some)
+            test_asks p (octets_at slots h.1) packet h (octets_of (at slots h.1) some)

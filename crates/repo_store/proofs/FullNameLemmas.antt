@@ -1,23 +1,26 @@
 -- What is found by a full name: a name and a component with a digest.
-use Rattle.std.proofs.Common.{◌≡◌, ◌≢◌, ℕ, zero, suc, ◌+◌, ◌<◌, true, List, [], ◌∷◌, ◌++◌, length}
+use Rattle.std.proofs.Common.{◌≡◌, ◌≢◌, ℕ, ◌+◌, ◌<◌, true, List, [], ◌∷◌, ◌++◌, length}
 use Rattle.std.proofs.Common.{length-append, take, drop, Option, Some, None, refl, sym, ap, ◌∙◌, arith}
 use Rattle.std.specs.Prelude.{◌&&◌, ◌==◌}
 use Rattle.std.specs.Bool.{Decides, nat_eq}
 use Rattle.std.specs.Cmp.{unsigned_Decides}
 use Rattle.std.specs.Cmp.Lexicographic.{pointwise}
-use Rattle.std.proofs.lemmas.Bool.{true≢false}
+use Rattle.std.proofs.lemmas.Bool.{true≢false, and_parts, and_from, eq-eqb}
+use Rattle.std.proofs.lemmas.List.{take-append-drop}
 use Rattle.std.proofs.lemmas.Slice.Eq.{slice_eq-Decides}
 use Rattle.sha2.specs.Sha256.{sha256}
 use Rattle.sha2.proofs.Facts256.{length-sha256}
 use Rattle.ndn_tlv.specs.Spelling.{element}
+use Rattle.sorted_lists.proofs.RunOrder.{both_ways}
+use Rattle.sorted_lists.proofs.Members.{same_itself}
+use Rattle.sorted_lists.proofs.LeastOnes.{first_of_same}
+use Rattle.repo_plan.proofs.Orders.{exact_parts}
 use Rattle.repo_store.specs.declared.kept.Sought.{Sought}
 use Rattle.repo_store.specs.Kept.{packet_name, front_of, Slots, at, octets_at, Held}
 use Rattle.repo_store.specs.Slots.{AreSlots, is_full_name, has_full_name, is_sought, is_sought_at}
-use Rattle.repo_store.specs.Indexes.{IsFirstOf}
+use Rattle.repo_store.specs.Indexes.{held_part, IsFirstOf}
 use Rattle.repo_store.proofs.NameLemmas.{digest_element, append-same}
-use Rattle.repo_store.proofs.LeastLemmas.{first_of_same, both_or_none}
 use Rattle.repo_store.proofs.SlotLemmas.{octets_of}
-use Rattle.repo_store.proofs.FrontLemmas.{both_hold, both_true, is_nat}
 
 append_both : (a b c d : List ℕ) → length b ≡ length d → a ++ b ≡ c ++ d → (a ≡ c) × (b ≡ d)
 append_both [] b [] d l e = (refl, e)
@@ -30,12 +33,7 @@ append_both (x ∷ a) b (y ∷ c) d l e =
     ((ap (λ (n : List ℕ). x ∷ n) rest.0 ∙ ap (λ (z : ℕ). z ∷ c) one), rest.1)
 
 pub taken_and_rest : (n : ℕ) (xs front back : List ℕ) → front ≡ take n xs → back ≡ drop n xs → xs ≡ front ++ back
-taken_and_rest n xs front back p q =
-    split n xs ∙ ap (λ (x : List ℕ). x ++ drop n xs) (sym p) ∙ ap (λ (x : List ℕ). front ++ x) (sym q) where
-      split : (n : ℕ) (xs : List ℕ) → xs ≡ take n xs ++ drop n xs
-      split zero xs = refl
-      split (suc n) [] = refl
-      split (suc n) (x ∷ xs) = ap (λ (ys : List ℕ). x ∷ ys) (split n xs)
+taken_and_rest n xs front back p q = sym ((λ i. p i ++ q i) ∙ take-append-drop n xs)
 
 -- how long a full name is
 full_length : (octets : List ℕ)
@@ -85,7 +83,7 @@ module _ (slots : Slots) (held : List Held) (asked : List ℕ) where
     -- its digest and its name are those of the full name
     agrees : (octets : List ℕ)
         → (front_of (sha256 octets) == front_of digest && is_sought sought octets) ≡ is_full_name asked (Some octets)
-    agrees octets = both_or_none _ _ there back where
+    agrees octets = both_ways _ _ there back where
       own_digest : Decides (pointwise nat_eq (sha256 octets) digest) (sha256 octets ≡ digest)
       own_digest = slice_eq-Decides unsigned_Decides (sha256 octets) digest _ refl
 
@@ -98,8 +96,8 @@ module _ (slots : Slots) (held : List Held) (asked : List ℕ) where
       there : (front_of (sha256 octets) == front_of digest && is_sought sought octets) ≡ true
           → is_full_name asked (Some octets) ≡ true
       there e =
-          let found = (both_hold (front_of (sha256 octets) == front_of digest) (is_sought sought octets) e).1 in
-          let both = both_hold _ _ (sym (seeks octets) ∙ found) in
+          let found = (and_parts (front_of (sha256 octets) == front_of digest) (is_sought sought octets) e).1 in
+          let both = and_parts _ _ (sym (seeks octets) ∙ found) in
           (is_full-Decides asked octets).1
           (is
           ∙ ap (λ (x : List ℕ). x ++ ((1 ∷ 32 ∷ []) ++ digest)) (sym (own_name.0 both.1))
@@ -121,14 +119,14 @@ module _ (slots : Slots) (held : List Held) (asked : List ℕ) where
             l,
           )) full in
           let same : sha256 octets ≡ digest = sym (append-same (1 ∷ 32 ∷ []) digest (sha256 octets) both.1) in
-          both_true (front_of (sha256 octets) == front_of digest) (is_sought sought octets)
-          (is_nat (front_of (sha256 octets)) (front_of digest) (ap front_of same))
-          (seeks octets ∙ both_true _ _ (own_digest.1 same) (own_name.1 (sym both.0)))
+          and_from (front_of (sha256 octets) == front_of digest) (is_sought sought octets)
+          (eq-eqb (front_of (sha256 octets)) (front_of digest) (ap front_of same))
+          (seeks octets ∙ and_from _ _ (own_digest.1 same) (own_name.1 (sym both.0)))
 
     pub full_found : AreSlots slots held → (r : Option Held)
         → IsFirstOf held (is_sought_at slots (front_of digest) sought) r → IsFirstOf held (has_full_name slots asked) r
     full_found are r first =
-        first_of_same held held (is_sought_at slots (front_of digest) sought) (has_full_name slots asked) (λ h i. i)
-        (λ h i. i) (λ h i.
+        first_of_same exact_parts held_part held held (is_sought_at slots (front_of digest) sought)
+        (has_full_name slots asked) (same_itself held) (λ h i.
         agrees (octets_at slots h.1)
         ∙ ap (is_full_name asked) (sym (octets_of (at slots h.1) (are.kept h i)))) r first

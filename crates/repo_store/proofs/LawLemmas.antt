@@ -1,15 +1,13 @@
 -- What is got after a put, and what is served among all.
-use Rattle.std.proofs.Common.{◌≡◌, ◌≢◌, ℕ, Bool, true, false, cond, not, ◌⊎◌, inl, inr, List, [], ◌∷◌, Option, Some}
-use Rattle.std.proofs.Common.{None, option_map, Result, Ok, Err, refl, sym, ap, subst, ◌∙◌}
-use Rattle.std.specs.Prelude.{IsOk, is_some, ◌||◌}
-use Rattle.std.specs.List.{All, filter, find}
+use Rattle.std.proofs.Common.{◌≡◌, ◌≢◌, ℕ, Bool, true, false, cond, not, List, Option, Some, None}
+use Rattle.std.proofs.Common.{option_map, Result, Ok, Err, refl, sym, ap, subst, ◌∙◌}
+use Rattle.std.specs.Prelude.{IsOk, is_some}
+use Rattle.std.specs.List.{filter, find}
 use Rattle.std.specs.Option.{option_or}
-use Rattle.std.specs.Ordering.{eq_by_cmp, is_eq}
-use Rattle.std.specs.declared.cmp.Ordering.{Ordering}
-use Rattle.std.specs.declared.cmp.Ordering.TheVariants.{Less, Equal, Greater}
+use Rattle.std.specs.Ordering.{eq_by_cmp}
+use Rattle.std.specs.declared.cmp.Ordering.TheVariants.{Less}
 use Rattle.std.specs.Bool.{Decides}
-use Rattle.std.proofs.lemmas.Bool.{true≢false}
-use Rattle.std.proofs.lemmas.List.Elements.{All-head, All-tail}
+use Rattle.std.proofs.lemmas.Bool.{true≢false, false_from_ne_true}
 use Rattle.sha2.specs.Sha256.{sha256}
 use Rattle.ndn_tlv.specs.Listing.{◌>>=◌}
 use Rattle.ndn_name.specs.declared.fault.PacketFault.{PacketFault}
@@ -17,15 +15,17 @@ use Rattle.ndn_name.specs.Names.{Component}
 use Rattle.ndn_name.proofs.Encodings.{bind_ok}
 use Rattle.ndn_interest.specs.Interest.{Interest, interest_of}
 use Rattle.ndn_data.specs.Data.{Data, data_of, Satisfies}
+use Rattle.sorted_lists.specs.SortedList.{keys, Rises, contains, insert_key, value_of, with_value}
+use Rattle.sorted_lists.specs.Least.{IsFirstThat}
+use Rattle.sorted_lists.proofs.Sets.{eq_same, value_of-with_value, value_key, keys-with_value, keys-filter, in_contains}
+use Rattle.sorted_lists.proofs.RunOrder.{lt_not_le}
+use Rattle.sorted_lists.proofs.Members.{in_all}
+use Rattle.sorted_lists.proofs.Lookups.{insert_there, there_value, value_there}
+use Rattle.sorted_lists.proofs.LeastOnes.{find_first}
 use Rattle.repo_plan.specs.declared.part.Part.{Part}
-use Rattle.sorted_lists.specs.SortedList.{by_order, keys, IsBefore, Rises, contains, insert_key, value_of, with_value}
 use Rattle.repo_plan.specs.Parts.{Pair, part_cmp}
 use Rattle.repo_plan.specs.Plan.{is_in}
-use Rattle.sorted_lists.proofs.Orders.{less_back}
 use Rattle.repo_plan.proofs.Orders.{exact_parts}
-use Rattle.sorted_lists.proofs.Sets.{each_before, eq_same, eq_itself, value_of-with_value, keys-with_value}
-use Rattle.sorted_lists.proofs.Sets.{keys-filter}
-use Rattle.sorted_lists.proofs.Sets.{in_contains}
 use Rattle.repo_store.specs.StoreList.{with_packet, packets_outside, StoreIsSound}
 use Rattle.repo_store.specs.Served.{asks_for_read, satisfies, first_served, served_entry, served, served_part}
 use Rattle.repo_store.specs.Answers.{AnswersWith}
@@ -51,12 +51,7 @@ satisfies-Decides name p octets d read =
 -- a part has a packet exactly where it is among the parts
 pub has_value : (packets : Stores) (t : Part)
     → is_some (value_of part_cmp packets t) ≡ contains part_cmp (keys packets) t
-has_value [] t = refl
-has_value (e ∷ es) t = go (has_value es t) (eq_by_cmp part_cmp t e.0) where
-  go : is_some (value_of part_cmp es t) ≡ contains part_cmp (keys es) t → (b : Bool)
-      → is_some (cond b (Some e.1) (value_of part_cmp es t)) ≡ (b || contains part_cmp (keys es) t)
-  go rest true = refl
-  go rest false = rest
+has_value packets t = value_key part_cmp packets t
 
 or_none : (v : Option (List ℕ)) → v ≡ option_or v None
 or_none None = refl
@@ -93,29 +88,12 @@ put_got part octets packets t =
           ∙ r
           ∙ or_none v
 
-insert_there : (ks : List Part) (k : Part) → Rises part_cmp ks → contains part_cmp ks k ≡ true
-    → insert_key part_cmp k ks ≡ ks
-insert_there [] k r h = absurd (true≢false (sym h))
-insert_there (x ∷ xs) k r h = go (insert_there xs k r.1) (part_cmp k x) refl where
-  behind : (o : Ordering) → part_cmp k x ≡ o → is_eq o ≡ false → contains part_cmp xs k ≡ true
-  behind o e n = ap (λ (b : Bool). b || contains part_cmp xs k) (sym (ap is_eq e ∙ n)) ∙ h
-
-  go : (contains part_cmp xs k ≡ true → insert_key part_cmp k xs ≡ xs) → (o : Ordering) → part_cmp k x ≡ o
-      → by_order o (k ∷ x ∷ xs) (x ∷ xs) (x ∷ insert_key part_cmp k xs) ≡ x ∷ xs
-  go rest Less e =
-      let later =
-      less_back exact_parts.total x k
-      (each_before exact_parts.total x xs r.0 k (in_contains exact_parts xs k (behind Less e refl))) in
-      absurd cc
-  go rest Equal e = refl
-  go rest Greater e = ap (λ (ks : List Part). x ∷ ks) (rest (behind Greater e refl))
-
 pub keys_put : (part : Part) (octets : List ℕ) (packets : Stores) → Rises part_cmp (keys packets)
     → keys (with_packet part octets packets) ≡ insert_key part_cmp part (keys packets)
 keys_put part octets packets r = go (contains part_cmp (keys packets) part) refl where
   go : (c : Bool) → contains part_cmp (keys packets) part ≡ c
       → keys (cond c packets (with_value part_cmp part octets packets)) ≡ insert_key part_cmp part (keys packets)
-  go true h = sym (insert_there (keys packets) part r h)
+  go true h = sym (insert_there exact_parts part (keys packets) r (in_contains exact_parts (keys packets) part h))
   go false h = keys-with_value exact_parts part octets packets
 
 -- a store stays one
@@ -132,75 +110,36 @@ keys_outside pair packets = keys-filter exact_parts (λ t. not (is_in pair t)) p
 
 -- ---- the first that passes a test
 
-value_cases : (e : Part × List ℕ) (es : Stores) (t : Part) (o : List ℕ) → value_of part_cmp (e ∷ es) t ≡ Some o
-    → ((t ≡ e.0) × (e.1 ≡ o)) ⊎ (value_of part_cmp es t ≡ Some o)
-value_cases e es t o h = go (eq_by_cmp part_cmp t e.0) refl h where
-  go : (b : Bool) → eq_by_cmp part_cmp t e.0 ≡ b → cond b (Some e.1) (value_of part_cmp es t) ≡ Some o
-      → ((t ≡ e.0) × (e.1 ≡ o)) ⊎ (value_of part_cmp es t ≡ Some o)
-  go true q h = inl (eq_same exact_parts t e.0 q, cc)
-  go false q h = inr h
-
--- what holds of all packets holds of each that is got
-value_all : (P : Part × List ℕ → Type 0) (packets : Stores) (t : Part) (o : List ℕ) → All P packets
-    → value_of part_cmp packets t ≡ Some o → P (t, o)
-value_all P [] t o all h = absurd cc
-value_all P (e ∷ es) t o all h = elim (value_cases e es t o h) [
-  | inl a ↦ subst P (λ i. (sym a.0 i, a.1 i)) (All-head P e es all)
-  | inr b ↦ value_all P es t o (All-tail P e es all) b
-]
-
 pub got_data : (packets : Stores) (t : Part) (o : List ℕ) → StoreIsSound packets → value_of part_cmp packets t ≡ Some o
     → IsOk (data_of o)
-got_data packets t o s h = value_all (λ e. IsOk (data_of e.1)) packets t o s.are_data h
-
-later : (e : Part × List ℕ) (es : Stores) (t : Part) (o : List ℕ) → IsBefore part_cmp e.0 (keys es)
-    → value_of part_cmp es t ≡ Some o → part_cmp e.0 t ≡ Less
-later e es t o before h =
-    each_before exact_parts.total e.0 (keys es) before t
-    (in_contains exact_parts (keys es) t (sym (has_value es t) ∙ ap is_some h))
-
-value_later : (e : Part × List ℕ) (es : Stores) (t : Part) (o : List ℕ) → IsBefore part_cmp e.0 (keys es)
-    → value_of part_cmp es t ≡ Some o → value_of part_cmp (e ∷ es) t ≡ Some o
-value_later e es t o before h =
-    ap (λ (c : Ordering). cond (is_eq c) (Some e.1) (value_of part_cmp es t))
-    (less_back exact_parts.total e.0 t (later e es t o before h))
-    ∙ h
+got_data packets t o s h =
+    in_all (λ (e : Part × List ℕ). IsOk (data_of e.1)) packets (t, o) s.are_data (there_value exact_parts packets t o h)
 
 -- an entry that passes, and that no lesser part's does
-record Passes (test : List ℕ → Bool) (packets : Stores) (e : Part × List ℕ) : Type 0 where
+record IsFirstEntry (test : List ℕ → Bool) (packets : Stores) (e : Part × List ℕ) : Type 0 where
   stored : value_of part_cmp packets e.0 ≡ Some e.1
   passes : test e.1 ≡ true
   least : (t : Part) (o : List ℕ) → value_of part_cmp packets t ≡ Some o → test o ≡ true → part_cmp t e.0 ≢ Less
 
 abbrev First : (List ℕ → Bool) → Stores → Option (Part × List ℕ) → Type 0
 First test packets None = (t : Part) (o : List ℕ) → value_of part_cmp packets t ≡ Some o → test o ≡ false
-First test packets (Some e) = Passes test packets e
+First test packets (Some e) = IsFirstEntry test packets e
 
 found_first : (test : List ℕ → Bool) (packets : Stores) → Rises part_cmp (keys packets)
     → First test packets (find (λ e. test e.1) packets)
-found_first test [] r = λ t o h. absurd cc
-found_first test (e ∷ es) r = go (test e.1) refl (find (λ e. test e.1) es) (found_first test es r.1) where
-  go : (b : Bool) → test e.1 ≡ b → (f : Option (Part × List ℕ)) → First test es f
-      → First test (e ∷ es) (cond b (Some e) f)
-  go true p f h = record {
-    stored = ap (λ (b : Bool). cond b (Some e.1) (value_of part_cmp es e.0)) (eq_itself exact_parts e.0);
-    passes = p;
-    least = λ t o v s less. elim (value_cases e es t o v) [
-      | inl a ↦
-          let tied = exact_parts.itself e.0 in
-          let lesser = ap (λ (x : Part). part_cmp x e.0) (sym a.0) ∙ less in absurd cc
-      | inr b ↦ let back = less_back exact_parts.total e.0 t (later e es t o r.0 b) in absurd cc
-    ];
-  }
-  go false p None h = λ t o v. elim (value_cases e es t o v) [ inl a ↦ ap test (sym a.1) ∙ p | inr b ↦ h t o b ]
-  go false p (Some x) h = record {
-    stored = value_later e es x.0 x.1 r.0 h.stored;
-    passes = h.passes;
-    least = λ t o v s. elim (value_cases e es t o v) [
-      | inl a ↦ absurd (true≢false (sym s ∙ ap test (sym a.1) ∙ p))
-      | inr b ↦ h.least t o b s
-    ];
-  }
+found_first test packets r =
+    go (find (λ e. test e.1) packets) (find_first exact_parts (λ (e : Part × List ℕ). test e.1) packets r) where
+      go : (f : Option (Part × List ℕ))
+          → IsFirstThat part_cmp (λ (e : Part × List ℕ). e.0) packets (λ (e : Part × List ℕ). test e.1) f
+          → First test packets f
+      go None none = λ t o v.
+          false_from_ne_true (test o) (λ holds. none (t, o) (there_value exact_parts packets t o v, holds))
+      go (Some e) first = record {
+        stored = value_there exact_parts packets e r first.there.0;
+        passes = first.there.1;
+        least = λ t o v holds less.
+            lt_not_le exact_parts t e.0 less (first.least (t, o) (there_value exact_parts packets t o v, holds));
+      }
 
 -- ---- what is served
 

@@ -1,9 +1,6 @@
 pub mod ReadNames
-pub mod MapLemmas
-pub mod LeastLemmas
 pub mod IndexLemmas
 pub mod WalkLemmas
-pub mod MergeLemmas
 pub mod NameLayerLemmas
 pub mod FrontLemmas
 pub mod SlotLemmas

@@ -1,32 +1,32 @@
 -- Slots: what is kept once, what is put, and what is dropped.
-use Rattle.std.proofs.Common.{◌≡◌, ◌≢◌, ℕ, ◌+◌, Bool, true, false, ◌⊎◌, inl, inr, List, []}
+use Rattle.std.proofs.Common.{◌≡◌, ◌≢◌, ℕ, ◌+◌, Bool, true, false, ◌⊎◌, inl, inr, List, [], ◌∷◌, map}
 use Rattle.std.proofs.Common.{Option, Some, None, refl, sym, ap, subst, ◌∙◌, arith}
 use Rattle.std.specs.Prelude.{IsSome, unwrap_or, ◌==◌}
-use Rattle.std.specs.Ordering.{eq_by_cmp}
 use Rattle.std.specs.Bool.{nat_eq}
 use Rattle.std.specs.Cmp.{unsigned_Decides}
 use Rattle.std.specs.Cmp.Lexicographic.{pointwise}
 use Rattle.std.proofs.lemmas.Slice.Eq.{slice_eq-Decides}
-use Rattle.std.proofs.lemmas.Bool.{true≢false, cases_eq}
+use Rattle.std.proofs.lemmas.Bool.{true≢false, cases_eq, and_parts, and_from, eq-eqb}
 use Rattle.sha2.specs.Sha256.{sha256}
 use Rattle.slab.specs.Slab.{Slab, slab_len, HasRoomFor}
-use Rattle.repo_plan.specs.declared.part.Part.{Part}
 use Rattle.sorted_lists.specs.SortedList.{Rises, keys, value_of, with_value, without_key}
-use Rattle.sorted_lists.proofs.Sets.{In, eq_same, eq_itself}
+use Rattle.sorted_lists.specs.Members.{In, HaveSame}
+use Rattle.sorted_lists.proofs.Sets.{in_map, from_map}
+use Rattle.sorted_lists.proofs.RunOrder.{tri, lt_irrefl, in_without, without_in, unique}
+use Rattle.sorted_lists.proofs.Members.{same_is, same_back, same_then, same_more, map_same, same_map}
+use Rattle.sorted_lists.proofs.Lookups.{same_with, same_keys_with, in_keys_without, keys_without_in}
+use Rattle.repo_plan.specs.declared.part.Part.{Part}
 use Rattle.repo_plan.specs.Parts.{part_cmp}
 use Rattle.repo_plan.proofs.Orders.{exact_parts}
 use Rattle.repo_store.specs.declared.kept.Fronted.{Fronted}
 use Rattle.repo_store.specs.declared.kept.Sought.{Sought}
+use Rattle.repo_store.specs.declared.kept.Kept.TheInside.{Inside}
 use Rattle.repo_store.specs.Places.{IsPacket}
 use Rattle.repo_store.specs.Kept.{front_of, Slots, at, octets_at, front_at, Held, KeptState}
 use Rattle.repo_store.specs.Slots.{IsHeldIn, AreSlots, KeepsOne, fronted_cmp, fronted, AreFronts, IsUsed, is_sought}
-use Rattle.repo_store.specs.declared.kept.Kept.TheInside.{Inside}
 use Rattle.repo_store.specs.Slots.{is_sought_at, IsKeptIn, IsKept, KeptIsSound}
 use Rattle.repo_store.specs.Indexes.{GainsOne, IsFirstOf}
-use Rattle.repo_store.proofs.MapLemmas.{value_there, with_there, with_only, with_kept}
-use Rattle.repo_store.proofs.MapLemmas.{without_only, without_kept, keys_with_only, keys_with_there, keys_with_kept}
-use Rattle.repo_store.proofs.MapLemmas.{keys_without_only, keys_without_kept}
-use Rattle.repo_store.proofs.FrontLemmas.{exact_fronts, both_hold, both_true, is_nat}
+use Rattle.repo_store.proofs.FrontLemmas.{exact_fronts, front_only}
 
 pub some_or_none : (o : Option (List ℕ)) → IsSome o → o ≡ None → ⊥
 some_or_none None h e = true≢false (sym h)
@@ -56,6 +56,14 @@ sound_seen k kept = record {
   packets = λ h i. kept.slots.named h.1 (octets_at k.packets.slots h.1)
       (octets_of (at k.packets.slots h.1) (kept.slots.kept h i));
 }
+
+-- slots that keep their packets
+fronts_same : (old new : Slots) (held : List Held) → ((h : Held) → In h held → at new h.1 ≡ at old h.1)
+    → map (fronted old) held ≡ map (fronted new) held
+fronts_same old new held same = map_same (fronted old) (fronted new) held (λ h i.
+    ap (λ (x : Option (List ℕ)).
+    let f : Fronted = record { front = front_of (sha256 (unwrap_or x [])); slot = h.1; part = h.0 } in
+    f) (sym (same h i)))
 
 -- ---- one more
 
@@ -93,8 +101,8 @@ keeps_one held front sought octets None old new slot are is seeks first kept =
     keep_new old.slots new.slots held octets slot are (λ h i e.
     first h (
       i,
-      both_true (front_at old.slots h.1 == front) (is_sought sought (octets_at old.slots h.1))
-          (is_nat (front_at old.slots h.1) front
+      and_from (front_at old.slots h.1 == front) (is_sought sought (octets_at old.slots h.1))
+          (eq-eqb (front_at old.slots h.1) front
           (ap (λ (o : Option (List ℕ)). front_of (sha256 (unwrap_or o []))) e ∙ sym is))
           (seeks (octets_at old.slots h.1)
           ∙ (slice_eq-Decides unsigned_Decides (octets_at old.slots h.1) octets _ refl).1
@@ -104,7 +112,7 @@ keeps_one held front sought octets (Some h) old new slot are is seeks first kept
     let same =
     (slice_eq-Decides unsigned_Decides (octets_at old.slots h.1) octets _ refl).0
     (sym (seeks (octets_at old.slots h.1))
-    ∙ (both_hold (front_at old.slots h.1 == front) (is_sought sought (octets_at old.slots h.1)) first.there.1).1) in
+    ∙ (and_parts (front_at old.slots h.1 == front) (is_sought sought (octets_at old.slots h.1)) first.there.1).1) in
     let there : at old.slots h.1 ≡ Some octets =
     octets_of (at old.slots h.1) (are.kept h first.there.0) ∙ ap (λ (o : List ℕ). some_octets o) same in
     subst (λ (s : ℕ). KeepsOne octets old.slots new.slots s) (sym kept.0)
@@ -113,9 +121,12 @@ keeps_one held front sought octets (Some h) old new slot are is seeks first kept
 
 module _ (old new : Slots) (octets : List ℕ) (held more : List Held) (h : Held) (are : AreSlots old held)
     (keeps : KeepsOne octets old new h.1) (gains : GainsOne h held more) where
+  among : (o : Held) → In o more → (o ≡ h) ⊎ In o held
+  among o i = gains.there o i
+
   pub slots_more : IsPacket octets → AreSlots new more
   slots_more packet = record {
-    kept = λ o i. elim (gains.only o i) [
+    kept = λ o i. elim (among o i) [
       | inl e ↦ subst (λ (x : Held). IsSome (at new x.1)) (sym e) (subst IsSome (sym keeps.there) refl)
       | inr j ↦ some_as (at new o.1) (at old o.1) (keeps.others o.1 (are.kept o j)) (are.kept o j)
     ];
@@ -124,8 +135,11 @@ module _ (old new : Slots) (octets : List ℕ) (held more : List Held) (h : Held
       | inr j ↦ are.named s x (sym (keeps.others s j) ∙ e)
     ];
     used = λ s k. elim (keeps.only s k) [
-      | inl own ↦ record { by = h.0; there = subst (λ (x : ℕ). In (h.0, x) more) (sym own) gains.there }
-      | inr j ↦ let by : IsHeldIn held s = are.used s j in record { by = by.by; there = gains.kept (by.by, s) by.there }
+      | inl own ↦
+          record { by = h.0; there = subst (λ (x : ℕ). In (h.0, x) more) (sym own) (gains.back h (inl refl)) }
+      | inr j ↦
+          let by : IsHeldIn held s = are.used s j in
+          record { by = by.by; there = gains.back (by.by, s) (inr by.there) }
     ];
     different = λ a b p e. elim (keeps.only a p) [
       | inl x ↦
@@ -141,95 +155,61 @@ module _ (old new : Slots) (octets : List ℕ) (held more : List Held) (h : Held
     ];
   }
 
-  same_front : (o : Held) → In o held → front_at new o.1 ≡ front_at old o.1
-  same_front o i =
-      ap (λ (x : Option (List ℕ)). front_of (sha256 (unwrap_or x []))) (keeps.others o.1 (are.kept o i))
-
-  own_front : front_at new h.1 ≡ front_of (sha256 octets)
-  own_front = ap (λ (x : Option (List ℕ)). front_of (sha256 (unwrap_or x []))) keeps.there
-
   pub fronts_more : (front : ℕ) (fs : List (Fronted × Unit {0})) → front ≡ front_of (sha256 octets)
       → AreFronts old held (keys fs)
       → AreFronts new more (keys (with_value fronted_cmp (record { front = front; slot = h.1; part = h.0 }) tt fs))
-  fronts_more front fs is fronts = record {
-    only = λ x i. elim (keys_with_only exact_fronts own tt fs x i) [
-      | inl same ↦
-          subst (λ (y : Fronted). In (y.part, y.slot) more × (y.front ≡ front_at new y.slot)) (sym same)
-          (gains.there, is ∙ sym own_front)
-      | inr j ↦
-          let was = fronts.only x j in
-          (gains.kept (x.part, x.slot) was.0, was.1 ∙ sym (same_front (x.part, x.slot) was.0))
-    ];
-    all = λ o i. elim (gains.only o i) [
-      | inl e ↦
-          subst (λ (y : Held). In (fronted new y) after) (sym e)
-          (subst (λ (f : ℕ). In (at_front f h) after) (is ∙ sym own_front) (keys_with_there exact_fronts own tt fs))
-      | inr j ↦
-          subst (λ (f : ℕ). In (at_front f o) after) (sym (same_front o j))
-          (keys_with_kept exact_fronts own tt fs (fronted old o) (fronts.all o j))
-    ];
-  }
-    where
-      at_front : ℕ → Held → Fronted
-      at_front f o = record { front = f; slot = o.1; part = o.0 }
+  fronts_more front fs is fronts =
+      same_then (same_keys_with exact_fronts own tt fs)
+      (same_then (same_more own fronts)
+      (same_then (same_is (own ∷ map (fronted old) held) (map (fronted new) (h ∷ held)) all)
+      (same_back (same_map (fronted new) gains)))) where
+        own : Fronted
+        own = record { front = front; slot = h.1; part = h.0 }
 
-      own : Fronted
-      own = at_front front h
+        front_is : front ≡ front_at new h.1
+        front_is = is ∙ sym (ap (λ (x : Option (List ℕ)). front_of (sha256 (unwrap_or x []))) keeps.there)
 
-      after : List Fronted
-      after = keys (with_value fronted_cmp own tt fs)
+        all : own ∷ map (fronted old) held ≡ fronted new h ∷ map (fronted new) held
+        all =
+            ap (λ (f : ℕ). record { front = f; slot = h.1; part = h.0 } ∷ map (fronted old) held) front_is
+            ∙ ap (λ (ks : List Fronted). fronted new h ∷ ks)
+            (fronts_same old new held (λ o i. keeps.others o.1 (are.kept o i)))
 
 -- what is put under a part of which there was nothing
 pub gains_part : (held : List Held) (h : Held) → value_of part_cmp held h.0 ≡ None → Rises part_cmp (keys held)
     → GainsOne h held (with_value part_cmp h.0 h.1 held)
-gains_part held h none rises = record {
-  there = with_there exact_parts h.0 h.1 held;
-  kept = λ o i. with_kept exact_parts h.0 h.1 held o (λ same.
-      let some = value_there exact_parts held o rises i in
-      let is : value_of part_cmp held o.0 ≡ None = ap (value_of part_cmp held) same ∙ none in
-      absurd cc) i;
-  only = λ o i. with_only exact_parts h.0 h.1 held o i;
-}
+gains_part held h none rises = same_with exact_parts h.0 h.1 held rises none
 
 -- ---- one less
 
 -- one is gone, and no other of its part is there
 pub record LosesOne (h : Held) (old new : List Held) : Type 0 where
-  pub only : (o : Held) → In o new → In o old
+  pub only : (o : Held) → In o new → In o old × (o.0 ≢ h.0)
   pub kept : (o : Held) → In o old → (o ≡ h) ⊎ In o new
-  pub apart : (o : Held) → In o new → o.0 ≢ h.0
 
 pub loses_part : (held : List Held) (h : Held) → In h held → Rises part_cmp (keys held)
     → LosesOne h held (without_key part_cmp h.0 held)
 loses_part held h there rises = record {
-  only = λ o i. (without_only exact_parts h.0 held o rises i).0;
-  kept = λ o i. elim (same_or_not o (eq_by_cmp part_cmp o.0 h.0) refl) [
-    | inl same ↦ inl (own o i same)
-    | inr other ↦ inr (without_kept exact_parts h.0 held o other i)
+  only = λ o i. in_without exact_parts h.0 held rises o i;
+  kept = λ o i. elim (tri exact_parts o.0 h.0) [
+    | inl less ↦
+        inr (stays o i (λ same. lt_irrefl exact_parts h.0 (ap (λ (t : Part). part_cmp t h.0) (sym same) ∙ less)))
+    | inr more ↦ elim more [
+      | inl same ↦ inl (unique exact_parts held rises o h i there same)
+      | inr less ↦ inr (stays o i (λ same. lt_irrefl exact_parts h.0 (ap (part_cmp h.0) (sym same) ∙ less)))
+    ]
   ];
-  apart = λ o i. (without_only exact_parts h.0 held o rises i).1;
 }
   where
-    same_or_not : (o : Held) (b : Bool) → eq_by_cmp part_cmp o.0 h.0 ≡ b → (o.0 ≡ h.0) ⊎ (o.0 ≢ h.0)
-    same_or_not o true e = inl (eq_same exact_parts o.0 h.0 e)
-    same_or_not o false e =
-        inr (λ same. true≢false
-        (sym (eq_itself exact_parts h.0) ∙ ap (λ (t : Part). eq_by_cmp part_cmp t h.0) (sym same) ∙ e))
-
-    own : (o : Held) → In o held → o.0 ≡ h.0 → o ≡ h
-    own o i same =
-        let a = value_there exact_parts held o rises i in
-        let b = value_there exact_parts held h rises there in
-        let c : value_of part_cmp held o.0 ≡ value_of part_cmp held h.0 = ap (value_of part_cmp held) same in
-        let slot : o.1 ≡ h.1 = cc in
-        λ i. (same i, slot i)
+    stays : (o : Held) → In o held → o.0 ≢ h.0 → In o (without_key part_cmp h.0 held)
+    stays o i other = without_in exact_parts h.0 held o i other
 
 module _ (old new : Slots) (held left : List Held) (h : Held) (are : AreSlots old held)
     (loses : LosesOne h held left) (same : (o : Held) → In o left → at new o.1 ≡ at old o.1) where
   pub slots_less : ((s : ℕ) → IsSome (at new s) → at new s ≡ at old s) → (IsSome (at new h.1) → IsHeldIn left h.1)
       → AreSlots new left
   slots_less only still = record {
-    kept = λ o i. some_as (at new o.1) (at old o.1) (same o i) (are.kept o (loses.only o i));
+    kept = λ o i. some_as (at new o.1) (at old o.1) (same o i) (are.kept o (loses.only o i).0);
     named = λ s x e. are.named s x (sym (only s (subst IsSome (sym e) refl)) ∙ e);
     used = λ s k.
         let by : IsHeldIn held s = are.used s (subst IsSome (only s k) k) in
@@ -245,30 +225,23 @@ module _ (old new : Slots) (held left : List Held) (h : Held) (are : AreSlots ol
 
   pub fronts_less : (fs : List (Fronted × Unit {0})) → Rises fronted_cmp (keys fs) → AreFronts old held (keys fs)
       → AreFronts new left (keys (without_key fronted_cmp (fronted old h) fs))
-  fronts_less fs rises fronts = record {
-    only = λ x i.
-        let there = keys_without_only exact_fronts (fronted old h) fs x rises i in
-        let was = fronts.only x there.0 in
-        elim (loses.kept (x.part, x.slot) was.0) [
-          | inl own ↦ absurd (there.1 (λ i.
-              record {
-                front = (was.1 ∙ ap (λ (o : Held). front_at old o.1) own) i;
-                slot = (own i).1;
-                part = (own i).0;
-              }))
-          | inr j ↦ (j, was.1 ∙ sym (front_same (x.part, x.slot) j))
-        ];
-    all = λ o i.
-        subst (λ (f : ℕ). In (at_front f o) (keys (without_key fronted_cmp (fronted old h) fs))) (sym (front_same o i))
-        (keys_without_kept exact_fronts (fronted old h) fs (fronted old o)
-        (λ e. loses.apart o i (ap (λ (x : Fronted). x.part) e)) (fronts.all o (loses.only o i)));
-  }
-    where
-      at_front : ℕ → Held → Fronted
-      at_front f o = record { front = f; slot = o.1; part = o.0 }
-
-      front_same : (o : Held) → In o left → front_at new o.1 ≡ front_at old o.1
-      front_same o i = ap (λ (x : Option (List ℕ)). front_of (sha256 (unwrap_or x []))) (same o i)
+  fronts_less fs rises fronts =
+      subst (HaveSame (keys (without_key fronted_cmp (fronted old h) fs))) (fronts_same old new left same) (record {
+        there = λ k i.
+            let was = in_keys_without exact_fronts (fronted old h) fs k rises i in
+            let e = from_map (fronted old) held k (fronts.there k was.0) in
+            subst (λ (x : Fronted). In x (map (fronted old) left)) (sym e.2) (elim (loses.kept e.0 e.1) [
+              | inl own ↦ absurd (was.1 (e.2 ∙ ap (fronted old) own))
+              | inr j ↦ in_map (fronted old) left e.0 j
+            ]);
+        back = λ k i.
+            let e = from_map (fronted old) left k i in
+            let o = loses.only e.0 e.1 in
+            keys_without_in exact_fronts (fronted old h) fs k
+            (λ own. o.1 (ap (λ (x : Fronted). x.part) (sym e.2 ∙ own)))
+            (fronts.back k (subst (λ (x : Fronted). In x (map (fronted old) held)) (sym e.2)
+            (in_map (fronted old) held e.0 o.0)));
+      })
 
 -- a removal takes no room
 pub room_kept : (old new : Slab (List ℕ)) → slab_len new + 1 ≡ slab_len old → new.capacity ≡ old.capacity → (n : ℕ)
@@ -301,7 +274,7 @@ module _ (old : Slots) (held : List Held) (fs : List (Fronted × Unit {0})) (h :
   part_used used = record {
     slots =
         slots_less old old held left h are loses (λ o i. refl) (λ s k. refl)
-        (λ k. record { by = used.0; there = (still_fronts.only _ used.1).0 });
+        (λ k. record { by = used.0; there = (front_only old left fronts_left _ still_fronts used.1).0 });
     fronts = still_fronts;
     same = λ o i. refl;
   }
@@ -321,7 +294,7 @@ module _ (old : Slots) (held : List Held) (fs : List (Fronted × Unit {0})) (h :
       same : (o : Held) → In o left → at new o.1 ≡ at old o.1
       same o i = others o.1 (λ e.
           unused o.0 (subst (λ (s : ℕ). In (record { front = front_at old s; slot = s; part = o.0 }) fronts_left) e
-          (still_fronts.all o i)))
+          (still_fronts.back (fronted old o) (in_map (fronted old) left o i))))
 
   -- the same of lists and a front that are these
   module _ (front : ℕ) (gone : List Held) (after : List (Fronted × Unit {0})) (is : front ≡ front_at old h.1)

@@ -1,144 +1,143 @@
--- What a walk along the names below a front finds.
-use Rattle.std.proofs.Common.{◌≡◌, ◌≢◌, ℕ, ◌<◌, ◌≤◌, Bool, true, false, ◌⊎◌, inl, inr, List, [], ◌∷◌, ◌++◌}
-use Rattle.std.proofs.Common.{length, length-drop, get_or, take, drop, append_assoc, Option, Some, None, refl, sym}
-use Rattle.std.proofs.Common.{ap, subst, ◌∙◌, arith}
+-- What a walk along the names that are asked for finds.
+use Rattle.std.proofs.Common.{◌≡◌, ℕ, ◌<◌, ◌≤◌, Bool, true, false, ◌⊎◌, inl, inr, List, [], ◌∷◌, ◌++◌, length}
+use Rattle.std.proofs.Common.{length-drop, get_or, take, drop, append_assoc, Option, Some, None, refl, sym, ap, subst}
+use Rattle.std.proofs.Common.{◌∙◌, arith}
 use Rattle.std.specs.Prelude.{IfSome, slice_get}
 use Rattle.std.specs.Bool.{nat_eq}
-use Rattle.std.specs.Ordering.{nat_cmp, ordering_then}
-use Rattle.std.specs.Cmp.{unsigned_Decides}
-use Rattle.std.specs.Cmp.Lexicographic.{slice_cmp}
 use Rattle.std.specs.List.{starts_with}
 use Rattle.std.specs.List.Sorted.{IsPartitionedBy, IsPartitionPoint}
+use Rattle.std.specs.Ordering.{nat_cmp, ordering_then, is_le}
+use Rattle.std.specs.Cmp.{unsigned_Decides}
+use Rattle.std.specs.Cmp.Lexicographic.{slice_cmp}
 use Rattle.std.specs.declared.cmp.Ordering.{Ordering}
 use Rattle.std.specs.declared.cmp.Ordering.TheVariants.{Less, Equal, Greater}
 use Rattle.std.proofs.lemmas.Bool.{true≢false, cases_lt}
+use Rattle.std.proofs.lemmas.Cmp.{nat_cmp_total}
+use Rattle.std.proofs.lemmas.List.{take-append-drop}
 use Rattle.std.proofs.lemmas.Slice.Eq.{slice_eq-Decides, starts_is}
-use Rattle.std.proofs.lemmas.List.{drop-map, take-append-drop}
-use Rattle.repo_plan.specs.Parts.{part_cmp}
+use Rattle.sorted_lists.specs.Members.{In}
+use Rattle.sorted_lists.specs.Least.{Passes}
 use Rattle.sorted_lists.proofs.Orders.{less_back, nat_same, nat_itself}
-use Rattle.sorted_lists.proofs.Sets.{In, in_map, in_append, append_left, append_right}
+use Rattle.sorted_lists.proofs.Sets.{in_append, append_left, append_right}
+use Rattle.sorted_lists.proofs.RunOrder.{le_itself, lt_not_le}
+use Rattle.sorted_lists.proofs.Members.{in_front}
+use Rattle.sorted_lists.proofs.Climbs.{climbs_parts, pairs_climb}
+use Rattle.sorted_lists.proofs.LeastOnes.{le_both, first_same, first_of_both}
+use Rattle.repo_plan.proofs.Orders.{exact_parts}
 use Rattle.repo_store.specs.Kept.{Slots, Held}
-use Rattle.repo_store.specs.Indexes.{name_at, key_cmp, key_in, keys_in, Climbs, AreInOrder, is_asked, lesser}
-use Rattle.repo_store.specs.Indexes.{first_part, IsFrom, IsBehind, Passes, IsFirstOf}
-use Rattle.repo_store.proofs.LeastLemmas.{first_part_least, part_not_less, first_same, first_of_both}
-use Rattle.repo_store.proofs.IndexLemmas.{exact_octets, climbs_drop, in_front, pairs_climb}
-use Rattle.repo_store.proofs.IndexLemmas.{same_climb}
+use Rattle.repo_store.specs.Indexes.{name_at, key_cmp, key_in, AreInOrder, asks, is_asked, lesser, held_part, IsFrom}
+use Rattle.repo_store.specs.Indexes.{IsBehind, IsFirstOf}
+use Rattle.repo_store.proofs.IndexLemmas.{exact_octets, exact_keys, NameLe, names_le, parts_le}
 
 -- ---- octets in order
 
 -- octets that are neither before a front nor behind octets that begin with it begin with it too
-between : (front a rest : List ℕ) → slice_cmp nat_cmp a front ≢ Less → slice_cmp nat_cmp a (front ++ rest) ≢ Greater
-    → (more : List ℕ) × (a ≡ front ++ more)
+between : (front a rest : List ℕ) → NameLe front a → NameLe a (front ++ rest) → (more : List ℕ) × (a ≡ front ++ more)
 between [] a rest low high = (a, refl)
-between (x ∷ front) [] rest low high = absurd (low refl)
-between (x ∷ front) (y ∷ a) rest low high = go (between front a rest) (nat_cmp y x) refl low high where
-  go : (slice_cmp nat_cmp a front ≢ Less → slice_cmp nat_cmp a (front ++ rest) ≢ Greater
-      → (more : List ℕ) × (a ≡ front ++ more))
-      → (o : Ordering) → nat_cmp y x ≡ o → ordering_then o (slice_cmp nat_cmp a front) ≢ Less
-      → ordering_then o (slice_cmp nat_cmp a (front ++ rest)) ≢ Greater
+between (x ∷ front) [] rest low high = absurd (true≢false (sym low))
+between (x ∷ front) (y ∷ a) rest low high = go (nat_cmp x y) refl low (between front a rest) where
+  go : (o : Ordering) → nat_cmp x y ≡ o → is_le (ordering_then o (slice_cmp nat_cmp front a)) ≡ true
+      → (NameLe front a → NameLe a (front ++ rest) → (more : List ℕ) × (a ≡ front ++ more))
       → (more : List ℕ) × ((y ∷ a) ≡ x ∷ (front ++ more))
-  go inner Less e low high = absurd (low refl)
-  go inner Greater e low high = absurd (high refl)
-  go inner Equal e low high =
-      let more : (more : List ℕ) × (a ≡ front ++ more) = inner low high in
-      let same : y ≡ x = nat_same y x e in
-      (more.0, ap (λ (n : List ℕ). y ∷ n) more.1 ∙ ap (λ (z : ℕ). z ∷ (front ++ more.0)) same)
+  go Less e l inner =
+      let behind = slice_cmp nat_cmp a (front ++ rest) in
+      absurd (true≢false (sym high
+      ∙ ap (λ (o : Ordering). is_le (ordering_then o behind)) (less_back nat_cmp_total x y e)))
+  go Equal e l inner =
+      let same : x ≡ y = nat_same x y e in
+      let tied : nat_cmp y x ≡ Equal = ap (nat_cmp y) same ∙ nat_itself y in
+      let behind = slice_cmp nat_cmp a (front ++ rest) in
+      let more : (more : List ℕ) × (a ≡ front ++ more) =
+      inner l (ap (λ (o : Ordering). is_le (ordering_then o behind)) (sym tied) ∙ high) in
+      (more.0, ap (λ (n : List ℕ). y ∷ n) more.1 ∙ ap (λ (z : ℕ). z ∷ (front ++ more.0)) (sym same))
+  go Greater e l inner = absurd (true≢false (sym l))
 
 -- octets that begin with a front are not before it
-not_before_front : (front rest : List ℕ) → slice_cmp nat_cmp (front ++ rest) front ≢ Less
-not_before_front [] [] h = absurd cc
-not_before_front [] (x ∷ rest) h = absurd cc
-not_before_front (x ∷ front) rest h =
-    not_before_front front rest
-    (sym (ap (λ (o : Ordering). ordering_then o (slice_cmp nat_cmp (front ++ rest) front)) (tied x)) ∙ h) where
-      tied : (x : ℕ) → nat_cmp x x ≡ Equal
-      tied x = nat_itself x
+front_before : (front rest : List ℕ) → NameLe front (front ++ rest)
+front_before [] [] = refl
+front_before [] (x ∷ rest) = refl
+front_before (x ∷ front) rest =
+    ap (λ (o : Ordering). is_le (ordering_then o (slice_cmp nat_cmp front (front ++ rest)))) (nat_itself x)
+    ∙ front_before front rest
 
 begins_is : (front name : List ℕ)
     → (starts_with nat_eq name front ≡ true → name ≡ front ++ drop (length front) name)
     × ((rest : List ℕ) → name ≡ front ++ rest → starts_with nat_eq name front ≡ true)
 begins_is front name = starts_is unsigned_Decides name front _ refl
 
+is_name : (asked name : List ℕ) → (asks asked false name ≡ true → name ≡ asked)
+    × (name ≡ asked → asks asked false name ≡ true)
+is_name asked name = slice_eq-Decides unsigned_Decides name asked _ refl
+
+-- names that are asked for are not before what is asked for
+asked_from : (asked : List ℕ) (p : Bool) (name : List ℕ) → asks asked p name ≡ true → NameLe asked name
+asked_from asked true name h =
+    subst (NameLe asked) (sym ((begins_is asked name).0 h)) (front_before asked (drop (length asked) name))
+asked_from asked false name h = subst (NameLe asked) (sym ((is_name asked name).0 h)) (le_itself exact_octets asked)
+
+-- and stand side by side
+asked_between : (asked : List ℕ) (p : Bool) (a b : List ℕ) → NameLe asked a → NameLe a b → asks asked p b ≡ true
+    → asks asked p a ≡ true
+asked_between asked true a b low high h =
+    let more = between asked a (drop (length asked) b) low (subst (NameLe a) ((begins_is asked b).0 h) high) in
+    (begins_is asked a).1 more.0 more.1
+asked_between asked false a b low high h =
+    (is_name asked a).1 (le_both exact_octets a asked (subst (NameLe a) ((is_name asked b).0 h) high) low)
+
 -- ---- the walk
 
-first_up_to : (x p : Ordering) → ordering_then x p ≢ Greater → x ≢ Greater
-first_up_to x p n e = n (ap (λ (o : Ordering). ordering_then o p) e)
+-- where a walk along names stands: of what it has seen, what is asked for of the least part is found
+pub record Walk (slots : Slots) (held : List Held) (asked : List ℕ) (p : Bool) (rest : List Held)
+    (least : Option Held) : Type 0 where
+  pub seen : List Held
+  pub whole : seen ++ rest ≡ held
+  pub in_order : AreInOrder slots rest
+  pub low : (h : Held) → In h rest → NameLe asked (name_at slots h)
+  pub found : IsFirstOf seen (is_asked slots asked p) least
 
-first_less_where : (x p : Ordering) → ordering_then x p ≡ Less → p ≢ Less → x ≡ Less
-first_less_where Less p h n = refl
-first_less_where Equal p h n = absurd (n h)
-first_less_where Greater p h n = absurd cc
+module _ (slots : Slots) (held : List Held) (asked : List ℕ) (p : Bool) where
+  abbrev test : Held → Bool
+  test h = is_asked slots asked p h
 
--- where a walk along the names below a front stands: of what it has seen, the least part that begins with the front is
--- found
-pub record Walk (slots : Slots) (held : List Held) (front : List ℕ) (rest : List Held) (least : Option Held) : Type 0
-  where
-    pub seen : List Held
-    pub whole : seen ++ rest ≡ held
-    pub in_order : AreInOrder slots rest
-    pub low : (h : Held) → In h rest → slice_cmp nat_cmp (name_at slots h) front ≢ Less
-    pub found : IsFirstOf seen (is_asked slots front true) least
-
-module _ (slots : Slots) (held : List Held) (front : List ℕ) where
-  abbrev begins : Held → Bool
-  begins h = is_asked slots front true h
-
-  -- what is before a front does not begin with it
-  lacks_front : (h : Held) → key_cmp (key_in slots h) (front, first_part) ≡ Less → begins h ≡ true → ⊥
-  lacks_front h less holds =
-      not_before_front front (drop (length front) (name_at slots h))
-      (ap (λ (n : List ℕ). slice_cmp nat_cmp n front) (sym ((begins_is front (name_at slots h)).0 holds))
-      ∙ first_less_where (slice_cmp nat_cmp (name_at slots h) front) (part_cmp h.0 first_part) less
-      (first_part_least h.0))
-
-  pub walk_start : (rest : List Held) → IsFrom slots held front rest → Walk slots held front rest None
+  pub walk_start : (rest : List Held) → IsFrom slots held asked rest → Walk slots held asked p rest None
   walk_start rest from = record {
     seen = from.front;
     whole = from.whole;
     in_order = from.in_order;
-    low = λ h i less.
-        from.behind h i (ap (λ (o : Ordering). ordering_then o (part_cmp h.0 first_part)) less);
-    found = λ h p. lacks_front h (from.before h p.0) p.1;
+    low = from.behind;
+    found = λ h i.
+        lt_not_le exact_octets (name_at slots h) asked (from.before h i.0) (asked_from asked p (name_at slots h) i.1);
   }
 
-  walk_stop : (rest : List Held) (least : Option Held) (walk : Walk slots held front rest least)
-      → ((o : Held) → In o rest → begins o ≡ true → ⊥) → IsFirstOf held begins least
+  walk_stop : (rest : List Held) (least : Option Held) (walk : Walk slots held asked p rest least)
+      → ((o : Held) → In o rest → test o ≡ true → ⊥) → IsFirstOf held test least
   walk_stop rest least walk none =
-      first_same (Passes walk.seen begins) (Passes held begins)
-      (λ h p. (subst (In h) walk.whole (append_left walk.seen rest h p.0), p.1))
-      (λ h p. elim (in_append walk.seen rest h (subst (In h) (sym walk.whole) p.0)) [
-        | inl i ↦ (i, p.1)
-        | inr j ↦ absurd (none h j p.1)
+      first_same exact_parts held_part (Passes walk.seen test) (Passes held test)
+      (λ h i. (subst (In h) walk.whole (append_left walk.seen rest h i.0), i.1))
+      (λ h i. elim (in_append walk.seen rest h (subst (In h) (sym walk.whole) i.0)) [
+        | inl j ↦ (j, i.1)
+        | inr j ↦ absurd (none h j i.1)
       ]) least walk.found
 
   module _ (rest more : List Held) (first : Held) (least : Option Held) (is : rest ≡ first ∷ more)
-      (walk : Walk slots held front rest least) where
-    later : (o : Held) → In o rest → (o ≡ first) ⊎ (key_cmp (key_in slots first) (key_in slots o) ≢ Greater)
+      (walk : Walk slots held asked p rest least) where
+    later : (o : Held) → In o rest → is_le (key_cmp (key_in slots first) (key_in slots o)) ≡ true
     later o i = elim (let j : (o ≡ first) ⊎ In o more = subst (In o) is i in j) [
-      | inl e ↦ inl e
-      | inr j ↦ inr ((subst (AreInOrder slots) is walk.in_order).0 (key_in slots o) (in_map (key_in slots) more o j))
+      | inl e ↦
+          subst (λ (h : Held). is_le (key_cmp (key_in slots first) (key_in slots h)) ≡ true) (sym e)
+          (le_itself exact_keys (key_in slots first))
+      | inr j ↦ (subst (AreInOrder slots) is walk.in_order).0 o j
     ]
 
-    -- where the first does not begin with the front, none does
-    lack_front : begins first ≡ false → (o : Held) → In o rest → begins o ≡ true → ⊥
-    lack_front lacks o i holds = elim (later o i) [
-      | inl e ↦ true≢false (sym holds ∙ ap begins e ∙ lacks)
-      | inr n ↦
-          let spelled = (begins_is front (name_at slots o)).0 holds in
-          let high =
-          first_up_to (slice_cmp nat_cmp (name_at slots first) (name_at slots o)) (part_cmp first.0 o.0) n in
-          let inner =
-          between front (name_at slots first) (drop (length front) (name_at slots o))
-          (walk.low first (subst (In first) (sym is) (inl refl)))
-          (λ greater. high (ap (slice_cmp nat_cmp (name_at slots first)) spelled ∙ greater)) in
-          true≢false (sym ((begins_is front (name_at slots first)).1 inner.0 inner.1) ∙ lacks)
-    ]
+    -- where the first is not asked for, none is
+    pub walk_lacks : test first ≡ false → IsFirstOf held test least
+    walk_lacks lacks = walk_stop rest least walk (λ o i holds.
+        true≢false (sym (asked_between asked p (name_at slots first) (name_at slots o)
+        (walk.low first (subst (In first) (sym is) (inl refl)))
+        (names_le (key_in slots first) (key_in slots o) (later o i)) holds) ∙ lacks))
 
-    pub walk_lacks : begins first ≡ false → IsFirstOf held begins least
-    walk_lacks lacks = walk_stop rest least walk (lack_front lacks)
-
-    pub walk_more : (behind : List Held) (name : List ℕ) → name ≡ name_at slots first → begins first ≡ true
-        → IsBehind slots rest name behind → Walk slots held front behind (lesser least (Some first))
+    pub walk_more : (behind : List Held) (name : List ℕ) → name ≡ name_at slots first → test first ≡ true
+        → IsBehind slots rest name behind → Walk slots held asked p behind (lesser least (Some first))
     walk_more behind name named holds past = record {
       seen = walk.seen ++ past.front;
       whole =
@@ -147,12 +146,11 @@ module _ (slots : Slots) (held : List Held) (front : List ℕ) where
           ∙ walk.whole;
       in_order = past.in_order;
       low = λ h i. walk.low h (subst (In h) past.whole (append_right past.front behind h i));
-      found = first_of_both walk.seen past.front begins least (Some first) walk.found (record {
+      found = first_of_both exact_parts held_part walk.seen past.front test least (Some first) walk.found (record {
         there = (own past.front past.whole, holds);
-        least = λ o p. elim (later o (subst (In o) past.whole (append_left past.front behind o p.0))) [
-          | inl e ↦ λ less. part_not_less first.0 (ap (λ (x : Held). part_cmp x.0 first.0) (sym e) ∙ less)
-          | inr n ↦ same_climb slots name first o n (past.named o p.0 ∙ named)
-        ];
+        least = λ o i.
+            parts_le (key_in slots first) (key_in slots o) (sym named ∙ sym (past.named o i.0))
+            (later o (subst (In o) past.whole (append_left past.front behind o i.0)));
       });
     }
       where
@@ -162,8 +160,8 @@ module _ (slots : Slots) (held : List Held) (front : List ℕ) where
         own (x ∷ xs) e = let both : x ∷ (xs ++ behind) ≡ first ∷ more = e ∙ is in
             let same : x ≡ first = cc in inl (sym same)
 
-  pub walk_end : (rest : List Held) (least : Option Held) → rest ≡ [] → Walk slots held front rest least
-      → IsFirstOf held begins least
+  pub walk_end : (rest : List Held) (least : Option Held) → rest ≡ [] → Walk slots held asked p rest least
+      → IsFirstOf held test least
   walk_end rest least none walk = walk_stop rest least walk (λ h i holds. subst (In h) none i)
 
 -- ---- behind a name
@@ -172,76 +170,60 @@ module _ (slots : Slots) (name : List ℕ) where
   abbrev pub named : Held → Bool
   named h = is_asked slots name false h
 
-  named_is : (h : Held) → named h ≡ true → name_at slots h ≡ name
-  named_is h = (slice_eq-Decides unsigned_Decides (name_at slots h) name (named h) refl).0
+  module _ (held : List Held) (climbs : AreInOrder slots held)
+      (first : IfSome (slice_get held 0) (λ h. name_at slots h ≡ name)) where
+    first_is : (d : Held) → 0 < length held → name_at slots (get_or held 0 d) ≡ name
+    first_is d l = go held first l where
+      go : (xs : List Held) → IfSome (slice_get xs 0) (λ h. name_at slots h ≡ name) → 0 < length xs
+          → name_at slots (get_or xs 0 d) ≡ name
+      go [] h m = absurd (omega arith)
+      go (x ∷ xs) h m = h
 
-  is_named : (h : Held) → name_at slots h ≡ name → named h ≡ true
-  is_named h = (slice_eq-Decides unsigned_Decides (name_at slots h) name (named h) refl).1
+    names_climb : (i j : ℕ) (d : Held) → i < j → j < length held
+        → NameLe (name_at slots (get_or held i d)) (name_at slots (get_or held j d))
+    names_climb i j d l m =
+        names_le (key_in slots (get_or held i d)) (key_in slots (get_or held j d))
+        (pairs_climb exact_keys (key_in slots) held climbs i j d l m)
 
-  climbs_at : (held : List Held) → AreInOrder slots held → (i j : ℕ) (d : Held) → i < j → j < length held
-      → slice_cmp nat_cmp (name_at slots (get_or held i d)) (name_at slots (get_or held j d)) ≢ Greater
-  climbs_at held climbs i j d l m =
-      let a = get_or held i d in
-      let b = get_or held j d in
-      first_up_to (slice_cmp nat_cmp (name_at slots a) (name_at slots b)) (part_cmp a.0 b.0)
-      (pairs_climb (key_in slots) held climbs i j d l m)
+    low_at : (i : ℕ) (d : Held) → i < length held → NameLe name (name_at slots (get_or held i d))
+    low_at i d l = elim (cases_lt 0 i) [
+      | inl some ↦
+          subst (λ (n : List ℕ). NameLe n (name_at slots (get_or held i d))) (first_is d (omega arith))
+          (names_climb 0 i d some l)
+      | inr none ↦
+          let zero_is : 0 ≡ i = omega arith in
+          subst (λ (k : ℕ). NameLe name (name_at slots (get_or held k d))) zero_is
+          (subst (NameLe name) (sym (first_is d (omega arith))) (le_itself exact_octets name))
+    ]
 
-  same_octets : (a b : List ℕ) → slice_cmp nat_cmp a b ≢ Greater → slice_cmp nat_cmp b a ≢ Greater → a ≡ b
-  same_octets a b n m = go (slice_cmp nat_cmp a b) refl where
-    go : (o : Ordering) → slice_cmp nat_cmp a b ≡ o → a ≡ b
-    go Less e = absurd (m (less_back exact_octets.total a b e))
-    go Equal e = exact_octets.same a b e
-    go Greater e = absurd (n e)
+    pub named_parted : IsPartitionedBy named held
+    named_parted i j d l m passes = elim (cases_lt i j) [
+      | inl less ↦
+          asked_between name false (name_at slots (get_or held i d)) (name_at slots (get_or held j d))
+          (low_at i d (omega arith)) (names_climb i j d less m) passes
+      | inr more ↦ let same : j ≡ i = omega arith in subst (λ (k : ℕ). named (get_or held k d) ≡ true) same passes
+    ]
 
-  first_is : (held : List Held) (d : Held) → 0 < length held → IfSome (slice_get held 0) (λ h. name_at slots h ≡ name)
-      → name_at slots (get_or held 0 d) ≡ name
-  first_is [] d l h = absurd (omega arith)
-  first_is (x ∷ held) d l h = h
+    pub behind_named : (place : ℕ) → place ≤ length held
+        → IsPartitionPoint (λ h. named h ≡ true) (λ h. named h ≡ false) held place
+        → IsBehind slots held name (drop place held)
+    behind_named place within point = record {
+      front = take place held;
+      whole = take-append-drop place held;
+      in_order = (climbs_parts exact_keys (key_in slots) place held climbs).1;
+      named = λ h i. (is_name name (name_at slots h)).0 (in_front (λ x. named x ≡ true) held place within point.0 h i);
+      fewer = λ some.
+          let past : 0 < place =
+          elim (cases_lt 0 place) [ inl a ↦ a | inr b ↦ absurd (past_first some (omega arith)) ] in
+          omega (arith, length-drop place held);
+    }
+      where
+        head_of : (xs : List Held) → 0 < length xs → Held
+        head_of [] l = absurd (omega arith)
+        head_of (x ∷ xs) l = x
 
-  pub named_parted : (held : List Held) → AreInOrder slots held
-      → IfSome (slice_get held 0) (λ h. name_at slots h ≡ name) → IsPartitionedBy named held
-  named_parted held climbs first i j d l m passes = elim (cases_lt i j) [
-    | inl less ↦
-        elim (cases_lt 0 i) [
-          | inl some ↦
-              let start = first_is held d (omega arith) first in
-              let low = climbs_at held climbs 0 i d some (omega arith) in
-              let high = climbs_at held climbs i j d less m in
-              let last = named_is (get_or held j d) passes in
-              is_named (get_or held i d)
-              (same_octets (name_at slots (get_or held i d)) name
-              (λ g. high (ap (slice_cmp nat_cmp (name_at slots (get_or held i d))) last ∙ g))
-              (λ g. low (ap (λ (n : List ℕ). slice_cmp nat_cmp n (name_at slots (get_or held i d))) start ∙ g)))
-          | inr none ↦
-              let zero_is : 0 ≡ i = omega arith in
-              subst (λ (k : ℕ). named (get_or held k d) ≡ true) zero_is
-              (is_named (get_or held 0 d) (first_is held d (omega arith) first))
-        ]
-    | inr more ↦ let same : j ≡ i = omega arith in subst (λ (k : ℕ). named (get_or held k d) ≡ true) same passes
-  ]
-
-  pub behind_named : (held : List Held) (place : ℕ) → AreInOrder slots held
-      → IfSome (slice_get held 0) (λ h. name_at slots h ≡ name) → place ≤ length held
-      → IsPartitionPoint (λ h. named h ≡ true) (λ h. named h ≡ false) held place
-      → IsBehind slots held name (drop place held)
-  behind_named held place climbs first within point = record {
-    front = take place held;
-    whole = take-append-drop place held;
-    in_order = subst Climbs (drop-map (key_in slots) place held) (climbs_drop place (keys_in slots held) climbs);
-    named = λ h i. named_is h (in_front (λ x. named x ≡ true) held place within point.0 h i);
-    fewer = λ some.
-        let past : 0 < place = elim (cases_lt 0 place) [
-          | inl a ↦ a
-          | inr b ↦ absurd (not_none held some first (point.1 0 (head_of held some) (omega arith) some))
-        ] in
-        omega (arith, length-drop place held);
-  }
-    where
-      head_of : (xs : List Held) → 0 < length xs → Held
-      head_of [] l = absurd (omega arith)
-      head_of (x ∷ xs) l = x
-
-      not_none : (xs : List Held) (l : 0 < length xs) → IfSome (slice_get xs 0) (λ h. name_at slots h ≡ name)
-          → named (get_or xs 0 (head_of xs l)) ≡ false → ⊥
-      not_none xs l first lacks =
-          true≢false (sym (is_named (get_or xs 0 (head_of xs l)) (first_is xs (head_of xs l) l first)) ∙ lacks)
+        past_first : 0 < length held → place ≤ 0 → ⊥
+        past_first some none =
+            let d = head_of held some in
+            true≢false (sym ((is_name name (name_at slots (get_or held 0 d))).1 (first_is d some))
+            ∙ point.1 0 d none some)

@@ -1,17 +1,17 @@
 -- Indexes of packets: what is held, in order of names and then of parts.
-use Rattle.std.specs.Prelude.{◌≡◌, ◌≢◌, ℕ, ◌<◌, ◌≤◌, Bool, true, false, List, [], ◌∷◌, ◌++◌, ◌⊎◌, map, take, drop}
-use Rattle.std.specs.Prelude.{length}
-use Rattle.std.specs.Prelude.{Option, Some, None, if◌then◌else◌}
+use Rattle.std.specs.Prelude.{◌≡◌, ℕ, ◌<◌, Bool, true, false, List, [], ◌∷◌, ◌++◌, length, Option, Some, None}
 use Rattle.std.specs.List.{starts_with}
 use Rattle.std.specs.Bool.{nat_eq}
-use Rattle.std.specs.Ordering.{nat_cmp, ordering_then, is_gt}
+use Rattle.std.specs.Ordering.{nat_cmp, ordering_then, is_le}
 use Rattle.std.specs.Cmp.Lexicographic.{slice_cmp, pointwise}
 use Rattle.std.specs.declared.cmp.Ordering.{Ordering}
-use Rattle.std.specs.declared.cmp.Ordering.TheVariants.{Less, Greater}
+use Rattle.std.specs.declared.cmp.Ordering.TheVariants.{Less}
 use Rattle.ndn_name.specs.Names.{Component}
+use Rattle.sorted_lists.specs.Members.{In, HaveSame}
+use Rattle.sorted_lists.specs.Climbing.{Climbs, IsPlaceOf}
+use Rattle.sorted_lists.specs.Least.{IsFirstThat, lesser_by}
 use Rattle.repo_plan.specs.declared.part.Part.{Part}
 use Rattle.repo_plan.specs.Parts.{part_cmp}
-use Rattle.sorted_lists.proofs.Sets.{In}
 use Rattle.repo_store.specs.declared.index.Index.{Index}
 use Rattle.repo_store.specs.Served.{satisfies}
 use Rattle.repo_store.specs.Kept.{packet_name, Slots, at, octets_at, Held}
@@ -37,68 +37,51 @@ key_cmp a b = ordering_then (slice_cmp nat_cmp a.0 b.0) (part_cmp a.1 b.1)
 abbrev pub key_in : Slots → Held → Key
 key_in slots h = (name_at slots h, h.0)
 
-abbrev pub keys_in : Slots → List Held → List Key
-keys_in slots held = map (key_in slots) held
-
--- No key comes after a later one.
-abbrev pub Climbs : List Key → Type 0
-Climbs [] = Unit {0}
-Climbs (k ∷ ks) = ((x : Key) → In x ks → key_cmp k x ≢ Greater) × Climbs ks
-
+-- No name, and of one name no part, comes after a later one.
 abbrev pub AreInOrder : Slots → List Held → Type 0
-AreInOrder slots held = Climbs (keys_in slots held)
+AreInOrder slots held = Climbs key_cmp (key_in slots) held
 
 abbrev pub IndexIsInOrder : Index → Type 0
 IndexIsInOrder i = AreInOrder i.kept.now.slots i.held.now
 
 -- ---- searches
 
--- As many keys come before this one.
-pub record IsPlace (keys : List Key) (key : Key) (place : ℕ) : Type 0 where
-  pub within : place ≤ length keys
-  pub before : (k : Key) → In k (take place keys) → key_cmp k key ≡ Less
-  pub behind : (k : Key) → In k (drop place keys) → key_cmp k key ≢ Less
+-- So much of what is held comes before this name and part.
+abbrev pub IsPlace : Slots → List Held → Key → ℕ → Type 0
+IsPlace slots held key place = IsPlaceOf key_cmp (key_in slots) held key place
 
 -- No part comes before it.
 abbrev pub first_part : Part
 first_part = record { publisher = 0; seq = 0; part = 0 }
 
--- What is held from a name on: what stands in front comes before it.
+-- What is held from a name on: what stands in front has lesser names.
 pub record IsFrom (slots : Slots) (held : List Held) (name : List ℕ) (rest : List Held) : Type 0 where
   pub front : List Held
   pub whole : front ++ rest ≡ held
   pub in_order : AreInOrder slots rest
-  pub before : (h : Held) → In h front → key_cmp (key_in slots h) (name, first_part) ≡ Less
-  pub behind : (h : Held) → In h rest → key_cmp (key_in slots h) (name, first_part) ≢ Less
+  pub before : (h : Held) → In h front → slice_cmp nat_cmp (name_at slots h) name ≡ Less
+  pub behind : (h : Held) → In h rest → is_le (slice_cmp nat_cmp name (name_at slots h)) ≡ true
 
--- It is one of these, and none of these is of a lesser part.
-pub record IsLeastOf (P : Held → Type 0) (h : Held) : Type 0 where
-  pub there : P h
-  pub least : (o : Held) → P o → part_cmp o.0 h.0 ≢ Less
-
--- The one of these of the least part; or nothing where there is none.
-abbrev pub IsFirst : (Held → Type 0) → Option Held → Type 0
-IsFirst P None = (h : Held) → P h → ⊥
-IsFirst P (Some h) = IsLeastOf P h
-
--- It is held, and passes a test.
-abbrev pub Passes : List Held → (Held → Bool) → Held → Type 0
-Passes held test h = In h held × (test h ≡ true)
+-- The part of what is held.
+abbrev pub held_part : Held → Part
+held_part h = h.0
 
 -- What passes a test, of the least part; or nothing where nothing does.
 abbrev pub IsFirstOf : List Held → (Held → Bool) → Option Held → Type 0
-IsFirstOf held test r = IsFirst (Passes held test) r
+IsFirstOf held test r = IsFirstThat part_cmp held_part held test r
 
 -- The one of the lesser part.
 abbrev pub lesser : Option Held → Option Held → Option Held
-lesser None b = b
-lesser (Some a) None = Some a
-lesser (Some a) (Some b) = if is_gt (part_cmp a.0 b.0) then Some b else Some a
+lesser a b = lesser_by part_cmp held_part a b
 
--- Whether the name of its packet is this, or begins with it where that is asked for.
+-- Whether a name is this, or begins with it where that is asked for.
+abbrev pub asks : List ℕ → Bool → List ℕ → Bool
+asks asked true name = starts_with nat_eq name asked
+asks asked false name = pointwise nat_eq name asked
+
+-- The same of the name of its packet.
 abbrev pub is_asked : Slots → List ℕ → Bool → Held → Bool
-is_asked slots asked true h = starts_with nat_eq (name_at slots h) asked
-is_asked slots asked false h = pointwise nat_eq (name_at slots h) asked
+is_asked slots asked can_be_prefix h = asks asked can_be_prefix (name_at slots h)
 
 -- Of what is held, this is behind the name: what stands in front has it, and there is some.
 pub record IsBehind (slots : Slots) (held : List Held) (name : List ℕ) (rest : List Held) : Type 0 where
@@ -109,10 +92,8 @@ pub record IsBehind (slots : Slots) (held : List Held) (name : List ℕ) (rest :
   pub fewer : 0 < length held → length rest < length held
 
 -- One more is among these.
-pub record GainsOne (h : Held) (old new : List Held) : Type 0 where
-  pub there : In h new
-  pub kept : (o : Held) → In o old → In o new
-  pub only : (o : Held) → In o new → (o ≡ h) ⊎ In o old
+abbrev pub GainsOne : Held → List Held → List Held → Type 0
+GainsOne h old new = HaveSame new (h ∷ old)
 
 -- Whether its packet satisfies an Interest of this name.
 abbrev pub satisfies_held : Slots → List Component → Bool → Held → Bool

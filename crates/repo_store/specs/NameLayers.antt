@@ -1,8 +1,8 @@
 -- The names of what is held, in layers: what is settled, what came last in front of others, and what waits.
-use Rattle.std.specs.Prelude.{◌≡◌, ℕ, ◌+◌, ◌≤◌, ◌↔◌, Bool, not, List, [], ◌∷◌, ◌++◌, vec_len, vec_capacity}
+use Rattle.std.specs.Prelude.{◌≡◌, ℕ, ◌+◌, ◌≤◌, Bool, not, List, [], ◌∷◌, ◌++◌, vec_len, vec_capacity}
 use Rattle.std.specs.List.{filter}
 use Rattle.sorted_lists.specs.SortedList.{contains, keys}
-use Rattle.sorted_lists.proofs.Sets.{In}
+use Rattle.sorted_lists.specs.Members.{HaveSame}
 use Rattle.repo_plan.specs.declared.part.Part.{Part}
 use Rattle.repo_plan.specs.Parts.{Pair, part_cmp}
 use Rattle.repo_plan.specs.Plan.{is_in}
@@ -35,13 +35,12 @@ pub record HasSame (old new : Names) : Type 0 where
 -- Two layers in one, in order.
 pub record IsMerged (slots : Slots) (settled recent merged : List Held) : Type 0 where
   pub in_order : AreInOrder slots merged
-  pub same : (h : Held) → In h merged ↔ In h (settled ++ recent)
+  pub same : HaveSame merged (settled ++ recent)
 
 -- The names of what is held: the same, in their layers.
 pub record IsIndexOf (slots : Slots) (held : List Held) (index : Names) : Type 0 where
   pub in_order : LayersAreInOrder slots index
-  pub held_only : (h : Held) → In h (all_of index) → In h held
-  pub all_held : (h : Held) → In h held → In h (all_of index)
+  pub same : HaveSame (all_of index) held
 
 -- Whether a part that was held still is, where all parts of these publications were dropped: with one publication that
 -- is compared, with more the part is looked up.

@@ -1,19 +1,18 @@
 -- Which slots packets are kept in.
-use Rattle.std.specs.Prelude.{◌≡◌, ◌≢◌, ℕ, ◌-◌, ◌<◌, ◌≤◌, Bool, true, false, ◌&&◌, not, ◌⊎◌, List, ◌++◌, Option, Some}
+use Rattle.std.specs.Prelude.{◌≡◌, ℕ, ◌-◌, ◌<◌, ◌≤◌, Bool, true, false, ◌&&◌, not, ◌⊎◌, List, ◌++◌, map, Option, Some}
 use Rattle.std.specs.Prelude.{None, IsSome}
 use Rattle.std.specs.Prelude.{◌==◌}
 use Rattle.std.specs.List.{filter}
 use Rattle.std.specs.Bool.{nat_eq}
-use Rattle.std.specs.Ordering.{nat_cmp, ordering_then}
+use Rattle.std.specs.Ordering.{nat_cmp, ordering_then, is_le}
 use Rattle.std.specs.Cmp.Lexicographic.{pointwise}
 use Rattle.std.specs.declared.cmp.Ordering.{Ordering}
-use Rattle.std.specs.declared.cmp.Ordering.TheVariants.{Less}
 use Rattle.slab.specs.Slab.{Slab, get, HasRoomFor, Updates}
 use Rattle.sha2.specs.Sha256.{sha256}
 use Rattle.ndn_tlv.specs.Spelling.{element}
 use Rattle.repo_plan.specs.declared.part.Part.{Part}
 use Rattle.sorted_lists.specs.SortedList.{Rises, keys, contains, with_value}
-use Rattle.sorted_lists.proofs.Sets.{In}
+use Rattle.sorted_lists.specs.Members.{In, HaveSame}
 use Rattle.repo_plan.specs.Parts.{Pair, part_cmp}
 use Rattle.repo_plan.specs.Plan.{is_in}
 use Rattle.repo_store.specs.declared.kept.Fronted.{Fronted}
@@ -57,9 +56,8 @@ abbrev pub fronted : Slots → Held → Fronted
 fronted slots h = record { front = front_at slots h.1; slot = h.1; part = h.0 }
 
 -- These are what is held.
-pub record AreFronts (slots : Slots) (held : List Held) (fronts : List Fronted) : Type 0 where
-  pub only : (k : Fronted) → In k fronts → In (k.part, k.slot) held × (k.front ≡ front_at slots k.slot)
-  pub all : (h : Held) → In h held → In (fronted slots h) fronts
+abbrev pub AreFronts : Slots → List Held → List Fronted → Type 0
+AreFronts slots held fronts = HaveSame fronts (map (fronted slots) held)
 
 -- Of what is found by this front in the slots from one on, it is in the least slot, and there of the least part; or
 -- there is none.
@@ -68,7 +66,7 @@ IsNextOf fronts front from None = (k : Fronted) → In k fronts → k.front ≡ 
 IsNextOf fronts front from (Some next) =
     In (record { front = front; slot = next.1; part = next.0 }) fronts × (from ≤ next.1)
     × ((k : Fronted) → In k fronts → k.front ≡ front → from ≤ k.slot
-    → (next.1 < k.slot) ⊎ ((next.1 ≡ k.slot) × (part_cmp k.part next.0 ≢ Less)))
+    → (next.1 < k.slot) ⊎ ((next.1 ≡ k.slot) × (is_le (part_cmp next.0 k.part) ≡ true)))
 
 -- Whether a part is found by this front in this slot.
 abbrev pub IsUsed : List Fronted → ℕ → ℕ → Bool → Type 0

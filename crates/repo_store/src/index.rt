@@ -1,5 +1,5 @@
-ghost use Rattle.std.specs.Prelude.{◌≡◌, ◌+◌, ◌<◌, ◌≤◌, true, false, IfSome, slice_get, vec_len, vec_capacity};
-ghost use Rattle.repo_store.specs.Indexes.{name_at, key_cmp, key_in, keys_in, is_asked, first_part, AreInOrder};
+ghost use Rattle.std.specs.Prelude.{◌≡◌, ◌+◌, ◌<◌, ◌≤◌, IfSome, slice_get, vec_len, vec_capacity};
+ghost use Rattle.repo_store.specs.Indexes.{name_at, key_cmp, key_in, is_asked, first_part, AreInOrder};
 ghost use Rattle.repo_store.specs.Indexes.{IndexIsInOrder, IsPlace, IsFrom, IsBehind, IsFirstOf, GainsOne};
 
 use crate::kept::{FIRST, Held, Kept, lesser};
@@ -37,7 +37,7 @@ impl Index<'_> {
     // How much of what is held comes before this name and part.
     fn place(&self, name: &[u8], part: Part) -> usize
         requires { IndexIsInOrder self.now }
-        ensures { IsPlace (keys_in self.now.kept.now.slots self.now.held.now) (name.now, part) result }
+        ensures { IsPlace self.now.kept.now.slots self.now.held.now (name.now, part) result }
     {
         self.held
             .partition_point(|held| self.cmp(held, name, part).is_lt())
@@ -46,7 +46,7 @@ impl Index<'_> {
     // How much of what is held comes before this.
     fn place_of(&self, held: &Held) -> usize
         requires { IndexIsInOrder self.now }
-        ensures { IsPlace (keys_in self.now.kept.now.slots self.now.held.now)
+        ensures { IsPlace self.now.kept.now.slots self.now.held.now
             (key_in self.now.kept.now.slots held.now) result }
     {
         self.place(self.name(held), held.0)
@@ -56,7 +56,7 @@ impl Index<'_> {
     // not come before this; then what stands in front of that is searched.
     pub(crate) fn place_near_front(&self, held: &Held) -> usize
         requires { IndexIsInOrder self.now }
-        ensures { IsPlace (keys_in self.now.kept.now.slots self.now.held.now)
+        ensures { IsPlace self.now.kept.now.slots self.now.held.now
             (key_in self.now.kept.now.slots held.now) result }
     {
         let name = self.name(held);
@@ -84,45 +84,20 @@ impl Index<'_> {
         rest
     }
 
-    // What has this name, or begins with it where that is asked for, of the least part.
+    // What has this name, or begins with it where that is asked for, of the least part. Of each name the first is
+    // looked at.
     pub(crate) fn first(&self, asked: &[u8], can_be_prefix: bool) -> Option<Held>
         requires { IndexIsInOrder self.now }
         ensures { IsFirstOf self.now.held.now (is_asked self.now.kept.now.slots asked.now can_be_prefix) result }
     {
-        if can_be_prefix {
-            self.first_below(asked)
-        } else {
-            self.first_named(asked)
-        }
-    }
-
-    fn first_named(&self, asked: &[u8]) -> Option<Held>
-        requires { IndexIsInOrder self.now }
-        ensures { IsFirstOf self.now.held.now (is_asked self.now.kept.now.slots asked.now false) result }
-    {
-        let first = self.from(asked).first()?;
-        if self.name(first) == asked {
-            Some(*first)
-        } else {
-            None
-        }
-    }
-
-    // What has a name that begins with these octets, of the least part. Of each name the first is
-    // looked at.
-    fn first_below(&self, front: &[u8]) -> Option<Held>
-        requires { IndexIsInOrder self.now }
-        ensures { IsFirstOf self.now.held.now (is_asked self.now.kept.now.slots front.now true) result }
-    {
-        let mut rest = self.from(front);
+        let mut rest = self.from(asked);
         let mut least = None;
         while let Some(first) = rest.first() {
-            let name = self.name(first);
-            if !name.starts_with(front) {
+            if !is_asked(self.kept, asked, can_be_prefix, first) {
                 return least;
             }
             least = lesser(least, Some(*first));
-            rest = self.behind(rest, name);
+            rest = self.behind(rest, self.name(first));
         }
         least
     }
@@ -137,6 +112,18 @@ impl Index<'_> {
         let place = held.partition_point(|held| self.name(held) == name);
         let (_, rest) = held.split_at(place);
         rest
+    }
+}
+
+// Whether its packet's name is this, or begins with it where that is asked for.
+pub(crate) fn is_asked(kept: &Kept, asked: &[u8], can_be_prefix: bool, held: &Held) -> bool
+    ensures { result ≡ is_asked kept.now.slots asked.now can_be_prefix held.now }
+{
+    let name = kept.name(held.1);
+    if can_be_prefix {
+        name.starts_with(asked)
+    } else {
+        name == asked
     }
 }
 

@@ -3,7 +3,7 @@ ghost use Rattle.std.specs.Prelude.{OnOk, OnErr};
 ghost use Rattle.std.specs.Prelude.{true, MatchOption, IsSome};
 ghost use Rattle.slab.specs.Slab.{HasRoomFor};
 ghost use Rattle.sorted_lists.specs.SortedList.{keys, contains, value_of, with_value, without_key};
-ghost use Rattle.sorted_lists.proofs.Sets.{In};
+ghost use Rattle.sorted_lists.specs.Members.{In};
 ghost use Rattle.repo_plan.specs.Parts.{part_cmp};
 ghost use Rattle.repo_store.specs.StoreList.{different_octets};
 ghost use Rattle.repo_store.specs.Kept.{at, octets_at, front_at, entries_of};
@@ -117,10 +117,7 @@ impl Kept {
         ensures found { result ≡ value_of part_cmp self.now.held part }
         ensures sound { KeptIsSound self.now }
     {
-        match self.parts.first_from(part) {
-            Some((found, slot)) if found == part => Some(slot),
-            _ => None,
-        }
+        self.parts.get(part)
     }
 
     pub(crate) fn has(&self, part: Part) -> bool

@@ -1,11 +1,10 @@
-ghost use Rattle.std.specs.Prelude.{◌≡◌, ◌↔◌, ◌+◌, ◌≤◌, ℕ, [], ◌++◌, length, OnOk, vec_len, vec_capacity};
-ghost use Rattle.sorted_lists.proofs.Sets.{In};
-ghost use Rattle.repo_store.specs.Kept.{Held as held_type};
+ghost use Rattle.std.specs.Prelude.{◌≡◌, ◌+◌, ◌≤◌, ℕ, [], ◌++◌, length, OnOk, vec_len, vec_capacity};
+ghost use Rattle.sorted_lists.specs.Members.{HaveSame};
 ghost use Rattle.repo_store.specs.Indexes.{is_asked, AreInOrder, IsFirstOf, GainsOne};
 ghost use Rattle.repo_store.specs.NameLayers.{all_of, LayersAreInOrder, HasRoom, HasSame, IsMerged};
 ghost use Rattle.repo_store.specs.NameLayers.{is_left, left_of};
 
-use crate::index::{Index, insert};
+use crate::index::{Index, insert, is_asked};
 use crate::kept::{Held, Kept, lesser};
 use repo_plan::Part;
 use std::alloc::{AllocError, Global};
@@ -98,7 +97,7 @@ impl Names {
         requires in_order { LayersAreInOrder kept.now.slots self.old }
         requires room { HasRoom self.old 0 }
         ensures in_order { LayersAreInOrder kept.now.slots self.new }
-        ensures same { (h : held_type) → In h (all_of self.new) ↔ In h (all_of self.old) }
+        ensures same { HaveSame (all_of self.new) (all_of self.old) }
         ensures room { (n : ℕ) → HasRoom self.old n → HasRoom self.new n }
     {
         let index = Index { held: &[], kept };
@@ -122,7 +121,7 @@ impl Names {
         requires in_order { LayersAreInOrder kept.now.slots self.old }
         requires room { HasRoom self.old 0 }
         ensures in_order { LayersAreInOrder kept.now.slots self.new }
-        ensures same { (h : held_type) → In h (all_of self.new) ↔ In h (all_of self.old) }
+        ensures same { HaveSame (all_of self.new) (all_of self.old) }
         ensures room { (n : ℕ) → HasRoom self.old n → HasRoom self.new n }
     {
         self.merged.clear();
@@ -157,23 +156,12 @@ fn first_of(held: &[Held], kept: &Kept, asked: &[u8], can_be_prefix: bool) -> Op
     least
 }
 
-fn is_asked(kept: &Kept, asked: &[u8], can_be_prefix: bool, held: &Held) -> bool
-    ensures { result ≡ is_asked kept.now.slots asked.now can_be_prefix held.now }
-{
-    let name = kept.name(held.1);
-    if can_be_prefix {
-        name.starts_with(asked)
-    } else {
-        name == asked
-    }
-}
-
 // What is in order gains all of these, for which there is room. Where they come in order too, little is moved.
 fn insert_all(index: &mut Vec<Held>, kept: &Kept, held: &[Held])
     requires in_order { AreInOrder kept.now.slots index.old.items }
     requires room { vec_len index.old + length held.now ≤ vec_capacity index.old }
     ensures in_order { AreInOrder kept.now.slots index.new.items }
-    ensures same { (h : held_type) → In h index.new.items ↔ In h (index.old.items ++ held.now) }
+    ensures same { HaveSame index.new.items (index.old.items ++ held.now) }
     ensures len { vec_len index.new ≡ vec_len index.old + length held.now }
     ensures capacity { vec_capacity index.old ≤ vec_capacity index.new }
 {

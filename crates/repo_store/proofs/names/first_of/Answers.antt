@@ -1,7 +1,8 @@
 use Rattle.std.proofs.Common.{◌+◌, Option, take, sym, subst, ◌∙◌}
 use Rattle.repo_store.specs.Kept.{Held}
-use Rattle.repo_store.specs.Indexes.{first_part, is_asked, IsFirstOf}
-use Rattle.repo_store.proofs.MergeLemmas.{scanned_more, scanned_past, scanned_all}
+use Rattle.sorted_lists.proofs.LeastOnes.{first_more, first_past, first_all}
+use Rattle.repo_plan.proofs.Orders.{exact_parts}
+use Rattle.repo_store.specs.Indexes.{first_part, held_part, is_asked, IsFirstOf}
 use Rattle.repo_store.proofs.names.first_of.Goals as goal
 use Rattle.repo_store.proofs.names.first_of.Goals.{then-is_asked, else-is_asked}
 
@@ -15,15 +16,16 @@ loop-next-preserved c =
     elim c.if-is_asked.branch [
       | then-is_asked w ↦
           subst Next (sym (w.least-is ∙ w.lesser-least.ensures))
-          (scanned_more held test i none c.loop-next.least c.loop-next-test.true
+          (first_more exact_parts held_part held test i none c.loop-next.least c.loop-next-test.true
           (sym c.is_asked.ensures ∙ w.if-is_asked.true) c.loop-next.invariant)
       | else-is_asked w ↦
           subst Next (sym w.least-is)
-          (scanned_past held test i none c.loop-next.least c.loop-next-test.true
+          (first_past exact_parts held_part held test i none c.loop-next.least c.loop-next-test.true
           (sym c.is_asked.ensures ∙ w.if-is_asked.false) c.loop-next.invariant)
     ]
 
 pub returns : goal.returns
 returns c =
-    scanned_all c.args.held.now (is_asked c.args.kept.now.slots c.args.asked.now c.args.can_be_prefix)
-    c.loop-next.next-index c.loop-next.least c.loop-next-test.false c.loop-next.invariant
+    first_all exact_parts held_part c.args.held.now
+    (is_asked c.args.kept.now.slots c.args.asked.now c.args.can_be_prefix) c.loop-next.next-index c.loop-next.least
+    c.loop-next-test.false c.loop-next.invariant

@@ -1,27 +1,28 @@
 use Rattle.std.proofs.Common.{◌≡◌, ◌+◌, List, [], ◌∷◌, ◌++◌, get_or, drop, length, vec_len, sym, ap, subst, ◌∙◌, arith}
+use Rattle.sorted_lists.proofs.Climbs.{Merging, merging_none, merging_rest, merging_more, merging_all}
 use Rattle.repo_store.specs.Kept.{Held}
-use Rattle.repo_store.specs.Indexes.{first_part}
+use Rattle.repo_store.specs.Indexes.{first_part, key_in}
 use Rattle.repo_store.specs.NameLayers.{IsMerged}
-use Rattle.repo_store.proofs.MergeLemmas.{Merging, merging_none, merging_rest, merging_more, merging_all}
+use Rattle.repo_store.proofs.IndexLemmas.{exact_keys}
 use Rattle.repo_store.proofs.names.merge.Goals as goal
 
 pub loop-held-init : goal.loop-held-init
 loop-held-init c = record {
   merging =
-      merging_none c.args.kept.now.slots c.args.settled.now c.args.recent.now c.args.merged.now.items c.requires.empty
-      c.requires.settled;
+      merging_none exact_keys (key_in c.args.kept.now.slots) c.args.settled.now c.args.recent.now
+      c.args.merged.now.items c.requires.empty c.requires.settled;
   len = omega (arith, ap length c.requires.empty);
   capacity = omega arith;
 }
 
 pub place_near_front-requires : goal.place_near_front-requires
 place_near_front-requires c =
-    merging_rest c.args.kept.now.slots c.args.settled.now c.args.recent.now c.loop-held.merged.items
-    c.loop-held.rest.now c.loop-held.held-index c.loop-held.invariant.merging
+    merging_rest exact_keys (key_in c.args.kept.now.slots) c.args.settled.now c.args.recent.now
+    c.loop-held.merged.items c.loop-held.rest.now c.loop-held.held-index c.loop-held.invariant.merging
 
 pub loop-held-preserved : goal.loop-held-preserved
 loop-held-preserved c =
-    let slots = c.args.kept.now.slots in
+    let key = key_in c.args.kept.now.slots in
     let settled = c.args.settled.now in
     let recent = c.args.recent.now in
     let merged = c.loop-held.merged.items in
@@ -44,13 +45,14 @@ loop-held-preserved c =
     ∙ ap (λ (xs : List Held). xs ++ held ∷ [])
     (extended ∙ ap (λ (xs : List Held). merged ++ xs) c.split_at.ensures.front) in
     let more =
-    merging_more slots settled recent merged rest i place none c.loop-held-test.true c.requires.recent
+    merging_more exact_keys key settled recent merged rest i place none c.loop-held-test.true c.requires.recent
     c.place_near_front.ensures c.loop-held.invariant.merging in
     record {
       merging =
-          subst (λ (r : List Held). Merging slots settled recent c.push.new.self.items r (i + 1))
+          subst (λ (r : List Held). Merging exact_keys key settled recent c.push.new.self.items r (i + 1))
           (sym c.split_at.ensures.back)
-          (subst (λ (m : List Held). Merging slots settled recent m (drop place rest) (i + 1)) (sym items) more);
+          (subst (λ (m : List Held). Merging exact_keys key settled recent m (drop place rest) (i + 1)) (sym items)
+          more);
       len =
           omega (
             arith,
@@ -69,6 +71,8 @@ pub returns-clause-merged : goal.returns-clause-merged
 returns-clause-merged c =
     let extended : c.extend_from_slice-2.new.self.items ≡ c.loop-held.merged.items ++ c.loop-held.rest.now =
     rw c.unwrap-2.ensures at c.extend_from_slice-2.ensures.items in
+    let all =
+    merging_all exact_keys (key_in c.args.kept.now.slots) c.args.settled.now c.args.recent.now c.loop-held.merged.items
+    c.loop-held.rest.now c.loop-held.held-index c.loop-held-test.false c.loop-held.invariant.merging in
     subst (IsMerged c.args.kept.now.slots c.args.settled.now c.args.recent.now) (sym extended)
-    (merging_all c.args.kept.now.slots c.args.settled.now c.args.recent.now c.loop-held.merged.items
-    c.loop-held.rest.now c.loop-held.held-index c.loop-held-test.false c.loop-held.invariant.merging)
+    (record { in_order = all.0; same = all.1 })

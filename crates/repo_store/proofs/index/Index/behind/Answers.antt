@@ -14,5 +14,5 @@ returns c =
     c.partition_point-place.ensures.partitioned (named_parted slots name held c.requires.in_order c.requires.first)
     (λ a r f called. search rules) in
     subst (IsBehind slots held name) (sym c.split_at.ensures.back)
-    (behind_named slots name held c.partition_point-place.result c.requires.in_order c.requires.first
+    (behind_named slots name held c.requires.in_order c.requires.first c.partition_point-place.result
     c.partition_point-place.ensures.bound point)

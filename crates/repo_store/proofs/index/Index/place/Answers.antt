@@ -1,9 +1,10 @@
 use Rattle.std.proofs.Common.{rules}
 use Rattle.std.specs.Ordering.{is_lt}
 use Rattle.std.proofs.lemmas.List.Sorted.{IsPartitionPoint-from_clause}
+use Rattle.sorted_lists.proofs.Climbs.{parted, placed}
 use Rattle.repo_store.specs.Kept.{Held}
 use Rattle.repo_store.specs.Indexes.{Key, key_cmp, key_in}
-use Rattle.repo_store.proofs.IndexLemmas.{parted, placed}
+use Rattle.repo_store.proofs.IndexLemmas.{exact_keys}
 use Rattle.repo_store.proofs.index.Index.place.Goals as goal
 
 pub returns : goal.returns
@@ -14,5 +15,6 @@ returns c =
     let asked : Key = (c.args.name.now, c.args.part) in
     let point =
     IsPartitionPoint-from_clause (λ (h : Held). is_lt (key_cmp (key h) asked)) held c.partition_point.result
-    c.partition_point.ensures.partitioned (parted key held asked c.requires) (λ a r f called. search rules) in
-    placed key held asked c.partition_point.result c.partition_point.ensures.bound point
+    c.partition_point.ensures.partitioned (parted exact_keys key held asked c.requires)
+    (λ a r f called. search rules) in
+    placed exact_keys key held asked c.partition_point.result c.partition_point.ensures.bound point

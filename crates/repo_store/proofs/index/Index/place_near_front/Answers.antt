@@ -1,16 +1,17 @@
 use Rattle.std.proofs.Common.{◌≡◌, List, Some, subst, sym, ap, ◌∙◌}
 use Rattle.std.specs.Ordering.{is_lt}
 use Rattle.std.proofs.lemmas.Option.{slice_get-get_or}
+use Rattle.sorted_lists.proofs.Climbs.{climbs_parts, place_in_front}
 use Rattle.repo_store.specs.Kept.{Held}
-use Rattle.repo_store.specs.Indexes.{Key, key_in, keys_in, AreInOrder, IsPlace}
-use Rattle.repo_store.proofs.IndexLemmas.{climbs_front, place_in_front}
+use Rattle.repo_store.specs.Indexes.{Key, key_in, AreInOrder, IsPlace}
+use Rattle.repo_store.proofs.IndexLemmas.{exact_keys}
 use Rattle.repo_store.proofs.index.Index.place_near_front.Goals as goal
 
 pub place-requires : goal.place-requires
 place-requires c =
     let index = c.args.self.now in
     subst (AreInOrder index.kept.now.slots) (sym c.split_at.ensures.front)
-    (climbs_front (key_in index.kept.now.slots) index.held.now c.loop-next.end c.requires)
+    (climbs_parts exact_keys (key_in index.kept.now.slots) c.loop-next.end index.held.now c.requires).0
 
 pub returns-then-not-is_lt : goal.returns-then-not-is_lt
 returns-then-not-is_lt c =
@@ -25,6 +26,6 @@ returns-then-not-is_lt c =
     let asked : Key = (c.name-name.result.now, c.args.held.now.0) in
     let same : asked ≡ key_in slots c.args.held.now = λ i. (c.name-name.ensures i, c.args.held.now.0) in
     let at =
-    subst (λ (xs : List Held). IsPlace (keys_in slots xs) asked place) c.split_at.ensures.front c.place.ensures in
-    subst (λ (a : Key). IsPlace (keys_in slots held) a place) same
-    (place_in_front (key_in slots) held asked end place next c.requires there not_less at)
+    subst (λ (xs : List Held). IsPlace slots xs asked place) c.split_at.ensures.front c.place.ensures in
+    subst (λ (a : Key). IsPlace slots held a place) same
+    (place_in_front exact_keys (key_in slots) held asked end place next c.requires there not_less at)

@@ -1,4 +1,5 @@
 use Rattle.std.proofs.Common.{◌≡◌, not, Some, List, subst, sym, ap, ◌∙◌}
+use Rattle.std.proofs.lemmas.Bool.{not-true, not-false}
 use Rattle.sorted_lists.specs.SortedList.{Rises, keys, first_from}
 use Rattle.sorted_lists.proofs.Sets.{In}
 use Rattle.repo_plan.specs.Parts.{part_cmp}
@@ -6,9 +7,8 @@ use Rattle.repo_plan.specs.Plan.{is_in}
 use Rattle.repo_plan.proofs.Orders.{exact_parts}
 use Rattle.repo_plan.proofs.Changes.{pair_test}
 use Rattle.repo_store.specs.Kept.{Held, KeptState}
-use Rattle.repo_store.proofs.MapLemmas.{from_some}
-use Rattle.repo_store.proofs.DropLemmas.{first_of, not_true, not_false, dropped_none, dropped_other, dropping_more}
-use Rattle.repo_store.proofs.DropLemmas.{fewer_held}
+use Rattle.sorted_lists.proofs.RunOrder.{first_is}
+use Rattle.repo_store.proofs.DropLemmas.{first_of, dropped_none, dropped_other, dropping_more, fewer_held}
 use Rattle.repo_store.proofs.kept.Kept.drop_pair.Goals as goal
 
 pub returns-then-ne-clause-held : goal.returns-then-ne-clause-held
@@ -20,15 +20,15 @@ returns-then-ne-clause-held c =
     (subst (λ (es : List Held). Rises part_cmp (keys es)) held c.self.invariant.in_order)
     (subst (λ (es : List Held). first_from part_cmp (first_of c.args.pair) es ≡ Some x) held
     (sym c.in-Some.ensures.found))
-    (not_true (is_in c.args.pair c.in-Some.part) (sym test ∙ c.if-ne.true))
+    (not-true (is_in c.args.pair c.in-Some.part) (sym test ∙ c.if-ne.true))
 
 pub drop_part-requires : goal.drop_part-requires
 drop_part-requires c =
     let x : Held = (c.in-Some.part, c.in-Some.slot) in
     let k = c.self.inside in
     subst (λ (s : KeptState). In x s.held) c.self.view_is
-    (from_some exact_parts (first_of c.args.pair) k.parts.entries x c.self.invariant.in_order
-    (sym c.in-Some.ensures.found)).0
+    (first_is exact_parts (first_of c.args.pair) k.parts.entries c.self.invariant.in_order x
+    (sym c.in-Some.ensures.found)).is_in
 
 pub loop-part-smaller : goal.loop-part-smaller
 loop-part-smaller c =
@@ -37,15 +37,15 @@ loop-part-smaller c =
     let held = ap (λ (s : KeptState). s.held) c.self.view_is in
     fewer_held c.args.pair c.args.self.now c.loop-part.self c.loop-part.invariant c.drop_part.new.self x
     (subst (λ (es : List Held). Rises part_cmp (keys es)) held c.self.invariant.in_order)
-    (subst (In x) held (from_some exact_parts (first_of c.args.pair) k.parts.entries x c.self.invariant.in_order
-    (sym c.in-Some.ensures.found)).0) c.drop_part.ensures.held
+    (subst (In x) held (first_is exact_parts (first_of c.args.pair) k.parts.entries c.self.invariant.in_order x
+    (sym c.in-Some.ensures.found)).is_in) c.drop_part.ensures.held
 
 pub loop-part-preserved : goal.loop-part-preserved
 loop-part-preserved c =
     let held = ap (λ (s : KeptState). s.held) c.self.view_is in
     let test = c.ne.ensures ∙ ap not (pair_test (c.in-Some.part.publisher, c.in-Some.part.seq) c.args.pair) in
     dropping_more c.args.pair c.args.self.now c.loop-part.self c.drop_part.new.self c.in-Some.part
-    (not_false (is_in c.args.pair c.in-Some.part) (sym test ∙ c.if-ne.false))
+    (not-false (is_in c.args.pair c.in-Some.part) (sym test ∙ c.if-ne.false))
     (subst (λ (es : List Held). Rises part_cmp (keys es)) held c.self.invariant.in_order) c.drop_part.ensures.held
     c.drop_part.ensures.same c.drop_part.ensures.spare c.loop-part.invariant
 

@@ -4,7 +4,7 @@ use Rattle.sorted_lists.specs.SortedList.{keys}
 use Rattle.repo_store.specs.Kept.{at, Held, KeptState}
 use Rattle.repo_store.specs.Slots.{AreSlots, AreFronts}
 use Rattle.repo_store.proofs.FrontLemmas.{test, Searched, searched_none, searched_past, searched_all, searched_this}
-use Rattle.repo_store.proofs.FrontLemmas.{searched_other, some_within}
+use Rattle.repo_store.proofs.FrontLemmas.{searched_other, some_within, front_only}
 use Rattle.repo_store.proofs.kept.Kept.first_of_front.Goals as goal
 use Rattle.repo_store.proofs.kept.Kept.first_of_front.Goals.{then-is_sought, else-is_sought}
 
@@ -21,12 +21,17 @@ returns-in_default c =
 pub is_sought-requires : goal.is_sought-requires
 is_sought-requires c =
     subst (λ (s : KeptState). IsSome (at s.slots c.in-Some.next.1)) c.self.view_is
-    (c.self.invariant.slots.kept c.in-Some.next (c.self.invariant.fronts.only _ c.in-Some.ensures.0).0)
+    (c.self.invariant.slots.kept c.in-Some.next
+    (front_only c.self.inside.packets.slots c.self.inside.parts.entries (keys c.self.inside.fronts.entries) _
+    c.self.invariant.fronts c.in-Some.ensures.0).0)
 
 pub overflow_add-from : goal.overflow_add-from
 overflow_add-from c =
     let slots = c.self.inside.packets.slots in
-    let some = c.self.invariant.slots.kept c.in-Some.next (c.self.invariant.fronts.only _ c.in-Some.ensures.0).0 in
+    let some =
+    c.self.invariant.slots.kept c.in-Some.next
+    (front_only slots c.self.inside.parts.entries (keys c.self.inside.fronts.entries) _ c.self.invariant.fronts
+    c.in-Some.ensures.0).0 in
     omega (arith, some_within slots c.in-Some.next.1 some, c.capacity.ensures.slots, c.capacity.auto)
 
 pub loop-from-preserved : goal.loop-from-preserved

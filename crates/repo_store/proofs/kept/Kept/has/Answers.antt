@@ -1,10 +1,10 @@
-use Rattle.std.proofs.Common.{is_some, sym, ap, ◌∙◌}
-use Rattle.repo_plan.proofs.Orders.{exact_parts}
-use Rattle.repo_store.proofs.MapLemmas.{contains_value}
+use Rattle.std.proofs.Common.{is_some, ap, ◌∙◌}
+use Rattle.sorted_lists.proofs.Sets.{value_key}
+use Rattle.repo_plan.specs.Parts.{part_cmp}
 use Rattle.repo_store.proofs.kept.Kept.has.Goals as goal
 
 pub returns : goal.returns
 returns c =
     c.is_some.ensures
     ∙ ap is_some c.slot_of.ensures.found
-    ∙ sym (contains_value exact_parts c.args.self.now.held c.args.part)
+    ∙ value_key part_cmp c.args.self.now.held c.args.part

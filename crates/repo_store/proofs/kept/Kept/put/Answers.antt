@@ -11,7 +11,7 @@ use Rattle.repo_store.specs.declared.kept.Sought.TheVariants.{Octets}
 use Rattle.repo_store.specs.Kept.{Held, KeptState}
 use Rattle.repo_store.specs.Slots.{AreSlots, AreFronts, KeepsOne, KeptIsSound, fronted_cmp, is_sought_at}
 use Rattle.repo_store.specs.Indexes.{IsFirstOf}
-use Rattle.repo_store.proofs.MapLemmas.{none_where}
+use Rattle.sorted_lists.proofs.Lookups.{none_where}
 use Rattle.repo_store.proofs.SlotLemmas.{sound_seen, keeps_one, slots_more, fronts_more, gains_part}
 use Rattle.repo_store.proofs.FrontLemmas.{exact_fronts}
 use Rattle.repo_store.proofs.kept.Kept.put.Goals as goal

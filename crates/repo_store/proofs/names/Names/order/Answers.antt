@@ -1,9 +1,8 @@
-use Rattle.std.proofs.Common.{◌↔◌, List, ◌++◌, subst, arith}
-use Rattle.sorted_lists.proofs.Sets.{In}
+use Rattle.std.proofs.Common.{List, ◌++◌, subst, arith}
+use Rattle.sorted_lists.specs.Members.{HaveSame}
+use Rattle.sorted_lists.proofs.Members.{same_back, same_permutation, same_then}
 use Rattle.repo_store.specs.Kept.{Held}
-use Rattle.repo_store.specs.NameLayers.{all_of}
-use Rattle.repo_store.proofs.NameLayerLemmas.{placed_same, same_then}
-use Rattle.repo_store.proofs.MergeLemmas.{same_permutation}
+use Rattle.repo_store.proofs.NameLayerLemmas.{placed_same}
 use Rattle.repo_store.proofs.names.Names.order.Goals as goal
 
 pub returns-else-has_many_recent-clause-same : goal.returns-else-has_many_recent-clause-same
@@ -11,10 +10,9 @@ returns-else-has_many_recent-clause-same c =
     let l = c.args.self.now in
     let sorted = c.sort_unstable_by.new.self.items in
     let more = c.insert_all.new.index.items in
-    let moved = same_permutation l.waiting.items sorted c.sort_unstable_by.ensures.permutation in
-    let added : (h : Held) → In h more ↔ In h (l.recent.items ++ sorted) =
-    subst (λ (xs : List Held). (h : Held) → In h more ↔ In h (l.recent.items ++ xs)) c.deref.ensures.value
-    c.insert_all.ensures.same in
+    let moved = same_back (same_permutation l.waiting.items sorted c.sort_unstable_by.ensures.permutation) in
+    let added : HaveSame more (l.recent.items ++ sorted) =
+    subst (λ (xs : List Held). HaveSame more (l.recent.items ++ xs)) c.deref.ensures.value c.insert_all.ensures.same in
     placed_same l.settled.items l.recent.items l.waiting.items sorted more c.clear.new.self.items moved added
     c.clear.ensures.items
 
@@ -23,12 +21,10 @@ returns-then-has_many_recent-clause-same c =
     let l = c.args.self.now in
     let sorted = c.sort_unstable_by.new.self.items in
     let more = c.insert_all.new.index.items in
-    let moved = same_permutation l.waiting.items sorted c.sort_unstable_by.ensures.permutation in
-    let added : (h : Held) → In h more ↔ In h (l.recent.items ++ sorted) =
-    subst (λ (xs : List Held). (h : Held) → In h more ↔ In h (l.recent.items ++ xs)) c.deref.ensures.value
-    c.insert_all.ensures.same in
-    same_then (all_of c.settle.new.self) (l.settled.items ++ (more ++ c.clear.new.self.items)) (all_of l)
-    c.settle.ensures.same
+    let moved = same_back (same_permutation l.waiting.items sorted c.sort_unstable_by.ensures.permutation) in
+    let added : HaveSame more (l.recent.items ++ sorted) =
+    subst (λ (xs : List Held). HaveSame more (l.recent.items ++ xs)) c.deref.ensures.value c.insert_all.ensures.same in
+    same_then c.settle.ensures.same
     (placed_same l.settled.items l.recent.items l.waiting.items sorted more c.clear.new.self.items moved added
     c.clear.ensures.items)
 

@@ -1,11 +1,14 @@
 use Rattle.std.proofs.Common.{◌≡◌, ℕ, List, not, length, subst, sym, ap, ◌∙◌, arith}
-use Rattle.sorted_lists.proofs.Sets.{In}
+use Rattle.std.proofs.lemmas.List.{length-map}
+use Rattle.sorted_lists.specs.Members.{In}
+use Rattle.sorted_lists.proofs.Lookups.{filter-revalued}
 use Rattle.repo_plan.specs.declared.part.Part.{Part}
+use Rattle.repo_plan.specs.Parts.{part_cmp}
 use Rattle.repo_store.specs.StoreList.{StoreList, is_in_any, packets_in_any, packets_outside_all}
-use Rattle.repo_store.specs.Kept.{at, Held, entries_of}
+use Rattle.repo_store.specs.Kept.{at, octets_at, Held, entries_of}
 use Rattle.repo_store.specs.Slots.{held_outside_all}
 use Rattle.repo_store.specs.NameLayers.{HasRoom, IsIndexOf, left_of}
-use Rattle.repo_store.proofs.StoreLemmas.{length-entries, entries_same, entries_filter, lengths_in_any}
+use Rattle.repo_store.proofs.StoreLemmas.{entries_same, lengths_in_any}
 use Rattle.repo_store.proofs.NameLayerLemmas.{index_left}
 use Rattle.repo_store.proofs.store.Store.drop_all.Goals as goal
 
@@ -42,9 +45,9 @@ returns-clause-number c =
       c.drop_all-number.ensures.number,
       ap length c.drop_all-number.ensures.held,
       lengths_in_any pairs entries,
-      ap length (entries_filter (λ t. not (is_in_any pairs t)) k.slots k.held),
-      length-entries k.slots (held_outside_all pairs k.held),
-      length-entries k.slots k.held,
+      ap length (filter-revalued part_cmp (octets_at k.slots) (λ t. not (is_in_any pairs t)) k.held),
+      length-map {B = Part × List ℕ} (held_outside_all pairs k.held) (λ (h : Held). (h.0, octets_at k.slots h.1)),
+      length-map {B = Part × List ℕ} k.held (λ (h : Held). (h.0, octets_at k.slots h.1)),
     ) in
     number ∙ ap (λ (s : StoreList). length (packets_in_any pairs s.packets)) c.self.view_is
 
@@ -56,7 +59,7 @@ returns-clause-dropped c =
     let put =
     entries_same k.slots new.slots new.held c.drop_all-number.ensures.same
     ∙ ap (entries_of k.slots) c.drop_all-number.ensures.held
-    ∙ entries_filter (λ t. not (is_in_any pairs t)) k.slots k.held in
+    ∙ filter-revalued part_cmp (octets_at k.slots) (λ t. not (is_in_any pairs t)) k.held in
     ap (λ (p : List (Part × List ℕ)). let s : StoreList = record { packets = p; spare = new.spare } in s) put
     ∙ ap (λ (n : ℕ).
     let s : StoreList = record { packets = packets_outside_all pairs (entries_of k.slots k.held); spare = n } in

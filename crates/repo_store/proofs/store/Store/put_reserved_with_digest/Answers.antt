@@ -5,11 +5,11 @@ use Rattle.repo_plan.specs.declared.part.Part.{Part}
 use Rattle.repo_plan.specs.Parts.{part_cmp}
 use Rattle.repo_plan.proofs.Orders.{exact_parts}
 use Rattle.repo_store.specs.StoreList.{StoreList, with_packet}
-use Rattle.repo_store.specs.Kept.{Held, KeptState, entries_of}
+use Rattle.repo_store.specs.Kept.{octets_at, Held, KeptState, entries_of}
 use Rattle.repo_store.specs.NameLayers.{IsIndexOf}
-use Rattle.repo_store.proofs.MapLemmas.{none_where}
+use Rattle.sorted_lists.proofs.Lookups.{none_where, keys-revalued, with_value-revalued}
 use Rattle.repo_store.proofs.SlotLemmas.{gains_part}
-use Rattle.repo_store.proofs.StoreLemmas.{keys_entries, entries_with, entries_same, put_there, put_fresh}
+use Rattle.repo_store.proofs.StoreLemmas.{entries_same, put_there, put_fresh}
 use Rattle.repo_store.proofs.NameLayerLemmas.{fewer_room, index_more}
 use Rattle.repo_store.proofs.store.Store.put_reserved_with_digest.Goals as goal
 
@@ -40,7 +40,7 @@ returns-in-Some-clause-fresh c =
     let k = c.self.inside.kept in
     sym
     (ap not (ap (λ (s : StoreList). contains part_cmp (keys s.packets) c.args.part) (sym c.self.view_is)
-    ∙ ap (λ (ts : List Part). contains part_cmp ts c.args.part) (keys_entries k.slots k.held)
+    ∙ ap (λ (ts : List Part). contains part_cmp ts c.args.part) (keys-revalued part_cmp (octets_at k.slots) k.held)
     ∙ c.in-Some.ensures.fresh))
 
 pub returns-in-Some-clause-put : goal.returns-in-Some-clause-put
@@ -53,12 +53,13 @@ returns-in-Some-clause-put c =
     ap (λ (o : Option (List ℕ)). unwrap_or o []) put.keeps.there ∙ c.of_data.ensures.octets in
     let entries =
     ap (entries_of new.slots) put.held
-    ∙ entries_with new.slots k.held c.args.part c.in-Some.slot
+    ∙ with_value-revalued part_cmp (octets_at new.slots) c.args.part c.in-Some.slot k.held
     ∙ ap (λ (o : List ℕ). with_value part_cmp c.args.part o (entries_of new.slots k.held)) packet
     ∙ ap (with_value part_cmp c.args.part octets)
     (entries_same k.slots new.slots k.held (λ o i. put.keeps.others o.1 (put.sound.kept o i)))
     ∙ put_fresh c.args.part octets (entries_of k.slots k.held)
-    (ap (λ (ts : List Part). contains part_cmp ts c.args.part) (keys_entries k.slots k.held) ∙ put.fresh) in
+    (ap (λ (ts : List Part). contains part_cmp ts c.args.part) (keys-revalued part_cmp (octets_at k.slots) k.held)
+    ∙ put.fresh) in
     ap (λ (p : List (Part × List ℕ)). let s : StoreList = record { packets = p; spare = new.spare } in s) entries
     ∙ ap (λ (n : ℕ).
     let s : StoreList = record { packets = with_packet c.args.part octets (entries_of k.slots k.held); spare = n } in
@@ -72,7 +73,7 @@ returns-in-None-clause-fresh c =
     let k = c.self.inside.kept in
     sym
     (ap not (ap (λ (s : StoreList). contains part_cmp (keys s.packets) c.args.part) (sym c.self.view_is)
-    ∙ ap (λ (ts : List Part). contains part_cmp ts c.args.part) (keys_entries k.slots k.held)
+    ∙ ap (λ (ts : List Part). contains part_cmp ts c.args.part) (keys-revalued part_cmp (octets_at k.slots) k.held)
     ∙ c.in-None.ensures.0))
 
 pub returns-in-None-clause-put : goal.returns-in-None-clause-put
@@ -83,7 +84,8 @@ returns-in-None-clause-put c =
     c.in-None.ensures.1
     ∙ ap (λ (p : List (Part × List ℕ)). let s : StoreList = record { packets = p; spare = k.spare - 1 } in s)
     (put_there c.args.part octets (entries_of k.slots k.held)
-    (ap (λ (ts : List Part). contains part_cmp ts c.args.part) (keys_entries k.slots k.held) ∙ c.in-None.ensures.0))
+    (ap (λ (ts : List Part). contains part_cmp ts c.args.part) (keys-revalued part_cmp (octets_at k.slots) k.held)
+    ∙ c.in-None.ensures.0))
     ∙ ap (λ (s : StoreList).
     let t : StoreList = record { packets = with_packet c.args.part octets s.packets; spare = s.spare - 1 } in
     t) c.self.view_is
