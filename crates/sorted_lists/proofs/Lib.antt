@@ -15,3 +15,6 @@ pub mod Members
 pub mod Climbs
 pub mod LeastOnes
 pub mod Lookups
+pub mod TwoOrders
+pub mod Filled
+pub mod Inserted

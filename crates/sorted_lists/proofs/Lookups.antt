@@ -1,22 +1,23 @@
 -- What a map has under a key, and what it has after a change, as what stands in its list.
-use Rattle.std.proofs.Common.{◌≡◌, ◌⊎◌, inl, inr, Bool, true, false, cond, ◌||◌, List, [], ◌∷◌, map, Option, Some, None}
-use Rattle.std.proofs.Common.{option_map, length, suc, refl, sym, ap, subst, ◌∙◌}
+use Rattle.std.proofs.Common.{◌≡◌, ◌⊎◌, inl, inr, Bool, true, false, cond, List, [], ◌∷◌, map, Option, Some, None}
+use Rattle.std.proofs.Common.{◌++◌, option_map, length, suc, refl, sym, ap, subst, ◌∙◌}
 use Rattle.std.specs.Prelude.{is_some}
-use Rattle.std.specs.List.{All, filter}
+use Rattle.std.specs.List.{All, filter, find}
 use Rattle.std.specs.Ordering.{eq_by_cmp}
 use Rattle.std.specs.declared.cmp.Ordering.{Ordering}
 use Rattle.std.specs.declared.cmp.Ordering.TheVariants.{Less, Equal, Greater}
+use Rattle.std.proofs.lemmas.List.{append-nil}
 use Rattle.std.proofs.lemmas.Bool.{true≢false}
 use Rattle.sorted_lists.specs.SortedList.{by_order, keys, Rises, contains, insert_key, insert_keys, value_of}
 use Rattle.sorted_lists.specs.SortedList.{with_value, without_key}
 use Rattle.sorted_lists.specs.Members.{In, HaveSame}
 use Rattle.sorted_lists.proofs.Orders.{Exact}
-use Rattle.sorted_lists.proofs.Sets.{eq_same, contains-insert_key, contains-insert_keys, contains_in}
+use Rattle.sorted_lists.proofs.Sets.{eq_same, contains-insert_key, contains_in}
 use Rattle.sorted_lists.proofs.Sets.{in_contains, in_map, from_map, keys-with_value, value_key, rises_insert}
 use Rattle.sorted_lists.proofs.Sets.{rises_insert_keys}
 use Rattle.sorted_lists.proofs.RunOrder.{in_with, with_has, with_in, in_without, without_in, unique, both_ways}
 use Rattle.sorted_lists.proofs.SameSets.{same_sets}
-use Rattle.sorted_lists.proofs.Members.{same_is, same_back, same_then, all_in, in_all}
+use Rattle.sorted_lists.proofs.Members.{same_itself, same_is, same_back, same_then, same_more, all_in, in_all}
 
 -- ---- sets
 
@@ -44,23 +45,18 @@ module _ {K : Type 0} {R : K → K → Ordering} (e : Exact R) where
     back = λ q j. (same_insert_key k ks).back q (inr j);
   })
 
-  pub same_insert_keys : (ks : List K) → HaveSame (insert_keys R ks []) ks
-  same_insert_keys ks = record {
-    there = λ q i. in_contains e ks q (sym (has q) ∙ contains_in e (insert_keys R ks []) q i);
-    back = λ q i. in_contains e (insert_keys R ks []) q (has q ∙ contains_in e ks q i);
-  }
-    where
-      or_false : (b : Bool) → (b || false) ≡ b
-      or_false true = refl
-      or_false false = refl
+  pub same_insert_keys : (ks xs : List K) → HaveSame (insert_keys R ks xs) (ks ++ xs)
+  same_insert_keys [] xs = same_itself xs
+  same_insert_keys (k ∷ ks) xs =
+      same_then (same_insert_key k (insert_keys R ks xs)) (same_more k (same_insert_keys ks xs))
 
-      has : (q : K) → contains R (insert_keys R ks []) q ≡ contains R ks q
-      has q = contains-insert_keys e ks [] q ∙ or_false (contains R ks q)
+  same_set : (ks : List K) → HaveSame (insert_keys R ks []) ks
+  same_set ks = same_then (same_insert_keys ks []) (same_is (ks ++ []) ks (append-nil ks))
 
   pub set_same : (xs ys : List K) → HaveSame xs ys → insert_keys R xs [] ≡ insert_keys R ys []
   set_same xs ys h =
       one_set (insert_keys R xs []) (insert_keys R ys []) (rises_insert_keys e xs [] tt) (rises_insert_keys e ys [] tt)
-      (same_then (same_insert_keys xs) (same_then h (same_back (same_insert_keys ys))))
+      (same_then (same_set xs) (same_then h (same_back (same_set ys))))
 
   insert_fresh : (k : K) (ks : List K) → (In k ks → ⊥) → length (insert_key R k ks) ≡ suc (length ks)
   insert_fresh k [] fresh = refl
@@ -79,7 +75,7 @@ module _ {K : Type 0} {R : K → K → Ordering} (e : Exact R) where
   pub set_length : (xs : List K) → AreDifferent xs → length (insert_keys R xs []) ≡ length xs
   set_length [] d = refl
   set_length (x ∷ xs) d =
-      insert_fresh x (insert_keys R xs []) (λ i. d.0 ((same_insert_keys xs).there x i)) ∙ ap suc (set_length xs d.1)
+      insert_fresh x (insert_keys R xs []) (λ i. d.0 ((same_set xs).there x i)) ∙ ap suc (set_length xs d.1)
 
 -- ---- maps
 
@@ -189,4 +185,17 @@ module _ {K V W : Type 0} (R : K → K → Ordering) (f : V → W) where
         → revalued (cond b (y ∷ filter (λ z. p z.0) es) (filter (λ z. p z.0) es))
         ≡ cond b ((y.0, f y.1) ∷ filter (λ z. p z.0) (revalued es)) (filter (λ z. p z.0) (revalued es))
     go true rest = ap (λ (zs : List (K × W)). (y.0, f y.1) ∷ zs) rest
+    go false rest = rest
+
+  pub find-revalued : (test : W → Bool) (es : List (K × V))
+      → option_map (λ y. y.1) (find (λ y. test y.1) (revalued es))
+      ≡ option_map (λ y. f y.1) (find (λ y. test (f y.1)) es)
+  find-revalued test [] = refl
+  find-revalued test (y ∷ es) = go (test (f y.1)) (find-revalued test es) where
+    go : (b : Bool)
+        → option_map (λ z. z.1) (find (λ z. test z.1) (revalued es))
+        ≡ option_map (λ z. f z.1) (find (λ z. test (f z.1)) es)
+        → option_map (λ z. z.1) (cond b (Some (y.0, f y.1)) (find (λ z. test z.1) (revalued es)))
+        ≡ option_map (λ z. f z.1) (cond b (Some y) (find (λ z. test (f z.1)) es))
+    go true rest = refl
     go false rest = rest

@@ -1,6 +1,6 @@
 -- Which elements the parts of a list have, and lists that have the same.
-use Rattle.std.proofs.Common.{◌≡◌, ◌⊎◌, inl, inr, ℕ, zero, suc, ◌+◌, ◌<◌, ◌≤◌, Bool, true, false, cond, List, [], ◌∷◌}
-use Rattle.std.proofs.Common.{◌++◌, map, length, get_or, take, drop, Some, None, refl, sym, ap, subst, ◌∙◌, arith}
+use Rattle.std.proofs.Common.{◌≡◌, ◌⊎◌, inl, inr, ℕ, zero, suc, ◌+◌, ◌<◌, ◌≤◌, Bool, true, false, cond, ◌&&◌, List, []}
+use Rattle.std.proofs.Common.{◌∷◌, ◌++◌, map, length, get_or, take, drop, Some, None, refl, sym, ap, subst, ◌∙◌, arith}
 use Rattle.std.proofs.Common.{append_assoc}
 use Rattle.std.specs.Prelude.{slice_get}
 use Rattle.std.specs.List.{All, AllWithin, filter, insert}
@@ -8,7 +8,7 @@ use Rattle.std.specs.List.Sorted.{IsPermutation}
 use Rattle.std.proofs.lemmas.List.{take-append-drop, take_more, take_all, drop_more}
 use Rattle.std.proofs.lemmas.List.Elements.{All-nil, All-cons, All-head, All-tail}
 use Rattle.std.proofs.lemmas.List.Sorted.{All-permutation, IsPermutation-sym, IsPermutation-insert}
-use Rattle.std.proofs.lemmas.List.Sorted.{IsPermutation-middle, IsPermutation-to_front}
+use Rattle.std.proofs.lemmas.List.Sorted.{IsPermutation-middle, IsPermutation-append_comm, IsPermutation-to_front}
 use Rattle.sorted_lists.specs.Members.{HaveSame}
 use Rattle.sorted_lists.proofs.Sets.{In, in_filter, in_append, append_left, append_right, in_map, from_map}
 
@@ -71,6 +71,15 @@ module _ {A : Type 0} where
       ap (λ (b : Bool). cond b (x ∷ filter p xs) (filter p xs)) (all x (inl refl))
       ∙ ap (λ (ys : List A). x ∷ ys) (filter_whole p xs (λ y i. all y (inr i)))
 
+  pub filter-filter : (p q : A → Bool) (xs : List A) → filter p (filter q xs) ≡ filter (λ x. q x && p x) xs
+  filter-filter p q [] = refl
+  filter-filter p q (x ∷ xs) = go (q x) (filter-filter p q xs) where
+    go : (b : Bool) → filter p (filter q xs) ≡ filter (λ y. q y && p y) xs
+        → filter p (cond b (x ∷ filter q xs) (filter q xs))
+        ≡ cond (b && p x) (x ∷ filter (λ y. q y && p y) xs) (filter (λ y. q y && p y) xs)
+    go true rest = ap (λ (ys : List A). cond (p x) (x ∷ ys) ys) rest
+    go false rest = rest
+
   -- ---- what holds of all
 
   pub all_in : (P : A → Type 0) (xs : List A) → ((x : A) → In x xs → P x) → All P xs
@@ -122,6 +131,9 @@ module _ {A : Type 0} where
 
   pub same_middle : (xs : List A) (x : A) (ys : List A) → HaveSame (xs ++ x ∷ ys) (x ∷ (xs ++ ys))
   same_middle xs x ys = same_permutation (xs ++ x ∷ ys) (x ∷ (xs ++ ys)) (IsPermutation-middle xs x ys)
+
+  pub same_swap : (xs ys : List A) → HaveSame (xs ++ ys) (ys ++ xs)
+  same_swap xs ys = same_permutation (xs ++ ys) (ys ++ xs) (IsPermutation-append_comm xs ys)
 
   pub same_last : (xs : List A) (x : A) → HaveSame (xs ++ x ∷ []) (x ∷ xs)
   same_last xs x = same_permutation (xs ++ x ∷ []) (x ∷ xs) (IsPermutation-to_front xs x)
