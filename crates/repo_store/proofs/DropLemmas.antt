@@ -1,7 +1,7 @@
 -- What is left where the parts of publications are dropped.
 use Rattle.std.proofs.Common.{◌≡◌, ◌≢◌, ℕ, ◌+◌, ◌<◌, ◌≤◌, Bool, true, false, cond, not, inl, inr, List, [], ◌∷◌}
 use Rattle.std.proofs.Common.{length, get_or, drop, Some, None, refl, sym, ap, subst, ◌∙◌, arith}
-use Rattle.std.specs.Ordering.{nat_cmp, ordering_then, is_le, eq_by_cmp}
+use Rattle.std.specs.Ordering.{nat_cmp, is_le, eq_by_cmp}
 use Rattle.std.specs.declared.cmp.Ordering.{Ordering}
 use Rattle.std.specs.declared.cmp.Ordering.TheVariants.{Less, Equal, Greater}
 use Rattle.std.proofs.lemmas.Bool.{true≢false, false_from_ne_true}
@@ -10,6 +10,7 @@ use Rattle.std.proofs.lemmas.List.Filters.{length-filter_both}
 use Rattle.sorted_lists.specs.SortedList.{by_order, keys, Rises, without_key, first_from}
 use Rattle.sorted_lists.specs.Members.{In}
 use Rattle.sorted_lists.proofs.Orders.{then_second}
+use Rattle.sorted_lists.proofs.TwoOrders.{first_le, then_then}
 use Rattle.sorted_lists.proofs.Sets.{eq_same, eq_itself}
 use Rattle.sorted_lists.proofs.MapChanges.{length-without}
 use Rattle.sorted_lists.proofs.RunOrder.{Le, lt_not_le, in_without, first_is, none_from_on}
@@ -24,7 +25,7 @@ use Rattle.repo_store.specs.Kept.{Held, KeptState}
 use Rattle.repo_store.specs.StoreList.{is_in_any}
 use Rattle.repo_store.specs.Slots.{AreSame, held_outside, held_outside_all}
 use Rattle.repo_store.proofs.StoreLemmas.{outside_more}
-use Rattle.repo_store.proofs.IndexLemmas.{PartLe, first_le, nat_least}
+use Rattle.repo_store.proofs.IndexLemmas.{PartLe, nat_least}
 
 abbrev PairLe : Pair → Pair → Type 0
 PairLe a b = Le exact_pairs a b
@@ -70,11 +71,6 @@ dropping_more pair old now new t inside rises held same spare d = record {
 
 abbrev pub first_of : Pair → Part
 first_of pair = record { publisher = pair.0; seq = pair.1; part = 0 }
-
-then_then : (x y z : Ordering) → ordering_then x (ordering_then y z) ≡ ordering_then (ordering_then x y) z
-then_then Less y z = refl
-then_then Equal y z = refl
-then_then Greater y z = refl
 
 -- of parts in order, the publications are too
 pair_up_to : (a b : Part) → PartLe a b → PairLe (pair_of a) (pair_of b)

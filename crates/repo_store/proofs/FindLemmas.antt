@@ -1,11 +1,10 @@
 -- What answers an Interest among what is held.
-use Rattle.std.proofs.Common.{◌≡◌, ℕ, Bool, true, false, cond, ◌⊎◌, inl, inr, List, [], ◌∷◌, ◌++◌, length, drop}
+use Rattle.std.proofs.Common.{◌≡◌, ℕ, Bool, true, false, ◌⊎◌, inl, inr, List, [], ◌∷◌, ◌++◌, length, drop}
 use Rattle.std.proofs.Common.{Option, Some, option_map, refl, sym, ap, subst, ◌∙◌}
-use Rattle.std.specs.Prelude.{◌||◌, IsSome}
+use Rattle.std.specs.Prelude.{◌||◌, IsSome, IsTrue}
 use Rattle.std.specs.List.{find, starts_with}
-use Rattle.std.specs.Bool.{nat_eq}
+use Rattle.std.specs.Bool.{Decides, nat_eq}
 use Rattle.std.specs.Cmp.{unsigned_Decides}
-use Rattle.std.specs.Cmp.Lexicographic.{pointwise}
 use Rattle.std.proofs.lemmas.Bool.{true≢false, or_cases, or_left, or_right}
 use Rattle.std.proofs.lemmas.Slice.Eq.{slice_eq-Decides, starts_is}
 use Rattle.sha2.specs.Sha256.{sha256}
@@ -19,6 +18,7 @@ use Rattle.repo_store.proofs.ReadNames.{name_of-read}
 use Rattle.sorted_lists.specs.SortedList.{Rises, keys}
 use Rattle.sorted_lists.specs.Members.{In}
 use Rattle.sorted_lists.specs.Least.{Passes}
+use Rattle.sorted_lists.proofs.Lookups.{find-revalued}
 use Rattle.sorted_lists.proofs.LeastOnes.{lesser_first, first_same, find_first, first_is_one}
 use Rattle.repo_plan.specs.Parts.{part_cmp}
 use Rattle.repo_plan.proofs.Orders.{exact_parts}
@@ -27,7 +27,7 @@ use Rattle.repo_store.specs.Served.{satisfies}
 use Rattle.repo_store.specs.Places.{IsPacket}
 use Rattle.repo_store.specs.Kept.{packet_name, Slots, at, octets_at, Held, entries_of, KeptState}
 use Rattle.repo_store.specs.Slots.{is_full_name, has_full_name, KeptIsSound}
-use Rattle.repo_store.specs.Indexes.{name_of, is_asked, held_part, lesser, IsFirstOf, satisfies_held}
+use Rattle.repo_store.specs.Indexes.{name_of, asks, is_asked, held_part, lesser, IsFirstOf, satisfies_held}
 use Rattle.repo_store.specs.NameLayers.{all_of, IsIndexOf}
 use Rattle.repo_store.proofs.SlotLemmas.{octets_of}
 
@@ -36,24 +36,11 @@ module _ (slots : Slots) (test : List ℕ → Bool) where
   abbrev passes : Held → Bool
   passes h = test (octets_at slots h.1)
 
-  found_entry : (held : List Held) → option_map (λ e. e.1) (find (λ e. test e.1) (entries_of slots held))
-      ≡ option_map (λ (h : Held). octets_at slots h.1) (find passes held)
-  found_entry [] = refl
-  found_entry (h ∷ held) = go (passes h) (found_entry held) where
-    go : (b : Bool)
-        → option_map (λ e. e.1) (find (λ e. test e.1) (entries_of slots held))
-        ≡ option_map (λ (o : Held). octets_at slots o.1) (find passes held)
-        → option_map (λ e. e.1) (cond b (Some (h.0, octets_at slots h.1))
-        (find (λ e. test e.1) (entries_of slots held)))
-        ≡ option_map (λ (o : Held). octets_at slots o.1) (cond b (Some h) (find passes held))
-    go true rest = refl
-    go false rest = rest
-
   pub found_is : (held : List Held) (r : Option Held) → Rises part_cmp (keys held) → IsFirstOf held passes r
       → option_map (λ e. e.1) (find (λ e. test e.1) (entries_of slots held))
       ≡ option_map (λ (h : Held). octets_at slots h.1) r
   found_is held r rises first =
-      found_entry held
+      find-revalued part_cmp (octets_at slots) test held
       ∙ ap (option_map (λ (h : Held). octets_at slots h.1))
       (first_is_one exact_parts held passes (find passes held) r rises (find_first exact_parts passes held rises) first)
 
@@ -78,61 +65,59 @@ module _ (name : List Component) (asked octets : List ℕ) (packet : IsPacket oc
         λ full. decides.1 (spelled ∙ octets-full name own octets full ∙ sym named),
       )
 
-  -- the name itself
-  is_own : (pointwise nat_eq (packet_name octets) asked ≡ true → name ≡ packet.packet.name)
-      × (name ≡ packet.packet.name → pointwise nat_eq (packet_name octets) asked ≡ true)
-  is_own =
-      let decides = slice_eq-Decides unsigned_Decides (packet_name octets) asked _ refl in (
-        λ t. encoding-same name packet.packet.name is_name packet.name
-            (sym spelled ∙ sym (decides.0 t) ∙ own_is),
-        λ e. decides.1 (own_is ∙ sym (ap encoding e) ∙ sym spelled),
-      )
-
-  -- a front of the name
-  is_front : (starts_with nat_eq (packet_name octets) asked ≡ true → IsPrefix name packet.packet.name)
-      × (IsPrefix name packet.packet.name → starts_with nat_eq (packet_name octets) asked ≡ true)
-  is_front =
-      let begins =
-      starts_is unsigned_Decides (packet_name octets) asked (starts_with nat_eq (packet_name octets) asked) refl in (
-        λ t. prefix-octets name packet.packet.name (drop (length asked) (packet_name octets)) is_name packet.name
-            (sym own_is ∙ begins.0 t ∙ ap (λ (x : List ℕ). x ++ drop (length asked) (packet_name octets)) spelled),
-        λ h. begins.1 (encoding (drop (length name) packet.packet.name))
-            (own_is ∙ prefix-encoding name packet.packet.name h
-            ∙ ap (λ (x : List ℕ). x ++ encoding (drop (length name) packet.packet.name)) (sym spelled)),
-      )
-
-  pub test_plain : (pointwise nat_eq (packet_name octets) asked || is_full_name asked (Some octets))
-      ≡ satisfies name false octets
-  test_plain = satisfied name false octets packet.packet _ packet.read (
-    λ t. elim (or_cases (pointwise nat_eq (packet_name octets) asked) (is_full_name asked (Some octets)) t) [
-      | inl a ↦ inl (is_own.0 a)
-      | inr b ↦ inr (inr (is_full.0 b))
-    ],
+  -- the name itself, or a front of it where that is asked for
+  is_own : (p : Bool) → Decides (asks asked p (packet_name octets))
+      ((name ≡ packet.packet.name) ⊎ (IsTrue p × IsPrefix name packet.packet.name))
+  is_own true = (
+    λ t.
+        inr (
+          refl,
+          prefix-octets name packet.packet.name (drop (length asked) (packet_name octets)) is_name packet.name
+              (sym own_is ∙ begins.0 t ∙ ap (λ (x : List ℕ). x ++ drop (length asked) (packet_name octets)) spelled),
+        ),
     λ h. elim h [
-      | inl a ↦ or_left _ (is_full_name asked (Some octets)) (is_own.1 a)
-      | inr b ↦ elim b [
-        | inl f ↦ absurd (true≢false (sym f.0))
-        | inr g ↦ or_right (pointwise nat_eq (packet_name octets) asked) _ (is_full.1 g)
-      ]
+      | inl a ↦ front (subst (IsPrefix name) a (itself name))
+      | inr f ↦ front f.1
     ],
   )
+    where
+      begins : (starts_with nat_eq (packet_name octets) asked ≡ true
+          → packet_name octets ≡ asked ++ drop (length asked) (packet_name octets))
+          × ((rest : List ℕ) → packet_name octets ≡ asked ++ rest
+          → starts_with nat_eq (packet_name octets) asked ≡ true)
+      begins = starts_is unsigned_Decides (packet_name octets) asked _ refl
 
-  itself : (a : List Component) → IsPrefix a a
-  itself [] = refl
-  itself (c ∷ a) = ap (λ (n : List Component). c ∷ n) (itself a)
+      itself : (a : List Component) → IsPrefix a a
+      itself [] = refl
+      itself (c ∷ a) = ap (λ (n : List Component). c ∷ n) (itself a)
 
-  pub test_front : (starts_with nat_eq (packet_name octets) asked || is_full_name asked (Some octets))
-      ≡ satisfies name true octets
-  test_front = satisfied name true octets packet.packet _ packet.read (
-    λ t. elim (or_cases (starts_with nat_eq (packet_name octets) asked) (is_full_name asked (Some octets)) t) [
-      | inl a ↦ inr (inl (refl, is_front.0 a))
+      front : IsPrefix name packet.packet.name → starts_with nat_eq (packet_name octets) asked ≡ true
+      front h =
+          begins.1 (encoding (drop (length name) packet.packet.name))
+          (own_is ∙ prefix-encoding name packet.packet.name h
+          ∙ ap (λ (x : List ℕ). x ++ encoding (drop (length name) packet.packet.name)) (sym spelled))
+  is_own false =
+      let decides = slice_eq-Decides unsigned_Decides (packet_name octets) asked _ refl in (
+        λ t. inl (encoding-same name packet.packet.name is_name packet.name
+            (sym spelled ∙ sym (decides.0 t) ∙ own_is)),
+        λ h. elim h [
+          | inl e ↦ decides.1 (own_is ∙ sym (ap encoding e) ∙ sym spelled)
+          | inr f ↦ absurd (true≢false (sym f.0))
+        ],
+      )
+
+  pub test_asked : (p : Bool)
+      → (asks asked p (packet_name octets) || is_full_name asked (Some octets)) ≡ satisfies name p octets
+  test_asked p = satisfied name p octets packet.packet _ packet.read (
+    λ t. elim (or_cases (asks asked p (packet_name octets)) (is_full_name asked (Some octets)) t) [
+      | inl a ↦ elim ((is_own p).0 a) [ inl e ↦ inl e | inr f ↦ inr (inl f) ]
       | inr b ↦ inr (inr (is_full.0 b))
     ],
     λ h. elim h [
-      | inl a ↦ or_left _ (is_full_name asked (Some octets)) (is_front.1 (subst (IsPrefix name) a (itself name)))
+      | inl e ↦ or_left _ (is_full_name asked (Some octets)) ((is_own p).1 (inl e))
       | inr b ↦ elim b [
-        | inl f ↦ or_left _ (is_full_name asked (Some octets)) (is_front.1 f.1)
-        | inr g ↦ or_right (starts_with nat_eq (packet_name octets) asked) _ (is_full.1 g)
+        | inl f ↦ or_left _ (is_full_name asked (Some octets)) ((is_own p).1 (inr f))
+        | inr g ↦ or_right (asks asked p (packet_name octets)) _ (is_full.1 g)
       ]
     ],
   )
@@ -143,12 +128,9 @@ module _ (slots : Slots) (name : List Component) (asked : List ℕ) (is_name : I
   where
     test_asks : (p : Bool) (octets : List ℕ) (packet : IsPacket octets) (h : Held) → at slots h.1 ≡ Some octets
         → (is_asked slots asked p h || has_full_name slots asked h) ≡ satisfies name p octets
-    test_asks true octets packet h e =
-        ap (λ (o : Option (List ℕ)). starts_with nat_eq (name_of o) asked || is_full_name asked o) e
-        ∙ test_front name asked octets packet is_name spelled
-    test_asks false octets packet h e =
-        ap (λ (o : Option (List ℕ)). pointwise nat_eq (name_of o) asked || is_full_name asked o) e
-        ∙ test_plain name asked octets packet is_name spelled
+    test_asks p octets packet h e =
+        ap (λ (o : Option (List ℕ)). asks asked p (name_of o) || is_full_name asked o) e
+        ∙ test_asked name asked octets packet is_name spelled p
 
     pub answer_found : (k : KeptState) (names : Names) (p : Bool) (a b : Option Held) → slots ≡ k.slots → KeptIsSound k
         → IsIndexOf slots k.held names → IsFirstOf (all_of names) (is_asked slots asked p) a

@@ -7,12 +7,12 @@ use Rattle.std.specs.declared.cmp.Ordering.{Ordering}
 use Rattle.std.specs.declared.cmp.Ordering.TheVariants.{Less, Equal, Greater}
 use Rattle.std.specs.Cmp.{IsTotalOrder}
 use Rattle.std.proofs.lemmas.Bool.{true≢false, cases_lt, and_parts, and_from, eqb-true, eq-eqb}
-use Rattle.std.proofs.lemmas.Bool.Decides.{nat_tests}
 use Rattle.std.proofs.lemmas.Cmp.{nat_cmp_total, on_total, then_total, tied_itself}
 use Rattle.sorted_lists.specs.SortedList.{Rises, keys, first_from}
 use Rattle.sorted_lists.specs.Members.{In}
 use Rattle.sorted_lists.specs.Least.{Passes, IsFirstBy}
-use Rattle.sorted_lists.proofs.Orders.{Exact, then_equal, nat_same, nat_itself}
+use Rattle.sorted_lists.proofs.Orders.{Exact, then_equal, nat_same}
+use Rattle.sorted_lists.proofs.TwoOrders.{first_le, second_le, then_le, le_nat, nat_le, less_nat, nat_tied}
 use Rattle.sorted_lists.proofs.Sets.{in_map, from_map}
 use Rattle.sorted_lists.proofs.RunOrder.{le_itself, lt_not_le, IsFirst, first_is, none_from_on}
 use Rattle.sorted_lists.proofs.LeastOnes.{lesser_first, first_same}
@@ -23,7 +23,7 @@ use Rattle.repo_store.specs.declared.kept.Sought.{Sought}
 use Rattle.repo_store.specs.Kept.{Slots, at, octets_at, front_at, Held, KeptState}
 use Rattle.repo_store.specs.Slots.{AreSlots, fronted_cmp, fronted, AreFronts, IsUsed, is_sought, is_sought_at, IsNextOf}
 use Rattle.repo_store.specs.Indexes.{first_part, held_part, IsFirstOf, lesser}
-use Rattle.repo_store.proofs.IndexLemmas.{PartLe, first_le, second_le, then_le, first_part_least}
+use Rattle.repo_store.proofs.IndexLemmas.{PartLe, first_part_least}
 
 -- ---- orders of fronts
 
@@ -49,18 +49,6 @@ exact_fronts = record {
   itself = tied_itself fronts_total;
 }
 
-le_nat : (a b : ℕ) → is_le (nat_cmp a b) ≡ true → a ≤ b
-le_nat a b h = grind (arith, nat_tests)
-
-nat_le : (a b : ℕ) → a ≤ b → is_le (nat_cmp a b) ≡ true
-nat_le a b h = grind (arith, nat_tests)
-
-nat_less : (a b : ℕ) → nat_cmp a b ≡ Less → a < b
-nat_less a b h = grind (arith, nat_tests)
-
-nat_tied : (a b : ℕ) → a ≡ b → nat_cmp a b ≡ Equal
-nat_tied a b e = ap (nat_cmp a) (sym e) ∙ nat_itself a
-
 -- by slot and part
 abbrev by_slot : Fronted → Fronted → Ordering
 by_slot a b = ordering_then (nat_cmp a.slot b.slot) (part_cmp a.part b.part)
@@ -74,7 +62,7 @@ not_before : (a b : Fronted) → a.front ≡ b.front → is_le (fronted_cmp a b)
 not_before a b same h = go (nat_cmp a.slot b.slot) refl (same_front a b same h) where
   go : (o : Ordering) → nat_cmp a.slot b.slot ≡ o → is_le (ordering_then o (part_cmp a.part b.part)) ≡ true
       → (a.slot < b.slot) ⊎ ((a.slot ≡ b.slot) × PartLe a.part b.part)
-  go Less e l = inl (nat_less a.slot b.slot e)
+  go Less e l = inl (less_nat a.slot b.slot e)
   go Equal e l = inr (nat_same a.slot b.slot e, l)
   go Greater e l = absurd (true≢false (sym l))
 

@@ -6,7 +6,7 @@ use Rattle.std.specs.Bool.{Decides, nat_eq}
 use Rattle.std.specs.Cmp.{unsigned_Decides}
 use Rattle.std.specs.Cmp.Lexicographic.{pointwise}
 use Rattle.std.proofs.lemmas.Bool.{true≢false, and_parts, and_from, eq-eqb}
-use Rattle.std.proofs.lemmas.List.{take-append-drop}
+use Rattle.std.proofs.lemmas.List.{take-append-drop, append_cancel_left}
 use Rattle.std.proofs.lemmas.Slice.Eq.{slice_eq-Decides}
 use Rattle.sha2.specs.Sha256.{sha256}
 use Rattle.sha2.proofs.Facts256.{length-sha256}
@@ -19,7 +19,7 @@ use Rattle.repo_store.specs.declared.kept.Sought.{Sought}
 use Rattle.repo_store.specs.Kept.{packet_name, front_of, Slots, at, octets_at, Held}
 use Rattle.repo_store.specs.Slots.{AreSlots, is_full_name, has_full_name, is_sought, is_sought_at}
 use Rattle.repo_store.specs.Indexes.{held_part, IsFirstOf}
-use Rattle.repo_store.proofs.NameLemmas.{digest_element, append-same}
+use Rattle.repo_store.proofs.NameLemmas.{digest_element}
 use Rattle.repo_store.proofs.SlotLemmas.{octets_of}
 
 append_both : (a b c d : List ℕ) → length b ≡ length d → a ++ b ≡ c ++ d → (a ≡ c) × (b ≡ d)
@@ -118,7 +118,7 @@ module _ (slots : Slots) (held : List Held) (asked : List ℕ) where
             length-sha256 octets,
             l,
           )) full in
-          let same : sha256 octets ≡ digest = sym (append-same (1 ∷ 32 ∷ []) digest (sha256 octets) both.1) in
+          let same : sha256 octets ≡ digest = sym (append_cancel_left (1 ∷ 32 ∷ []) digest (sha256 octets) both.1) in
           and_from (front_of (sha256 octets) == front_of digest) (is_sought sought octets)
           (eq-eqb (front_of (sha256 octets)) (front_of digest) (ap front_of same))
           (seeks octets ∙ and_from _ _ (own_digest.1 same) (own_name.1 (sym both.0)))

@@ -1,15 +1,14 @@
 -- The orders of names and parts, and what a search of an index finds.
-use Rattle.std.proofs.Common.{◌≡◌, ◌≢◌, ℕ, true, List, drop, take, refl, ap, sym, ◌∙◌, arith}
-use Rattle.std.specs.Ordering.{nat_cmp, ordering_then, is_le}
+use Rattle.std.proofs.Common.{◌≡◌, ℕ, true, List, drop, take, ap, sym, ◌∙◌, arith}
+use Rattle.std.specs.Ordering.{nat_cmp, is_le}
 use Rattle.std.specs.Cmp.{IsTotalOrder}
 use Rattle.std.specs.Cmp.Lexicographic.{slice_cmp}
-use Rattle.std.specs.declared.cmp.Ordering.{Ordering}
-use Rattle.std.specs.declared.cmp.Ordering.TheVariants.{Less, Equal, Greater}
-use Rattle.std.proofs.lemmas.Bool.Decides.{nat_tests}
+use Rattle.std.specs.declared.cmp.Ordering.TheVariants.{Equal}
 use Rattle.std.proofs.lemmas.Cmp.{nat_list_cmp_total, on_total, then_total, tied_itself}
 use Rattle.std.proofs.lemmas.List.{take-append-drop}
 use Rattle.std.proofs.lemmas.Map.Lookups.{exact_bytes}
 use Rattle.sorted_lists.proofs.Orders.{Exact, then_equal}
+use Rattle.sorted_lists.proofs.TwoOrders.{first_le, second_le, then_le, first_before, nat_le}
 use Rattle.sorted_lists.proofs.RunOrder.{Le, lt_not_le}
 use Rattle.sorted_lists.proofs.Climbs.{climbs_parts}
 use Rattle.repo_plan.specs.declared.part.Part.{Part}
@@ -46,28 +45,10 @@ NameLe a b = Le exact_octets a b
 abbrev pub PartLe : Part → Part → Type 0
 PartLe a b = Le exact_parts a b
 
--- ---- two orders, one after the other
-
-pub first_le : (x y : Ordering) → is_le (ordering_then x y) ≡ true → is_le x ≡ true
-first_le Less y h = h
-first_le Equal y h = refl
-first_le Greater y h = h
-
-pub then_le : (x y : Ordering) → is_le x ≡ true → is_le y ≡ true → is_le (ordering_then x y) ≡ true
-then_le Less y h k = refl
-then_le Equal y h k = k
-then_le Greater y h k = h
-
-pub second_le : (x y : Ordering) → x ≡ Equal → is_le (ordering_then x y) ≡ true → is_le y ≡ true
-second_le x y e h = ap (λ (o : Ordering). is_le (ordering_then o y)) (sym e) ∙ h
-
-first_less : (x y : Ordering) → ordering_then x y ≡ Less → y ≢ Less → x ≡ Less
-first_less Less y h n = refl
-first_less Equal y h n = absurd (n h)
-first_less Greater y h n = absurd cc
+-- ---- the first part
 
 pub nat_least : (n : ℕ) → is_le (nat_cmp 0 n) ≡ true
-nat_least n = grind (arith, nat_tests)
+nat_least n = nat_le 0 n (omega arith)
 
 pub first_part_least : (t : Part) → PartLe first_part t
 first_part_least t =
@@ -92,7 +73,7 @@ from_place slots held name place climbs at = record {
   whole = take-append-drop place held;
   in_order = (climbs_parts exact_keys (key_in slots) place held climbs).1;
   before =
-      λ h i. first_less (slice_cmp nat_cmp (name_at slots h) name) (part_cmp h.0 first_part) (at.before h i)
+      λ h i. first_before (slice_cmp nat_cmp (name_at slots h) name) (part_cmp h.0 first_part) (at.before h i)
       (λ less. lt_not_le exact_parts h.0 first_part less (first_part_least h.0));
   behind = λ h i. names_le (name, first_part) (key_in slots h) (at.behind h i);
 }

@@ -1,6 +1,6 @@
 -- How many different packets are kept.
-use Rattle.std.proofs.Common.{◌≡◌, ℕ, zero, suc, Bool, inl, inr, ◌||◌, List, [], ◌∷◌, map, length, Option, Some}
-use Rattle.std.proofs.Common.{None, refl, sym, ap, subst, ◌∙◌, arith}
+use Rattle.std.proofs.Common.{◌≡◌, ℕ, Bool, ◌||◌, List, [], ◌∷◌, map, length, Option, Some}
+use Rattle.std.proofs.Common.{refl, sym, ap, subst, ◌∙◌}
 use Rattle.std.specs.Prelude.{IsSome, is_some, unwrap_or}
 use Rattle.std.specs.List.{filter, list_any}
 use Rattle.std.specs.Ordering.{nat_cmp, eq_by_cmp}
@@ -9,7 +9,8 @@ use Rattle.std.specs.declared.cmp.Ordering.{Ordering}
 use Rattle.sorted_lists.specs.SortedList.{Rises, contains, insert_key, insert_keys}
 use Rattle.sorted_lists.specs.Members.{In, HaveSame}
 use Rattle.sorted_lists.proofs.Sets.{rises_insert, contains-insert_key, in_map, from_map}
-use Rattle.sorted_lists.proofs.Lookups.{AreDifferent, set_same, set_length}
+use Rattle.sorted_lists.proofs.Lookups.{set_same, set_length}
+use Rattle.sorted_lists.proofs.Filled.{filled, length-filled, in_filled, filled_in, filled_differ}
 use Rattle.repo_plan.specs.declared.part.Part.{Part}
 use Rattle.repo_store.specs.StoreList.{different_octets}
 use Rattle.repo_store.specs.Kept.{Slots, at, octets_at, Held, entries_of}
@@ -43,54 +44,11 @@ different_set : (slots : Slots) (held : List Held)
 different_set slots [] = refl
 different_set slots (h ∷ held) = ap (insert_key by_octets (octets_at slots h.1)) (different_set slots held)
 
--- ---- the octets in slots
-
-abbrev filled : Slots → List Octets
-filled [] = []
-filled (None ∷ slots) = filled slots
-filled (Some o ∷ slots) = o ∷ filled slots
-
-abbrev Apart : Slots → Type 0
-Apart slots = (i j : ℕ) (o : Octets) → at slots i ≡ Some o → at slots j ≡ Some o → i ≡ j
-
-length-filled : (slots : Slots) → length (filled slots) ≡ length (filter is_some slots)
-length-filled [] = refl
-length-filled (None ∷ slots) = length-filled slots
-length-filled (Some o ∷ slots) = ap suc (length-filled slots)
-
-in_filled : (slots : Slots) (o : Octets) → In o (filled slots) → (j : ℕ) × (at slots j ≡ Some o)
-in_filled [] o i = absurd i
-in_filled (None ∷ slots) o i = let r = in_filled slots o i in (suc r.0, r.1)
-in_filled (Some p ∷ slots) o (inl e) = (zero, ap (λ (x : Octets). Some x) (sym e))
-in_filled (Some p ∷ slots) o (inr i) = let r = in_filled slots o i in (suc r.0, r.1)
-
-filled_in : (slots : Slots) (j : ℕ) (o : Octets) → at slots j ≡ Some o → In o (filled slots)
-filled_in [] j o e = absurd cc
-filled_in (None ∷ slots) zero o e = absurd cc
-filled_in (None ∷ slots) (suc j) o e = filled_in slots j o e
-filled_in (Some p ∷ slots) zero o e = let same : p ≡ o = cc in inl (sym same)
-filled_in (Some p ∷ slots) (suc j) o e = inr (filled_in slots j o e)
-
-suc_same : (i j : ℕ) → suc i ≡ suc j → i ≡ j
-suc_same i j e = omega arith
-
-rest : (s : Option Octets) (slots : Slots) → Apart (s ∷ slots) → Apart slots
-rest s slots apart i j o a b = suc_same i j (apart (suc i) (suc j) o a b)
-
-different : (slots : Slots) → Apart slots → AreDifferent exact_octets (filled slots)
-different [] apart = tt
-different (None ∷ slots) apart = different slots (rest None slots apart)
-different (Some o ∷ slots) apart = (
-  λ i. let r = in_filled slots o i in
-      let clash : zero ≡ suc r.0 = apart zero (suc r.0) o refl r.1 in absurd (omega arith),
-  different slots (rest (Some o) slots apart),
-)
-
 pub kept_is : (slots : Slots) (held : List Held) → AreSlots slots held
     → length (filter is_some slots) ≡ length (different_octets (entries_of slots held))
 kept_is slots held are =
     sym (length-filled slots)
-    ∙ sym (set_length exact_octets (filled slots) (different slots (λ i j o a b.
+    ∙ sym (set_length exact_octets (filled slots) (filled_differ exact_octets slots (λ i j o a b.
     are.different i j (subst IsSome (sym a) refl) (a ∙ sym b))))
     ∙ ap length (set_same exact_octets (filled slots) (map own held) same ∙ sym (different_set slots held))
   where

@@ -1,11 +1,10 @@
 -- What is got after a put, and what is served among all.
-use Rattle.std.proofs.Common.{◌≡◌, ◌≢◌, ℕ, Bool, true, false, cond, not, List, Option, Some, None}
+use Rattle.std.proofs.Common.{◌≡◌, ℕ, Bool, true, false, cond, not, List, Option, Some, None}
 use Rattle.std.proofs.Common.{option_map, Result, Ok, Err, refl, sym, ap, subst, ◌∙◌}
 use Rattle.std.specs.Prelude.{IsOk, is_some}
 use Rattle.std.specs.List.{filter, find}
 use Rattle.std.specs.Option.{option_or}
 use Rattle.std.specs.Ordering.{eq_by_cmp}
-use Rattle.std.specs.declared.cmp.Ordering.TheVariants.{Less}
 use Rattle.std.specs.Bool.{Decides}
 use Rattle.std.proofs.lemmas.Bool.{true≢false, false_from_ne_true}
 use Rattle.sha2.specs.Sha256.{sha256}
@@ -115,32 +114,6 @@ pub got_data : (packets : Stores) (t : Part) (o : List ℕ) → StoreIsSound pac
 got_data packets t o s h =
     in_all (λ (e : Part × List ℕ). IsOk (data_of e.1)) packets (t, o) s.are_data (there_value exact_parts packets t o h)
 
--- an entry that passes, and that no lesser part's does
-record IsFirstEntry (test : List ℕ → Bool) (packets : Stores) (e : Part × List ℕ) : Type 0 where
-  stored : value_of part_cmp packets e.0 ≡ Some e.1
-  passes : test e.1 ≡ true
-  least : (t : Part) (o : List ℕ) → value_of part_cmp packets t ≡ Some o → test o ≡ true → part_cmp t e.0 ≢ Less
-
-abbrev First : (List ℕ → Bool) → Stores → Option (Part × List ℕ) → Type 0
-First test packets None = (t : Part) (o : List ℕ) → value_of part_cmp packets t ≡ Some o → test o ≡ false
-First test packets (Some e) = IsFirstEntry test packets e
-
-found_first : (test : List ℕ → Bool) (packets : Stores) → Rises part_cmp (keys packets)
-    → First test packets (find (λ e. test e.1) packets)
-found_first test packets r =
-    go (find (λ e. test e.1) packets) (find_first exact_parts (λ (e : Part × List ℕ). test e.1) packets r) where
-      go : (f : Option (Part × List ℕ))
-          → IsFirstThat part_cmp (λ (e : Part × List ℕ). e.0) packets (λ (e : Part × List ℕ). test e.1) f
-          → First test packets f
-      go None none = λ t o v.
-          false_from_ne_true (test o) (λ holds. none (t, o) (there_value exact_parts packets t o v, holds))
-      go (Some e) first = record {
-        stored = value_there exact_parts packets e r first.there.0;
-        passes = first.there.1;
-        least = λ t o v holds less.
-            lt_not_le exact_parts t e.0 less (first.least (t, o) (there_value exact_parts packets t o v, holds));
-      }
-
 -- ---- what is served
 
 abbrev part_in : Option (Part × List ℕ) → Result (Option Part) PacketFault
@@ -152,11 +125,30 @@ octets_in e = Ok (option_map (λ (s : Part × List ℕ). s.1) e)
 abbrev answer : Option (Part × List ℕ) → Result (Option (Part × List ℕ)) PacketFault
 answer e = Ok e
 
-answers : (i : Interest) (packets : Stores) (f : Option (Part × List ℕ)) → i.must_be_fresh ≡ false
-    → First (satisfies i.name i.can_be_prefix) packets f → AnswersWith i packets (option_map (λ s. s.0) f)
-answers i packets None fresh first = λ h. first
-answers i packets (Some e) fresh first =
-    (fresh, record { octets = e.1; stored = first.stored; satisfied = first.passes; least = first.least })
+-- what comes first of those that pass, by their parts
+abbrev First : Interest → Stores → Option (Part × List ℕ) → Type 0
+First i packets f =
+    IsFirstThat part_cmp (λ (e : Part × List ℕ). e.0) packets (λ e. satisfies i.name i.can_be_prefix e.1) f
+
+found_first : (i : Interest) (packets : Stores) → Rises part_cmp (keys packets)
+    → First i packets (find (λ e. satisfies i.name i.can_be_prefix e.1) packets)
+found_first i packets r = find_first exact_parts (λ e. satisfies i.name i.can_be_prefix e.1) packets r
+
+answers : (i : Interest) (packets : Stores) (f : Option (Part × List ℕ)) → Rises part_cmp (keys packets)
+    → i.must_be_fresh ≡ false → First i packets f → AnswersWith i packets (option_map (λ s. s.0) f)
+answers i packets None r fresh first = λ h t o v.
+    false_from_ne_true (satisfies i.name i.can_be_prefix o)
+    (λ holds. first (t, o) (there_value exact_parts packets t o v, holds))
+answers i packets (Some e) r fresh first = (
+  fresh,
+  record {
+    octets = e.1;
+    stored = value_there exact_parts packets e r first.there.0;
+    satisfied = first.there.1;
+    least = λ t o v holds less.
+        lt_not_le exact_parts t e.0 less (first.least (t, o) (there_value exact_parts packets t o v, holds));
+  },
+)
 
 pub served_least : (interest : List ℕ) (packets : Stores) (i : Interest) (part : Option Part)
     → Rises part_cmp (keys packets) → interest_of interest ≡ Ok i → served_part interest packets ≡ Ok part
@@ -178,7 +170,7 @@ served_least interest packets i part r read h = go i.must_be_fresh refl where
       ∙ h in
       let same : option_map (λ s. s.0) found ≡ part = cc in
       subst (AnswersWith i packets) same
-      (answers i packets found fresh (found_first (satisfies i.name i.can_be_prefix) packets r))
+      (answers i packets found r fresh (found_first i packets r))
 
 entry_stored : (interest : List ℕ) (packets : Stores) (e : Part × List ℕ) → Rises part_cmp (keys packets)
     → served_entry interest packets ≡ Ok (Some e) → value_of part_cmp packets e.0 ≡ Some e.1
@@ -187,15 +179,16 @@ entry_stored interest packets e r h =
     let b = bind_ok (interest_of interest) (λ i. answer (first_served i packets)) (Some e) h in
     let i = b.0 in
     let found = find (λ (s : Part × List ℕ). satisfies i.name i.can_be_prefix s.1) packets in
-    go i i.must_be_fresh found (found_first (satisfies i.name i.can_be_prefix) packets r) b.2
+    go i i.must_be_fresh found (found_first i packets r) b.2
   where
-    go : (i : Interest) (b : Bool) (f : Option (Part × List ℕ)) → First (satisfies i.name i.can_be_prefix) packets f
+    go : (i : Interest) (b : Bool) (f : Option (Part × List ℕ)) → First i packets f
         → answer (cond b None f) ≡ Ok (Some e) → value_of part_cmp packets e.0 ≡ Some e.1
     go i true f first k = absurd cc
     go i false None first k = absurd cc
     go i false (Some x) first k =
         let same : x ≡ e = cc in
-        subst (λ (y : Part × List ℕ). value_of part_cmp packets y.0 ≡ Some y.1) same first.stored
+        subst (λ (y : Part × List ℕ). value_of part_cmp packets y.0 ≡ Some y.1) same
+        (value_there exact_parts packets x r first.there.0)
 
 pub served_of_part : (interest : List ℕ) (packets : Stores) (part : Part) → Rises part_cmp (keys packets)
     → served_part interest packets ≡ Ok (Some part) → served interest packets ≡ Ok (value_of part_cmp packets part)

@@ -1,5 +1,5 @@
 -- Which names a packet satisfies, by the octets of the names.
-use Rattle.std.proofs.Common.{◌≡◌, ℕ, Bool, ◌&&◌, ◌⊎◌, inl, inr, List, [], ◌∷◌, ◌++◌, length, take, drop}
+use Rattle.std.proofs.Common.{◌≡◌, ℕ, Bool, ◌&&◌, ◌⊎◌, inl, inr, List, [], ◌∷◌, ◌++◌, length, take}
 use Rattle.std.proofs.Common.{Ok, refl, sym, ap, ◌∙◌, arith}
 use Rattle.std.specs.Prelude.{IsTrue}
 use Rattle.std.specs.Bool.{Decides}
@@ -139,7 +139,3 @@ full-octets name own octets h k e =
 pub octets-full : (name own : List Component) (octets : List ℕ) → name ≡ full_name own (sha256 octets)
     → encoding name ≡ encoding own ++ element 1 (sha256 octets)
 octets-full name own octets e = ap encoding e ∙ encoding-push own (1, sha256 octets)
-
-pub append-same : (a b d : List ℕ) → a ++ b ≡ a ++ d → b ≡ d
-append-same [] b d e = e
-append-same (x ∷ a) b d e = append-same a b d (ap (λ (o : List ℕ). drop 1 o) e)

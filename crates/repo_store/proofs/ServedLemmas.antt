@@ -1,5 +1,5 @@
 -- What octets are answered with, case by case.
-use Rattle.std.proofs.Common.{◌≡◌, ℕ, Bool, true, false, cond, List, Option, None, option_map, Result, Ok, Err, ap, ◌∙◌}
+use Rattle.std.proofs.Common.{◌≡◌, ℕ, Bool, true, false, cond, List, Option, None, option_map, Result, Ok, ap, ◌∙◌}
 use Rattle.std.specs.List.{find}
 use Rattle.ndn_tlv.specs.Listing.{◌>>=◌}
 use Rattle.ndn_name.specs.declared.fault.PacketFault.{PacketFault}
@@ -14,12 +14,6 @@ abbrev answer : Option (Part × List ℕ) → Result (Option (Part × List ℕ))
 answer e = Ok e
 
 -- ---- an entry
-
-pub entry_fault : (interest : List ℕ) (packets : Stores) (fault : PacketFault) → interest_of interest ≡ Err fault
-    → served_entry interest packets ≡ Err fault
-unfolding served_entry
-entry_fault interest packets fault e =
-    ap (λ (r : Result Interest PacketFault). r >>= λ i. answer (first_served i packets)) e
 
 pub entry_fresh : (interest : List ℕ) (packets : Stores) (i : Interest) → interest_of interest ≡ Ok i
     → i.must_be_fresh ≡ true → served_entry interest packets ≡ Ok None

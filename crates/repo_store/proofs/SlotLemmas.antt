@@ -12,6 +12,7 @@ use Rattle.slab.specs.Slab.{Slab, slab_len, HasRoomFor}
 use Rattle.sorted_lists.specs.SortedList.{Rises, keys, value_of, with_value, without_key}
 use Rattle.sorted_lists.specs.Members.{In, HaveSame}
 use Rattle.sorted_lists.proofs.Sets.{in_map, from_map}
+use Rattle.sorted_lists.proofs.MapChanges.{rises_without}
 use Rattle.sorted_lists.proofs.RunOrder.{tri, lt_irrefl, in_without, without_in, unique}
 use Rattle.sorted_lists.proofs.Members.{same_is, same_back, same_then, same_more, map_same, same_map}
 use Rattle.sorted_lists.proofs.Lookups.{same_with, same_keys_with, in_keys_without, keys_without_in}
@@ -249,75 +250,77 @@ pub room_kept : (old new : Slab (List ℕ)) → slab_len new + 1 ≡ slab_len ol
 room_kept old new len capacity n h = omega arith
 
 -- what is left where a part goes
-pub record PartGone (old new : Slots) (left : List Held) (after : List Fronted) : Type 0 where
+pub record PartGone (old new : Slots) (left : List Held) (after : List (Fronted × Unit {0})) : Type 0 where
+  pub in_order : Rises part_cmp (keys left)
+  pub fronts_in_order : Rises fronted_cmp (keys after)
   pub slots : AreSlots new left
-  pub fronts : AreFronts new left after
+  pub fronts : AreFronts new left (keys after)
   pub same : (o : Held) → In o left → at new o.1 ≡ at old o.1
 
-module _ (old : Slots) (held : List Held) (fs : List (Fronted × Unit {0})) (h : Held) (are : AreSlots old held)
-    (fronts : AreFronts old held (keys fs)) (rises : Rises part_cmp (keys held))
-    (fronts_rise : Rises fronted_cmp (keys fs))
-    (there : In h held) where
+module _ (k : Inside) (kept : IsKept k) (h : Held) (there : In h k.parts.entries) where
+  abbrev old : Slots
+  old = k.packets.slots
+
   abbrev left : List Held
-  left = without_key part_cmp h.0 held
+  left = without_key part_cmp h.0 k.parts.entries
 
-  abbrev fronts_left : List Fronted
-  fronts_left = keys (without_key fronted_cmp (fronted old h) fs)
+  abbrev fronts_left : List (Fronted × Unit {0})
+  fronts_left = without_key fronted_cmp (fronted old h) k.fronts.entries
 
-  loses : LosesOne h held left
-  loses = loses_part held h there rises
+  part_gone : (new : Slots) → ((o : Held) → In o left → at new o.1 ≡ at old o.1)
+      → ((s : ℕ) → IsSome (at new s) → at new s ≡ at old s) → (IsSome (at new h.1) → IsHeldIn left h.1)
+      → PartGone old new left fronts_left
+  part_gone new same only still =
+      let loses = loses_part k.parts.entries h there kept.in_order in
+      record {
+        in_order = rises_without exact_parts.total h.0 k.parts.entries kept.in_order;
+        fronts_in_order = rises_without exact_fronts.total (fronted old h) k.fronts.entries kept.fronts_in_order;
+        slots = slots_less old new k.parts.entries left h kept.slots loses same only still;
+        fronts =
+            fronts_less old new k.parts.entries left h kept.slots loses same k.fronts.entries kept.fronts_in_order
+            kept.fronts;
+        same = same;
+      }
 
-  still_fronts : AreFronts old left fronts_left
-  still_fronts = fronts_less old old held left h are loses (λ o i. refl) fs fronts_rise fronts
+  still_fronts : AreFronts old left (keys fronts_left)
+  still_fronts =
+      fronts_less old old k.parts.entries left h kept.slots (loses_part k.parts.entries h there kept.in_order)
+      (λ o i. refl) k.fronts.entries kept.fronts_in_order kept.fronts
 
-  pub part_used : IsUsed fronts_left (front_at old h.1) h.1 true → PartGone old old left fronts_left
-  part_used used = record {
-    slots =
-        slots_less old old held left h are loses (λ o i. refl) (λ s k. refl)
-        (λ k. record { by = used.0; there = (front_only old left fronts_left _ still_fronts used.1).0 });
-    fronts = still_fronts;
-    same = λ o i. refl;
-  }
+  part_used : IsUsed (keys fronts_left) (front_at old h.1) h.1 true → PartGone old old left fronts_left
+  part_used used = part_gone old (λ o i. refl) (λ s j. refl)
+      (λ j. record { by = used.0; there = (front_only old left (keys fronts_left) _ still_fronts used.1).0 })
 
-  pub part_unused : (new : Slots) → IsUsed fronts_left (front_at old h.1) h.1 false → at new h.1 ≡ None
+  part_unused : (new : Slots) → IsUsed (keys fronts_left) (front_at old h.1) h.1 false → at new h.1 ≡ None
       → ((s : ℕ) → s ≢ h.1 → at new s ≡ at old s) → PartGone old new left fronts_left
-  part_unused new unused vacant others = record {
-    slots =
-        slots_less old new held left h are loses same (λ s k. others s (apart s k)) (λ k. absurd (apart h.1 k refl));
-    fronts = fronts_less old new held left h are loses same fs fronts_rise fronts;
-    same = same;
-  }
-    where
-      apart : (s : ℕ) → IsSome (at new s) → s ≢ h.1
-      apart s k e = some_or_none (at new s) k (ap (at new) e ∙ vacant)
+  part_unused new unused vacant others =
+      part_gone new same (λ s j. others s (apart s j)) (λ j. absurd (apart h.1 j refl)) where
+        apart : (s : ℕ) → IsSome (at new s) → s ≢ h.1
+        apart s j e = some_or_none (at new s) j (ap (at new) e ∙ vacant)
 
-      same : (o : Held) → In o left → at new o.1 ≡ at old o.1
-      same o i = others o.1 (λ e.
-          unused o.0 (subst (λ (s : ℕ). In (record { front = front_at old s; slot = s; part = o.0 }) fronts_left) e
-          (still_fronts.back (fronted old o) (in_map (fronted old) left o i))))
+        same : (o : Held) → In o left → at new o.1 ≡ at old o.1
+        same o i = others o.1 (λ e.
+            unused o.0
+            (subst (λ (s : ℕ). In (record { front = front_at old s; slot = s; part = o.0 }) (keys fronts_left)) e
+            (still_fronts.back (fronted old o) (in_map (fronted old) left o i))))
 
   -- the same of lists and a front that are these
   module _ (front : ℕ) (gone : List Held) (after : List (Fronted × Unit {0})) (is : front ≡ front_at old h.1)
-      (parts : gone ≡ left)
-      (others : after ≡ without_key fronted_cmp (record { front = front; slot = h.1; part = h.0 }) fs) where
-    these : keys after ≡ fronts_left
+      (parts : gone ≡ left) (others : after
+      ≡ without_key fronted_cmp (record { front = front; slot = h.1; part = h.0 }) k.fronts.entries) where
+    these : after ≡ fronts_left
     these =
-        ap (λ (es : List (Fronted × Unit {0})). keys es) others
-        ∙ ap (λ (f : ℕ). keys (without_key fronted_cmp (record { front = f; slot = h.1; part = h.0 }) fs)) is
+        others
+        ∙ ap (λ (f : ℕ). without_key fronted_cmp (record { front = f; slot = h.1; part = h.0 }) k.fronts.entries) is
 
-    as_used : (b : Bool) → IsUsed (keys after) front h.1 b → IsUsed fronts_left (front_at old h.1) h.1 b
+    as_used : (b : Bool) → IsUsed (keys after) front h.1 b → IsUsed (keys fronts_left) (front_at old h.1) h.1 b
     as_used b used =
-        subst (λ (f : ℕ). IsUsed fronts_left f h.1 b) is
-        (subst (λ (ks : List Fronted). IsUsed ks front h.1 b) these used)
+        subst (λ (f : ℕ). IsUsed (keys fronts_left) f h.1 b) is
+        (subst (λ (es : List (Fronted × Unit {0})). IsUsed (keys es) front h.1 b) these used)
 
-    as_gone : (new : Slots) → PartGone old new left fronts_left → PartGone old new gone (keys after)
-    as_gone new is =
-        subst (λ (ks : List Fronted). PartGone old new gone ks) (sym these)
-        (subst (λ (xs : List Held). PartGone old new xs fronts_left) (sym parts) is)
-
-    pub used_gone : IsUsed (keys after) front h.1 true → PartGone old old gone (keys after)
-    used_gone used = as_gone old (part_used (as_used true used))
+    pub used_gone : IsUsed (keys after) front h.1 true → PartGone old old gone after
+    used_gone used = rw parts (rw these (part_used (as_used true used)))
 
     pub unused_gone : (new : Slots) → IsUsed (keys after) front h.1 false → at new h.1 ≡ None
-        → ((s : ℕ) → s ≢ h.1 → at new s ≡ at old s) → PartGone old new gone (keys after)
-    unused_gone new unused vacant rest = as_gone new (part_unused new (as_used false unused) vacant rest)
+        → ((s : ℕ) → s ≢ h.1 → at new s ≡ at old s) → PartGone old new gone after
+    unused_gone new unused vacant rest = rw parts (rw these (part_unused new (as_used false unused) vacant rest))

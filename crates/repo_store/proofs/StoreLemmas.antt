@@ -1,7 +1,7 @@
 -- The packets of what is held, and what changes of it make of them.
 use Rattle.std.proofs.Common.{◌≡◌, ℕ, ◌+◌, Bool, true, false, cond, not, List, [], ◌∷◌, length, Option, refl, sym, ap}
 use Rattle.std.proofs.Common.{subst, ◌∙◌}
-use Rattle.std.specs.Prelude.{IsOk, unwrap_or, ◌||◌}
+use Rattle.std.specs.Prelude.{IsOk, unwrap_or, ◌&&◌, ◌||◌}
 use Rattle.std.specs.List.{filter}
 use Rattle.std.proofs.lemmas.List.Elements.{filter_agree}
 use Rattle.std.proofs.lemmas.List.Filters.{length-filter_both}
@@ -9,7 +9,7 @@ use Rattle.ndn_data.specs.Data.{data_of}
 use Rattle.sorted_lists.specs.SortedList.{keys, Rises, contains, with_value}
 use Rattle.sorted_lists.specs.Members.{In}
 use Rattle.sorted_lists.proofs.Sets.{rises_with_value, from_map}
-use Rattle.sorted_lists.proofs.Members.{all_in, map_same}
+use Rattle.sorted_lists.proofs.Members.{all_in, map_same, filter-filter}
 use Rattle.sorted_lists.proofs.Lookups.{all_with, keys-revalued}
 use Rattle.repo_plan.specs.declared.part.Part.{Part}
 use Rattle.repo_plan.specs.Parts.{Pair, part_cmp}
@@ -93,21 +93,12 @@ outside_all_one pair packets =
 pub outside_more : {V : Type 0} (pair : Pair) (pairs : List Pair) (es : List (Part × V))
     → filter (λ e. not (is_in_any (pair ∷ pairs) e.0)) es
     ≡ filter (λ e. not (is_in_any pairs e.0)) (filter (λ e. not (is_in pair e.0)) es)
-outside_more {V} pair pairs [] = refl
-outside_more {V} pair pairs (e ∷ es) = go (is_in pair e.0) (is_in_any pairs e.0) refl (outside_more pair pairs es) where
-  left : List (Part × V)
-  left = filter (λ e. not (is_in pair e.0)) es
-
-  go : (a b : Bool) → is_in_any pairs e.0 ≡ b
-      → filter (λ e. not (is_in_any (pair ∷ pairs) e.0)) es ≡ filter (λ e. not (is_in_any pairs e.0)) left
-      → cond (not (a || b)) (e ∷ filter (λ e. not (is_in_any (pair ∷ pairs) e.0)) es)
-      (filter (λ e. not (is_in_any (pair ∷ pairs) e.0)) es)
-      ≡ filter (λ e. not (is_in_any pairs e.0)) (cond (not a) (e ∷ left) left)
-  go true b is same = same
-  go false true is same =
-      same ∙ sym (ap (λ (b : Bool). cond (not b) (e ∷ filter (λ e. not (is_in_any pairs e.0)) left)
-      (filter (λ e. not (is_in_any pairs e.0)) left)) is)
-  go false false is same =
-      ap (λ (xs : List (Part × V)). e ∷ xs) same
-      ∙ sym (ap (λ (b : Bool). cond (not b) (e ∷ filter (λ e. not (is_in_any pairs e.0)) left)
-      (filter (λ e. not (is_in_any pairs e.0)) left)) is)
+outside_more {V} pair pairs es =
+    filter_agree (λ (e : Part × V). not (is_in_any (pair ∷ pairs) e.0))
+    (λ (e : Part × V). not (is_in pair e.0) && not (is_in_any pairs e.0))
+    (λ e. neither (is_in pair e.0) (is_in_any pairs e.0)) es
+    ∙ sym (filter-filter (λ (e : Part × V). not (is_in_any pairs e.0)) (λ (e : Part × V). not (is_in pair e.0)) es)
+  where
+    neither : (a b : Bool) → not (a || b) ≡ (not a && not b)
+    neither true b = refl
+    neither false b = refl

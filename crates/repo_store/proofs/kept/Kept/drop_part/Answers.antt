@@ -1,16 +1,9 @@
 use Rattle.std.proofs.Common.{◌≡◌, ℕ, List, [], Option, subst, sym, ap, ◌∙◌, arith, rules}
 use Rattle.std.specs.Prelude.{IsSome, option_copied, unwrap_or}
 use Rattle.sha2.specs.Sha256.{sha256}
-use Rattle.sorted_lists.specs.SortedList.{Rises, keys}
 use Rattle.sorted_lists.proofs.Sets.{In}
-use Rattle.sorted_lists.proofs.MapChanges.{rises_without}
-use Rattle.repo_plan.specs.Parts.{part_cmp}
-use Rattle.repo_plan.proofs.Orders.{exact_parts}
-use Rattle.repo_store.specs.declared.kept.Fronted.{Fronted}
 use Rattle.repo_store.specs.Kept.{front_of, at, front_at, Held, KeptState}
-use Rattle.repo_store.specs.Slots.{fronted_cmp}
 use Rattle.repo_store.proofs.SlotLemmas.{used_gone, unused_gone, room_kept}
-use Rattle.repo_store.proofs.FrontLemmas.{exact_fronts}
 use Rattle.repo_store.proofs.kept.Kept.drop_part.Goals as goal
 
 pub unwrap-requires : goal.unwrap-requires
@@ -31,18 +24,13 @@ invariant_of-self c =
     ∙ ap (λ (o : Option (List ℕ)). front_of (sha256 (unwrap_or o [])))
     (sym (ap option_copied c.unwrap.ensures) ∙ c.get.ensures) in
     let gone =
-    unused_gone k.packets.slots k.parts.entries k.fronts.entries h c.self.invariant.slots c.self.invariant.fronts
-    c.self.invariant.in_order c.self.invariant.fronts_in_order there c.front-front.result c.remove.new.self.entries
+    unused_gone k c.self.invariant h there c.front-front.result c.remove.new.self.entries
     c.remove-2.new.self.entries front c.remove.ensures.entries c.remove-2.ensures.entries
     c.remove-then-not-is_used.new.self.slots c.if-not-is_used.ensures c.remove-then-not-is_used.ensures.updates.changed
     (λ s n. c.remove-then-not-is_used.ensures.updates.others s n) in
     record {
-      in_order =
-          subst (λ (es : List Held). Rises part_cmp (keys es)) (sym c.remove.ensures.entries)
-          (rises_without exact_parts.total c.args.part k.parts.entries c.self.invariant.in_order);
-      fronts_in_order =
-          subst (λ (es : List (Fronted × Unit {0})). Rises fronted_cmp (keys es)) (sym c.remove-2.ensures.entries)
-          (rises_without exact_fronts.total _ k.fronts.entries c.self.invariant.fronts_in_order);
+      in_order = gone.in_order;
+      fronts_in_order = gone.fronts_in_order;
       slots = gone.slots;
       fronts = gone.fronts;
       room_of_packets =
@@ -62,17 +50,11 @@ invariant_of-self-else-not-is_used c =
     ∙ ap (λ (o : Option (List ℕ)). front_of (sha256 (unwrap_or o [])))
     (sym (ap option_copied c.unwrap.ensures) ∙ c.get.ensures) in
     let gone =
-    used_gone k.packets.slots k.parts.entries k.fronts.entries h c.self.invariant.slots c.self.invariant.fronts
-    c.self.invariant.in_order c.self.invariant.fronts_in_order there c.front-front.result c.remove.new.self.entries
-    c.remove-2.new.self.entries front c.remove.ensures.entries c.remove-2.ensures.entries
-    c.if-not-is_used.ensures in
+    used_gone k c.self.invariant h there c.front-front.result c.remove.new.self.entries c.remove-2.new.self.entries
+    front c.remove.ensures.entries c.remove-2.ensures.entries c.if-not-is_used.ensures in
     record {
-      in_order =
-          subst (λ (es : List Held). Rises part_cmp (keys es)) (sym c.remove.ensures.entries)
-          (rises_without exact_parts.total c.args.part k.parts.entries c.self.invariant.in_order);
-      fronts_in_order =
-          subst (λ (es : List (Fronted × Unit {0})). Rises fronted_cmp (keys es)) (sym c.remove-2.ensures.entries)
-          (rises_without exact_fronts.total _ k.fronts.entries c.self.invariant.fronts_in_order);
+      in_order = gone.in_order;
+      fronts_in_order = gone.fronts_in_order;
       slots = gone.slots;
       fronts = gone.fronts;
       room_of_packets = c.self.invariant.room_of_packets;
@@ -90,8 +72,7 @@ returns-then-not-is_used-clause-same c =
     ∙ ap (λ (o : Option (List ℕ)). front_of (sha256 (unwrap_or o [])))
     (sym (ap option_copied c.unwrap.ensures) ∙ c.get.ensures) in
     let gone =
-    unused_gone k.packets.slots k.parts.entries k.fronts.entries h c.self.invariant.slots c.self.invariant.fronts
-    c.self.invariant.in_order c.self.invariant.fronts_in_order there c.front-front.result c.remove.new.self.entries
+    unused_gone k c.self.invariant h there c.front-front.result c.remove.new.self.entries
     c.remove-2.new.self.entries front c.remove.ensures.entries c.remove-2.ensures.entries
     c.remove-then-not-is_used.new.self.slots c.if-not-is_used.ensures c.remove-then-not-is_used.ensures.updates.changed
     (λ s n. c.remove-then-not-is_used.ensures.updates.others s n) in
