@@ -12,14 +12,13 @@ use Rattle.ndn_name.specs.Names.{Component}
 use Rattle.ndn_name.specs.CanonicalOrder.{canonical_cmp, canonical_cmp_total}
 use Rattle.ndn_name.proofs.Prefixes.{canonical_cmp-equal}
 use Rattle.repo_plan.specs.Parts.{Pair, pair_cmp}
-use Rattle.sorted_lists.specs.SortedList.{contains}
+use Rattle.sorted_lists.specs.SortedList.{contains, insert_keys}
 use Rattle.repo_plan.proofs.Orders.{exact_pairs}
 use Rattle.sorted_lists.proofs.Orders.{equal_from_is_eq}
 use Rattle.sorted_lists.proofs.Sets.{eq_same}
 use Rattle.repo_catalog.specs.declared.entry.Entry.{Entry}
 use Rattle.repo_catalog.specs.Entries.{publication_of}
 use Rattle.repo_watch.specs.Patterns.{is_publisher, begins_with, accepts, Accepts}
-use Rattle.repo_watch.specs.Told.{told_too}
 use Rattle.repo_watch.specs.Watching.{Watching, watching, is_for, is_news, news, news_of, watch_of}
 use Rattle.repo_watch.specs.Watching.{after_take}
 use Rattle.repo_watch.specs.Laws.{WatchCall, after_watch_calls, tells, was_told}
@@ -87,9 +86,10 @@ is_new w (e ∷ es) pair fresh h =
 
 told_all : (w : Watching) (entries : List Entry) (pair : Pair)
     → contains pair_cmp (map publication_of (filter (is_for w.pattern) entries)) pair ≡ true
-    → contains pair_cmp (told_too (news w entries) w.told) pair ≡ true
+    → contains pair_cmp (insert_keys pair_cmp (news w entries) w.told) pair ≡ true
 told_all w entries pair h = go (contains pair_cmp w.told pair) refl where
-  go : (b : Bool) → contains pair_cmp w.told pair ≡ b → contains pair_cmp (told_too (news w entries) w.told) pair ≡ true
+  go : (b : Bool) → contains pair_cmp w.told pair ≡ b
+      → contains pair_cmp (insert_keys pair_cmp (news w entries) w.told) pair ≡ true
   go true e = told_kept (news w entries) w.told pair e
   go false e = told_gained (news w entries) w.told pair (is_new w entries pair e h)
 

@@ -1,12 +1,11 @@
 -- Watchers: what each asks for and was told, and what a call makes of them.
 use Rattle.std.specs.Prelude.{ℕ, zero, suc, Bool, not, ◌&&◌, List, [], ◌∷◌, ◌++◌, map, filter, Option, Some, None}
 use Rattle.repo_plan.specs.Parts.{Pair, pair_cmp}
-use Rattle.sorted_lists.specs.SortedList.{contains}
+use Rattle.sorted_lists.specs.SortedList.{contains, insert_keys}
 use Rattle.repo_catalog.specs.declared.entry.Entry.{Entry}
 use Rattle.repo_catalog.specs.Entries.{publication_of}
 use Rattle.repo_watch.specs.declared.pattern.Pattern.{Pattern}
 use Rattle.repo_watch.specs.Patterns.{accepts}
-use Rattle.repo_watch.specs.Told.{told_too}
 
 -- What a watcher asks for, and the publications that it was told, in order.
 pub record Watching : Type 0 where
@@ -31,7 +30,7 @@ news w entries = map publication_of (filter (is_news w) entries)
 
 -- The watcher once it was told that.
 abbrev pub told_news : Watching → List Entry → Watching
-told_news w entries = record w { told = told_too (news w entries) w.told }
+told_news w entries = record w { told = insert_keys pair_cmp (news w entries) w.told }
 
 -- ---- by number, from 1 on
 

@@ -1,9 +1,8 @@
 // What a watcher was told: publications in order, each once.
 ghost use Rattle.std.specs.Prelude.{◌≡◌, length, IfOk};
 ghost use Rattle.std.specs.List.Sorted.{IsSearchInRange, IsBinarySearchResult};
-ghost use Rattle.sorted_lists.specs.SortedList.{Rises, contains};
+ghost use Rattle.sorted_lists.specs.SortedList.{Rises, contains, insert_keys};
 ghost use Rattle.repo_plan.specs.Parts.{pair_cmp};
-ghost use Rattle.repo_watch.specs.Told.{told_too};
 
 use std::alloc::{AllocError, Global};
 
@@ -31,7 +30,7 @@ pub(crate) fn merged(
 ) -> Result<Vec<(u32, u16)>, AllocError>
     requires rises { Rises pair_cmp told.now }
     requires pairs_rise { Rises pair_cmp pairs.now }
-    ensures { IfOk result (λ all. all.items ≡ told_too pairs.now told.now) }
+    ensures { IfOk result (λ all. all.items ≡ insert_keys pair_cmp pairs.now told.now) }
 {
     let mut all = Vec::with_capacity(alloc, told.len())?;
     let mut rest = told;

@@ -1,9 +1,10 @@
 use Rattle.std.proofs.Common.{◌≡◌, sym, subst, ◌∙◌}
 use Rattle.repo_plan.specs.Parts.{pair_cmp}
-use Rattle.sorted_lists.specs.SortedList.{Rises}
-use Rattle.repo_watch.specs.Told.{told_too}
+use Rattle.sorted_lists.specs.SortedList.{Rises, insert_keys}
+use Rattle.sorted_lists.proofs.Sets.{rises_insert_keys}
+use Rattle.repo_plan.proofs.Orders.{exact_pairs}
 use Rattle.repo_watch.specs.Watching.{is_news}
-use Rattle.repo_watch.proofs.ToldLemmas.{told_rises, passing_rise}
+use Rattle.repo_watch.proofs.ToldLemmas.{passing_rise}
 use Rattle.repo_watch.proofs.watcher.Watcher.take.Goals as goal
 
 pub merged-requires-clause-pairs_rise : goal.merged-requires-clause-pairs_rise
@@ -14,7 +15,7 @@ merged-requires-clause-pairs_rise g c =
 
 pub invariant_of-self : goal.invariant_of-self
 invariant_of-self g c =
-    let told : c.in_ok-self-inside.field-0.items ≡ told_too c.deref-2.result.now c.deref.result.now =
+    let told : c.in_ok-self-inside.field-0.items ≡ insert_keys pair_cmp c.deref-2.result.now c.deref.result.now =
     c.in_ok-self-inside.ensures in
     subst (Rises pair_cmp) (sym told)
-    (told_rises c.deref-2.result.now c.deref.result.now (rw c.deref.ensures.value c.self.invariant))
+    (rises_insert_keys exact_pairs c.deref-2.result.now c.deref.result.now (rw c.deref.ensures.value c.self.invariant))
