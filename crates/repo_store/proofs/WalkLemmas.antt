@@ -136,6 +136,20 @@ module _ (slots : Slots) (held : List Held) (asked : List ℕ) (p : Bool) where
         (walk.low first (subst (In first) (sym is) (inl refl)))
         (names_le (key_in slots first) (key_in slots o) (later o i)) holds) ∙ lacks))
 
+    -- of one name the first is of the least part
+    pub walk_named : p ≡ false → test first ≡ true → IsFirstOf held test (lesser least (Some first))
+    walk_named exact holds =
+        subst (λ (xs : List Held). IsFirstOf xs test (lesser least (Some first))) walk.whole
+        (first_of_both exact_parts held_part walk.seen rest test least (Some first) walk.found (record {
+          there = (subst (In first) (sym is) (inl refl), holds);
+          least = λ o i.
+              parts_le (key_in slots first) (key_in slots o) (own first holds ∙ sym (own o i.1)) (later o i.0);
+        }))
+      where
+        own : (o : Held) → test o ≡ true → name_at slots o ≡ asked
+        own o h =
+            (is_name asked (name_at slots o)).0 (subst (λ (b : Bool). asks asked b (name_at slots o) ≡ true) exact h)
+
     pub walk_more : (behind : List Held) (name : List ℕ) → name ≡ name_at slots first → test first ≡ true
         → IsBehind slots rest name behind → Walk slots held asked p behind (lesser least (Some first))
     walk_more behind name named holds past = record {

@@ -85,7 +85,7 @@ impl Index<'_> {
     }
 
     // What has this name, or begins with it where that is asked for, of the least part. Of each name the first is
-    // looked at.
+    // looked at, since it is of the least part.
     pub(crate) fn first(&self, asked: &[u8], can_be_prefix: bool) -> Option<Held>
         requires { IndexIsInOrder self.now }
         ensures { IsFirstOf self.now.held.now (is_asked self.now.kept.now.slots asked.now can_be_prefix) result }
@@ -97,6 +97,9 @@ impl Index<'_> {
                 return least;
             }
             least = lesser(least, Some(*first));
+            if !can_be_prefix {
+                return least;
+            }
             rest = self.behind(rest, self.name(first));
         }
         least

@@ -3,7 +3,7 @@ use Rattle.std.specs.Prelude.{IfSome}
 use Rattle.sorted_lists.proofs.Members.{none_first, some_first}
 use Rattle.repo_store.specs.Kept.{Held}
 use Rattle.repo_store.specs.Indexes.{name_at}
-use Rattle.repo_store.proofs.WalkLemmas.{walk_start, walk_lacks, walk_more, walk_end}
+use Rattle.repo_store.proofs.WalkLemmas.{walk_start, walk_lacks, walk_named, walk_more, walk_end}
 use Rattle.repo_store.proofs.index.Index.first.Goals as goal
 
 pub loop-first-init : goal.loop-first-init
@@ -19,6 +19,15 @@ returns-then-not-is_asked c =
     walk_lacks index.kept.now.slots index.held.now c.args.asked.now c.args.can_be_prefix rest (drop 1 rest)
     c.in-Some.first.now c.loop-first.least (some_first rest c.in-Some.first.now c.in-Some.ensures.value)
     c.loop-first.invariant (sym c.is_asked.ensures ∙ c.if-not-is_asked.true)
+
+pub returns-then-not-can_be_prefix : goal.returns-then-not-can_be_prefix
+returns-then-not-can_be_prefix c =
+    let index = c.args.self.now in
+    let rest = c.loop-first.rest.now in
+    rw c.lesser-least.ensures
+    (walk_named index.kept.now.slots index.held.now c.args.asked.now c.args.can_be_prefix rest (drop 1 rest)
+    c.in-Some.first.now c.loop-first.least (some_first rest c.in-Some.first.now c.in-Some.ensures.value)
+    c.loop-first.invariant c.if-not-can_be_prefix.true (sym c.is_asked.ensures ∙ c.if-not-is_asked.false))
 
 pub behind-rest-requires-clause-in_order : goal.behind-rest-requires-clause-in_order
 behind-rest-requires-clause-in_order c = c.loop-first.invariant.in_order
