@@ -7,6 +7,10 @@ use Rattle.repo_catalog.specs.Entries.{publication_of}
 use Rattle.repo_watch.specs.declared.pattern.Pattern.{Pattern}
 use Rattle.repo_watch.specs.Patterns.{accepts}
 
+-- A member has at most so many watchers.
+abbrev pub most_watchers : ℕ
+most_watchers = 16
+
 -- What a watcher asks for, and the publications that it was told, in order.
 pub record Watching : Type 0 where
   pub pattern : Pattern
