@@ -158,9 +158,13 @@ dropping_all_end pairs i old now whole all =
     ∙ sym (at_drop_all (λ (ps : List Pair). held_outside_all ps now.held) pairs i whole)
     ∙ all.left
 
-pub lengths_left : (pairs : List Pair) (held : List Held) → length (held_outside_all pairs held) ≤ length held
-lengths_left pairs held =
+-- as many are dropped as there are fewer
+pub fewer_left : (pairs : List Pair) (i : ℕ) (old now : KeptState) → length pairs ≤ i → DroppingAll pairs i old now
+    → length now.held ≤ length old.held
+fewer_left pairs i old now whole all =
+    let out : Held → Bool = λ h. not (is_in_any pairs h.0) in
     omega (
       arith,
-      length-filter_both (λ (h : Held). is_in_any pairs h.0) (λ (h : Held). not (is_in_any pairs h.0)) (λ h. refl) held,
+      ap length (dropping_all_end pairs i old now whole all),
+      length-filter_both (λ (h : Held). is_in_any pairs h.0) out (λ h. refl) old.held,
     )

@@ -3,7 +3,7 @@ use Rattle.std.proofs.Common.{◌≡◌, ℕ, zero, suc, ◌+◌, ◌-◌, ◌<�
 use Rattle.std.proofs.Common.{◌++◌, length, length-append, length-drop, take, drop, take_at, drop_at, append_assoc}
 use Rattle.std.proofs.Common.{Option, Some, None, slice_get, Result, Ok, Err, IsOk, IsSome, option_map, inl, inr}
 use Rattle.std.proofs.Common.{refl, sym, ap, subst, ◌∙◌, arith}
-use Rattle.std.proofs.lemmas.Bool.{eqb-true}
+use Rattle.std.proofs.lemmas.Bool.{eqb-true, false_from_ne_true}
 use Rattle.std.proofs.lemmas.List.{drop-drop}
 use Rattle.ndn_tlv.specs.Spelling.{head}
 use Rattle.ndn_tlv.specs.Listing.{Listing, ◌>>=◌, gather, gathered}
@@ -46,10 +46,6 @@ DataField = field_of data_table
 
 same_place : (there place : Place DataField) → Some there ≡ Some place → there ≡ place
 same_place there place get = cc
-
-false_where : (b : Bool) → (b ≡ true → ⊥) → b ≡ false
-false_where true h = absurd (h refl)
-false_where false h = refl
 
 behind_first : (repeats : Bool) (k : ℕ) → 0 < k → 0 < cond repeats k (suc k)
 behind_first true k behind = behind
@@ -189,7 +185,7 @@ module _ (whole : List ℕ) where
   name_comes (e ∷ es) fault read (stranger none_there not_critical rest) s t n none some h =
       let f = name_comes es fault read rest s t n none some h in
       let other : eqb e.typ 0x07 ≡ false =
-      false_where _ (λ is. none_there 0 _ (omega arith) refl (sym (eqb-true e.typ 0x07 is))) in
+      false_from_ne_true _ (λ is. none_there 0 _ (omega arith) refl (sym (eqb-true e.typ 0x07 is))) in
       record {
         element = f.element;
         first = ap (λ (b : Bool). cond b (Some e) (first_of_type 0x07 es)) other ∙ f.first;

@@ -9,13 +9,13 @@ use Rattle.std.proofs.lemmas.Slice.Eq.{slice_eq-Decides}
 use Rattle.std.proofs.lemmas.Bool.{true≢false, cases_eq, and_parts, and_from, eq-eqb}
 use Rattle.sha2.specs.Sha256.{sha256}
 use Rattle.slab.specs.Slab.{Slab, slab_len, HasRoomFor}
-use Rattle.sorted_lists.specs.SortedList.{Rises, keys, value_of, with_value, without_key}
+use Rattle.sorted_lists.specs.SortedList.{Rises, keys, with_value, without_key}
 use Rattle.sorted_lists.specs.Members.{In, HaveSame}
 use Rattle.sorted_lists.proofs.Sets.{in_map, from_map}
 use Rattle.sorted_lists.proofs.MapChanges.{rises_without}
 use Rattle.sorted_lists.proofs.RunOrder.{tri, lt_irrefl, in_without, without_in, unique}
 use Rattle.sorted_lists.proofs.Members.{same_is, same_back, same_then, same_more, map_same, same_map}
-use Rattle.sorted_lists.proofs.Lookups.{same_with, same_keys_with, in_keys_without, keys_without_in}
+use Rattle.sorted_lists.proofs.Lookups.{same_keys_with, in_keys_without, keys_without_in}
 use Rattle.repo_plan.specs.declared.part.Part.{Part}
 use Rattle.repo_plan.specs.Parts.{part_cmp}
 use Rattle.repo_plan.proofs.Orders.{exact_parts}
@@ -175,11 +175,6 @@ module _ (old new : Slots) (octets : List ℕ) (held more : List Held) (h : Held
             ap (λ (f : ℕ). record { front = f; slot = h.1; part = h.0 } ∷ map (fronted old) held) front_is
             ∙ ap (λ (ks : List Fronted). fronted new h ∷ ks)
             (fronts_same old new held (λ o i. keeps.others o.1 (are.kept o i)))
-
--- what is put under a part of which there was nothing
-pub gains_part : (held : List Held) (h : Held) → value_of part_cmp held h.0 ≡ None → Rises part_cmp (keys held)
-    → GainsOne h held (with_value part_cmp h.0 h.1 held)
-gains_part held h none rises = same_with exact_parts h.0 h.1 held rises none
 
 -- ---- one less
 

@@ -2,7 +2,7 @@ use Rattle.std.proofs.Common.{length, subst, ap, arith}
 use Rattle.repo_store.specs.Kept.{KeptState}
 use Rattle.repo_store.specs.Slots.{KeptIsSound}
 use Rattle.repo_store.proofs.SlotLemmas.{sound_seen}
-use Rattle.repo_store.proofs.DropLemmas.{dropping_all_none, dropping_all_more, dropping_all_end, lengths_left}
+use Rattle.repo_store.proofs.DropLemmas.{dropping_all_none, dropping_all_more, dropping_all_end, fewer_left}
 use Rattle.repo_store.proofs.kept.Kept.drop_all.Goals as goal
 
 pub loop-pair-init : goal.loop-pair-init
@@ -16,33 +16,21 @@ loop-pair-preserved c =
 
 pub overflow_sub-result : goal.overflow_sub-result
 overflow_sub-result c =
-    let end =
-    dropping_all_end c.args.pairs.now c.loop-pair.pair-index c.args.self.now c.loop-pair.self c.loop-pair-test.false
+    let fewer =
+    fewer_left c.args.pairs.now c.loop-pair.pair-index c.args.self.now c.loop-pair.self c.loop-pair-test.false
     c.loop-pair.invariant in
-    omega (
-      arith,
-      c.len.ensures.len,
-      c.len-before.ensures.len,
-      ap length end,
-      lengths_left c.args.pairs.now c.args.self.now.held,
-      ap (λ (k : KeptState). length k.held) c.self.view_is,
-      ap (λ (k : KeptState). length k.held) c.self-2.view_is,
-    )
+    let seen = ap (λ (k : KeptState). length k.held) c.self.view_is in
+    let left = ap (λ (k : KeptState). length k.held) c.self-2.view_is in
+    omega (arith, c.len.ensures.len, c.len-before.ensures.len, fewer, seen, left)
 
 pub returns-clause-number : goal.returns-clause-number
 returns-clause-number c =
-    let end =
-    dropping_all_end c.args.pairs.now c.loop-pair.pair-index c.args.self.now c.loop-pair.self c.loop-pair-test.false
+    let fewer =
+    fewer_left c.args.pairs.now c.loop-pair.pair-index c.args.self.now c.loop-pair.self c.loop-pair-test.false
     c.loop-pair.invariant in
-    omega (
-      arith,
-      c.len.ensures.len,
-      c.len-before.ensures.len,
-      ap length end,
-      lengths_left c.args.pairs.now c.args.self.now.held,
-      ap (λ (k : KeptState). length k.held) c.self.view_is,
-      ap (λ (k : KeptState). length k.held) c.self-2.view_is,
-    )
+    let seen = ap (λ (k : KeptState). length k.held) c.self.view_is in
+    let left = ap (λ (k : KeptState). length k.held) c.self-2.view_is in
+    omega (arith, c.len.ensures.len, c.len-before.ensures.len, fewer, seen, left)
 
 pub returns-clause-held : goal.returns-clause-held
 returns-clause-held c =

@@ -11,8 +11,8 @@ use Rattle.repo_store.specs.declared.kept.Sought.TheVariants.{Octets}
 use Rattle.repo_store.specs.Kept.{Held, KeptState}
 use Rattle.repo_store.specs.Slots.{AreSlots, AreFronts, KeepsOne, KeptIsSound, fronted_cmp, is_sought_at}
 use Rattle.repo_store.specs.Indexes.{IsFirstOf}
-use Rattle.sorted_lists.proofs.Lookups.{none_where}
-use Rattle.repo_store.proofs.SlotLemmas.{sound_seen, keeps_one, slots_more, fronts_more, gains_part}
+use Rattle.sorted_lists.proofs.Lookups.{none_where, same_with}
+use Rattle.repo_store.proofs.SlotLemmas.{sound_seen, keeps_one, slots_more, fronts_more}
 use Rattle.repo_store.proofs.FrontLemmas.{exact_fronts}
 use Rattle.repo_store.proofs.kept.Kept.put.Goals as goal
 
@@ -35,7 +35,7 @@ invariant_of-self-2 c =
     none_where exact_parts k.parts.entries c.args.part
     (ap (λ (s : KeptState). contains part_cmp (keys s.held) c.args.part) c.self.view_is
     ∙ sym c.has.ensures ∙ c.if-has.false) in
-    let gains = gains_part k.parts.entries h fresh c.self.invariant.in_order in
+    let gains = same_with exact_parts c.args.part slot k.parts.entries c.self.invariant.in_order fresh in
     let are = c.self.invariant.slots in
     let new = c.keep-slot.new.packets.slots in
     let more = with_value part_cmp c.args.part slot k.parts.entries in

@@ -7,8 +7,7 @@ use Rattle.repo_plan.proofs.Orders.{exact_parts}
 use Rattle.repo_store.specs.StoreList.{StoreList, with_packet}
 use Rattle.repo_store.specs.Kept.{octets_at, Held, KeptState, entries_of}
 use Rattle.repo_store.specs.NameLayers.{IsIndexOf}
-use Rattle.sorted_lists.proofs.Lookups.{none_where, keys-revalued, with_value-revalued}
-use Rattle.repo_store.proofs.SlotLemmas.{gains_part}
+use Rattle.sorted_lists.proofs.Lookups.{none_where, same_with, keys-revalued, with_value-revalued}
 use Rattle.repo_store.proofs.StoreLemmas.{entries_same, put_there, put_fresh}
 use Rattle.repo_store.proofs.NameLayerLemmas.{fewer_room, index_more}
 use Rattle.repo_store.proofs.store.Store.put_reserved_with_digest.Goals as goal
@@ -21,7 +20,8 @@ invariant_of-self c =
     let after = c.put-in-Some.new.self in
     let h : Held = (c.args.part, c.in-Some.slot) in
     let put = c.in-Some.ensures in
-    let gains = gains_part k.held h (none_where exact_parts k.held c.args.part put.fresh) put.sound.rises in
+    let gains =
+    same_with exact_parts h.0 h.1 k.held put.sound.rises (none_where exact_parts k.held c.args.part put.fresh) in
     record {
       names =
           subst (λ (xs : List Held). IsIndexOf new.slots xs after) (sym put.held)
