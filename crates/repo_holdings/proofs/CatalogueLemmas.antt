@@ -81,7 +81,7 @@ keyed_kept f h (x ∷ es) = go (f x.0 x.1) refl (keyed_kept f h es) where
   go None p k = k
   go (Some e) p k = (h x.0 x.1 e p, k)
 
-none_is_some : (e : Entry) → let n : Option Entry = None in n ≡ Some e → ⊥
+pub none_is_some : (e : Entry) → let n : Option Entry = None in n ≡ Some e → ⊥
 none_is_some e h = cc
 
 entry_keyed : (packets : List Packet) (pair : Pair) (l : Listed) (e : Entry) → entry_listed packets pair l ≡ Some e
@@ -91,6 +91,14 @@ entry_keyed packets pair l e h =
       go : (b : Bool) → cond b (Some (entry_of_listing packets pair l)) None ≡ Some e → publication_of e ≡ pair
       go true p = let same : entry_of_listing packets pair l ≡ e = cc in ap publication_of (sym same)
       go false p = absurd (none_is_some e p)
+
+-- an entry is of its publication
+pub entry_is_of : (packets : List Packet) (pair : Pair) (e : Entry) → entry_at packets pair ≡ Some e
+    → publication_of e ≡ pair
+entry_is_of packets pair e h = go (listing_at packets pair) h where
+  go : (o : Option Listed) → option_and_then (entry_listed packets pair) o ≡ Some e → publication_of e ≡ pair
+  go None p = absurd (none_is_some e p)
+  go (Some l) p = entry_keyed packets pair l e p
 
 listed_keyed : (packets : List Packet) (pair : Pair) (octets : List ℕ) (e : Entry)
     → listed_entry packets pair octets ≡ Some e → publication_of e ≡ pair
@@ -214,18 +222,12 @@ module _ (old new : List Packet) (pair : Pair) (old_order : Rises part_cmp (keys
             ∙ sym (value_of-with_value exact_pairs pair e (entries_in old) q
             ∙ ap (λ (b : Bool). cond b (Some e) (value_of pair_cmp (entries_in old) q)) p)
 
-  entry_pair : (e : Entry) → entry_at new pair ≡ Some e → publication_of e ≡ pair
-  entry_pair e h = go (listing_at new pair) h where
-    go : (o : Option Listed) → option_and_then (entry_listed new pair) o ≡ Some e → publication_of e ≡ pair
-    go None p = absurd (none_is_some e p)
-    go (Some l) p = entry_keyed new pair l e p
-
   pub relisted : alone_catalogue new ≡ with_listed (entry_at new pair) (alone_catalogue old)
   relisted = go (entry_at new pair) refl where
     go : (o : Option Entry) → entry_at new pair ≡ o → alone_catalogue new ≡ with_listed o (alone_catalogue old)
     go None p = ap (map (λ x. x.1)) (none_more p)
     go (Some e) p =
-        let is = entry_pair e p in
+        let is = entry_is_of new pair e p in
         let absent : value_of pair_cmp (entries_in old) (publication_of e) ≡ None =
         ap (value_of pair_cmp (entries_in old)) is ∙ entries_value old pair old_order ∙ before in
         ap (map (λ x. x.1)) (one_more e p ∙ ap (λ (k : Pair). with_value pair_cmp k e (entries_in old)) (sym is))

@@ -6,6 +6,7 @@ pub mod HidingLemmas
 mod ContentLemmas
 pub mod AskedLemmas
 pub mod WholeLemmas
+pub mod FreshLemmas
 pub mod HoldingsLemmas
 mod PlanLemmas
 pub mod PublishLemmas

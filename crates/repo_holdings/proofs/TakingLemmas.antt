@@ -34,7 +34,7 @@ use Rattle.repo_holdings.specs.Records.{Packet}
 use Rattle.repo_holdings.specs.Listed.{listing_at, stored_at, listed_shape}
 use Rattle.repo_holdings.specs.Gaining.{AreTied, IsArrival, HaveRoom}
 use Rattle.repo_holdings.specs.declared.holdings.gaining.Arrival.{Arrival}
-use Rattle.repo_holdings.specs.declared.holdings.gaining.Tried.{Tried}
+use Rattle.repo_holdings.specs.declared.holdings.taking.Tried.{Tried}
 use Rattle.repo_holdings.specs.declared.holdings.Holdings.TheInside.{Inside}
 use Rattle.repo_holdings.specs.HoldingsState.{HoldingsState, held_plan}
 use Rattle.repo_holdings.specs.HoldingsFields.{state, IsHoldings}

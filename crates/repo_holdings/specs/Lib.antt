@@ -15,6 +15,7 @@ pub use Rattle.repo_catalog.specs.Entries
 pub mod KeptValues
 pub mod Records
 pub mod Listed
+pub mod Contents
 pub mod HoldingsState
 pub mod Gaining
 pub mod HoldingsFields

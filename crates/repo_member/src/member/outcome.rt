@@ -36,7 +36,7 @@ impl Member {
     {
         let all = self.tried(g, jobs, parts, attempts)?;
         self.held.reserve(all.len())?;
-        let Taken { parts, octets } = self.held.take(all);
+        let Taken { parts, octets } = self.held.take(all, &[]);
         Ok(Kept { parts, octets })
     }
 
