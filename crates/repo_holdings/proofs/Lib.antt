@@ -7,6 +7,7 @@ mod ContentLemmas
 pub mod AskedLemmas
 pub mod WholeLemmas
 pub mod FreshLemmas
+mod ArrivedLemmas
 pub mod HoldingsLemmas
 mod PlanLemmas
 pub mod PublishLemmas

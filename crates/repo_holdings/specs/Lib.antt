@@ -24,3 +24,4 @@ pub mod Taking
 pub mod NewPublications
 pub mod Hiding
 pub mod Wanting
+pub mod WholeContents

@@ -15,6 +15,7 @@ mod publishing;
 mod stored_record;
 mod taking;
 mod wanting;
+mod whole;
 
 pub use gaining::Arrival;
 use ndn_name::PacketFault;
@@ -25,6 +26,7 @@ use std::alloc::{AllocError, Global};
 use std::marker::Model;
 pub use stored_record::StoredRecord;
 pub use taking::{Taken, Tried};
+pub use whole::Whole;
 
 /// What is held of publications: which parts are known, held, wanted, claimed and hidden, their packets, and the
 /// catalogue of the publications of which no part is missing.

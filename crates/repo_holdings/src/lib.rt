@@ -7,4 +7,4 @@ mod holdings;
 mod listing;
 
 pub use contents::ContentsDigest;
-pub use holdings::{Arrival, Holdings, StoredRecord, Taken, Tried};
+pub use holdings::{Arrival, Holdings, StoredRecord, Taken, Tried, Whole};
