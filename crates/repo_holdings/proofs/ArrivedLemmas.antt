@@ -1,5 +1,5 @@
 -- Packets that are stored once all that came is taken, and the contents of what becomes whole by them.
-use Rattle.std.proofs.Common.{◌≡◌, ◌<◌, ◌≤◌, ◌+◌, ◌++◌, length-append, take, ℕ, zero, suc, Bor, Bool, true, false, cond, List, [], ◌∷◌, map, length, get_or}
+use Rattle.std.proofs.Common.{◌≡◌, ◌<◌, ◌+◌, ◌++◌, take, ℕ, zero, suc, Bor, Bool, true, false, cond, List, [], ◌∷◌, map, length, get_or}
 use Rattle.std.proofs.Common.{refl, sym, ap, ◌∙◌, subst, Option, Some, None, option_map, is_some, arith}
 use Rattle.std.specs.Prelude.{IfSome}
 use Rattle.std.specs.Option.{option_and_then}
@@ -91,19 +91,6 @@ pub joined_next : (pieces : List (Bor (List ℕ))) (i : ℕ) (d : Bor (List ℕ)
     → joined (take (i + 1) pieces) ≡ joined (take i pieces) ++ (get_or pieces i d).now
 joined_next pieces i d low =
     ap joined (take_more pieces i d low) ∙ joined-push (take i pieces) (get_or pieces i d)
-
--- the first of them are no longer together than all
-pub joined_front : (i : ℕ) (pieces : List (Bor (List ℕ))) → length (joined (take i pieces)) ≤ length (joined pieces)
-joined_front zero pieces = omega arith
-joined_front (suc i) [] = omega arith
-joined_front (suc i) (piece ∷ pieces) =
-    let rest = joined_front i pieces in
-    omega (
-      arith,
-      rest,
-      length-append piece.now (joined (take i pieces)),
-      length-append piece.now (joined pieces),
-    )
 
 -- a digest over the contents of a publication is told truly
 pub told_truly : (packets : List Packet) (w : Whole) (d : ContentsDigest) → d.publisher ≡ w.publisher → d.seq ≡ w.seq

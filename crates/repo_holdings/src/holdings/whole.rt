@@ -1,5 +1,5 @@
 // Publications that become whole by packets that came.
-ghost use Rattle.std.specs.Prelude.{◌≡◌, ◌<◌, ◌^◌, List, length, map, Some, IfSome, IfOk};
+ghost use Rattle.std.specs.Prelude.{◌≡◌, ◌-◌, ◌<◌, ◌^◌, List, length, map, min, Some, IfSome, IfOk};
 ghost use Rattle.std.specs.List.{All};
 ghost use Rattle.sha2.specs.Sha256.{sha256};
 ghost use Rattle.sorted_lists.specs.SortedList.{value_of};
@@ -26,18 +26,17 @@ pub struct Whole<'a> {
 }
 
 impl Whole<'_> {
-    /// How many octets the contents have together, and the SHA-256 of them joined.
+    /// How many octets the contents have together, as far as a `u64` counts, and the SHA-256 of them joined.
     pub fn digest(&self) -> ContentsDigest
-        requires { length (joined self.now.contents.items) < 2 ^ 64 }
         ensures publication { (result.publisher ≡ self.now.publisher) × (result.seq ≡ self.now.seq) }
-        ensures octets { result.octets ≡ length (joined self.now.contents.items) }
+        ensures octets { result.octets ≡ min (2 ^ 64 - 1) (length (joined self.now.contents.items)) }
         ensures digest { result.digest ≡ sha256 (joined self.now.contents.items) }
         ensures told { (packets : List Packet) → IsWholeIn packets self.now → IsDigestIn packets result }
     {
-        let mut octets = 0;
+        let mut octets: u64 = 0;
         let mut digest = Sha256::new();
         for content in &self.contents {
-            octets += content.len() as u64;
+            octets = octets.saturating_add(content.len() as u64);
             digest.update(content);
         }
         ContentsDigest {

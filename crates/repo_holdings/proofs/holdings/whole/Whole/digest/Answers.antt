@@ -1,25 +1,14 @@
-use Rattle.std.proofs.Common.{◌≡◌, ◌≤◌, ◌+◌, [], ℕ, Bor, List, length, length-append, get_or, take, sym, ap, ◌∙◌, subst}
+use Rattle.std.proofs.Common.{◌≡◌, ◌≤◌, ◌-◌, ◌^◌, min, [], ℕ, Bor, List, length, length-append, get_or, take, sym, ap, ◌∙◌, subst}
 use Rattle.std.proofs.Common.{arith, refl}
 use Rattle.std.proofs.lemmas.List.{take_all}
 use Rattle.sha2.specs.Hashers.{Holds256}
 use Rattle.sha2.specs.Sha256.{sha256}
 use Rattle.repo_holdings.specs.WholeContents.{joined}
-use Rattle.repo_holdings.proofs.ArrivedLemmas.{joined_next, joined_front, told_truly}
+use Rattle.repo_holdings.proofs.ArrivedLemmas.{joined_next, told_truly}
 use Rattle.repo_holdings.proofs.holdings.whole.Whole.digest.Goals as goal
 
 abbrev no_piece : Bor (List ℕ)
 no_piece = record { ref_ptr = (0, 0); now = [] }
-
-pub overflow_add-octets : goal.overflow_add-octets
-overflow_add-octets c =
-    let pieces : List (Bor (List ℕ)) = c.deref-content-items.result.now in
-    let i : ℕ = c.loop-content.content-index in
-    let next = ap (λ (m : List ℕ). length m) (joined_next pieces i no_piece c.loop-content-test.true) in
-    let long = length-append (joined (take i pieces)) (get_or pieces i no_piece).now in
-    let front = joined_front (i + 1) pieces in
-    let all =
-    ap (λ (p : List (Bor (List ℕ))). length (joined p)) c.deref-content-items.ensures.value in
-    omega (arith, next, long, front, all, c.requires, c.loop-content.invariant.octets)
 
 pub loop-content-preserved : goal.loop-content-preserved
 loop-content-preserved c =
@@ -30,7 +19,7 @@ loop-content-preserved c =
     let long = length-append front (get_or pieces i no_piece).now in
     let all = ap (λ (m : List ℕ). length m) next in
     record {
-      octets = omega (arith, all, long, c.loop-content.invariant.octets);
+      octets = omega (arith, all, long, c.loop-content.invariant.octets, c.saturating_add-octets.ensures);
       digest =
           subst (Holds256 c.update.new.self) (sym next) (c.update.ensures front c.loop-content.invariant.digest);
     }
@@ -43,7 +32,7 @@ all_pieces i pieces contents high same = ap joined (take_all i pieces high ∙ s
 pub returns-clause-octets : goal.returns-clause-octets
 returns-clause-octets c =
     c.loop-content.invariant.octets
-    ∙ ap (λ (m : List ℕ). length m)
+    ∙ ap (λ (m : List ℕ). min (2 ^ 64 - 1) (length m))
     (all_pieces c.loop-content.content-index c.deref-content-items.result.now c.args.self.now.contents.items
     c.loop-content-test.false c.deref-content-items.ensures.value)
 
@@ -61,7 +50,8 @@ returns-clause-told c = λ packets whole.
     let all : front ≡ joined c.args.self.now.contents.items =
     all_pieces c.loop-content.content-index c.deref-content-items.result.now c.args.self.now.contents.items
     c.loop-content-test.false c.deref-content-items.ensures.value in
+    let long = ap (λ (m : List ℕ). length m) all in
     told_truly packets c.args.self.now _ refl refl
-    (c.loop-content.invariant.octets ∙ ap (λ (m : List ℕ). length m) all)
+    (omega (arith, c.loop-content.invariant.octets, long, whole.few))
     (c.finalize.ensures front c.loop-content.invariant.digest ∙ ap sha256 all)
     whole
