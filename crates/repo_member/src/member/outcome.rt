@@ -55,6 +55,8 @@ impl Member {
         ensures came { IfOk result (λ all. map came all.items ≡ outcome_of jobs.now parts.now attempts.now) }
         ensures takable { IfOk result (λ all. AreTakable (alone_plan self.now) self.now.store all.items) }
         ensures few { IfOk result (λ all. vec_len all < 2 ^ 32) }
+        ensures parts { IfOk result (λ all. count_by (λ x. is_some x.arrival) all.items ≡ count_by is_some parts.now) }
+        ensures octets { IfOk result (λ all. sum_by arrival_octets all.items ≡ sum_by octets_in parts.now) }
     {
         // Each of so few members has fewer than 2^24 parts, so a `u32` counts those that came.
         let members = g.roster().len();

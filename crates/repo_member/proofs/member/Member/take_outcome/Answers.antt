@@ -3,7 +3,6 @@ use Rattle.std.specs.Prelude.{IfOk, OnOk}
 use Rattle.repo_holdings.specs.Taking.{Fetched}
 use Rattle.repo_member.specs.declared.member.outcome.Kept.{Kept}
 use Rattle.repo_member.specs.Alone.{alone_takes}
-use Rattle.repo_member.proofs.OutcomeLemmas.{all_counted, all_octets}
 use Rattle.repo_member.proofs.member.Member.take_outcome.Goals as goal
 
 pub returns-clause-ok : goal.returns-clause-ok
@@ -15,14 +14,10 @@ returns-clause-ok c =
 
 pub returns-clause-parts : goal.returns-clause-parts
 returns-clause-parts c =
-    subst (λ (n : ℕ). IfOk c.take_digested.result (λ (kept : Kept). kept.parts ≡ n))
-    (all_counted c.args.g.now c.args.self.now c.args.jobs.now c.args.parts.now c.args.attempts.now c.requires.outcome
-    c.in_ok-all.all.items c.in_ok-all.ensures.came)
+    subst (λ (n : ℕ). IfOk c.take_digested.result (λ (kept : Kept). kept.parts ≡ n)) c.in_ok-all.ensures.parts
     c.take_digested.ensures.parts
 
 pub returns-clause-octets : goal.returns-clause-octets
 returns-clause-octets c =
-    subst (λ (n : ℕ). IfOk c.take_digested.result (λ (kept : Kept). kept.octets ≡ n))
-    (all_octets c.args.g.now c.args.self.now c.args.jobs.now c.args.parts.now c.args.attempts.now c.requires.outcome
-    c.in_ok-all.all.items c.in_ok-all.ensures.came)
+    subst (λ (n : ℕ). IfOk c.take_digested.result (λ (kept : Kept). kept.octets ≡ n)) c.in_ok-all.ensures.octets
     c.take_digested.ensures.octets
