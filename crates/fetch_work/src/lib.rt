@@ -1,6 +1,7 @@
 //! Workers that fetch the parts of jobs in threads, over a board that shares the jobs out.
 #![tactic(auto)]
 
+mod contents;
 mod laws;
 mod link;
 mod link_trial;
@@ -11,6 +12,7 @@ mod trial;
 mod turns;
 mod worker;
 
+pub use contents::digests;
 pub use laws::phases_are_alike;
 pub use link::{Link, Reply};
 pub use outcome::PhaseOutcome;

@@ -1,5 +1,5 @@
 ghost use Rattle.std.specs.Prelude.{◌≡◌, ◌-◌, ◌<◌, ◌≤◌, ◌^◌, ◌↔◌, [], not, max, length, option_map, find};
-ghost use Rattle.std.specs.Prelude.{Some, true, IfOk, OnOk, OnErr, IsTrue};
+ghost use Rattle.std.specs.Prelude.{Some, true, IfOk, OnOk, OnErr, IsTrue, vec_capacity};
 ghost use Rattle.std.specs.List.{sum_by};
 ghost use Rattle.std.specs.List.Sorted.{IsSearchInRange, IsBinarySearchResult};
 ghost use Rattle.std.specs.Option.{option_copied};
@@ -100,15 +100,17 @@ impl Catalogue {
         true
     }
 
-    /// Adds many entries as `add_reserved` does, in any order, in the room that was made for them. It takes no memory,
-    /// and goes over them and over what stands behind the least of them once.
-    pub fn add_all_reserved(&mut self, fresh: Vec<Entry>)
-        requires room { length fresh.items ≤ self.old.spare }
-        requires apart { AreApart fresh.items }
-        ensures entries { self.new.entries ≡ with_entries fresh.items self.old.entries }
-        ensures spare { self.new.spare ≡ self.old.spare - length fresh.items }
+    /// Adds many entries as `add_reserved` does, in any order, in the room that was made for them. They are moved out of
+    /// `fresh`, which keeps its capacity. It takes no memory, and goes over them and over what stands behind the least of
+    /// them once.
+    pub fn add_all_reserved(&mut self, fresh: &mut Vec<Entry>)
+        requires room { length fresh.old.items ≤ self.old.spare }
+        requires apart { AreApart fresh.old.items }
+        ensures entries { self.new.entries ≡ with_entries fresh.old.items self.old.entries }
+        ensures spare { self.new.spare ≡ self.old.spare - length fresh.old.items }
+        ensures moved { fresh.new.items ≡ [] }
+        ensures capacity { vec_capacity fresh.old ≤ vec_capacity fresh.new }
     {
-        let mut fresh = fresh;
         fresh.sort_unstable_by_key(|entry| (entry.publisher, entry.seq));
         self.spare -= fresh.len();
         merge(&mut self.entries, fresh, &mut self.aside, &mut self.names);

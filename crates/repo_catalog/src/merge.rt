@@ -7,31 +7,32 @@ use crate::entry::Entry;
 use crate::name_index::{NameIndex, key_of};
 use crate::search::place_of;
 
-// Adds entries that are in order. What stands behind the least of them is set aside and put back, so that each entry
-// moves at most twice. Where a publication has an entry, that one stays.
+// Adds entries that are in order, and moves them out of where they stand. What stands behind the least of them is set
+// aside and put back, so that each entry moves at most twice. Where a publication has an entry, that one stays.
 pub(crate) fn merge(
     entries: &mut Vec<Entry>,
-    fresh: Vec<Entry>,
+    fresh: &mut Vec<Entry>,
     aside: &mut Vec<Entry>,
     names: &mut NameIndex,
 )
     requires in_order { IsCatalogue entries.old.items }
-    requires fresh_in_order { IsCatalogue fresh.items }
+    requires fresh_in_order { IsCatalogue fresh.old.items }
     requires none_aside { aside.old.items ≡ [] }
     requires indexed { IsIndexOf entries.old.items names.old.keys }
-    requires room { length entries.old.items + length fresh.items ≤ vec_capacity entries.old }
-    requires room_aside { length entries.old.items + length fresh.items ≤ vec_capacity aside.old }
-    requires room_for_names { length fresh.items ≤ names.old.spare }
-    ensures entries { entries.new.items ≡ with_entries fresh.items entries.old.items }
+    requires room { length entries.old.items + length fresh.old.items ≤ vec_capacity entries.old }
+    requires room_aside { length entries.old.items + length fresh.old.items ≤ vec_capacity aside.old }
+    requires room_for_names { length fresh.old.items ≤ names.old.spare }
+    ensures entries { entries.new.items ≡ with_entries fresh.old.items entries.old.items }
     ensures in_order { IsCatalogue entries.new.items }
+    ensures moved { fresh.new.items ≡ [] }
     ensures none_aside { aside.new.items ≡ [] }
     ensures indexed { IsIndexOf entries.new.items names.new.keys }
-    ensures len { length entries.new.items ≤ length entries.old.items + length fresh.items }
+    ensures len { length entries.new.items ≤ length entries.old.items + length fresh.old.items }
     ensures room { vec_capacity entries.old ≤ vec_capacity entries.new }
     ensures room_aside { vec_capacity aside.old ≤ vec_capacity aside.new }
-    ensures room_for_names { names.old.spare ≤ names.new.spare + length fresh.items }
+    ensures room_fresh { vec_capacity fresh.old ≤ vec_capacity fresh.new }
+    ensures room_for_names { names.old.spare ≤ names.new.spare + length fresh.old.items }
 {
-    let mut fresh = fresh;
     while let Some(entry) = fresh.pop() {
         let pair = (entry.publisher, u32::from(entry.seq));
         if let Err(place) = place_of(entries, pair) {

@@ -1,6 +1,6 @@
 -- The catalogue of stored packets after one publication changed.
 use Rattle.std.proofs.Common.{◌≡◌, ℕ, Bool, true, false, cond, List, [], ◌∷◌, map, refl, sym, ap, ◌∙◌, Option, Some}
-use Rattle.std.proofs.Common.{None, option_map, is_some, unwrap_or, length}
+use Rattle.std.proofs.Common.{None, option_map, is_some, unwrap_or, length, subst}
 use Rattle.std.specs.List.{flat_map, list_all}
 use Rattle.std.specs.Option.{option_and_then}
 use Rattle.std.specs.Ordering.{eq_by_cmp, is_eq}
@@ -15,7 +15,7 @@ use Rattle.sorted_lists.proofs.Sets.{eq_same, rises_with_value, value_of-with_va
 use Rattle.repo_object.specs.Publication.{Listed}
 use Rattle.repo_object.specs.Verdict.{listing_in}
 use Rattle.repo_catalog.specs.declared.entry.Entry.{Entry}
-use Rattle.repo_catalog.specs.Entries.{publication_of, with_entry}
+use Rattle.repo_catalog.specs.Entries.{publication_of, entry_of, with_entry, IsCatalogue}
 use Rattle.repo_holdings.specs.KeptValues.{with_kept, kept_values}
 use Rattle.repo_holdings.specs.Records.{Packet, records_in}
 use Rattle.repo_holdings.specs.Listed.{listing_at, stored_at, listed_shape, shapes_in, packet_content, entry_listed}
@@ -81,7 +81,7 @@ keyed_kept f h (x ∷ es) = go (f x.0 x.1) refl (keyed_kept f h es) where
   go None p k = k
   go (Some e) p k = (h x.0 x.1 e p, k)
 
-none_is_some : (e : Entry) → let n : Option Entry = None in n ≡ Some e → ⊥
+pub none_is_some : (e : Entry) → let n : Option Entry = None in n ≡ Some e → ⊥
 none_is_some e h = cc
 
 entry_keyed : (packets : List Packet) (pair : Pair) (l : Listed) (e : Entry) → entry_listed packets pair l ≡ Some e
@@ -92,6 +92,14 @@ entry_keyed packets pair l e h =
       go true p = let same : entry_of_listing packets pair l ≡ e = cc in ap publication_of (sym same)
       go false p = absurd (none_is_some e p)
 
+-- an entry is of its publication
+pub entry_is_of : (packets : List Packet) (pair : Pair) (e : Entry) → entry_at packets pair ≡ Some e
+    → publication_of e ≡ pair
+entry_is_of packets pair e h = go (listing_at packets pair) h where
+  go : (o : Option Listed) → option_and_then (entry_listed packets pair) o ≡ Some e → publication_of e ≡ pair
+  go None p = absurd (none_is_some e p)
+  go (Some l) p = entry_keyed packets pair l e p
+
 listed_keyed : (packets : List Packet) (pair : Pair) (octets : List ℕ) (e : Entry)
     → listed_entry packets pair octets ≡ Some e → publication_of e ≡ pair
 listed_keyed packets pair octets e h = go (listing_in octets) h where
@@ -101,6 +109,30 @@ listed_keyed packets pair octets e h = go (listing_in octets) h where
 
 pub entries_keyed : (packets : List Packet) → Keyed (entries_in packets)
 entries_keyed packets = keyed_kept (listed_entry packets) (listed_keyed packets) (records_in packets)
+
+find_keyed : (pair : Pair) (es : List (Pair × Entry)) → Keyed es
+    → entry_of pair (map (λ x. x.1) es) ≡ value_of pair_cmp es pair
+find_keyed pair [] k = refl
+find_keyed pair (x ∷ es) k =
+    ap (λ (q : Pair). cond (eq_by_cmp pair_cmp pair q) (Some x.1) (entry_of pair (map (λ y. y.1) es))) k.0
+    ∙ ap (λ (o : Option Entry). cond (eq_by_cmp pair_cmp pair x.0) (Some x.1) o) (find_keyed pair es k.1)
+
+-- the catalogue has the entry of a publication, if that has one
+pub entry_of_alone : (packets : List Packet) (pair : Pair) → Rises part_cmp (keys packets)
+    → entry_of pair (alone_catalogue packets) ≡ entry_at packets pair
+entry_of_alone packets pair r =
+    find_keyed pair (entries_in packets) (entries_keyed packets) ∙ entries_value packets pair r
+
+publications_keyed : (es : List (Pair × Entry)) → Keyed es → map publication_of (map (λ x. x.1) es) ≡ keys es
+publications_keyed [] k = refl
+publications_keyed (x ∷ es) k =
+    ap (λ (q : Pair). q ∷ map publication_of (map (λ y. y.1) es)) k.0
+    ∙ ap (λ (rest : List Pair). x.0 ∷ rest) (publications_keyed es k.1)
+
+pub alone_in_order : (packets : List Packet) → Rises part_cmp (keys packets) → IsCatalogue (alone_catalogue packets)
+alone_in_order packets r =
+    subst (Rises pair_cmp) (sym (publications_keyed (entries_in packets) (entries_keyed packets)))
+    (entries_rise packets r)
 
 -- a new entry goes to its place
 with_entry-map : (e : Entry) (es : List (Pair × Entry)) → Keyed es → value_of pair_cmp es (publication_of e) ≡ None
@@ -190,18 +222,12 @@ module _ (old new : List Packet) (pair : Pair) (old_order : Rises part_cmp (keys
             ∙ sym (value_of-with_value exact_pairs pair e (entries_in old) q
             ∙ ap (λ (b : Bool). cond b (Some e) (value_of pair_cmp (entries_in old) q)) p)
 
-  entry_pair : (e : Entry) → entry_at new pair ≡ Some e → publication_of e ≡ pair
-  entry_pair e h = go (listing_at new pair) h where
-    go : (o : Option Listed) → option_and_then (entry_listed new pair) o ≡ Some e → publication_of e ≡ pair
-    go None p = absurd (none_is_some e p)
-    go (Some l) p = entry_keyed new pair l e p
-
   pub relisted : alone_catalogue new ≡ with_listed (entry_at new pair) (alone_catalogue old)
   relisted = go (entry_at new pair) refl where
     go : (o : Option Entry) → entry_at new pair ≡ o → alone_catalogue new ≡ with_listed o (alone_catalogue old)
     go None p = ap (map (λ x. x.1)) (none_more p)
     go (Some e) p =
-        let is = entry_pair e p in
+        let is = entry_is_of new pair e p in
         let absent : value_of pair_cmp (entries_in old) (publication_of e) ≡ None =
         ap (value_of pair_cmp (entries_in old)) is ∙ entries_value old pair old_order ∙ before in
         ap (map (λ x. x.1)) (one_more e p ∙ ap (λ (k : Pair). with_value pair_cmp k e (entries_in old)) (sym is))

@@ -1,24 +1,25 @@
 -- A publication that is hidden: what is stored, what the plan holds, and what is listed.
-use Rattle.std.proofs.Common.{◌≡◌, ℕ, Bool, true, false, cond, not, List, [], ◌∷◌, map, refl, sym, ap, ◌∙◌, Option}
-use Rattle.std.proofs.Common.{None, option_map}
+use Rattle.std.proofs.Common.{◌≡◌, ℕ, ◌+◌, ◌≤◌, Bool, true, false, cond, not, List, [], ◌∷◌, map, length, refl, sym, ap}
+use Rattle.std.proofs.Common.{◌∙◌, Option, None, option_map, arith}
 use Rattle.std.specs.Prelude.{filter}
 use Rattle.std.specs.Option.{option_and_then}
 use Rattle.std.specs.Ordering.{eq_by_cmp}
 use Rattle.repo_plan.specs.declared.part.Part.{Part}
-use Rattle.sorted_lists.specs.SortedList.{keys, Rises, value_of}
+use Rattle.sorted_lists.specs.SortedList.{keys, Rises, contains, value_of}
 use Rattle.repo_plan.specs.Parts.{Pair, Shape, pair_cmp, part_cmp, part_of}
 use Rattle.repo_plan.specs.Plan.{PlanState, is_in, hides_too, uses_room}
 use Rattle.repo_plan.proofs.Orders.{exact_pairs, exact_parts}
 use Rattle.sorted_lists.proofs.Sets.{eq_same, eq_itself, keys-filter, rises_keys_filter, value_of-filter}
 use Rattle.repo_object.specs.Verdict.{listing_in}
-use Rattle.repo_store.specs.StoreList.{packets_outside}
+use Rattle.repo_store.specs.StoreList.{packets_outside, is_in_any, packets_outside_all}
 use Rattle.repo_catalog.specs.declared.entry.Entry.{Entry}
-use Rattle.repo_catalog.specs.Entries.{without}
+use Rattle.repo_catalog.specs.Entries.{publication_of, is_of, without, without_all}
 use Rattle.repo_holdings.specs.Records.{Packet}
 use Rattle.repo_holdings.specs.Listed.{stored_at, listing_at, listed_shape, shapes_in, entry_at, entry_listed}
 use Rattle.repo_holdings.specs.Listed.{entries_in}
 use Rattle.repo_holdings.specs.Listed.{alone_catalogue}
 use Rattle.repo_holdings.specs.Gaining.{AreTied, AreKept}
+use Rattle.repo_holdings.specs.Hiding.{outside_all, plan_hides, IsHiding}
 use Rattle.repo_holdings.proofs.SortedMaps.{same_map}
 use Rattle.repo_holdings.proofs.CatalogueLemmas.{shapes_value, shapes_rise, entries_value, entries_rise, Keyed}
 use Rattle.repo_holdings.proofs.CatalogueLemmas.{entries_keyed, same_entry}
@@ -131,10 +132,89 @@ tied_hides pair plan packets tied = record {
       ∙ shapes_outside pair packets tied.in_order;
 }
 
-pub kept_hides : (pair : Pair) (plan : PlanState) (packets : List Packet) (entries : List Entry)
+-- ---- many publications
+
+-- whichever way round it is asked
+either_way : (a b : Pair) → eq_by_cmp pair_cmp a b ≡ eq_by_cmp pair_cmp b a
+either_way a b = go (eq_by_cmp pair_cmp a b) refl where
+  go : (c : Bool) → eq_by_cmp pair_cmp a b ≡ c → c ≡ eq_by_cmp pair_cmp b a
+  go true p =
+      let same : a ≡ b = eq_same exact_pairs a b p in
+      sym (ap (eq_by_cmp pair_cmp b) same ∙ eq_itself exact_pairs b)
+  go false p = sym (other_way a b p)
+
+packets_more : (pair : Pair) (pairs : List Pair) (packets : List Packet)
+    → packets_outside_all (pair ∷ pairs) packets ≡ packets_outside_all pairs (packets_outside pair packets)
+packets_more pair pairs [] = refl
+packets_more pair pairs (e ∷ es) =
+    go (is_in pair e.0) refl (is_in_any pairs e.0) refl (packets_more pair pairs es) where
+      go : (b : Bool) → is_in pair e.0 ≡ b → (c : Bool) → is_in_any pairs e.0 ≡ c
+          → packets_outside_all (pair ∷ pairs) es ≡ packets_outside_all pairs (packets_outside pair es)
+          → packets_outside_all (pair ∷ pairs) (e ∷ es) ≡ packets_outside_all pairs (packets_outside pair (e ∷ es))
+      go true a c d h = rw a h
+      go false a true d h = rw (a, d) h
+      go false a false d h = rw (a, d) (ap (λ (rest : List Packet). e ∷ rest) h)
+
+packets_all : (packets : List Packet) → packets_outside_all [] packets ≡ packets
+packets_all [] = refl
+packets_all (e ∷ es) = ap (λ (rest : List Packet). e ∷ rest) (packets_all es)
+
+-- what is left after one publication after another is what is left after all at once
+pub outside_at_once : (pairs : List Pair) (packets : List Packet)
+    → outside_all pairs packets ≡ packets_outside_all pairs packets
+outside_at_once [] packets = sym (packets_all packets)
+outside_at_once (pair ∷ pairs) packets =
+    outside_at_once pairs (packets_outside pair packets) ∙ sym (packets_more pair pairs packets)
+
+entries_more : (pair : Pair) (pairs : List Pair) (entries : List Entry)
+    → without_all (pair ∷ pairs) entries ≡ without_all pairs (without pair entries)
+entries_more pair pairs [] = refl
+entries_more pair pairs (e ∷ es) =
+    go (is_of pair e) refl (contains pair_cmp pairs (publication_of e)) refl (entries_more pair pairs es) where
+      go : (b : Bool) → is_of pair e ≡ b → (c : Bool) → contains pair_cmp pairs (publication_of e) ≡ c
+          → without_all (pair ∷ pairs) es ≡ without_all pairs (without pair es)
+          → without_all (pair ∷ pairs) (e ∷ es) ≡ without_all pairs (without pair (e ∷ es))
+      go true a c d h = rw (either_way (publication_of e) pair, a) h
+      go false a true d h = rw (either_way (publication_of e) pair, a, d) h
+      go false a false d h =
+          rw (either_way (publication_of e) pair, a, d) (ap (λ (rest : List Entry). e ∷ rest) h)
+
+entries_all : (entries : List Entry) → without_all [] entries ≡ entries
+entries_all [] = refl
+entries_all (e ∷ es) = ap (λ (rest : List Entry). e ∷ rest) (entries_all es)
+
+catalogue_outside_all : (pairs : List Pair) (packets : List Packet) → Rises part_cmp (keys packets)
+    → without_all pairs (alone_catalogue packets) ≡ alone_catalogue (outside_all pairs packets)
+catalogue_outside_all [] packets r = entries_all (alone_catalogue packets)
+catalogue_outside_all (pair ∷ pairs) packets r =
+    entries_more pair pairs (alone_catalogue packets)
+    ∙ ap (without_all pairs) (catalogue_outside pair packets r)
+    ∙ catalogue_outside_all pairs (packets_outside pair packets) (rises_outside pair packets r)
+
+tied_hides_all : (pairs : List Pair) (plan : PlanState) (packets : List Packet) → AreTied plan packets
+    → AreTied (plan_hides pairs plan) (outside_all pairs packets)
+tied_hides_all [] plan packets tied = tied
+tied_hides_all (pair ∷ pairs) plan packets tied =
+    tied_hides_all pairs (uses_room (hides_too pair plan)) (packets_outside pair packets)
+    (tied_hides pair plan packets tied)
+
+pub kept_hides_all : (pairs : List Pair) (plan : PlanState) (packets : List Packet) (entries : List Entry)
     → AreKept plan packets entries
-    → AreKept (uses_room (hides_too pair plan)) (packets_outside pair packets) (without pair entries)
-kept_hides pair plan packets entries kept = record {
-  tied = tied_hides pair plan packets kept.tied;
-  listed = ap (without pair) kept.listed ∙ catalogue_outside pair packets kept.tied.in_order;
+    → AreKept (plan_hides pairs plan) (outside_all pairs packets) (without_all pairs entries)
+kept_hides_all pairs plan packets entries kept = record {
+  tied = tied_hides_all pairs plan packets kept.tied;
+  listed = ap (without_all pairs) kept.listed ∙ catalogue_outside_all pairs packets kept.tied.in_order;
 }
+
+pub all_hidden : (pairs : List Pair) (plan : PlanState) → IsHiding pairs plan (plan_hides pairs plan)
+all_hidden [] plan = record { known = refl; claims = refl; hidden = refl; attempts = refl }
+all_hidden (pair ∷ pairs) plan =
+    let h = all_hidden pairs (uses_room (hides_too pair plan)) in
+    record { known = h.known; claims = h.claims; hidden = h.hidden; attempts = h.attempts }
+
+-- how much room it takes
+pub room_hidden : (pairs : List Pair) (plan : PlanState) → length pairs ≤ plan.spare
+    → (plan_hides pairs plan).spare + length pairs ≡ plan.spare
+room_hidden [] plan room = omega arith
+room_hidden (pair ∷ pairs) plan room =
+    let h = room_hidden pairs (uses_room (hides_too pair plan)) (omega (arith, room)) in omega (arith, h, room)

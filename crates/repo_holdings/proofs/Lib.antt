@@ -6,6 +6,8 @@ pub mod HidingLemmas
 mod ContentLemmas
 pub mod AskedLemmas
 pub mod WholeLemmas
+pub mod FreshLemmas
+mod ArrivedLemmas
 pub mod HoldingsLemmas
 mod PlanLemmas
 pub mod PublishLemmas

@@ -26,15 +26,13 @@ use Rattle.repo_plan.specs.Parts.{Pair, Shape, pair_cmp, part_cmp, pair_of, part
 use Rattle.repo_plan.specs.Plan.{PlanState, holds, knows, is_asked, is_claimed, can_be_asked, shape_of, attempts_of}
 use Rattle.repo_plan.proofs.Orders.{exact_parts}
 use Rattle.sorted_lists.proofs.Sets.{eq_same, eq_itself, value_of-with_value}
-use Rattle.repo_store.specs.StoreList.{StoreList}
-use Rattle.repo_catalog.specs.Entries.{EntryList}
 use Rattle.repo_object.specs.Publication.{Listed}
 use Rattle.repo_object.specs.Verdict.{listing_in}
 use Rattle.repo_holdings.specs.Records.{Packet}
 use Rattle.repo_holdings.specs.Listed.{listing_at, stored_at, listed_shape}
-use Rattle.repo_holdings.specs.Gaining.{AreTied, IsArrival, HaveRoom}
+use Rattle.repo_holdings.specs.Gaining.{AreTied, IsArrival}
 use Rattle.repo_holdings.specs.declared.holdings.gaining.Arrival.{Arrival}
-use Rattle.repo_holdings.specs.declared.holdings.gaining.Tried.{Tried}
+use Rattle.repo_holdings.specs.declared.holdings.taking.Tried.{Tried}
 use Rattle.repo_holdings.specs.declared.holdings.Holdings.TheInside.{Inside}
 use Rattle.repo_holdings.specs.HoldingsState.{HoldingsState, held_plan}
 use Rattle.repo_holdings.specs.HoldingsFields.{state, IsHoldings}
@@ -43,15 +41,6 @@ use Rattle.repo_holdings.specs.Taking.{CanBeTaken, AreTakable, KeepsButTries}
 use Rattle.repo_holdings.proofs.GainingLemmas.{absent, held_value, shape_told, put_elsewhere}
 use Rattle.repo_holdings.proofs.AskedLemmas.{asked_segment}
 use Rattle.repo_holdings.proofs.HoldingsLemmas.{plan_is}
-
--- room for fewer
-pub less_room : (plan : PlanState) (store : StoreList) (catalogue : EntryList) (n k : ℕ)
-    → HaveRoom n plan store catalogue → k ≤ n → HaveRoom k plan store catalogue
-less_room plan store catalogue n k room less = record {
-  for_plan = omega (arith, room.for_plan, less);
-  for_store = omega (arith, room.for_store, less);
-  for_catalogue = omega (arith, room.for_catalogue, less);
-}
 
 -- ---- one part is taken: what stays
 

@@ -15,6 +15,7 @@ pub use Rattle.repo_catalog.specs.Entries
 pub mod KeptValues
 pub mod Records
 pub mod Listed
+pub mod Contents
 pub mod HoldingsState
 pub mod Gaining
 pub mod HoldingsFields
@@ -23,3 +24,4 @@ pub mod Taking
 pub mod NewPublications
 pub mod Hiding
 pub mod Wanting
+pub mod WholeContents

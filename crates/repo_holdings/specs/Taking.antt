@@ -7,10 +7,13 @@ use Rattle.repo_plan.specs.Parts.{part_cmp, pair_of}
 use Rattle.sorted_lists.specs.SortedList.{contains, value_of, with_value}
 use Rattle.repo_plan.specs.Plan.{PlanState, holds, hides, is_asked, is_claimed, attempts_of}
 use Rattle.repo_store.specs.StoreList.{with_packet}
+use Rattle.repo_catalog.specs.declared.entry.Entry.{Entry}
+use Rattle.repo_catalog.specs.Entries.{with_entries, AreApart, IsCatalogue}
 use Rattle.repo_holdings.specs.Records.{Packet}
+use Rattle.repo_holdings.specs.Listed.{alone_catalogue}
 use Rattle.repo_holdings.specs.Gaining.{KeepsOthers, IsArrival}
 use Rattle.repo_holdings.specs.HoldingsState.{HoldingsState}
-use Rattle.repo_holdings.specs.declared.holdings.gaining.Tried.{Tried}
+use Rattle.repo_holdings.specs.declared.holdings.taking.Tried.{Tried}
 
 -- what came of a part that was asked for: its packet, if one came, and how often it was tried
 pub record Fetched : Type 0 where
@@ -77,3 +80,11 @@ takes_too xs h = record h {
 -- a plan in which nothing changed but what is held and how often parts were tried
 abbrev pub KeepsButTries : PlanState → PlanState → Type 0
 KeepsButTries old new = KeepsOthers old (record new { attempts = old.attempts })
+
+-- ---- entries that wait
+
+-- entries that wait are, put among the others, those of what is stored wholly, and no publication has two that wait
+pub record AreListedWith (fresh entries : List Entry) (packets : List Packet) : Type 0 where
+  pub listed : with_entries fresh entries ≡ alone_catalogue packets
+  pub apart : AreApart fresh
+  pub in_order : IsCatalogue entries

@@ -13,16 +13,20 @@ mod gaining;
 mod hiding;
 mod publishing;
 mod stored_record;
+mod taking;
 mod wanting;
+mod whole;
 
-pub use gaining::{Arrival, Taken, Tried};
+pub use gaining::Arrival;
 use ndn_name::PacketFault;
-use repo_catalog::Catalogue;
+use repo_catalog::{Catalogue, Entry};
 use repo_plan::{Part, Plan};
 use repo_store::Store;
 use std::alloc::{AllocError, Global};
 use std::marker::Model;
 pub use stored_record::StoredRecord;
+pub use taking::{Taken, Tried};
+pub use whole::Whole;
 
 /// What is held of publications: which parts are known, held, wanted, claimed and hidden, their packets, and the
 /// catalogue of the publications of which no part is missing.
@@ -34,6 +38,8 @@ pub struct Holdings {
     plan: Plan,
     store: Store,
     catalogue: Catalogue,
+    // Empty. The entries of what becomes whole wait here while packets are taken.
+    fresh: Vec<Entry>,
     // There is room for so many more parts, each of which may be held and be tried, and for as many entries.
     spare: usize,
 }
@@ -59,6 +65,7 @@ impl Holdings {
             plan: Plan::new(alloc, publishers)?,
             store: Store::new(alloc),
             catalogue: Catalogue::new(alloc),
+            fresh: Vec::new(alloc),
             spare: 0,
         })
     }
@@ -69,6 +76,7 @@ impl Holdings {
         ensures err { OnErr result (self.new ≡ self.old) }
     {
         make_room(&mut self.plan, &mut self.store, &mut self.catalogue, n)?;
+        self.fresh.reserve(n)?;
         self.spare = self.spare.max(n);
         Ok(())
     }

@@ -2,7 +2,9 @@
 //! and the catalogue of the publications that are stored wholly, under one invariant.
 #![tactic(auto)]
 
+mod contents;
 mod holdings;
 mod listing;
 
-pub use holdings::{Arrival, Holdings, StoredRecord, Taken, Tried};
+pub use contents::ContentsDigest;
+pub use holdings::{Arrival, Holdings, StoredRecord, Taken, Tried, Whole};

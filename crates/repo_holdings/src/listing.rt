@@ -1,17 +1,17 @@
-// What stored packets list, and the entries of publications that are stored wholly.
-ghost use Rattle.std.specs.Prelude.{◌≡◌, ◌+◌, ◌-◌, ◌<◌, ◌≤◌, Some, option_map, IfOk, length};
-ghost use Rattle.sha2.specs.Sha256.{sha256};
+// The entries of publications that are stored wholly.
+ghost use Rattle.std.specs.Prelude.{◌≡◌, ◌-◌, ◌<◌, ◌≤◌, Some, option_map, IfOk, length};
+ghost use Rattle.std.specs.List.{All};
 ghost use Rattle.ndn_name.specs.Names.{encoding};
 ghost use Rattle.repo_object.specs.Limits.{object_name_limit};
-ghost use Rattle.repo_holdings.specs.Listed.{listing_at, entry_at, packet_content, contents_joined};
+ghost use Rattle.repo_holdings.specs.Listed.{listing_at, entry_at};
+ghost use Rattle.repo_holdings.specs.Contents.{IsDigestIn};
 ghost use Rattle.repo_holdings.specs.Gaining.{AreTied, with_listed};
 
-use ndn_data::DataView;
+use crate::contents::{ContentsDigest, told_or_taken};
 use ndn_name::{Name, NameFault, NameView};
 use repo_catalog::{Catalogue, Entry};
-use repo_plan::{Part, Plan};
+use repo_plan::Plan;
 use repo_store::Store;
-use sha2::{Digest, Sha256};
 use std::alloc::{AllocError, Global};
 
 // A name with octets of its own.
@@ -24,6 +24,36 @@ pub(crate) fn owned_name(alloc: Global, view: &NameView<'_>) -> Result<Name, All
         Err(NameFault::NameTooLong) => unreachable!(),
         Err(_) => Err(AllocError),
     }
+}
+
+// The entry of a publication under its object's name, where its record and every segment are stored. Digests over
+// contents that are told aren't taken again.
+pub(crate) fn entry_if_whole(
+    plan: &Plan,
+    store: &Store,
+    publisher: u32,
+    seq: u16,
+    name: Name,
+    digests: &[ContentsDigest],
+) -> Option<Entry>
+    requires tied { AreTied plan.now store.now.packets }
+    requires named { option_map (λ l. l.name) (listing_at store.now.packets (publisher, seq)) ≡ Some name }
+    requires digests { All (IsDigestIn store.now.packets) digests.now }
+    ensures { result ≡ entry_at store.now.packets (publisher, seq) }
+{
+    if !plan.complete(publisher, seq) {
+        return None;
+    }
+    let segments = plan.segments(publisher, seq).unwrap_or(0);
+    let (octets, digest) = told_or_taken(store, publisher, seq, segments, digests);
+    Some(Entry {
+        publisher,
+        seq,
+        name,
+        segments: u32::from(segments),
+        octets,
+        digest,
+    })
 }
 
 // Catalogues a publication under its object's name, where its record and every segment are stored. There is room for
@@ -43,47 +73,7 @@ pub(crate) fn list_if_whole(
         ≡ with_listed (entry_at store.now.packets (publisher, seq)) catalogue.old.entries }
     ensures room { catalogue.old.spare - 1 ≤ catalogue.new.spare }
 {
-    if plan.complete(publisher, seq) {
-        let segments = plan.segments(publisher, seq).unwrap_or(0);
-        let (octets, digest) = contents_digest(store, publisher, seq, segments);
-        catalogue.add_reserved(Entry {
-            publisher,
-            seq,
-            name,
-            segments: u32::from(segments),
-            octets,
-            digest,
-        });
-    }
-}
-
-// How many octets the contents of a publication's first so many segments have together, and their digest.
-fn contents_digest(store: &Store, publisher: u32, seq: u16, segments: u8) -> (u64, [u8; 32])
-    ensures octets { result.0 ≡ length (contents_joined store.now.packets (publisher, seq) segments) }
-    ensures digest { result.1 ≡ sha256 (contents_joined store.now.packets (publisher, seq) segments) }
-{
-    let mut octets = 0;
-    let mut digest = Sha256::new();
-    for x in 0..segments {
-        let part = Part {
-            publisher,
-            seq,
-            part: x + 1,
-        };
-        let content = content_of(store.get(part).unwrap_or(&[]));
-        octets += content.len() as u64;
-        digest.update(content);
-    }
-    (octets, digest.finalize())
-}
-
-// The content of a packet.
-fn content_of(packet: &[u8]) -> &[u8]
-    ensures exact { result.now ≡ packet_content packet.now }
-    ensures short { length result.now ≤ 8800 }
-{
-    match DataView::read(packet) {
-        Ok(data) => data.content,
-        Err(_) => &[],
+    if let Some(entry) = entry_if_whole(plan, store, publisher, seq, name, &[]) {
+        catalogue.add_reserved(entry);
     }
 }

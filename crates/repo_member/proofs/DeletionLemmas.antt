@@ -5,14 +5,14 @@ use Rattle.ndn_name.specs.Names.{Component}
 use Rattle.repo_plan.specs.declared.part.Part.{Part}
 use Rattle.sorted_lists.specs.SortedList.{insert_key}
 use Rattle.repo_plan.specs.Parts.{Pair, pair_cmp}
-use Rattle.repo_catalog.specs.Entries.{publication_of, entry_has_name}
+use Rattle.repo_catalog.specs.Entries.{publication_of, entry_has_name, all_named}
 use Rattle.group_model.specs.Publications.{Logs, Publication, pair_in, published_entry}
 use Rattle.group_model.specs.Commands.{is_equal_name}
 use Rattle.group_model.specs.Member.{Member, catalogued, catalogued_under, member_hides_all}
 use Rattle.repo_member.specs.Groups.{GroupKeys}
 use Rattle.repo_member.specs.Alone.{Alone}
 use Rattle.repo_member.specs.Deleting as alone
-use Rattle.repo_member.specs.Deleting.{publications_named, alone_hides}
+use Rattle.repo_member.specs.Deleting.{alone_hides}
 use Rattle.repo_member.specs.InGroup.{in_group, AreLogs, StoresTruly, DeletesAlike}
 use Rattle.repo_holdings.proofs.HidingLemmas.{keys_outside}
 use Rattle.repo_member.proofs.HiddenParts.{hidden_one}
@@ -28,11 +28,11 @@ hides_alike (p ∷ ps) a =
     ∙ ap (λ (held : List Part). member_hides_all ps (shown held)) (keys_outside (pair_in p) a.store)
 
 named_entries : (name : List Component) (ps : List Publication)
-    → publications_named name (map published_entry ps) ≡ map pair_in (filter (λ p. is_equal_name p.object.name name) ps)
+    → all_named name (map published_entry ps) ≡ map pair_in (filter (λ p. is_equal_name p.object.name name) ps)
 named_entries name [] = refl
 named_entries name (p ∷ ps) = go (is_equal_name p.object.name name) (named_entries name ps) where
   go : (b : Bool)
-      → publications_named name (map published_entry ps)
+      → all_named name (map published_entry ps)
       ≡ map pair_in (filter (λ q. is_equal_name q.object.name name) ps)
       → map publication_of
       (cond b (published_entry p ∷ filter (entry_has_name name) (map published_entry ps))
@@ -47,7 +47,7 @@ pub named_alike : (g : GroupKeys) (logs : Logs) (name : List Component) (a : Alo
     → StoresTruly g logs a
     → alone.catalogued_named name a ≡ map pair_in (catalogued_under logs (in_group a) name)
 named_alike g logs name a are truly =
-    ap (publications_named name) (lists_alike g logs a are truly) ∙ named_entries name (catalogued logs (in_group a))
+    ap (all_named name) (lists_alike g logs a are truly) ∙ named_entries name (catalogued logs (in_group a))
 
 pub deletes_alike : DeletesAlike
 deletes_alike g logs name a are truly =

@@ -11,7 +11,7 @@ use Rattle.std.specs.Ordering.{eq_by_cmp, is_eq}
 use Rattle.std.specs.declared.cmp.Ordering.TheVariants.{Less}
 use Rattle.ndn_name.specs.Names.{Component}
 use Rattle.repo_plan.specs.declared.part.Part.{Part}
-use Rattle.sorted_lists.specs.SortedList.{keys, Rises, contains}
+use Rattle.sorted_lists.specs.SortedList.{keys, IsBefore, Rises, contains}
 use Rattle.sorted_lists.specs.Range.{numbers_from}
 use Rattle.repo_plan.specs.Parts.{Pair, pair_cmp, part_cmp, pair_of, part_of, parts_of}
 use Rattle.repo_plan.specs.Plan.{PlanState, holds, knows, is_in, is_asked, can_be_asked, shape_of, is_claim_in}
@@ -19,7 +19,7 @@ use Rattle.repo_plan.specs.Plan.{claims_part_in, opening}
 use Rattle.repo_plan.specs.Sound.{PlanIsSound}
 use Rattle.repo_plan.proofs.Orders.{exact_pairs, exact_parts}
 use Rattle.sorted_lists.proofs.Sets.{In, eq_same, eq_itself, keys-filter, rises_filter, in_filter, contains_in}
-use Rattle.sorted_lists.proofs.Sets.{in_contains, from_map, in_map, each_before}
+use Rattle.sorted_lists.proofs.Sets.{in_contains, from_map, each_before}
 use Rattle.repo_plan.proofs.Known.{in_numbers, rises_numbers, from_parts_of, in_parts_of}
 use Rattle.repo_plan.proofs.Changes.{wanted_parts}
 use Rattle.repo_object.specs.Publication.{Listed}
@@ -28,14 +28,13 @@ use Rattle.repo_store.specs.StoreList.{packets_in, packets_outside}
 use Rattle.repo_store.proofs.StoreLemmas.{lengths_inside}
 use Rattle.repo_process.proofs.ProcessLemmas.{length-numbers}
 use Rattle.repo_catalog.specs.declared.entry.Entry.{Entry}
-use Rattle.repo_catalog.specs.Entries.{publication_of, entry_has_name, IsCatalogue}
+use Rattle.repo_catalog.specs.Entries.{publication_of, entry_has_name, all_named, IsCatalogue}
 use Rattle.group_model.proofs.Lists.{from_filter, each_all, in_at}
 use Rattle.group_model.proofs.SortedSets.{same_set}
 use Rattle.repo_holdings.specs.Records.{Packet}
 use Rattle.repo_holdings.specs.Listed.{stored_at, listing_at, listed_shape, are_stored, entry_at, entry_listed}
 use Rattle.repo_holdings.specs.Listed.{entry_of_listing, entries_in, alone_catalogue}
 use Rattle.repo_holdings.specs.Gaining.{AreTied}
-use Rattle.repo_member.specs.Deleting.{publications_named}
 use Rattle.repo_holdings.specs.Hiding.{outside_all}
 use Rattle.repo_holdings.proofs.CatalogueLemmas.{entries_value, entries_rise, Keyed, entries_keyed}
 use Rattle.repo_holdings.proofs.GainingLemmas.{contains-value, held_value}
@@ -91,17 +90,21 @@ keyed_at [] x k i = absurd i
 keyed_at (y ∷ es) x k (inl same) = subst (λ (z : Pair × Entry). publication_of z.1 ≡ z.0) (sym same) k.0
 keyed_at (y ∷ es) x k (inr i) = keyed_at es x k.1 i
 
-pub entry_listed_whole : (packets : List Packet) (e : Entry) → Rises part_cmp (keys packets)
-    → In e (alone_catalogue packets) → IsWhole packets (publication_of e) e.segments
-entry_listed_whole packets e r i =
+-- an entry of the catalogue is that of its publication
+entry_of_listed : (packets : List Packet) (e : Entry) → Rises part_cmp (keys packets) → In e (alone_catalogue packets)
+    → entry_at packets (publication_of e) ≡ Some e
+entry_of_listed packets e r i =
     let x : (x : Pair × Entry) × (In x (entries_in packets)) × (e ≡ x.1) =
     from_map (λ (y : Pair × Entry). y.1) (entries_in packets) e i in
     let key : publication_of x.0.1 ≡ x.0.0 = keyed_at (entries_in packets) x.0 (entries_keyed packets) x.1 in
     let value : entry_at packets x.0.0 ≡ Some x.0.1 =
     sym (entries_value packets x.0.0 r) ∙ value_in exact_pairs (entries_in packets) x.0 (entries_rise packets r) x.1 in
     let pair : x.0.0 ≡ publication_of e = sym key ∙ ap publication_of (sym x.2) in
-    whole_of_entry packets (publication_of e) e
-    (ap (entry_at packets) (sym pair) ∙ value ∙ ap (λ (y : Entry). Some y) (sym x.2))
+    ap (entry_at packets) (sym pair) ∙ value ∙ ap (λ (y : Entry). Some y) (sym x.2)
+
+pub entry_listed_whole : (packets : List Packet) (e : Entry) → Rises part_cmp (keys packets)
+    → In e (alone_catalogue packets) → IsWhole packets (publication_of e) e.segments
+entry_listed_whole packets e r i = whole_of_entry packets (publication_of e) e (entry_of_listed packets e r i)
 
 -- ---- such a publication in a sound plan
 
@@ -217,47 +220,46 @@ inside_all pair (k ∷ pairs) packets others =
     inside_all pair pairs (packets_outside k packets) (λ q i. others q (inr i))
     ∙ inside_outside pair k packets (others k (inl refl))
 
--- ---- the entries of a name
+-- ---- the publications of a name
 
-pub named_append : (name : List Component) (es : List Entry) (e : Entry)
-    → publications_named name (es ++ e ∷ [])
-    ≡ publications_named name es ++ cond (entry_has_name name e) (publication_of e ∷ []) []
-named_append name [] e = go (entry_has_name name e) where
-  go : (b : Bool) → map publication_of (cond b (e ∷ []) []) ≡ cond b (publication_of e ∷ []) []
-  go true = refl
-  go false = refl
-named_append name (x ∷ es) e = go (entry_has_name name x) (named_append name es e) where
-  go : (b : Bool)
-      → publications_named name (es ++ e ∷ [])
-      ≡ publications_named name es ++ cond (entry_has_name name e) (publication_of e ∷ []) []
-      → map publication_of
-      (cond b (x ∷ filter (entry_has_name name) (es ++ e ∷ [])) (filter (entry_has_name name) (es ++ e ∷ [])))
-      ≡ map publication_of (cond b (x ∷ filter (entry_has_name name) es) (filter (entry_has_name name) es))
-      ++ cond (entry_has_name name e) (publication_of e ∷ []) []
-  go true h = ap (λ (rest : List Pair). publication_of x ∷ rest) h
+before_named : (name : List Component) (k : Pair) (es : List Entry) → IsBefore pair_cmp k (map publication_of es)
+    → IsBefore pair_cmp k (all_named name es)
+before_named name k [] b = tt
+before_named name k (e ∷ es) b = go (entry_has_name name e) (before_named name k es b.1) where
+  go : (c : Bool) → IsBefore pair_cmp k (all_named name es)
+      → IsBefore pair_cmp k
+      (map publication_of (cond c (e ∷ filter (entry_has_name name) es) (filter (entry_has_name name) es)))
+  go true h = (b.0, h)
   go false h = h
 
--- each entry before one in the catalogue is of another publication
-entries_before : (es : List Entry) (i : ℕ) (d e : Entry) → IsCatalogue es → i < length es → In e (take i es)
-    → pair_cmp (publication_of e) (publication_of (get_or es i d)) ≡ Less
-entries_before [] i d e r l j = absurd (omega (arith, l))
-entries_before (x ∷ es) zero d e r l j = absurd j
-entries_before (x ∷ es) (suc i) d e r l (inl same) =
-    ap (λ (y : Entry). pair_cmp (publication_of y) (publication_of (get_or es i d))) same
-    ∙ each_before exact_pairs.total (publication_of x) (map publication_of es) r.0 (publication_of (get_or es i d))
-    (in_map publication_of es (get_or es i d) (in_at es i d (omega (arith, l))))
-entries_before (x ∷ es) (suc i) d e r l (inr j) = entries_before es i d e r.1 (omega (arith, l)) j
+-- they are in order, as the entries are
+pub named_rises : (name : List Component) (es : List Entry) → IsCatalogue es → Rises pair_cmp (all_named name es)
+named_rises name [] r = tt
+named_rises name (e ∷ es) r = go (entry_has_name name e) (named_rises name es r.1) where
+  go : (c : Bool) → Rises pair_cmp (all_named name es)
+      → Rises pair_cmp
+      (map publication_of (cond c (e ∷ filter (entry_has_name name) es) (filter (entry_has_name name) es)))
+  go true h = (before_named name (publication_of e) es r.0, h)
+  go false h = h
 
-pub others_before : (name : List Component) (es : List Entry) (i : ℕ) (d : Entry) → IsCatalogue es → i < length es
-    → (q : Pair) → In q (publications_named name (take i es))
-    → eq_by_cmp pair_cmp q (publication_of (get_or es i d)) ≡ false
-others_before name es i d r l q j =
-    let x : (e : Entry) × (In e (filter (entry_has_name name) (take i es))) × (q ≡ publication_of e) =
-    from_map publication_of (filter (entry_has_name name) (take i es)) q j in
-    let there = from_filter (entry_has_name name) (take i es) x.0 x.1 in
-    let less : pair_cmp (publication_of x.0) (publication_of (get_or es i d)) ≡ Less =
-    entries_before es i d x.0 r l there.0 in
-    ap (λ (k : Pair). eq_by_cmp pair_cmp k (publication_of (get_or es i d))) x.2 ∙ ap is_eq less
+-- each has its entry
+pub named_entry : (packets : List Packet) (name : List Component) (pair : Pair) → Rises part_cmp (keys packets)
+    → In pair (all_named name (alone_catalogue packets)) → is_some (entry_at packets pair) ≡ true
+named_entry packets name pair r i =
+    let e : (e : Entry) × (In e (filter (entry_has_name name) (alone_catalogue packets))) × (pair ≡ publication_of e) =
+    from_map publication_of (filter (entry_has_name name) (alone_catalogue packets)) pair i in
+    let there = from_filter (entry_has_name name) (alone_catalogue packets) e.0 e.1 in
+    ap (λ (q : Pair). is_some (entry_at packets q)) e.2 ∙ ap is_some (entry_of_listed packets e.0 r there.0)
+
+-- each that stands before another is another
+each_earlier : (ps : List Pair) (i : ℕ) (d q : Pair) → Rises pair_cmp ps → i < length ps → In q (take i ps)
+    → pair_cmp q (get_or ps i d) ≡ Less
+each_earlier [] i d q r l j = absurd (omega (arith, l))
+each_earlier (p ∷ ps) zero d q r l j = absurd j
+each_earlier (p ∷ ps) (suc i) d q r l (inl same) =
+    ap (λ (k : Pair). pair_cmp k (get_or ps i d)) same
+    ∙ each_before exact_pairs.total p ps r.0 (get_or ps i d) (in_at ps i d (omega (arith, l)))
+each_earlier (p ∷ ps) (suc i) d q r l (inr j) = each_earlier ps i d q r.1 (omega (arith, l)) j
 
 -- one publication more has so many packets
 pub one_more_dropped : (p : PlanState) (packets : List Packet) (pair : Pair) (n : ℕ) (pairs : List Pair) → PlanIsSound p
@@ -281,36 +283,29 @@ outside_shorter (pair ∷ pairs) packets =
     let shorter = outside_shorter pairs (packets_outside pair packets) in
     omega (arith, split, shorter)
 
--- ---- the entry at a place of the catalogue
+-- ---- a publication among those of a name
 
--- what a loop over the entries learns of one
-pub record IsEntryAt (p : PlanState) (packets : List Packet) (name : List Component) (entries : List Entry) (i : ℕ)
-    (e : Entry) : Type 0 where
-  pub held : holds p (part_of (publication_of e) 0) ≡ true
-  pub known : knows p (publication_of e) ≡ true
-  pub unclaimed : claims_part_in p (publication_of e) ≡ false
-  pub fewer : length (outside_all (publications_named name (take i entries) ++ publication_of e ∷ []) packets)
-      + (e.segments + 1)
-      ≡ length (outside_all (publications_named name (take i entries)) packets)
+-- what a loop over them learns of one
+pub record IsNamedAt (p : PlanState) (packets : List Packet) (pairs : List Pair) (i : ℕ) (pair : Pair) (n : ℕ) : Type 0
+  where
+    pub held : holds p (part_of pair 0) ≡ true
+    pub known : knows p pair ≡ true
+    pub unclaimed : claims_part_in p pair ≡ false
+    pub fewer : length (outside_all (take i pairs ++ pair ∷ []) packets) + (n + 1)
+        ≡ length (outside_all (take i pairs) packets)
 
-pub entry_is_at :
-    (p : PlanState) (packets : List Packet) (name : List Component) (entries : List Entry) (i : ℕ) (d e : Entry)
-    → PlanIsSound p → AreTied p packets → entries ≡ alone_catalogue packets → IsCatalogue entries → i < length entries
-    → e ≡ get_or entries i d
-    → IsEntryAt p packets name entries i e
-entry_is_at p packets name entries i d e sound tied listed order low is =
-    let there : In e (alone_catalogue packets) =
-    subst (In e) listed (subst (λ (x : Entry). In x entries) (sym is) (in_at entries i d low)) in
-    let whole : IsWhole packets (publication_of e) e.segments = entry_listed_whole packets e tied.in_order there in
-    let others : (q : Pair) → In q (publications_named name (take i entries))
-    → eq_by_cmp pair_cmp q (publication_of e) ≡ false =
-    λ q j.
-    ap (λ (x : Entry). eq_by_cmp pair_cmp q (publication_of x)) is ∙ others_before name entries i d order low q j in
+pub named_is_at : (p : PlanState) (packets : List Packet) (pairs : List Pair) (i : ℕ) (d : Pair) (e : Entry)
+    → PlanIsSound p → AreTied p packets → Rises pair_cmp pairs → i < length pairs
+    → entry_at packets (get_or pairs i d) ≡ Some e
+    → IsNamedAt p packets pairs i (get_or pairs i d) e.segments
+named_is_at p packets pairs i d e sound tied order low there =
+    let pair : Pair = get_or pairs i d in
+    let whole : IsWhole packets pair e.segments = whole_of_entry packets pair e there in
     record {
-      held = held_each p packets (publication_of e) e.segments sound tied whole 0 (omega arith);
-      known = whole_known p packets (publication_of e) e.segments sound tied whole;
-      unclaimed = whole_unclaimed p packets (publication_of e) e.segments sound tied whole;
+      held = held_each p packets pair e.segments sound tied whole 0 (omega arith);
+      known = whole_known p packets pair e.segments sound tied whole;
+      unclaimed = whole_unclaimed p packets pair e.segments sound tied whole;
       fewer =
-          one_more_dropped p packets (publication_of e) e.segments (publications_named name (take i entries)) sound tied
-          whole others;
+          one_more_dropped p packets pair e.segments (take i pairs) sound tied whole
+          (λ q j. ap is_eq (each_earlier pairs i d q order low j));
     }

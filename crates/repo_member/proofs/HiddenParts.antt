@@ -18,7 +18,7 @@ use Rattle.repo_object.specs.Wants.{WantedPart, want_record, want_segment}
 use Rattle.repo_object.specs.Verdict.{listing_in, ring_verdict}
 use Rattle.repo_store.specs.StoreList.{packets_outside}
 use Rattle.repo_catalog.specs.declared.entry.Entry.{Entry}
-use Rattle.repo_catalog.specs.Entries.{publication_of, entry_has_name}
+use Rattle.repo_catalog.specs.Entries.{publication_of, entry_has_name, all_named}
 use Rattle.group_model.proofs.Lists.{from_filter}
 use Rattle.repo_holdings.specs.Records.{Packet}
 use Rattle.repo_holdings.specs.Listed.{alone_catalogue}
@@ -26,7 +26,7 @@ use Rattle.repo_member.specs.Groups.{GroupKeys, node_at}
 use Rattle.repo_holdings.specs.Gaining.{AreTied}
 use Rattle.repo_member.specs.Alone.{Alone, alone_plan, want_of}
 use Rattle.repo_holdings.specs.Wanting.{nothing_listed}
-use Rattle.repo_member.specs.Deleting.{publications_named, catalogued_named, alone_hides, alone_deletes}
+use Rattle.repo_member.specs.Deleting.{catalogued_named, alone_hides, alone_deletes}
 use Rattle.repo_holdings.proofs.HidingLemmas.{other_way, value_outside, rises_outside, keys_outside, shapes_outside}
 use Rattle.repo_holdings.proofs.HidingLemmas.{others_stay}
 use Rattle.repo_member.proofs.FoundLemmas.{entry_listed_whole, whole_known, whole_unclaimed}
@@ -41,7 +41,7 @@ pub record CanHide (p : PlanState) (pair : Pair) : Type 0 where
   pub unclaimed : claims_part_in p pair ≡ false
 
 pub named_can_hide : (p : PlanState) (packets : List Packet) (name : List Component) → PlanIsSound p → AreTied p packets
-    → (pair : Pair) → In pair (publications_named name (alone_catalogue packets)) → CanHide p pair
+    → (pair : Pair) → In pair (all_named name (alone_catalogue packets)) → CanHide p pair
 named_can_hide p packets name s tied pair i =
     let e : (e : Entry) × (In e (filter (entry_has_name name) (alone_catalogue packets))) × (pair ≡ publication_of e) =
     from_map publication_of (filter (entry_has_name name) (alone_catalogue packets)) pair i in

@@ -36,7 +36,7 @@ use Rattle.repo_holdings.specs.Gaining.{IsArrival}
 use Rattle.repo_holdings.specs.declared.holdings.gaining.Arrival.{Arrival}
 use Rattle.repo_member.specs.Members.{alone, IsMember}
 use Rattle.repo_member.specs.declared.member.Member.TheInside.{Inside}
-use Rattle.repo_holdings.specs.declared.holdings.gaining.Tried.{Tried}
+use Rattle.repo_holdings.specs.declared.holdings.taking.Tried.{Tried}
 use Rattle.repo_member.specs.Outcomes.{job_for, IsPlannedJob, WereTried, JobsArePlanned, PlannedJobsAreOutcomes}
 use Rattle.repo_member.specs.Outcomes.{IsOutcome, outcome_of, IsFetched, AreFetched}
 use Rattle.repo_holdings.specs.Taking.{PartsDiffer, CanBeTaken}

@@ -32,6 +32,7 @@ pub mod Groups
 pub use Rattle.repo_holdings.specs.KeptValues
 pub use Rattle.repo_holdings.specs.Records
 pub use Rattle.repo_holdings.specs.Listed
+pub use Rattle.repo_holdings.specs.Contents
 pub mod Alone
 pub mod Verdicts
 pub mod Fires
@@ -39,6 +40,7 @@ pub use Rattle.repo_holdings.specs.Gaining
 pub use Rattle.repo_holdings.specs.StoredRecords
 pub use Rattle.repo_holdings.specs.HoldingsState
 pub use Rattle.repo_holdings.specs.Taking
+pub use Rattle.repo_holdings.specs.WholeContents
 pub use Rattle.repo_holdings.specs.NewPublications
 pub use Rattle.repo_holdings.specs.Hiding
 pub use Rattle.repo_holdings.specs.Wanting

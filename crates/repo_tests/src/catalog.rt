@@ -126,7 +126,9 @@ fn objects_by_publisher_and_number(rt: HostRuntime) -> Result<(), Fail> {
 fn many_objects_at_once(rt: HostRuntime) -> Result<(), Fail> {
     let mut catalogue = filled(&rt)?;
     catalogue.reserve(3)?;
-    catalogue.add_all_reserved(fresh(&rt)?);
+    let mut more = fresh(&rt)?;
+    catalogue.add_all_reserved(&mut more);
+    assert!(rt; more.is_empty());
     compare_order(&rt, &catalogue, &MERGED);
     compare_named(&rt, &catalogue, "/a", &[(0, 7), (1, 1), (2, 3)])?;
     compare_named(&rt, &catalogue, "/b", &[(0, 1), (0, 9), (1, 2)])?;

@@ -6,6 +6,7 @@ use fetch_board::Board;
 use fetch_work::*;
 use ndn_name::{Name, NameFault};
 use ndn_sign::KeyRing;
+use repo_holdings::{ContentsDigest, Whole};
 use repo_object::{
     Job, NODE_NAME_LIMIT, Object, Want, is_object_name, key_name, packets_of, want_record,
 };
@@ -307,5 +308,59 @@ fn workers_go_on_beside_each_other(rt: HostRuntime) -> Result<(), Fail> {
     let alloc: Global = rt.alloc();
     let published = publish(&rt, alloc, 4)?;
     assert!(rt; first_sees_all(&rt, alloc, &published)?);
+    Ok(())
+}
+
+// SHA-256 of "abc" and of nothing (FIPS 180-4).
+const ABC: [u8; 32] = [
+    0xba, 0x78, 0x16, 0xbf, 0x8f, 0x01, 0xcf, 0xea, 0x41, 0x41, 0x40, 0xde, 0x5d, 0xae, 0x22, 0x23, 0xb0,
+    0x03, 0x61, 0xa3, 0x96, 0x17, 0x7a, 0x9c, 0xb4, 0x10, 0xff, 0x61, 0xf2, 0x00, 0x15, 0xad,
+];
+const NOTHING: [u8; 32] = [
+    0xe3, 0xb0, 0xc4, 0x42, 0x98, 0xfc, 0x1c, 0x14, 0x9a, 0xfb, 0xf4, 0xc8, 0x99, 0x6f, 0xb9, 0x24, 0x27,
+    0xae, 0x41, 0xe4, 0x64, 0x9b, 0x93, 0x4c, 0xa4, 0x95, 0x99, 0x1b, 0x78, 0x52, 0xb8, 0x55,
+];
+
+// "ab" and "c" under number 1, then four times nothing under each of the 40 numbers behind it.
+fn contents(alloc: Global) -> Result<Vec<Whole<'static>>, AllocError> {
+    let mut whole = Vec::new(alloc);
+    for seq in 1..42_u16 {
+        let mut contents: Vec<&'static [u8]> = Vec::new(alloc);
+        if seq == 1 {
+            contents.push(b"ab")?;
+            contents.push(b"c")?;
+        } else {
+            contents.extend_from_slice(&[b"", b"", b"", b""])?;
+        }
+        whole.push(Whole {
+            publisher: 3,
+            seq,
+            contents,
+        })?;
+    }
+    Ok(whole)
+}
+
+// Whether these are their digests, in order.
+fn are_their_digests(digests: &[ContentsDigest]) -> bool {
+    digests.iter().enumerate().all(|(place, told)| {
+        let (octets, digest) = if place == 0 { (3, ABC) } else { (0, NOTHING) };
+        let seq = place as u64 + 1;
+        told.publisher == 3
+            && u64::from(told.seq) == seq
+            && told.octets == octets
+            && told.digest == digest
+    })
+}
+
+#[test]
+fn contents_have_their_digests_for_any_number_of_workers(rt: HostRuntime) -> Result<(), Fail> {
+    let alloc: Global = rt.alloc();
+    let whole = contents(alloc)?;
+    for workers in [1u32, 2, 4, 16] {
+        let told = digests(&rt, alloc, &whole, workers)?;
+        assert_eq!(rt; told.len(), 41);
+        assert!(rt; are_their_digests(&told), "{workers}");
+    }
     Ok(())
 }

@@ -1,6 +1,5 @@
 // Parts that are held from now on, in the plan, in the store and in the catalogue.
-ghost use Rattle.std.specs.Prelude.{◌≡◌, ◌+◌, ◌-◌, ◌<◌, ◌≤◌, ◌==◌, ◌^◌, ℕ, true, false, length, vec_len, map};
-ghost use Rattle.std.specs.Prelude.{option_map, is_some, count_by, sum_by, Some, None, IsSome, IsOk, IfSome, IfOk};
+ghost use Rattle.std.specs.Prelude.{◌≡◌, ◌-◌, ◌<◌, ◌≤◌, ◌==◌, true, false, is_some, None, IsSome, IsOk, IfSome, IfOk};
 ghost use Rattle.sha2.specs.Sha256.{sha256};
 ghost use Rattle.ndn_data.specs.Data.{data_of};
 ghost use Rattle.repo_plan.specs.Parts.{pair_of};
@@ -10,8 +9,6 @@ ghost use Rattle.repo_object.specs.Verdict.{listing_in};
 ghost use Rattle.repo_holdings.specs.Gaining.{AreTied, AreKept, HaveRoom, IsArrival, KeepsOthers, told_shape};
 ghost use Rattle.repo_holdings.specs.HoldingsState.{held_plan, AreInOrder};
 ghost use Rattle.repo_holdings.specs.StoredRecords.{IsListedIn};
-ghost use Rattle.repo_holdings.specs.Taking.{came, arrival_octets, with_tries, with_fetched, with_all_fetched};
-ghost use Rattle.repo_holdings.specs.Taking.{with_all_tries, takes_too, CanBeTaken, AreTakable, KeepsButTries};
 
 use super::Holdings;
 use super::stored_record::StoredRecord;
@@ -29,21 +26,6 @@ pub struct Arrival {
     pub packet: Digested,
     pub segments: Option<u8>,
     pub name: Name,
-}
-
-/// What came of a part that was asked for: how often it was tried, and its packet, if one came.
-#[derive(Drop)]
-pub struct Tried {
-    pub part: Part,
-    pub attempts: u32,
-    pub arrival: Option<Arrival>,
-}
-
-/// What was taken: the parts that are held from now on and were not held, and the octets of their packets.
-#[derive(Clone, Copy, Debug, PartialEq, Eq)]
-pub struct Taken {
-    pub parts: u32,
-    pub octets: u64,
 }
 
 impl Holdings {
@@ -107,23 +89,6 @@ impl Holdings {
             arrival,
         );
         self.spare -= 1;
-    }
-
-    /// Takes what came of parts that were asked for, where room was made: the packets that came are held from now on,
-    /// and the attempts are counted. It takes no memory.
-    pub fn take(&mut self, all: Vec<Tried>) -> Taken
-        requires room { vec_len all ≤ self.old.spare }
-        requires takable { AreTakable (held_plan self.old) self.old.store all.items }
-        requires few { vec_len all < 2 ^ 32 }
-        ensures taken { self.new ≡ takes_too (map came all.items) self.old }
-        ensures in_order { AreInOrder self.new }
-        ensures parts { result.parts ≡ count_by (λ x. is_some x.arrival) all.items }
-        ensures octets { result.octets ≡ sum_by arrival_octets all.items }
-    {
-        let tried = all.len();
-        let taken = take_all(&mut self.plan, &mut self.store, &mut self.catalogue, all);
-        self.spare -= tried;
-        taken
     }
 }
 
@@ -189,62 +154,4 @@ fn gain_listed(
         part.seq,
         arrival.name,
     );
-}
-
-// Takes what came of parts that were asked for, for which room was made.
-fn take_all(plan: &mut Plan, store: &mut Store, catalogue: &mut Catalogue, all: Vec<Tried>) -> Taken
-    requires room { HaveRoom (vec_len all) plan.old store.old catalogue.old }
-    requires kept { AreKept plan.old store.old.packets catalogue.old.entries }
-    requires takable { AreTakable plan.old store.old.packets all.items }
-    requires few { vec_len all < 2 ^ 32 }
-    requires short { sum_by arrival_octets all.items < 2 ^ 64 }
-    ensures room { (n : ℕ) → HaveRoom (n + vec_len all) plan.old store.old catalogue.old
-        → HaveRoom n plan.new store.new catalogue.new }
-    ensures packets { store.new.packets ≡ with_all_fetched (map came all.items) store.old.packets }
-    ensures attempts { plan.new.attempts ≡ with_all_tries (map came all.items) plan.old.attempts }
-    ensures others { KeepsButTries plan.old plan.new }
-    ensures kept { AreKept plan.new store.new.packets catalogue.new.entries }
-    ensures parts { result.parts ≡ count_by (λ x. is_some x.arrival) all.items }
-    ensures octets { result.octets ≡ sum_by arrival_octets all.items }
-{
-    let mut parts = 0;
-    let mut octets = 0;
-    for tried in all {
-        let came = take_one(plan, store, catalogue, tried);
-        parts += u32::from(came.is_some());
-        octets += came.unwrap_or(0);
-    }
-    Taken { parts, octets }
-}
-
-// Takes what came of one part. The answer is how many octets its packet has, if one came.
-fn take_one(
-    plan: &mut Plan,
-    store: &mut Store,
-    catalogue: &mut Catalogue,
-    tried: Tried,
-) -> Option<u64>
-    requires room { HaveRoom 1 plan.old store.old catalogue.old }
-    requires kept { AreKept plan.old store.old.packets catalogue.old.entries }
-    requires takable { CanBeTaken plan.old store.old.packets tried }
-    ensures room { (n : ℕ) → HaveRoom (n + 1) plan.old store.old catalogue.old
-        → HaveRoom n plan.new store.new catalogue.new }
-    ensures packets { store.new.packets ≡ with_fetched tried.part (came tried).packet store.old.packets }
-    ensures attempts { plan.new.attempts ≡ with_tries tried.part tried.attempts plan.old.attempts }
-    ensures others { KeepsButTries plan.old plan.new }
-    ensures kept { AreKept plan.new store.new.packets catalogue.new.entries }
-    ensures came { result ≡ option_map (λ a. length a.packet) tried.arrival }
-{
-    let Tried {
-        part,
-        attempts,
-        arrival,
-    } = tried;
-    let mut came = None;
-    if let Some(arrival) = arrival {
-        came = Some(arrival.packet.octets().len() as u64);
-        gain_listed(plan, store, catalogue, part, arrival);
-    }
-    plan.add_attempts_reserved(part, attempts);
-    came
 }

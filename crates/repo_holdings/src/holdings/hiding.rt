@@ -1,9 +1,11 @@
 ghost use Rattle.std.specs.Prelude.{◌≡◌, ◌+◌, ◌≤◌, false, length, OnOk, OnErr};
 ghost use Rattle.std.specs.List.{All};
+ghost use Rattle.sorted_lists.specs.SortedList.{Rises};
+ghost use Rattle.repo_plan.specs.Parts.{pair_cmp};
 ghost use Rattle.repo_plan.specs.Plan.{claims_part_in};
 ghost use Rattle.repo_holdings.specs.Gaining.{AreKept};
 ghost use Rattle.repo_holdings.specs.HoldingsState.{held_plan, AreInOrder};
-ghost use Rattle.repo_holdings.specs.Hiding.{outside_all, IsHiding, hides_all};
+ghost use Rattle.repo_holdings.specs.Hiding.{outside_all, IsHiding, hides_all, plan_hides};
 
 use super::Holdings;
 use repo_catalog::Catalogue;
@@ -12,10 +14,13 @@ use repo_store::Store;
 use std::alloc::AllocError;
 
 impl Holdings {
-    /// These publications are hidden for good: none of their packets is held or listed any more, and none of their
-    /// parts is wanted. The room that was made stays.
+    /// These publications, which are in order, are hidden for good: none of their packets is held or listed any more,
+    /// and none of their parts is wanted. The room that was made stays.
+    ///
+    /// Packets and entries go in one pass, however many publications there are.
     pub fn hide_all(&mut self, publications: &[(u32, u16)]) -> Result<(), AllocError>
-        requires { All (λ pair. claims_part_in (held_plan self.old) pair ≡ false) publications.now }
+        requires unclaimed { All (λ pair. claims_part_in (held_plan self.old) pair ≡ false) publications.now }
+        requires in_order { Rises pair_cmp publications.now }
         ensures ok { OnOk result (self.new ≡ hides_all publications.now self.old) }
         ensures in_order { AreInOrder self.new }
         ensures err { OnErr result (self.new ≡ self.old) }
@@ -46,6 +51,7 @@ fn hide_all(
 )
     requires room { length publications.now ≤ plan.old.spare }
     requires unclaimed { All (λ pair. claims_part_in plan.old pair ≡ false) publications.now }
+    requires in_order { Rises pair_cmp publications.now }
     requires kept { AreKept plan.old store.old.packets catalogue.old.entries }
     ensures hidden { IsHiding publications.now plan.old plan.new }
     ensures packets { store.new.packets ≡ outside_all publications.now store.old.packets }
@@ -54,9 +60,18 @@ fn hide_all(
     ensures store_room { store.new.spare ≡ store.old.spare }
     ensures catalogue_room { catalogue.new.spare ≡ catalogue.old.spare }
 {
+    hide_in_plan(plan, publications);
+    store.drop_all(publications);
+    catalogue.remove_all(publications);
+}
+
+// The plan hides these publications, for which room was made.
+fn hide_in_plan(plan: &mut Plan, publications: &[(u32, u16)])
+    requires room { length publications.now ≤ plan.old.spare }
+    requires unclaimed { All (λ pair. claims_part_in plan.old pair ≡ false) publications.now }
+    ensures { plan.new ≡ plan_hides publications.now plan.old }
+{
     for (publisher, seq) in publications {
         plan.hide_reserved(*publisher, *seq);
-        store.drop_parts(*publisher, *seq);
-        catalogue.remove(*publisher, *seq);
     }
 }

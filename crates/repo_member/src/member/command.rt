@@ -2,7 +2,8 @@ ghost use Rattle.std.specs.Prelude.{◌≡◌, ◌-◌, ◌<◌, ◌≤◌, true
 ghost use Rattle.std.specs.List.{All};
 ghost use Rattle.std.specs.Ordering.{nat_cmp};
 ghost use Rattle.repo_object.specs.Objects.{is_object_name};
-ghost use Rattle.sorted_lists.specs.SortedList.{value_of};
+ghost use Rattle.sorted_lists.specs.SortedList.{Rises, value_of};
+ghost use Rattle.repo_plan.specs.Parts.{pair_cmp};
 ghost use Rattle.repo_plan.specs.Plan.{knows, claims_part_in};
 ghost use Rattle.repo_command.specs.Commands.{is_command, CommandIsSpelled};
 ghost use Rattle.repo_process.specs.Insertions.{next_number};
@@ -184,29 +185,29 @@ impl Member {
         Ok(answered)
     }
 
-    // The catalogued publications of the objects of a name. Their parts are held, so that no fetcher claims one.
+    // The catalogued publications of the objects of a name, in order. Their parts are held, so that no fetcher claims one.
     fn found(&self, name: &Name) -> Result<Found, AllocError>
         ensures publications { IfOk result (λ found. found.publications.items ≡ catalogued_named name.now self.now) }
+        ensures in_order { IfOk result (λ found. Rises pair_cmp found.publications.items) }
         ensures packets { IfOk result (λ found. found.packets ≡ alone_drops name.now self.now) }
         ensures known { IfOk result (λ found.
             All (λ pair. knows (alone_plan self.now) pair ≡ true) found.publications.items) }
         ensures unclaimed { IfOk result (λ found.
             All (λ pair. claims_part_in (alone_plan self.now) pair ≡ false) found.publications.items) }
     {
-        let mut publications = Vec::new(*self.log.allocator());
+        let catalogue = self.held.catalogue();
+        let publications = catalogue.named(*self.log.allocator(), &name.view())?;
         let mut left = self.held.len();
-        for entry in self.held.catalogue().entries() {
-            if entry.name.view().compare(&name.view()).is_eq() {
-                let record = Part {
-                    publisher: entry.publisher,
-                    seq: entry.seq,
-                    part: 0,
-                };
-                let held = self.held.holds(record);
-                prove!(held);
-                publications.push((entry.publisher, entry.seq))?;
-                left -= 1 + entry.segments as usize;
-            }
+        for (publisher, seq) in &publications {
+            let entry = catalogue.entry(*publisher, *seq).unwrap();
+            let record = Part {
+                publisher: *publisher,
+                seq: *seq,
+                part: 0,
+            };
+            let held = self.held.holds(record);
+            prove!(held);
+            left -= 1 + entry.segments as usize;
         }
         Ok(Found {
             publications,

@@ -1,13 +1,16 @@
 ghost use Rattle.std.specs.Prelude.{◌≡◌, ◌<◌, ◌^◌, count_by, sum_by, is_some, IfOk, OnOk, OnErr, map, vec_len};
+ghost use Rattle.std.specs.List.{All};
 ghost use Rattle.repo_member.specs.Alone.{IsOfGroup, alone_plan, alone_takes};
-ghost use Rattle.repo_holdings.specs.Taking.{came, AreTakable};
+ghost use Rattle.repo_holdings.specs.Taking.{came, arrival_octets, with_all_fetched, AreTakable};
+ghost use Rattle.repo_holdings.specs.Contents.{IsDigestIn};
+ghost use Rattle.repo_holdings.specs.WholeContents.{IsWholeIn};
 ghost use Rattle.repo_member.specs.Outcomes.{IsOutcome, outcome_of, octets_in};
 
 use super::Member;
 use crate::group::Group;
-use repo_holdings::{Taken, Tried};
+use repo_holdings::{ContentsDigest, Taken, Tried, Whole};
 use repo_object::{Checked, Job};
-use std::alloc::AllocError;
+use std::alloc::{AllocError, Global};
 use svs_vector::MEMBER_LIMIT;
 
 /// What a member took of a fetch: the parts that it holds from now on and did not hold, and the octets of their
@@ -35,13 +38,12 @@ impl Member {
         ensures err { OnErr result (self.new ≡ self.old) }
     {
         let all = self.tried(g, jobs, parts, attempts)?;
-        self.held.reserve(all.len())?;
-        let Taken { parts, octets } = self.held.take(all);
-        Ok(Kept { parts, octets })
+        self.take_digested(all, &[])
     }
 
-    // What came of jobs, with copies of the packets.
-    fn tried(
+    /// What came of a fetch that was planned, with copies of the packets: the first of the steps of `take_outcome`, for
+    /// a caller that has digests over contents made in threads.
+    pub fn tried(
         &self,
         g: &Group,
         jobs: &[Job],
@@ -53,6 +55,8 @@ impl Member {
         ensures came { IfOk result (λ all. map came all.items ≡ outcome_of jobs.now parts.now attempts.now) }
         ensures takable { IfOk result (λ all. AreTakable (alone_plan self.now) self.now.store all.items) }
         ensures few { IfOk result (λ all. vec_len all < 2 ^ 32) }
+        ensures parts { IfOk result (λ all. count_by (λ x. is_some x.arrival) all.items ≡ count_by is_some parts.now) }
+        ensures octets { IfOk result (λ all. sum_by arrival_octets all.items ≡ sum_by octets_in parts.now) }
     {
         // Each of so few members has fewer than 2^24 parts, so a `u32` counts those that came.
         let members = g.roster().len();
@@ -82,5 +86,39 @@ impl Member {
             })?;
         }
         Ok(all)
+    }
+
+    /// Publications that become whole by what came of a fetch, with their contents where they lie. Their digests can be
+    /// made before the packets are taken.
+    pub fn whole_with<'a>(
+        &'a self,
+        alloc: Global,
+        all: &'a [Tried],
+    ) -> Result<Vec<Whole<'a>>, AllocError>
+        requires { AreTakable (alone_plan self.now) self.now.store all.now }
+        ensures { IfOk result
+            (λ whole. All (IsWholeIn (with_all_fetched (map came all.now) self.now.store)) whole.items) }
+    {
+        self.held.whole_with(alloc, all)
+    }
+
+    /// Takes what came of a fetch, as `take_outcome` does. Digests over contents that are told, in order of their
+    /// publications, aren't made again.
+    pub fn take_digested(
+        &mut self,
+        all: Vec<Tried>,
+        digests: &[ContentsDigest],
+    ) -> Result<Kept, AllocError>
+        requires takable { AreTakable (alone_plan self.old) self.old.store all.items }
+        requires few { vec_len all < 2 ^ 32 }
+        requires digests { All (IsDigestIn (with_all_fetched (map came all.items) self.old.store)) digests.now }
+        ensures ok { OnOk result (self.new ≡ alone_takes (map came all.items) self.old) }
+        ensures parts { IfOk result (λ kept. kept.parts ≡ count_by (λ x. is_some x.arrival) all.items) }
+        ensures octets { IfOk result (λ kept. kept.octets ≡ sum_by arrival_octets all.items) }
+        ensures err { OnErr result (self.new ≡ self.old) }
+    {
+        self.held.reserve(all.len())?;
+        let Taken { parts, octets } = self.held.take(all, digests);
+        Ok(Kept { parts, octets })
     }
 }

@@ -25,7 +25,7 @@ use Rattle.repo_catalog.proofs.merge.merge.Goals as goal
 pub loop-entry-init : goal.loop-entry-init
 loop-entry-init c =
     let es = c.args.entries.now.items in
-    let fs = c.args.fresh.items in
+    let fs = c.args.fresh.now.items in
     let none : reverse c.args.aside.now.items ≡ [] = ap reverse c.requires.none_aside in
     let all : es ++ reverse c.args.aside.now.items ≡ es = ap (λ (a : List Entry). es ++ a) none ∙ append-nil es in
     let all_fresh : fs ++ reverse c.args.aside.now.items ≡ fs = ap (λ (a : List Entry). fs ++ a) none ∙ append-nil fs in
@@ -40,6 +40,7 @@ loop-entry-init c =
       len = omega (arith, empty, c.args.aside.now.ok);
       room = omega arith;
       room_aside = omega arith;
+      room_fresh = omega arith;
       names = omega arith;
     }
 
@@ -123,6 +124,7 @@ loop-entry-preserved-in-Err c =
           );
       room = omega (arith, before.room, c.set_aside.ensures.room);
       room_aside = omega (arith, before.room_aside, c.set_aside.ensures.room_aside, c.push.ensures.capacity);
+      room_fresh = omega (arith, before.room_fresh, c.pop.ensures.capacity);
       names = omega (arith, before.names, c.insert.ensures.room, c.in-Some.ensures.len);
     }
 
@@ -162,6 +164,7 @@ loop-entry-preserved c =
       len = omega (arith, before.len, c.in-Some.ensures.len);
       room = before.room;
       room_aside = before.room_aside;
+      room_fresh = omega (arith, before.room_fresh, c.pop.ensures.capacity);
       names = omega (arith, before.names, c.in-Some.ensures.len);
     }
 
@@ -170,7 +173,7 @@ returns-clause-entries c =
     let before = c.loop-entry.invariant in
     let now = c.loop-entry.entries.items ++ reverse c.loop-entry.aside.items in
     let es = c.args.entries.now.items in
-    let fs = c.args.fresh.items in
+    let fs = c.args.fresh.now.items in
     let empty : c.loop-entry.fresh.items ≡ [] =
     no_items c.loop-entry.fresh.items (omega (arith, c.in_default.ensures.cases.0, c.loop-entry.fresh.ok)) in
     c.put_back.ensures.all
@@ -178,3 +181,13 @@ returns-clause-entries c =
     (λ k. or_none (entry_of k now)
     ∙ ap (λ (xs : List Entry). option_or (entry_of k now) (entry_of k xs)) (sym empty)
     ∙ before.all k)
+
+pub returns-clause-moved : goal.returns-clause-moved
+returns-clause-moved c =
+    no_items c.pop.new.self.items (omega (
+      arith,
+      c.in_default.ensures.cases.0,
+      c.pop.ensures.len,
+      c.pop.new.self.ok,
+      c.loop-entry.fresh.ok,
+    ))

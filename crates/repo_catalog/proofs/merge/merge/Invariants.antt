@@ -17,6 +17,7 @@ invariant-loop-entry l =
           ≤ vec_len l.initial.entries + vec_len l.initial.fresh;
       room : vec_capacity l.initial.entries ≤ vec_capacity l.entries;
       room_aside : vec_capacity l.initial.aside ≤ vec_capacity l.aside;
+      room_fresh : vec_capacity l.initial.fresh ≤ vec_capacity l.fresh;
       names : l.initial.names.spare + vec_len l.fresh ≤ l.names.spare + vec_len l.initial.fresh;
     }
 

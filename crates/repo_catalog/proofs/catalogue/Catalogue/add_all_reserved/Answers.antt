@@ -9,11 +9,11 @@ merge-requires-clause-fresh_in_order c =
     let sorted = c.sort_unstable_by_key.new.self.items in
     sorted_rises sorted
     (c.sort_unstable_by_key.ensures.sorted publication_of (answers_always _ _ _ (λ f a r g called. search rules)))
-    (apart_in_order c.args.fresh.items sorted c.sort_unstable_by_key.ensures.permutation c.requires.apart)
+    (apart_in_order c.args.fresh.now.items sorted c.sort_unstable_by_key.ensures.permutation c.requires.apart)
 
 pub returns-clause-entries : goal.returns-clause-entries
 returns-clause-entries c =
     c.merge.ensures.entries
-    ∙ sorted_adds_same c.args.fresh.items c.sort_unstable_by_key.new.self.items c.self.inside.entries.items
+    ∙ sorted_adds_same c.args.fresh.now.items c.sort_unstable_by_key.new.self.items c.self.inside.entries.items
     c.sort_unstable_by_key.ensures.permutation c.requires.apart c.self.invariant.in_order
-    ∙ ap (λ (l : EntryList). with_entries c.args.fresh.items l.entries) c.self.view_is
+    ∙ ap (λ (l : EntryList). with_entries c.args.fresh.now.items l.entries) c.self.view_is

@@ -12,4 +12,4 @@ hide_all-requires-clause-unclaimed c =
     ∙ ap (λ (h : HoldingsState). h.claims) c.self.view_is in
     λ k d low.
     ap (λ (cs : List (Option Part)). list_any (is_claim_in (slice_index_or c.args.publications.now k d)) cs) claims
-    ∙ c.requires k d low
+    ∙ c.requires.unclaimed k d low

@@ -33,4 +33,6 @@ invariant_of-self c =
         for_catalogue =
             omega (arith, some, long, c.len-parts.ensures, c.list_if_whole.ensures.room, room.for_catalogue);
       };
+      none_fresh = c.self.invariant.none_fresh;
+      room_fresh = omega (arith, c.len-parts.ensures, c.self.invariant.room_fresh);
     }

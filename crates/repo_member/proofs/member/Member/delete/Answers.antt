@@ -1,20 +1,25 @@
 use Rattle.std.proofs.Common.{◌≡◌, true, false, get_or, Option, List, refl, sym, ap, ◌∙◌, subst}
 use Rattle.std.specs.List.{All, list_any}
 use Rattle.repo_plan.specs.declared.part.Part.{Part}
-use Rattle.repo_plan.specs.Parts.{Pair}
+use Rattle.sorted_lists.specs.SortedList.{Rises}
+use Rattle.repo_plan.specs.Parts.{Pair, pair_cmp}
 use Rattle.repo_plan.specs.Plan.{knows, is_claim_in, claims_part_in}
 use Rattle.repo_member.specs.Alone.{Alone, alone_plan}
 use Rattle.repo_member.proofs.WaitingLemmas.{hidden_is}
 use Rattle.repo_member.proofs.member.Member.delete.Goals as goal
 
-pub hide_all-requires : goal.hide_all-requires
-hide_all-requires c =
+pub hide_all-requires-clause-unclaimed : goal.hide_all-requires-clause-unclaimed
+hide_all-requires-clause-unclaimed c =
     let claims = ap (λ (a : Alone). a.claims) c.self.view_is in
     let each =
     subst (All (λ (pair : Pair). claims_part_in (alone_plan c.args.self.now) pair ≡ false)) (sym c.deref.ensures.value)
     c.in_ok-found.ensures.unclaimed in
     λ k d low.
     ap (λ (cs : List (Option Part)). list_any (is_claim_in (get_or c.deref.result.now k d)) cs) claims ∙ each k d low
+
+pub hide_all-requires-clause-in_order : goal.hide_all-requires-clause-in_order
+hide_all-requires-clause-in_order c =
+    subst (Rises pair_cmp) (sym c.deref.ensures.value) c.in_ok-found.ensures.in_order
 
 pub invariant_of-self-2 : goal.invariant_of-self-2
 invariant_of-self-2 c =

@@ -1,47 +1,77 @@
-use Rattle.std.proofs.Common.{◌≡◌, ◌≤◌, ◌<◌, ◌+◌, ℕ, Bool, true, false, cond, List, [], ◌∷◌, ◌++◌, append-nil, length}
-use Rattle.std.proofs.Common.{get_or, take, refl, sym, ap, ◌∙◌, subst, arith}
-use Rattle.std.specs.Ordering.{is_eq}
+use Rattle.std.proofs.Common.{◌≡◌, ◌<◌, ◌≤◌, ◌+◌, ◌++◌, ◌∷◌, [], ℕ, true, false, List, Option, Some, None, Bor, length, get_or, take}
+use Rattle.std.proofs.Common.{refl, sym, ap, ◌∙◌, subst, arith}
+use Rattle.std.specs.Prelude.{is_some, IsSome}
+use Rattle.std.specs.Option.{option_copied}
 use Rattle.std.proofs.lemmas.Bool.{true≢false}
 use Rattle.std.proofs.lemmas.List.{take_more, take_all}
 use Rattle.std.proofs.lemmas.List.Elements.{All-push, All-nil}
-use Rattle.ndn_name.specs.CanonicalOrder.{canonical_cmp}
+use Rattle.std.specs.List.{All}
 use Rattle.ndn_name.specs.Names.{Component}
-use Rattle.repo_plan.specs.Parts.{Pair}
+use Rattle.sorted_lists.specs.SortedList.{Rises}
+use Rattle.repo_plan.specs.Parts.{Pair, pair_cmp}
 use Rattle.repo_plan.specs.Plan.{knows, claims_part_in}
 use Rattle.repo_plan.specs.Sound.{PlanIsSound}
 use Rattle.repo_catalog.specs.declared.entry.Entry.{Entry}
-use Rattle.repo_catalog.specs.Entries.{publication_of, entry_has_name, IsCatalogue}
-use Rattle.repo_member.specs.declared.member.Member.TheInside.{Inside}
+use Rattle.repo_catalog.specs.Entries.{entry_of, all_named}
+use Rattle.group_model.proofs.Lists.{in_at}
+use Rattle.sorted_lists.proofs.Sets.{In}
 use Rattle.repo_holdings.specs.HoldingsState.{held_plan}
-use Rattle.repo_holdings.specs.Records.{Packet}
-use Rattle.repo_holdings.specs.Listed.{alone_catalogue}
-use Rattle.repo_member.specs.Alone.{Alone, alone_plan}
-use Rattle.repo_member.specs.Deleting.{publications_named, catalogued_named}
+use Rattle.repo_holdings.specs.Listed.{entry_at, alone_catalogue}
 use Rattle.repo_holdings.specs.Hiding.{outside_all}
+use Rattle.repo_holdings.proofs.CatalogueLemmas.{entry_of_alone, alone_in_order}
+use Rattle.repo_member.specs.declared.member.Member.TheInside.{Inside}
+use Rattle.repo_member.specs.Alone.{Alone, alone_plan}
+use Rattle.repo_member.specs.Deleting.{catalogued_named}
 use Rattle.repo_member.specs.Members.{alone, IsMember}
-use Rattle.repo_member.proofs.FoundLemmas.{IsEntryAt, entry_is_at, named_append, outside_shorter}
-use Rattle.repo_member.proofs.member.Member.found.Goals.{then-is_eq+else-prove+in_ok-push, else-is_eq}
+use Rattle.repo_member.proofs.FoundLemmas.{IsNamedAt, named_is_at, named_entry, named_rises, outside_shorter}
 use Rattle.repo_member.proofs.member.Member.found.Goals as goal
 
--- the entry at a place, in a member
-entry_at_place : (m : Inside) (name : List Component) (entries : List Entry) (i : ℕ) (e : Entry) → IsMember m
-    → PlanIsSound (held_plan m.held) → (listed : List Entry)
-    → entries ≡ listed → listed ≡ alone_catalogue m.held.store → IsCatalogue listed → i < length entries
-    → e ≡ get_or entries i e → IsEntryAt (held_plan m.held) m.held.store name entries i e
-entry_at_place m name entries i e is sound listed same kept order low found =
-    entry_is_at (held_plan m.held) m.held.store name entries i e e sound
-    (record { in_order = is.alone.in_order; held = refl; shapes = refl }) (same ∙ kept)
-    (subst IsCatalogue (sym same) order) low found
+abbrev AreNamed : Inside → List Component → List Pair → Type 0
+AreNamed m name pairs = pairs ≡ all_named name (alone_catalogue m.held.store)
 
--- one name more, or none
-named_more : (name : List Component) (entries : List Entry) (i : ℕ) (e : Entry) (b : Bool) → i < length entries
-    → e ≡ get_or entries i e → entry_has_name name e ≡ b
-    → publications_named name (take (i + 1) entries)
-    ≡ publications_named name (take i entries) ++ cond b (publication_of e ∷ []) []
-named_more name entries i e b low found is =
-    ap (publications_named name) (take_more entries i e low ∙ ap (λ (x : Entry). take i entries ++ x ∷ []) (sym found))
-    ∙ named_append name (take i entries) e
-    ∙ ap (λ (c : Bool). publications_named name (take i entries) ++ cond c (publication_of e ∷ []) []) is
+are_named : (m : Inside) (name view : List Component) (pairs found : List Pair) (listed : List Entry) → pairs ≡ found
+    → found ≡ all_named view listed → view ≡ name → listed ≡ alone_catalogue m.held.store → AreNamed m name pairs
+are_named m name view pairs found listed same is read all =
+    same ∙ is ∙ ap (λ (n : List Component). all_named n listed) read ∙ ap (all_named name) all
+
+-- the entry that is looked up is that of the publication
+looked_up : (m : Inside) (pair : Pair) (listed : List Entry) (o : Option (Bor Entry)) → IsMember m
+    → listed ≡ alone_catalogue m.held.store → option_copied o ≡ entry_of pair listed
+    → option_copied o ≡ entry_at m.held.store pair
+looked_up m pair listed o is all found =
+    found ∙ ap (entry_of pair) all ∙ entry_of_alone m.held.store pair is.alone.in_order
+
+is_there : (o : Option (Bor Entry)) → is_some (option_copied o) ≡ true → IsSome o
+is_there None h = absurd (true≢false (sym h))
+is_there (Some b) h = refl
+
+has_entry : (m : Inside) (name : List Component) (pairs : List Pair) (i : ℕ) (listed : List Entry)
+    (o : Option (Bor Entry)) → IsMember m → AreNamed m name pairs → i < length pairs
+    → listed ≡ alone_catalogue m.held.store
+    → option_copied o ≡ entry_of (get_or pairs i (0, 0)) listed
+    → IsSome o
+has_entry m name pairs i listed o is named low all found =
+    let pair : Pair = get_or pairs i (0, 0) in
+    let there : In pair (all_named name (alone_catalogue m.held.store)) =
+    subst (In pair) named (in_at pairs i (0, 0) low) in
+    is_there o
+    (ap is_some (looked_up m pair listed o is all found)
+    ∙ named_entry m.held.store name pair is.alone.in_order there)
+
+named_at : (m : Inside) (name : List Component) (pairs : List Pair) (i : ℕ) (listed : List Entry)
+    (o : Option (Bor Entry)) (b : Bor Entry) → IsMember m → PlanIsSound (held_plan m.held) → AreNamed m name pairs
+    → i < length pairs
+    → listed ≡ alone_catalogue m.held.store
+    → option_copied o ≡ entry_of (get_or pairs i (0, 0)) listed
+    → o ≡ Some b
+    → IsNamedAt (held_plan m.held) m.held.store pairs i (get_or pairs i (0, 0)) b.now.segments
+named_at m name pairs i listed o b is sound named low all found there =
+    named_is_at (held_plan m.held) m.held.store pairs i (0, 0) b.now sound
+    (record { in_order = is.alone.in_order; held = refl; shapes = refl })
+    (subst (Rises pair_cmp) (sym named)
+    (named_rises name (alone_catalogue m.held.store) (alone_in_order m.held.store is.alone.in_order)))
+    low
+    (sym (looked_up m (get_or pairs i (0, 0)) listed o is all found) ∙ ap option_copied there)
 
 -- what the plan of a member says is what the member says
 known_alone : (m : Inside) (a : Alone) (pair : Pair) → IsMember m → alone m ≡ a → knows (held_plan m.held) pair ≡ true
@@ -55,138 +85,130 @@ unclaimed_alone : (m : Inside) (a : Alone) (pair : Pair) → alone m ≡ a → c
     → claims_part_in (alone_plan a) pair ≡ false
 unclaimed_alone m a pair same h = ap (λ (b : Alone). claims_part_in (alone_plan b) pair) (sym same) ∙ h
 
-pub loop-entry-init : goal.loop-entry-init
-loop-entry-init c = record {
-  named = c.new-publications.ensures.items;
-  left =
-      c.len-left.ensures
-      ∙ ap (λ (a : Alone). length a.store) c.self.view_is
-      ∙ ap (λ (pairs : List Pair). length (outside_all pairs c.args.self.now.store))
-      (sym c.new-publications.ensures.items);
-  known = rw c.new-publications.ensures.items (All-nil (λ pair. knows (alone_plan c.args.self.now) pair ≡ true));
-  unclaimed =
-      rw c.new-publications.ensures.items (All-nil (λ pair. claims_part_in (alone_plan c.args.self.now) pair ≡ false));
+pub loop-publisher-init : goal.loop-publisher-init
+loop-publisher-init c = record {
+  left = c.len-left.ensures ∙ ap (λ (a : Alone). length a.store) c.self.view_is;
+  known = All-nil (λ pair. knows (alone_plan c.args.self.now) pair ≡ true);
+  unclaimed = All-nil (λ pair. claims_part_in (alone_plan c.args.self.now) pair ≡ false);
 }
+
+pub unwrap-entry-requires : goal.unwrap-entry-requires
+unwrap-entry-requires c =
+    has_entry c.self.inside c.args.name.now c.deref-publisher-items.result.now c.loop-publisher.publisher-index _
+    c.entry.result c.self.invariant
+    (are_named c.self.inside c.args.name.now c.view.result c.deref-publisher-items.result.now _ _
+    c.deref-publisher-items.ensures.value c.in_ok-publications.ensures c.view.ensures c.catalogue-catalogue.ensures)
+    c.loop-publisher-test.true c.catalogue-catalogue.ensures c.entry.ensures
 
 pub prove-unreachable-requires : goal.prove-unreachable-requires
 prove-unreachable-requires c =
     let at =
-    entry_at_place c.self.inside c.args.name.now c.entries-entry-items.result.now c.loop-entry.entry-index
-    c.entry-item.result c.self.invariant c.holds-held.ensures.sound
-    _ c.entries-entry-items.ensures.entries c.catalogue.ensures c.entries-entry-items.ensures.ordered
-    c.loop-entry-test.true
-    c.entry-item.is in
+    named_at c.self.inside c.args.name.now c.deref-publisher-items.result.now c.loop-publisher.publisher-index _
+    c.entry.result c.unwrap-entry.result c.self.invariant c.holds-held.ensures.sound
+    (are_named c.self.inside c.args.name.now c.view.result c.deref-publisher-items.result.now _ _
+    c.deref-publisher-items.ensures.value c.in_ok-publications.ensures c.view.ensures c.catalogue-catalogue.ensures)
+    c.loop-publisher-test.true c.catalogue-catalogue.ensures c.entry.ensures c.unwrap-entry.ensures in
     true≢false (sym at.held ∙ sym c.holds-held.ensures.held ∙ c.if-prove.true)
 
 pub overflow_sub-left : goal.overflow_sub-left
 overflow_sub-left c =
+    let pairs : List Pair = c.deref-publisher-items.result.now in
+    let i : ℕ = c.loop-publisher.publisher-index in
     let at =
-    entry_at_place c.self.inside c.args.name.now c.entries-entry-items.result.now c.loop-entry.entry-index
-    c.entry-item.result c.self.invariant c.holds-held.ensures.sound
-    _ c.entries-entry-items.ensures.entries c.catalogue.ensures c.entries-entry-items.ensures.ordered
-    c.loop-entry-test.true
-    c.entry-item.is in
-    let here : c.loop-entry.left
-    ≡ length
-    (outside_all (publications_named c.args.name.now (take c.loop-entry.entry-index c.entries-entry-items.result.now))
-    c.self.inside.held.store) =
-    c.loop-entry.invariant.left
-    ∙ ap (λ (pairs : List Pair). length (outside_all pairs c.args.self.now.store)) c.loop-entry.invariant.named
-    ∙ ap (λ (a : Alone). length
-    (outside_all (publications_named c.args.name.now (take c.loop-entry.entry-index c.entries-entry-items.result.now))
-    a.store)) (sym c.self.view_is) in
+    named_at c.self.inside c.args.name.now pairs i _
+    c.entry.result c.unwrap-entry.result c.self.invariant c.holds-held.ensures.sound
+    (are_named c.self.inside c.args.name.now c.view.result pairs _ _
+    c.deref-publisher-items.ensures.value c.in_ok-publications.ensures c.view.ensures c.catalogue-catalogue.ensures)
+    c.loop-publisher-test.true c.catalogue-catalogue.ensures c.entry.ensures c.unwrap-entry.ensures in
+    let here : c.loop-publisher.left ≡ length (outside_all (take i pairs) c.self.inside.held.store) =
+    c.loop-publisher.invariant.left
+    ∙ ap (λ (a : Alone). length (outside_all (take i pairs) a.store)) (sym c.self.view_is) in
     omega (arith, here, at.fewer)
 
-pub loop-entry-preserved : goal.loop-entry-preserved
-loop-entry-preserved c =
-    let name : List Component = c.args.name.now in
-    let entries : List Entry = c.entries-entry-items.result.now in
-    let i : ℕ = c.loop-entry.entry-index in
-    let e : Entry = c.entry-item.result in
-    let invariant = c.loop-entry.invariant in
-    let named : entry_has_name name e ≡ c.is_eq.result =
-    sym (c.is_eq.ensures
-    ∙ ap is_eq
-    (c.compare.ensures ∙ ap (λ (n : List Component). canonical_cmp n c.view-in-loop-entry.result) c.view.ensures
-    ∙ ap (canonical_cmp e.name) c.view-in-loop-entry.ensures)) in
-    elim c.if-is_eq.branch [
-      | then-is_eq+else-prove+in_ok-push w ↦
-          let at = entry_at_place c.self.inside name entries i e c.self.invariant w.holds-held.ensures.sound
-          _ c.entries-entry-items.ensures.entries c.catalogue.ensures
-          c.entries-entry-items.ensures.ordered c.loop-entry-test.true
-          c.entry-item.is in
-          let pushed : w.push.new.self.items ≡ c.loop-entry.publications.items ++ publication_of e ∷ [] =
-          w.in_ok-push.ensures.items in
-          let more =
-          named_more name entries i e true c.loop-entry-test.true c.entry-item.is (named ∙ w.if-is_eq.true) in
-          let store : List Packet = c.args.self.now.store in
-          let same = ap (λ (a : Alone). a.store) c.self.view_is in
-          let here : c.loop-entry.left
-          ≡ length (outside_all (publications_named name (take i entries)) c.self.inside.held.store) =
-          invariant.left
-          ∙ ap (λ (pairs : List Pair). length (outside_all pairs store)) invariant.named
-          ∙ ap (λ (stored : List Packet). length (outside_all (publications_named name (take i entries)) stored))
-          (sym same) in
-          let there : length (outside_all w.push.new.self.items store)
-          ≡ length (outside_all (publications_named name (take i entries) ++ publication_of e ∷ [])
-          c.self.inside.held.store) =
-          ap (λ (pairs : List Pair). length (outside_all pairs store))
-          (pushed ∙ ap (λ (pairs : List Pair). pairs ++ publication_of e ∷ []) invariant.named)
-          ∙ ap (λ (stored : List Packet).
-          length (outside_all (publications_named name (take i entries) ++ publication_of e ∷ []) stored)) (sym same) in
-          rw (w.publications-is, w.left-is) (record {
-            named = pushed ∙ ap (λ (pairs : List Pair). pairs ++ publication_of e ∷ []) invariant.named ∙ sym more;
-            left = omega (arith, here, there, at.fewer);
-            known =
-                rw pushed (All-push (λ (pair : Pair). knows (alone_plan c.args.self.now) pair ≡ true)
-                c.loop-entry.publications.items (publication_of e) invariant.known
-                (known_alone c.self.inside c.args.self.now (publication_of e) c.self.invariant c.self.view_is
-                at.known));
-            unclaimed =
-                rw pushed (All-push (λ (pair : Pair). claims_part_in (alone_plan c.args.self.now) pair ≡ false)
-                c.loop-entry.publications.items (publication_of e) invariant.unclaimed
-                (unclaimed_alone c.self.inside c.args.self.now (publication_of e) c.self.view_is at.unclaimed));
-          })
-      | else-is_eq w ↦
-          let same =
-          named_more name entries i e false c.loop-entry-test.true c.entry-item.is (named ∙ w.if-is_eq.false) in
-          rw (w.publications-is, w.left-is) (record {
-            named = invariant.named ∙ sym (same ∙ append-nil (publications_named name (take i entries)));
-            left = invariant.left;
-            known = invariant.known;
-            unclaimed = invariant.unclaimed;
-          })
-    ]
-
--- at the end
-all_named : (m : Inside) (a : Alone) (name : List Component) (entries : List Entry) (i : ℕ) → IsMember m → alone m ≡ a
-    → entries ≡ alone_catalogue m.held.store → length entries ≤ i
-    → publications_named name (take i entries) ≡ publications_named name (alone_catalogue a.store)
-all_named m a name entries i is same listed high =
-    ap (publications_named name)
-    (take_all i entries high ∙ listed ∙ ap (λ (b : Alone). alone_catalogue b.store) same)
+pub loop-publisher-preserved : goal.loop-publisher-preserved
+loop-publisher-preserved c =
+    let pairs : List Pair = c.deref-publisher-items.result.now in
+    let i : ℕ = c.loop-publisher.publisher-index in
+    let pair : Pair = get_or pairs i (0, 0) in
+    let before = c.loop-publisher.invariant in
+    let at =
+    named_at c.self.inside c.args.name.now pairs i _
+    c.entry.result c.unwrap-entry.result c.self.invariant c.holds-held.ensures.sound
+    (are_named c.self.inside c.args.name.now c.view.result pairs _ _
+    c.deref-publisher-items.ensures.value c.in_ok-publications.ensures c.view.ensures c.catalogue-catalogue.ensures)
+    c.loop-publisher-test.true c.catalogue-catalogue.ensures c.entry.ensures c.unwrap-entry.ensures in
+    let more : take (i + 1) pairs ≡ take i pairs ++ pair ∷ [] = take_more pairs i (0, 0) c.loop-publisher-test.true in
+    let here : c.loop-publisher.left ≡ length (outside_all (take i pairs) c.self.inside.held.store) =
+    before.left ∙ ap (λ (a : Alone). length (outside_all (take i pairs) a.store)) (sym c.self.view_is) in
+    let there : length (outside_all (take (i + 1) pairs) c.args.self.now.store)
+    ≡ length (outside_all (take i pairs ++ pair ∷ []) c.self.inside.held.store) =
+    ap (λ (ps : List Pair). length (outside_all ps c.args.self.now.store)) more
+    ∙ ap (λ (a : Alone). length (outside_all (take i pairs ++ pair ∷ []) a.store)) (sym c.self.view_is) in
+    record {
+      left = omega (arith, here, there, at.fewer);
+      known =
+          subst (All (λ (q : Pair). knows (alone_plan c.args.self.now) q ≡ true)) (sym more)
+          (All-push (λ (q : Pair). knows (alone_plan c.args.self.now) q ≡ true) (take i pairs) pair before.known
+          (known_alone c.self.inside c.args.self.now pair c.self.invariant c.self.view_is at.known));
+      unclaimed =
+          subst (All (λ (q : Pair). claims_part_in (alone_plan c.args.self.now) q ≡ false)) (sym more)
+          (All-push (λ (q : Pair). claims_part_in (alone_plan c.args.self.now) q ≡ false) (take i pairs) pair
+          before.unclaimed
+          (unclaimed_alone c.self.inside c.args.self.now pair c.self.view_is at.unclaimed));
+    }
 
 pub overflow_sub-result : goal.overflow_sub-result
 overflow_sub-result c =
-    let fewer = outside_shorter c.loop-entry.publications.items c.args.self.now.store in
+    let pairs : List Pair = take c.loop-publisher.publisher-index c.deref-publisher-items.result.now in
+    let fewer = outside_shorter pairs c.args.self.now.store in
     let stored = ap (λ (a : Alone). length a.store) c.self.view_is in
-    omega (arith, c.loop-entry.invariant.left, c.len.ensures, stored, fewer)
+    omega (arith, c.loop-publisher.invariant.left, c.len.ensures, stored, fewer)
 
 pub returns-clause-publications : goal.returns-clause-publications
 returns-clause-publications c =
-    c.loop-entry.invariant.named
-    ∙ all_named c.self.inside c.args.self.now c.args.name.now c.entries-entry-items.result.now c.loop-entry.entry-index
-    c.self.invariant c.self.view_is (c.entries-entry-items.ensures.entries ∙ c.catalogue.ensures)
-    (omega (arith, c.loop-entry-test.false))
+    sym c.deref-publisher-items.ensures.value
+    ∙ are_named c.self.inside c.args.name.now c.view.result c.deref-publisher-items.result.now _ _
+    c.deref-publisher-items.ensures.value c.in_ok-publications.ensures c.view.ensures c.catalogue-catalogue.ensures
+    ∙ ap (λ (a : Alone). all_named c.args.name.now (alone_catalogue a.store)) c.self.view_is
+
+pub returns-clause-in_order : goal.returns-clause-in_order
+returns-clause-in_order c =
+    let order = c.self.invariant.alone.in_order in
+    subst (Rises pair_cmp)
+    (sym (are_named c.self.inside c.args.name.now c.view.result c.in_ok-publications.publications.items _ _ refl
+    c.in_ok-publications.ensures c.view.ensures c.catalogue-catalogue.ensures))
+    (named_rises c.args.name.now (alone_catalogue c.self.inside.held.store)
+    (alone_in_order c.self.inside.held.store order))
+
+-- at the end
+all_gone : (i : ℕ) (pairs found : List Pair) → length pairs ≤ i → pairs ≡ found → take i pairs ≡ found
+all_gone i pairs found high same = take_all i pairs high ∙ same
 
 pub returns-clause-packets : goal.returns-clause-packets
 returns-clause-packets c =
-    let named : c.loop-entry.publications.items ≡ catalogued_named c.args.name.now c.args.self.now =
-    c.loop-entry.invariant.named
-    ∙ all_named c.self.inside c.args.self.now c.args.name.now c.entries-entry-items.result.now c.loop-entry.entry-index
-    c.self.invariant c.self.view_is (c.entries-entry-items.ensures.entries ∙ c.catalogue.ensures)
-    (omega (arith, c.loop-entry-test.false)) in
+    let i : ℕ = c.loop-publisher.publisher-index in
+    let pairs : List Pair = c.deref-publisher-items.result.now in
+    let named : take i pairs ≡ catalogued_named c.args.name.now c.args.self.now =
+    all_gone i pairs c.in_ok-publications.publications.items c.loop-publisher-test.false
+    c.deref-publisher-items.ensures.value
+    ∙ are_named c.self.inside c.args.name.now c.view.result c.in_ok-publications.publications.items _ _ refl
+    c.in_ok-publications.ensures c.view.ensures c.catalogue-catalogue.ensures
+    ∙ ap (λ (a : Alone). all_named c.args.name.now (alone_catalogue a.store)) c.self.view_is in
     let stored = c.len.ensures ∙ ap (λ (a : Alone). length a.store) c.self.view_is in
     let left =
-    c.loop-entry.invariant.left ∙ ap (λ (pairs : List Pair). length (outside_all pairs c.args.self.now.store)) named in
+    c.loop-publisher.invariant.left ∙ ap (λ (ps : List Pair). length (outside_all ps c.args.self.now.store)) named in
     omega (arith, stored, left)
+
+pub returns-clause-known : goal.returns-clause-known
+returns-clause-known c =
+    subst (All (λ (q : Pair). knows (alone_plan c.args.self.now) q ≡ true))
+    (all_gone c.loop-publisher.publisher-index c.deref-publisher-items.result.now _ c.loop-publisher-test.false
+    c.deref-publisher-items.ensures.value)
+    c.loop-publisher.invariant.known
+
+pub returns-clause-unclaimed : goal.returns-clause-unclaimed
+returns-clause-unclaimed c =
+    subst (All (λ (q : Pair). claims_part_in (alone_plan c.args.self.now) q ≡ false))
+    (all_gone c.loop-publisher.publisher-index c.deref-publisher-items.result.now _ c.loop-publisher-test.false
+    c.deref-publisher-items.ensures.value)
+    c.loop-publisher.invariant.unclaimed

@@ -1,29 +1,23 @@
-use Rattle.std.proofs.Common.{List, map, ap, ◌∙◌}
+use Rattle.std.proofs.Common.{◌≡◌, ℕ, List, subst}
+use Rattle.std.specs.Prelude.{IfOk, OnOk}
 use Rattle.repo_holdings.specs.Taking.{Fetched}
+use Rattle.repo_member.specs.declared.member.outcome.Kept.{Kept}
 use Rattle.repo_member.specs.Alone.{alone_takes}
-use Rattle.repo_holdings.specs.Taking.{came}
-use Rattle.repo_member.proofs.OutcomeLemmas.{takable_still, taken_is, all_counted, all_octets}
 use Rattle.repo_member.proofs.member.Member.take_outcome.Goals as goal
-
-pub take-parts-requires-clause-takable : goal.take-parts-requires-clause-takable
-take-parts-requires-clause-takable c =
-    takable_still c.self.inside c.args.self.now c.self.view_is c.reserve.new.self _ c.in_ok-reserve.ensures.ok
-    c.self.invariant c.in_ok-all.all.items c.in_ok-all.ensures.takable
 
 pub returns-clause-ok : goal.returns-clause-ok
 returns-clause-ok c =
-    taken_is c.self.inside c.args.self.now c.self.view_is c.reserve.new.self _ c.in_ok-reserve.ensures.ok
-    c.take-parts.new.self (map came c.in_ok-all.all.items) c.take-parts.ensures.taken
-    ∙ ap (λ (xs : List Fetched). alone_takes xs c.args.self.now) c.in_ok-all.ensures.came
+    subst
+    (λ (xs : List Fetched). OnOk c.take_digested.result
+    (c.take_digested.new.self ≡ alone_takes xs c.args.self.now))
+    c.in_ok-all.ensures.came c.take_digested.ensures.ok
 
 pub returns-clause-parts : goal.returns-clause-parts
 returns-clause-parts c =
-    c.take-parts.ensures.parts
-    ∙ all_counted c.args.g.now c.args.self.now c.args.jobs.now c.args.parts.now c.args.attempts.now c.requires.outcome
-    c.in_ok-all.all.items c.in_ok-all.ensures.came
+    subst (λ (n : ℕ). IfOk c.take_digested.result (λ (kept : Kept). kept.parts ≡ n)) c.in_ok-all.ensures.parts
+    c.take_digested.ensures.parts
 
 pub returns-clause-octets : goal.returns-clause-octets
 returns-clause-octets c =
-    c.take-parts.ensures.octets
-    ∙ all_octets c.args.g.now c.args.self.now c.args.jobs.now c.args.parts.now c.args.attempts.now c.requires.outcome
-    c.in_ok-all.all.items c.in_ok-all.ensures.came
+    subst (λ (n : ℕ). IfOk c.take_digested.result (λ (kept : Kept). kept.octets ≡ n)) c.in_ok-all.ensures.octets
+    c.take_digested.ensures.octets

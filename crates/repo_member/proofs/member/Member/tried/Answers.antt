@@ -7,7 +7,7 @@ use Rattle.std.proofs.lemmas.List.{append-nil}
 use Rattle.std.proofs.lemmas.List.Elements.{All-push}
 use Rattle.repo_object.specs.Verdict.{CheckedPart}
 use Rattle.repo_holdings.specs.declared.holdings.gaining.Arrival.{Arrival}
-use Rattle.repo_holdings.specs.declared.holdings.gaining.Tried.{Tried}
+use Rattle.repo_holdings.specs.declared.holdings.taking.Tried.{Tried}
 use Rattle.repo_holdings.specs.Records.{Packet}
 use Rattle.repo_holdings.specs.StoredRecords.{IsStored}
 use Rattle.repo_member.specs.Alone.{Alone, alone_plan}
@@ -17,7 +17,7 @@ use Rattle.repo_holdings.specs.Gaining.{IsArrival}
 use Rattle.repo_member.specs.Outcomes.{outcome_of}
 use Rattle.repo_holdings.specs.Taking.{came, CanBeTaken}
 use Rattle.repo_member.proofs.OutcomeLemmas.{IsSmallPart, nothing_left, first_fetched, one_more, fetched_asked}
-use Rattle.repo_member.proofs.OutcomeLemmas.{can_be_taken, all_apart, few_tried}
+use Rattle.repo_member.proofs.OutcomeLemmas.{can_be_taken, all_apart, few_tried, all_counted, all_octets}
 use Rattle.repo_member.proofs.member.Member.tried.Goals.{in-Some-checked+in_ok-arrived-in-Some-checked, in-None-checked}
 use Rattle.repo_member.proofs.member.Member.tried.Goals as goal
 
@@ -126,3 +126,13 @@ returns-clause-few c =
     let members = c.len-members.ensures.len in
     let roster = ap (λ names. length names) c.roster.ensures.names in
     omega (arith, few, members, roster, c.len-members.ensures.few, c.requires.group)
+
+pub returns-clause-parts : goal.returns-clause-parts
+returns-clause-parts c =
+    all_counted c.args.g.now c.args.self.now c.args.jobs.now c.args.parts.now c.args.attempts.now c.requires.outcome
+    c.loop-job.all.items (came_all c)
+
+pub returns-clause-octets : goal.returns-clause-octets
+returns-clause-octets c =
+    all_octets c.args.g.now c.args.self.now c.args.jobs.now c.args.parts.now c.args.attempts.now c.requires.outcome
+    c.loop-job.all.items (came_all c)

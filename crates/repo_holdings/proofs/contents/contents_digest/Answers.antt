@@ -4,7 +4,7 @@ use Rattle.sha2.specs.Hashers.{Holds256}
 use Rattle.repo_plan.specs.Parts.{Pair}
 use Rattle.repo_holdings.specs.Listed.{packet_content, stored_content, contents_joined}
 use Rattle.repo_holdings.proofs.ContentLemmas.{joined_more, lent_or}
-use Rattle.repo_holdings.proofs.listing.contents_digest.Goals as goal
+use Rattle.repo_holdings.proofs.contents.contents_digest.Goals as goal
 
 pub loop-x-preserved : goal.loop-x-preserved
 loop-x-preserved c =

@@ -1,25 +1,48 @@
-use Rattle.std.proofs.Common.{◌≡◌, ◌+◌, Bool, true, false, cond, ℕ, List, [], map, length, Option, Some, None}
+use Rattle.std.proofs.Common.{◌≡◌, Bool, true, false, cond, ℕ, List, [], map, length, Option, Some, None}
 use Rattle.std.proofs.Common.{option_map}
 use Rattle.std.proofs.Common.{unwrap_or, count_by, sum_by, is_some, refl, sym, ap, ◌∙◌, subst, arith}
 use Rattle.std.specs.List.{All}
 use Rattle.std.specs.Vec.Iter.{into_iter_items}
 use Rattle.std.proofs.lemmas.List.Elements.{All-head, All-tail}
 use Rattle.std.proofs.lemmas.List.Sums.{sum_by-cons}
-use Rattle.repo_holdings.specs.declared.holdings.gaining.Tried.{Tried}
+use Rattle.repo_holdings.specs.declared.holdings.taking.Tried.{Tried}
 use Rattle.repo_holdings.specs.declared.holdings.gaining.Arrival.{Arrival}
-use Rattle.repo_holdings.specs.Gaining.{HaveRoom}
-use Rattle.repo_holdings.specs.Taking.{came, arrival_octets, CanBeTaken, AreTakable, with_all_fetched, with_all_tries}
-use Rattle.repo_holdings.proofs.TakingLemmas.{less_room, still_takable, keeps_on}
-use Rattle.repo_holdings.proofs.holdings.gaining.take_all.Goals as goal
+use Rattle.repo_holdings.specs.Records.{Packet}
+use Rattle.repo_holdings.specs.Contents.{IsDigestIn}
+use Rattle.repo_holdings.specs.Taking.{came, arrival_octets, CanBeTaken, AreTakable, with_fetched, with_all_fetched}
+use Rattle.repo_holdings.specs.Taking.{with_all_tries}
+use Rattle.repo_holdings.proofs.FreshLemmas.{digests_sooner, fetched_stays}
+use Rattle.repo_holdings.proofs.TakingLemmas.{still_takable, keeps_on}
+use Rattle.repo_holdings.proofs.holdings.taking.take_all.Goals as goal
 
-pub take_one-came-requires-clause-room : goal.take_one-came-requires-clause-room
-take_one-came-requires-clause-room c =
+pub take_one-came-requires-clause-plan_room : goal.take_one-came-requires-clause-plan_room
+take_one-came-requires-clause-plan_room c =
     let fewer = ap (λ (r : List Tried). length r) c.in-Some.ensures.steps.0 in
-    less_room c.loop-tried.plan c.loop-tried.store c.loop-tried.catalogue _ 1
-    (c.loop-tried.invariant.room 0
-    (less_room c.args.plan.now c.args.store.now c.args.catalogue.now _ _ c.requires.room
-    (omega (arith, c.args.all.ok.0))))
-    (omega (arith, fewer))
+    omega (arith, fewer, c.loop-tried.invariant.plan_room, c.requires.plan_room, c.args.all.ok.0)
+
+pub take_one-came-requires-clause-store_room : goal.take_one-came-requires-clause-store_room
+take_one-came-requires-clause-store_room c =
+    let fewer = ap (λ (r : List Tried). length r) c.in-Some.ensures.steps.0 in
+    omega (arith, fewer, c.loop-tried.invariant.store_room, c.requires.store_room, c.args.all.ok.0)
+
+pub take_one-came-requires-clause-fresh_room : goal.take_one-came-requires-clause-fresh_room
+take_one-came-requires-clause-fresh_room c =
+    let fewer = ap (λ (r : List Tried). length r) c.in-Some.ensures.steps.0 in
+    let before = c.loop-tried.invariant in
+    omega (arith, fewer, before.few_fresh, before.fresh_room, c.requires.fresh_room, c.args.all.ok.0)
+
+-- what is told of all that will be stored is true with one packet more
+pub take_one-came-requires-clause-digests : goal.take_one-came-requires-clause-digests
+take_one-came-requires-clause-digests c =
+    let later = into_iter_items c.next.new.self in
+    let one : List Packet =
+    with_fetched c.in-Some.tried.part (came c.in-Some.tried).packet c.loop-tried.store.packets in
+    let all : with_all_fetched (map came later) one
+    ≡ with_all_fetched (map came c.args.all.items) c.args.store.now.packets =
+    sym (ap (λ (r : List Tried). with_all_fetched (map came r) c.loop-tried.store.packets) c.in-Some.ensures.steps.0)
+    ∙ c.loop-tried.invariant.packets in
+    digests_sooner one (with_all_fetched (map came later) one) c.args.digests.now (fetched_stays (map came later) one)
+    (subst (λ (p : List Packet). All (IsDigestIn p) c.args.digests.now) (sym all) c.requires.digests)
 
 pub take_one-came-requires-clause-takable : goal.take_one-came-requires-clause-takable
 take_one-came-requires-clause-takable c =
@@ -46,6 +69,7 @@ loop-tried-preserved c =
     let inv = c.loop-tried.invariant in
     let rest = c.in-Some.ensures.steps.0 in
     let later = into_iter_items c.next.new.self in
+    let fewer = ap (λ (r : List Tried). length r) rest in
     let takable = subst (AreTakable c.loop-tried.plan c.loop-tried.store.packets) rest inv.takable in
     let can = All-head (CanBeTaken c.loop-tried.plan c.loop-tried.store.packets) c.in-Some.tried later takable.each in
     let one =
@@ -68,14 +92,16 @@ loop-tried-preserved c =
           ∙ sym (ap (λ (r : List Tried). with_all_tries (map came r) c.loop-tried.plan.attempts) rest) ∙ inv.attempts;
       others =
           keeps_on c.args.plan.now c.loop-tried.plan c.take_one-came.new.plan inv.others c.take_one-came.ensures.others;
-      kept = c.take_one-came.ensures.kept;
-      room = λ n was. c.take_one-came.ensures.room (n + length later)
-          (subst (λ (k : ℕ). HaveRoom k c.loop-tried.plan c.loop-tried.store c.loop-tried.catalogue)
-          (omega (arith, ap (λ (r : List Tried). length r) rest)) (inv.room n was));
+      tied = c.take_one-came.ensures.tied;
+      listed = λ entries was. c.take_one-came.ensures.listed entries (inv.listed entries was);
+      plan_room = omega (arith, fewer, inv.plan_room, c.take_one-came.ensures.plan_room);
+      store_room = omega (arith, fewer, inv.store_room, c.take_one-came.ensures.store_room);
+      few_fresh = omega (arith, fewer, inv.few_fresh, c.take_one-came.ensures.few_fresh);
+      fresh_room = omega (arith, inv.fresh_room, c.take_one-came.ensures.fresh_room);
       takable = record {
         each =
             still_takable c.loop-tried.plan c.take_one-came.new.plan c.loop-tried.store.packets
-            c.take_one-came.new.store.packets c.in-Some.tried inv.kept.tied c.take_one-came.ensures.kept.tied can
+            c.take_one-came.new.store.packets c.in-Some.tried inv.tied c.take_one-came.ensures.tied can
             c.take_one-came.ensures.packets c.take_one-came.ensures.attempts c.take_one-came.ensures.others later
             takable.apart.0
             (All-tail (CanBeTaken c.loop-tried.plan c.loop-tried.store.packets) c.in-Some.tried later takable.each);
@@ -84,10 +110,3 @@ loop-tried-preserved c =
       count = omega (arith, one, more, so_far, inv.count);
       octets = omega (arith, octets, more_octets, octets_so_far, inv.octets);
     }
-
-pub returns-clause-room : goal.returns-clause-room
-returns-clause-room c = λ n was.
-    less_room c.loop-tried.plan c.loop-tried.store c.loop-tried.catalogue _ n
-    (c.loop-tried.invariant.room n
-    (less_room c.args.plan.now c.args.store.now c.args.catalogue.now _ _ was (omega (arith, c.args.all.ok.0))))
-    (omega (arith))

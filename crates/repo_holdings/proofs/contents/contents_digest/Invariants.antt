@@ -1,7 +1,7 @@
 use Rattle.std.proofs.Common.{◌≡◌, ◌≤◌, ◌*◌, length}
 use Rattle.sha2.specs.Hashers.{Holds256}
 use Rattle.repo_holdings.specs.Listed.{contents_joined}
-use Rattle.repo_holdings.proofs.listing.contents_digest.Given as goal
+use Rattle.repo_holdings.proofs.contents.contents_digest.Given as goal
 
 abbrev pub invariant-loop-x : goal.invariant-loop-x
 invariant-loop-x l = record {

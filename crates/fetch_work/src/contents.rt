@@ -1,0 +1,57 @@
+// Digests over the contents of publications, made in threads.
+ghost use Rattle.std.specs.Prelude.{◌≡◌, ◌≤◌, List, length, IfOk};
+ghost use Rattle.std.specs.List.{All};
+ghost use Rattle.repo_holdings.specs.Records.{Packet};
+ghost use Rattle.repo_holdings.specs.Contents.{IsDigestIn};
+ghost use Rattle.repo_holdings.specs.WholeContents.{IsWholeIn};
+
+use repo_holdings::{ContentsDigest, Whole};
+use std::alloc::{AllocError, Global};
+use std::thread;
+use std::thread::Threads;
+
+// To begin a thread is worth it where it has about the contents of so many segments.
+const WORTH: usize = 16;
+
+/// The digests over the contents of publications that become whole, in their order, by at most so many workers. Each
+/// worker takes some that stand beside each other; where there are few segments, fewer workers do.
+pub fn digests<R: Threads + Sync>(
+    rt: &R,
+    alloc: Global,
+    whole: &[Whole<'_>],
+    workers: u32,
+) -> Result<Vec<ContentsDigest>, AllocError>
+    requires workers { (1 ≤ workers) × (workers ≤ 16) }
+    ensures count { IfOk result (λ digests. length digests.items ≡ length whole.now) }
+    ensures told { IfOk result (λ digests. (packets : List Packet) → All (IsWholeIn packets) whole.now
+        → All (IsDigestIn packets) digests.items) }
+{
+    let empty = ContentsDigest {
+        publisher: 0,
+        seq: 0,
+        octets: 0,
+        digest: [0; 32],
+    };
+    let mut digests = vec![in alloc; empty; whole.len()]?;
+    let threads = worth(whole).min(workers as usize);
+    thread::for_each_mut(
+        rt,
+        &mut digests,
+        threads,
+        &|place, told| {
+            *told = whole[place].digest();
+        },
+    );
+    Ok(digests)
+}
+
+// How many threads the contents are worth: one at least.
+fn worth(whole: &[Whole<'_>]) -> usize
+    ensures { 1 ≤ result }
+{
+    let mut segments: usize = 0;
+    for publication in whole {
+        segments = segments.saturating_add(publication.contents.len());
+    }
+    1 + segments / WORTH
+}

@@ -1,0 +1,140 @@
+-- Packets that are stored once all that came is taken, and the contents of what becomes whole by them.
+use Rattle.std.proofs.Common.{◌≡◌, ◌<◌, ◌+◌, ◌++◌, take, ℕ, zero, suc, Bor, Bool, true, false, cond, List, [], ◌∷◌, map, length, get_or}
+use Rattle.std.proofs.Common.{refl, sym, ap, ◌∙◌, subst, Option, Some, None, option_map, is_some, arith}
+use Rattle.std.specs.Prelude.{IfSome}
+use Rattle.std.specs.Option.{option_and_then}
+use Rattle.std.specs.Ordering.{eq_by_cmp}
+use Rattle.std.proofs.lemmas.Bool.{or_parts}
+use Rattle.std.proofs.lemmas.List.{take_more}
+use Rattle.sha2.specs.Sha256.{sha256}
+use Rattle.sorted_lists.specs.SortedList.{keys, contains, value_of, with_value}
+use Rattle.sorted_lists.proofs.Sets.{eq_same, eq_itself, value_of-with_value}
+use Rattle.repo_plan.specs.declared.part.Part.{Part}
+use Rattle.repo_plan.specs.Parts.{Pair, part_cmp, part_of}
+use Rattle.repo_plan.specs.Plan.{PlanState, shape_of}
+use Rattle.repo_plan.proofs.Orders.{exact_parts}
+use Rattle.repo_object.specs.Publication.{Listed}
+use Rattle.repo_object.specs.Verdict.{listing_in}
+use Rattle.repo_store.specs.StoreList.{with_packet}
+use Rattle.repo_catalog.specs.declared.entry.Entry.{Entry}
+use Rattle.repo_holdings.specs.Records.{Packet}
+use Rattle.repo_holdings.specs.Listed.{listing_at, listed_shape, stored_at, are_stored, contents_joined, entry_listed}
+use Rattle.repo_holdings.specs.Listed.{entry_of_listing, entry_at}
+use Rattle.repo_holdings.specs.declared.contents.ContentsDigest.{ContentsDigest}
+use Rattle.repo_holdings.specs.Contents.{IsOver, IsToldBy, IsDigestIn}
+use Rattle.repo_holdings.specs.declared.holdings.whole.Whole.{Whole}
+use Rattle.repo_holdings.specs.WholeContents.{joined, AreContentsIn, IsWholeIn}
+use Rattle.repo_holdings.specs.Gaining.{AreTied}
+use Rattle.repo_holdings.specs.Taking.{came, with_fetched, with_all_fetched, PartsDiffer}
+use Rattle.repo_holdings.specs.declared.holdings.taking.Tried.{Tried}
+use Rattle.repo_holdings.proofs.ContentLemmas.{flat_append, append_nothing}
+use Rattle.repo_holdings.proofs.GainingLemmas.{contains-value, put_here, shape_told}
+use Rattle.repo_holdings.proofs.FreshLemmas.{StayStored, fetched_stays}
+
+-- ---- packets that came
+
+missing_apart : (packets : List Packet) (u : Part) (octets : List ℕ) (q : Part) → eq_by_cmp part_cmp q u ≡ false
+    → value_of part_cmp packets q ≡ None → value_of part_cmp (with_packet u octets packets) q ≡ None
+missing_apart packets u octets q other none = go (contains part_cmp (keys packets) u) where
+  go : (b : Bool) → value_of part_cmp (cond b packets (with_value part_cmp u octets packets)) q ≡ None
+  go true = none
+  go false =
+      value_of-with_value exact_parts u octets packets q
+      ∙ ap (λ (b : Bool). cond b (Some octets) (value_of part_cmp packets q)) other
+      ∙ none
+
+other_at : (xs : List Tried) (u : Part) (i : ℕ) (d : Tried) → contains part_cmp (map (λ (x : Tried). x.part) xs) u ≡ false
+    → i < length xs → eq_by_cmp part_cmp u (get_or xs i d).part ≡ false
+other_at [] u i d h low = absurd (omega (arith, low))
+other_at (x ∷ xs) u zero d h low = (or_parts (eq_by_cmp part_cmp u x.part) _ h).0
+other_at (x ∷ xs) u (suc i) d h low =
+    other_at xs u i d (or_parts (eq_by_cmp part_cmp u x.part) _ h).1 (omega (arith, low))
+
+turned : (a b : Part) → eq_by_cmp part_cmp a b ≡ false → eq_by_cmp part_cmp b a ≡ false
+turned a b h = go (eq_by_cmp part_cmp b a) refl where
+  go : (c : Bool) → eq_by_cmp part_cmp b a ≡ c → c ≡ false
+  go true p =
+      sym (eq_itself exact_parts a)
+      ∙ ap (λ (t : Part). eq_by_cmp part_cmp a t) (sym (eq_same exact_parts b a p))
+      ∙ h
+  go false p = refl
+
+-- a packet that came for a part of which none was stored
+pub fetched_at : (xs : List Tried) (packets : List Packet) (i : ℕ) (d : Tried) (octets : List ℕ)
+    → PartsDiffer (map (λ (x : Tried). x.part) xs) → i < length xs
+    → value_of part_cmp packets (get_or xs i d).part ≡ None → (came (get_or xs i d)).packet ≡ Some octets
+    → value_of part_cmp (with_all_fetched (map came xs) packets) (get_or xs i d).part ≡ Some octets
+fetched_at [] packets i d octets differ low none packet = absurd (omega (arith, low))
+fetched_at (x ∷ xs) packets zero d octets differ low none packet =
+    fetched_stays (map came xs) (with_fetched x.part (came x).packet packets) x.part octets
+    (ap (λ (o : Option (List ℕ)). value_of part_cmp (with_fetched x.part o packets) x.part) packet
+    ∙ put_here packets x.part octets (contains-value packets x.part ∙ ap is_some none))
+fetched_at (x ∷ xs) packets (suc i) d octets differ low none packet =
+    fetched_at xs (with_fetched x.part (came x).packet packets) i d octets differ.1 (omega (arith, low))
+    (still (came x).packet) packet where
+      other : eq_by_cmp part_cmp (get_or xs i d).part x.part ≡ false
+      other = turned x.part (get_or xs i d).part (other_at xs x.part i d differ.0 (omega (arith, low)))
+
+      still : (o : Option (List ℕ)) → value_of part_cmp (with_fetched x.part o packets) (get_or xs i d).part ≡ None
+      still None = none
+      still (Some more) = missing_apart packets x.part more (get_or xs i d).part other none
+
+-- ---- contents of what becomes whole
+
+pub joined-push : (pieces : List (Bor (List ℕ))) (piece : Bor (List ℕ))
+    → joined (pieces ++ piece ∷ []) ≡ joined pieces ++ piece.now
+joined-push pieces piece =
+    flat_append (λ (p : Bor (List ℕ)). p.now) pieces (piece ∷ [])
+    ∙ ap (λ (rest : List ℕ). joined pieces ++ rest) (append_nothing piece.now)
+
+pub joined_next : (pieces : List (Bor (List ℕ))) (i : ℕ) (d : Bor (List ℕ)) → i < length pieces
+    → joined (take (i + 1) pieces) ≡ joined (take i pieces) ++ (get_or pieces i d).now
+joined_next pieces i d low =
+    ap joined (take_more pieces i d low) ∙ joined-push (take i pieces) (get_or pieces i d)
+
+-- a digest over the contents of a publication is told truly
+pub told_truly : (packets : List Packet) (w : Whole) (d : ContentsDigest) → d.publisher ≡ w.publisher → d.seq ≡ w.seq
+    → d.octets ≡ length (joined w.contents.items) → d.digest ≡ sha256 (joined w.contents.items) → IsWholeIn packets w
+    → IsDigestIn packets d
+told_truly packets w d publisher seq octets digest whole =
+    let here : Pair = (d.publisher, d.seq) in
+    let there : Pair = (w.publisher, w.seq) in
+    let same : here ≡ there = cc in
+    subst (λ (q : Pair). IfSome (entry_at packets q) (IsToldBy d)) (sym same)
+    (go (entry_at packets there) whole.contents) where
+      go : (o : Option Entry) → IfSome o (IsOver (joined w.contents.items)) → IfSome o (IsToldBy d)
+      go None h = tt
+      go (Some e) h = record { octets = octets ∙ sym h.octets; digest = digest ∙ sym h.digest }
+
+none_shape : (n : ℕ) → (let none : Option ℕ = None in none) ≡ Some n → ⊥
+none_shape n h = cc
+
+-- the contents of so many segments as the stored record lists
+pub contents_are : (plan : PlanState) (packets after : List Packet) (pair : Pair) (n : ℕ)
+    (contents : List (Bor (List ℕ))) → AreTied plan packets → StayStored packets after → Some n ≡ shape_of plan pair
+    → joined contents ≡ contents_joined after pair n → AreContentsIn after pair contents
+contents_are plan packets after pair n contents tied stays told same =
+    over (listing_at after pair)
+    (ap (option_map listed_shape) (listing_stays (stored_at packets pair 0) refl counted) ∙ counted) where
+      counted : option_map listed_shape (listing_at packets pair) ≡ Some n
+      counted = sym (shape_told plan packets pair tied) ∙ sym told
+
+      listing_stays : (o : Option (List ℕ)) → stored_at packets pair 0 ≡ o
+          → option_map listed_shape (option_and_then listing_in o) ≡ Some n
+          → listing_at after pair ≡ option_and_then listing_in o
+      listing_stays None p h = absurd (none_shape n h)
+      listing_stays (Some octets) p h = ap (option_and_then listing_in) (stays (part_of pair 0) octets p)
+
+      over : (o : Option Listed) → option_map listed_shape o ≡ Some n
+          → IfSome (option_and_then (entry_listed after pair) o) (IsOver (joined contents))
+      over None h = tt
+      over (Some l) h = at (are_stored after pair (listed_shape l)) where
+        shape : listed_shape l ≡ n
+        shape = cc
+
+        here : contents_joined after pair (listed_shape l) ≡ joined contents
+        here = ap (contents_joined after pair) shape ∙ sym same
+
+        at : (b : Bool) → IfSome (cond b (Some (entry_of_listing after pair l)) None) (IsOver (joined contents))
+        at true = record { octets = ap length here; digest = ap sha256 here }
+        at false = tt

@@ -1,0 +1,22 @@
+-- The contents of publications that become whole.
+use Rattle.std.specs.Prelude.{ℕ, ◌<◌, ◌^◌, List, length, IfSome}
+use Rattle.std.specs.List.{flat_map}
+use Rattle.std.specs.Borrow.{Bor}
+use Rattle.repo_plan.specs.Parts.{Pair}
+use Rattle.repo_holdings.specs.Records.{Packet}
+use Rattle.repo_holdings.specs.Listed.{entry_at}
+use Rattle.repo_holdings.specs.Contents.{IsOver}
+use Rattle.repo_holdings.specs.declared.holdings.whole.Whole.{Whole}
+
+-- octets that lie in several places, one after another
+abbrev pub joined : List (Bor (List ℕ)) → List ℕ
+joined pieces = flat_map (λ piece. piece.now) pieces
+
+-- these are the contents of the publication, where it is stored wholly
+abbrev pub AreContentsIn : List Packet → Pair → List (Bor (List ℕ)) → Type 0
+AreContentsIn packets pair contents = IfSome (entry_at packets pair) (IsOver (joined contents))
+
+-- the same of a publication that is told with its contents, whose octets a `u64` counts
+pub record IsWholeIn (packets : List Packet) (w : Whole) : Type 0 where
+  pub contents : AreContentsIn packets (w.publisher, w.seq) w.contents.items
+  pub few : length (joined w.contents.items) < 2 ^ 64

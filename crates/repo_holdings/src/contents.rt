@@ -1,0 +1,72 @@
+// The contents of publications, joined, and their digests.
+ghost use Rattle.std.specs.Prelude.{◌≡◌, ◌≤◌, length, IsSomeAnd};
+ghost use Rattle.std.specs.List.{All};
+ghost use Rattle.sha2.specs.Sha256.{sha256};
+ghost use Rattle.repo_holdings.specs.Listed.{entry_at, packet_content, contents_joined};
+ghost use Rattle.repo_holdings.specs.Contents.{IsOver, IsDigestIn};
+
+use ndn_data::DataView;
+use repo_plan::Part;
+use repo_store::Store;
+use sha2::{Digest, Sha256};
+
+/// How many octets the contents of a publication's segments have together, and the SHA-256 of them joined.
+#[derive(Clone, Copy, Debug, PartialEq, Eq)]
+pub struct ContentsDigest {
+    pub publisher: u32,
+    pub seq: u16,
+    pub octets: u64,
+    pub digest: [u8; 32],
+}
+
+// How many octets the contents of a publication that is stored wholly have together, and their digest: as they are
+// told, or else as they are found now. A digest is found among those that are told where these are in order.
+pub(crate) fn told_or_taken(
+    store: &Store,
+    publisher: u32,
+    seq: u16,
+    segments: u8,
+    digests: &[ContentsDigest],
+) -> (u64, [u8; 32])
+    requires digests { All (IsDigestIn store.now.packets) digests.now }
+    requires whole { IsSomeAnd (entry_at store.now.packets (publisher, seq))
+        (IsOver (contents_joined store.now.packets (publisher, seq) segments)) }
+    ensures octets { result.0 ≡ length (contents_joined store.now.packets (publisher, seq) segments) }
+    ensures digest { result.1 ≡ sha256 (contents_joined store.now.packets (publisher, seq) segments) }
+{
+    match digests.binary_search_by_key(&(publisher, seq), |d| (d.publisher, d.seq)) {
+        Ok(place) => (digests[place].octets, digests[place].digest),
+        Err(_) => contents_digest(store, publisher, seq, segments),
+    }
+}
+
+// How many octets the contents of a publication's first so many segments have together, and their digest.
+fn contents_digest(store: &Store, publisher: u32, seq: u16, segments: u8) -> (u64, [u8; 32])
+    ensures octets { result.0 ≡ length (contents_joined store.now.packets (publisher, seq) segments) }
+    ensures digest { result.1 ≡ sha256 (contents_joined store.now.packets (publisher, seq) segments) }
+{
+    let mut octets = 0;
+    let mut digest = Sha256::new();
+    for x in 0..segments {
+        let part = Part {
+            publisher,
+            seq,
+            part: x + 1,
+        };
+        let content = content_of(store.get(part).unwrap_or(&[]));
+        octets += content.len() as u64;
+        digest.update(content);
+    }
+    (octets, digest.finalize())
+}
+
+// The content of a packet.
+pub(crate) fn content_of(packet: &[u8]) -> &[u8]
+    ensures exact { result.now ≡ packet_content packet.now }
+    ensures short { length result.now ≤ 8800 }
+{
+    match DataView::read(packet) {
+        Ok(data) => data.content,
+        Err(_) => &[],
+    }
+}
