@@ -3,8 +3,8 @@ use Rattle.std.specs.Prelude.{ℕ, ◌≡◌, ◌+◌, ◌<◌, List, ◌++◌, 
 use Rattle.std.specs.Prelude.{OnErr, IfErr}
 use Rattle.group_model.specs.Events as group
 use Rattle.group_model.specs.Refusals.{refusal, EventsAreTaken}
-use Rattle.group_model.specs.World.{Outside, World}
-use Rattle.group_model.specs.Steps.{after_event, after_events}
+use Rattle.group_model.specs.World.{Outside, World, catalogue_at}
+use Rattle.group_model.specs.Steps.{after_event, after_events, after_gathering}
 use Rattle.group_model.specs.Laws.{NothingHidden, NothingWanted, AllJoined, TellsAll}
 use Rattle.repo_member.specs.Groups.{GroupKeys}
 use Rattle.bench_world.specs.declared.event.Event.{Event}
@@ -13,13 +13,31 @@ use Rattle.bench_world.specs.declared.event.StepFault.{StepFault}
 use Rattle.bench_world.specs.EventValues.{EventValue, event_value, group_event, told_value, telling}
 use Rattle.bench_world.specs.Settling.{ArePartlySettled}
 use Rattle.bench_world.specs.Steps.{IsFaultOf}
-use Rattle.bench_world.specs.Worlds.{GroupState, in_groups, world_of}
+use Rattle.bench_world.specs.Worlds.{GroupState, IsTrueState, in_groups, world_of}
 
 -- What a settle leaves that wanted memory: it counts as a step, each member has come a part of the way, and nothing
--- else has changed.
+-- else has changed. The group is as true as it was, its members' packets among it.
 pub record HaveSettledPart (old new : GroupState) : Type 0 where
   pub same : new ≡ record old { members = new.members; steps = old.steps + 1 }
   pub members : ArePartlySettled (world_of old) (in_groups new.members)
+  pub begun : IsTrueState old
+  pub truly : IsTrueState new
+
+-- Two groups have the same members, and so the same catalogues.
+pub record HaveSameMembers (w v : World) : Type 0 where
+  pub members : w.members ≡ v.members
+  pub catalogues : (j : ℕ) → catalogue_at w j ≡ catalogue_at v j
+
+-- A settle that then succeeds leaves the members that the one that failed would have left.
+abbrev pub GathersAgain : Type 0
+GathersAgain = (out : Outside) (old new : GroupState) → HaveSettledPart old new
+    → HaveSameMembers (after_gathering out (world_of new)) (after_gathering out (world_of old))
+
+-- So does its step.
+abbrev pub SettlesAgain : Type 0
+SettlesAgain = (out : Outside) (old new : GroupState) → HaveSettledPart old new
+    → HaveSameMembers (after_event out (world_of new) group.Event.Settle)
+    (after_event out (world_of old) group.Event.Settle)
 
 -- All stands as before, but for such a settle.
 abbrev pub StandsAsBefore : EventValue → GroupState → GroupState → Type 0
@@ -51,12 +69,14 @@ event_values events = map event_value events
 abbrev pub group_events : GroupKeys → List EventValue → List group.Event
 group_events g events = map (group_event g) events
 
--- The events before that of this number were carried out, and left this group; then came the fault.
+-- The events before that of this number were carried out, each a step, and left this group; then came the fault.
 pub record IsStopped (out : Outside) (begun : GroupState) (events : List EventValue) (k : ℕ) (told : StepFault)
     (new : GroupState) : Type 0 where
   pub inside : k < length events
   pub taken : EventsAreTaken out (world_of begun) (group_events begun.keys (take k events))
   pub before : GroupState
+  pub steps : before.steps ≡ begun.steps + k
+  pub keys : before.keys ≡ begun.keys
   pub world : world_of before ≡ after_events out (world_of begun) (group_events begun.keys (take k events))
   pub stands : StandsAsBefore (slice_index_or events k EventValue.Traffic) before new
   pub because : IsFaultOf

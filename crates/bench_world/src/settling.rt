@@ -8,7 +8,7 @@ ghost use Rattle.bench_world.specs.Sizes.{size_of};
 ghost use Rattle.bench_world.specs.Truth.{AreFewLogs, AllTriedFew};
 ghost use Rattle.bench_world.specs.Worlds.{alone_at, in_groups, tells, AllCountsStay, AreTrueMembers};
 ghost use Rattle.bench_world.specs.Worlds.{MembersAreNumbered};
-ghost use Rattle.bench_world.specs.Settling.{told_of, gain_sum, ArePartlySettled, SettlesAgain};
+ghost use Rattle.bench_world.specs.Settling.{told_of, gain_sum, ArePartlySettled};
 
 use crate::exchange::gather_all;
 use crate::telling::{Told, all_known, learn_all, tell_all};
@@ -53,11 +53,6 @@ pub(crate) fn settle_members<N: Net + Sync, R: Threads + Sync>(
     let (parts, octets) = gather_all(rt, alloc, g, net, workers, members)?;
     Ok((told, parts, octets))
 }
-
-/// A settle that wanted memory can be made again, and then leaves what it would have left at first.
-pub fn a_settle_can_be_made_again()
-    ensures { SettlesAgain }
-{}
 
 /// What was told is sent, for which room was made.
 pub(crate) fn send_all(sent: &mut Sent, told: Vec<Told>)

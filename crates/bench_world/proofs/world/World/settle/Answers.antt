@@ -83,7 +83,9 @@ returns-in-Err-clause-err g c =
     })) c.self.view_is
     (subst (λ (ps : List SentPacket). HaveSettledPart s
     (record s { members = c.settle_members-settled.new.members.items; sent = ps; steps = s.steps + 1 })) (sym same)
-    (partly s c.self.invariant few c.settle_members-settled.new.members.items c.in-Err.ensures.err))
+    (partly s c.self.invariant few c.settle_members-settled.new.members.items c.settle_members-settled.ensures.len
+    c.settle_members-settled.ensures.numbers c.settle_members-settled.ensures.truly
+    c.settle_members-settled.ensures.counts c.in-Err.ensures.err))
 
 pub send_all-requires-clause-room : goal.send_all-requires-clause-room
 send_all-requires-clause-room g c =
