@@ -10,7 +10,7 @@ ghost use Rattle.bench_world.specs.Steps.{IsFaultOf};
 
 use super::World;
 use crate::event::{Happened, StepFault};
-use crate::numbers::numbers;
+use crate::numbers::{numbers, vector_of};
 use bench_net::{Draws, Sent};
 use repo_member::Fire;
 use svs_sync::Mode;
@@ -37,14 +37,15 @@ impl World {
             (group_event self.old.keys (EventValue.Deliver k m)))) }
         ensures err { OnErr result (self.new ≡ self.old) }
     {
-        let Some(octets) = self.sent.octets(k) else {
+        let Some(numbers) = self.sent.vector(k) else {
             return Err(StepFault::Refused { number: 5 });
         };
+        let told = vector_of(self.alloc, numbers)?;
         let member = &mut self.members[m as usize];
         let draw = draws.draw(m, member.next_draw());
-        // It was sent by a member, so only memory can be wanting.
-        let Ok(mode) = member.hear(&self.group, octets, self.moment, draw) else {
-            return Err(StepFault::NoMemory);
+        // A member sent it, so it tells of no publication that there isn't.
+        let Ok(mode) = member.hear_vector(&told, self.moment, draw) else {
+            unreachable!()
         };
         self.delivered += 1;
         self.steps += 1;
