@@ -19,19 +19,16 @@ fetch_at-fetched-requires g c κs within =
           c.type_bounds.sync-N,
           (
             c.type_bounds.sync-R,
-            (
-              c.requires.workers,
-              (
-                c.requires.tries,
-                (
-                  there,
-                  (
-                    few_logs s c.self.invariant,
-                    (refl, (c.self.invariant.numbers, (c.self.invariant.members, tried_few s c.self.invariant))),
-                  ),
-                ),
-              ),
-            ),
+            record {
+              workers = c.requires.workers;
+              tries = c.requires.tries;
+              there = there;
+              logs = few_logs s c.self.invariant;
+              begun = refl;
+              numbers = c.self.invariant.numbers;
+              truly = c.self.invariant.members;
+              tried = tried_few s c.self.invariant;
+            },
           ),
         ),
       ),

@@ -41,19 +41,15 @@ settle_members-settled-requires g c κs within =
           c.type_bounds.sync-N,
           (
             c.type_bounds.sync-R,
-            (
-              c.requires.workers,
-              (
-                few_logs s c.self.invariant,
-                (
-                  refl,
-                  (
-                    c.self.invariant.numbers,
-                    (c.self.invariant.members, (sound_only s c.self.invariant, tried_few s c.self.invariant)),
-                  ),
-                ),
-              ),
-            ),
+            record {
+              workers = c.requires.workers;
+              logs = few_logs s c.self.invariant;
+              begun = refl;
+              numbers = c.self.invariant.numbers;
+              truly = c.self.invariant.members;
+              sound = sound_only s c.self.invariant;
+              tried = tried_few s c.self.invariant;
+            },
           ),
         ),
       ),
