@@ -1,6 +1,6 @@
 -- What is told of an event names all members where it names any.
 use Rattle.std.proofs.Common.{◌≡◌, ℕ, Bool, true, false, cond, Option, Some, None, List, map, length, ap, ◌∙◌, arith}
-use Rattle.std.specs.Prelude.{Result, Ok, Err, slice_index}
+use Rattle.std.specs.Prelude.{Result, Ok, Err}
 use Rattle.std.proofs.lemmas.List.{length-map}
 use Rattle.ndn_data.specs.Data.{Data}
 use Rattle.ndn_name.specs.declared.fault.PacketFault.{PacketFault}
@@ -17,20 +17,20 @@ use Rattle.repo_process.specs.Processes.{BlockState}
 use Rattle.repo_process.specs.Processes.BlockState.{Unknown, Already, Waiting, Whole}
 use Rattle.repo_store.specs.Served.{served}
 use Rattle.group_model.specs.Member.{Member, member_holds}
-use Rattle.group_model.specs.Replies.{CatalogueTotals}
+use Rattle.group_model.specs.Replies.{CatalogueTotals, HearOutcome}
 use Rattle.group_model.specs.Sound.{IsSoundGroup}
 use Rattle.group_model.specs.World.{Outside, World, member, logs, sent_at, catalogue_at}
-use Rattle.group_model.specs.Steps.{catalogue_totals, claim_at, to_claim, timer_at, mode_at, after_deliver}
-use Rattle.group_model.specs.Steps.{tells_too_much, came_from, passes_checks, next_seq_at, next_sync, block_at}
+use Rattle.group_model.specs.Steps.{catalogue_totals, all_totals, claim_at, to_claim, timer_at, mode_at, after_deliver}
+use Rattle.group_model.specs.Steps.{came_from, passes_checks, next_seq_at, next_sync, block_at, hear_outcome}
 use Rattle.group_model.proofs.Runs.{length_numbers}
-use Rattle.repo_member.specs.declared.refusals.HearRefusal.TheVariants as hear
 use Rattle.repo_member.specs.Groups.{GroupKeys}
 use Rattle.repo_member.specs.Verdicts.{group_verdict}
 use Rattle.repo_member.specs.InGroup.{true_packet}
 use Rattle.repo_member.specs.TrueMembers.{true_want, true_packets}
-use Rattle.bench_world.specs.EventValues.{EventValue, Told, part_at, telling, all_totals, delivered_told, fired_told}
-use Rattle.bench_world.specs.EventValues.{claim_told, lost_told, answer_told, dump_told, mode_told, hear_told, ask_told}
-use Rattle.bench_world.specs.EventValues.{fed_told, feed_told, block_told}
+use Rattle.bench_world.specs.EventValues.{EventValue, Told, part_at, telling, delivered_told, fired_told}
+use Rattle.bench_world.specs.EventValues.{claim_told, lost_told, answer_told, dump_told, mode_told, heard_as, hear_told}
+use Rattle.bench_world.specs.EventValues.{ask_told, fed_told, feed_told, block_told}
+use Rattle.bench_world.specs.Readings.{read_as}
 use Rattle.bench_world.specs.Steps.{IsReady, NamesAll}
 
 module _ (n : ℕ) where
@@ -83,14 +83,14 @@ module _ (n : ℕ) where
   of_block m seq sync (Waiting p) = tt
   of_block m seq sync (Whole p) = tt
 
-  of_hear : (out : Outside) (w : World) (m : ℕ) (r : Result (ℕ × List ℕ) SyncRefusal) → NamesAll n (hear_told out w m r)
-  of_hear out w m (Err refusal) = tt
-  of_hear out w m (Ok told) = go (tells_too_much w m (record { sender = told.0; vector = told.1 })) where
-    go : (b : Bool)
-        → NamesAll n (cond b (Told.HearRefused m (hear.OwnNumberAhead (length (member w m).log) (slice_index told.1 m)))
-        (mode_told m (mode_at (after_deliver out w m told.1) m)))
-    go true = tt
-    go false = of_mode m (mode_at (after_deliver out w m told.1) m)
+  of_heard : (m : ℕ) (heard : Result Mode (ℕ × ℕ)) → NamesAll n (heard_as m heard)
+  of_heard m (Ok mode) = of_mode m mode
+  of_heard m (Err ahead) = tt
+
+  of_hear : (m : ℕ) (r : Result (ℕ × List ℕ) SyncRefusal) (heard : HearOutcome (read_as r))
+      → NamesAll n (hear_told m r heard)
+  of_hear m (Err refusal) heard = tt
+  of_hear m (Ok told) heard = of_heard m heard
 
   module _ (g : GroupKeys) (out : Outside) (w : World) (many : length w.members ≡ n) (sound : IsSoundGroup w) where
     of_sums : (f : CatalogueTotals → ℕ) → length (map f (all_totals w)) ≡ n
@@ -118,7 +118,8 @@ module _ (n : ℕ) where
     names_all (EventValue.Settle workers) r = tt
     names_all (EventValue.Dump m p s x) r =
         of_dump m (cond (member_holds (member w m) (part_at p s x)) (true_packet g (logs w) (part_at p s x)) None)
-    names_all (EventValue.Hear m octets) r = of_hear out w m (group_verdict g octets)
+    names_all (EventValue.Hear m octets) r =
+        of_hear m (group_verdict g octets) (hear_outcome out w m (read_as (group_verdict g octets)))
     names_all (EventValue.Ask m octets) r = of_ask m (served octets (true_packets g (logs w) (member w m).held))
     names_all (EventValue.Feed m f octets) r = of_feed g w m f octets (claim_at w m f)
     names_all (EventValue.Order m octets) r = tt

@@ -5,14 +5,14 @@ use Rattle.group_model.specs.Steps.{after_hear}
 use Rattle.repo_member.specs.Alone.{Alone}
 use Rattle.repo_member.specs.Verdicts.{group_verdict}
 use Rattle.repo_member.specs.declared.refusals.HearRefusal.TheVariants as hear
-use Rattle.bench_world.specs.EventValues.{Told, hear_told}
+use Rattle.bench_world.specs.EventValues.{Told}
 use Rattle.bench_world.specs.Hearing.{told_sync}
 use Rattle.bench_world.specs.Readings.{read_as}
 use Rattle.bench_world.specs.Steps.{IsFaultOf}
 use Rattle.bench_world.specs.Worlds.{GroupState, nobody, world_of, drawing}
 use Rattle.bench_world.specs.Kept.{world_state}
 use Rattle.bench_world.proofs.States.{few_draws}
-use Rattle.bench_world.proofs.Hearings.{refused_so, foreign_so, sent_taken, heard_world, heard_state, heard_told}
+use Rattle.bench_world.proofs.Hearings.{hears_told, refused_so, foreign_so, sent_taken, heard_world, heard_state, heard_told}
 use Rattle.bench_world.proofs.world.World.hear.Goals as goal
 
 pub returns-in-Err-Sync-clause-taken : goal.returns-in-Err-Sync-clause-taken
@@ -54,7 +54,7 @@ returns-in-Err-Sync-clause-told g c =
     c.in-Err-Sync.field-0 c.in-Err-Sync.ensures.refused (λ memory. apart (sym c.in-Err-Sync.field-0-is ∙ memory)) in
     ap (Told.HearRefused c.args.m) (sym c.in-Err-Sync.field-0-is)
     ∙ subst (λ (x : GroupState). Told.HearRefused c.args.m c.in-Err-Sync.field-0
-    ≡ hear_told (drawing (g.D.Draws.draw c.args.draws.now)) (world_of x) c.args.m
+    ≡ hears_told (drawing (g.D.Draws.draw c.args.draws.now)) (world_of x) c.args.m
     (group_verdict x.keys c.args.octets.now)) c.self.view_is (sym all.2) where
       apart : hear.Sync c.in-Err-Sync.refusal ≡ hear.NoMemory → ⊥
       apart h = cc
@@ -101,7 +101,7 @@ returns-in-Err-OwnNumberAhead-clause-told g c =
     (λ memory. apart (sym c.in-Err-OwnNumberAhead.field-0-is ∙ memory)) in
     ap (Told.HearRefused c.args.m) (sym c.in-Err-OwnNumberAhead.field-0-is)
     ∙ subst (λ (x : GroupState). Told.HearRefused c.args.m c.in-Err-OwnNumberAhead.field-0
-    ≡ hear_told (drawing (g.D.Draws.draw c.args.draws.now)) (world_of x) c.args.m
+    ≡ hears_told (drawing (g.D.Draws.draw c.args.draws.now)) (world_of x) c.args.m
     (group_verdict x.keys c.args.octets.now)) c.self.view_is (sym all.2) where
       apart : hear.OwnNumberAhead c.in-Err-OwnNumberAhead.own c.in-Err-OwnNumberAhead.told ≡ hear.NoMemory → ⊥
       apart h = cc
@@ -202,5 +202,5 @@ returns-clause-told g c =
     ∙ heard_told s c.self.invariant c.args.m there old c.index_mut-member.ensures.value r c.in-Ok.told.0 c.in-Ok.told.1
     told c.in-Ok-hear_sent.ensures.sent (g.D.Draws.draw c.args.draws.now) c.hear_sent.new.member c.draw-draw.result
     c.in-Ok-hear_sent.ensures.ok drawn c.in-Ok-hear_sent.mode c.in-Ok-hear_sent.ensures.mode
-    ∙ ap (λ (x : GroupState). hear_told (drawing (g.D.Draws.draw c.args.draws.now)) (world_of x) c.args.m
+    ∙ ap (λ (x : GroupState). hears_told (drawing (g.D.Draws.draw c.args.draws.now)) (world_of x) c.args.m
     (group_verdict x.keys c.args.octets.now)) c.self.view_is

@@ -3,7 +3,8 @@ use Rattle.std.proofs.lemmas.List.{length-map}
 use Rattle.sorted_lists.specs.Range.{numbers_from}
 use Rattle.repo_member.specs.Alone.{Alone}
 use Rattle.repo_member.specs.InGroup.{in_group}
-use Rattle.bench_world.specs.EventValues.{Told, all_totals}
+use Rattle.group_model.specs.Steps.{all_totals}
+use Rattle.bench_world.specs.EventValues.{Told}
 use Rattle.bench_world.specs.Sums.{totals_in, HasFewTotals}
 use Rattle.bench_world.specs.Worlds.{GroupState, alone_at, world_of}
 use Rattle.bench_world.specs.Kept.{world_state}
