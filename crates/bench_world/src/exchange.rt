@@ -1,5 +1,5 @@
 // What a member gets of the others in a settle or a fetch.
-ghost use Rattle.std.specs.Prelude.{◌≡◌, ◌<◌, ◌≤◌, length, map, slice_set, IfOk, OnOk, OnErr};
+ghost use Rattle.std.specs.Prelude.{◌≡◌, ◌<◌, length, map, slice_set, IfOk, OnOk, OnErr};
 ghost use Rattle.std.specs.List.{sum_by};
 ghost use Rattle.group_model.specs.Publications.{Logs};
 ghost use Rattle.group_model.specs.World.{World, logs};

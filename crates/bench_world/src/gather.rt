@@ -1,5 +1,5 @@
 // What a member gathers of others in a settle.
-ghost use Rattle.std.specs.Prelude.{◌≡◌, ◌≤◌, None, IfOk, OnOk, OnErr, length};
+ghost use Rattle.std.specs.Prelude.{◌≡◌, None, IfOk, OnOk, OnErr, length};
 ghost use Rattle.std.specs.List.{filter, sum_by};
 ghost use Rattle.group_model.specs.Publications.{Logs};
 ghost use Rattle.repo_member.specs.Alone.{alone_takes};

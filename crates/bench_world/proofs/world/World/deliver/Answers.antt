@@ -34,34 +34,11 @@ invariant_of-self g c =
     (c.draw-draw.ensures ∙ ap (g.D.Draws.draw c.args.draws.now c.args.m) c.next_draw.ensures)
     (subst (λ (x : GroupState). x.steps < 100000) (sym c.self.view_is) c.requires.few)
 
-pub returns-clause-taken : goal.returns-clause-taken
-returns-clause-taken g c =
+pub returns : goal.returns
+returns g c =
     let s = world_state c.self.inside in
     let at = there (λ (p : SentPacket). p.vector) s.sent c.args.k c.in-Some.numbers.now c.in-Some.ensures in
-    subst (λ (x : GroupState). unless_sent (world_of x) c.args.k ≡ None) c.self.view_is
-    (not_refused s c.args.k at.first at.last)
-
-pub returns-clause-world : goal.returns-clause-world
-returns-clause-world g c =
-    let s = world_state c.self.inside in
     let inside = subst (λ (x : GroupState). c.args.m < length x.members) (sym c.self.view_is) c.requires.there in
-    let at = there (λ (p : SentPacket). p.vector) s.sent c.args.k c.in-Some.numbers.now c.in-Some.ensures in
-    let old = c.index_mut-member.result.now in
-    let e =
-    heard_is s c.self.invariant c.args.k at.first at.last c.args.m inside old c.hear_vector.new.self
-    c.index_mut-member.ensures.value c.in_ok-told.told s.moment c.draw-draw.result (c.in_ok-told.ensures ∙ at.same)
-    c.in-Ok.ensures.ok in
-    heard_world s c.self.invariant c.args.k at.first at.last c.args.m inside old c.hear_vector.new.self
-    c.index_mut-member.ensures.value (g.D.Draws.draw c.args.draws.now) c.draw-draw.result e
-    (c.draw-draw.ensures ∙ ap (g.D.Draws.draw c.args.draws.now c.args.m) c.next_draw.ensures)
-    ∙ ap (λ (x : GroupState). after_deliver (drawing (g.D.Draws.draw c.args.draws.now)) (world_of x) c.args.m
-    (sent_at (world_of x) c.args.k).vector) c.self.view_is
-
-pub returns-clause-told : goal.returns-clause-told
-returns-clause-told g c =
-    let s = world_state c.self.inside in
-    let inside = subst (λ (x : GroupState). c.args.m < length x.members) (sym c.self.view_is) c.requires.there in
-    let at = there (λ (p : SentPacket). p.vector) s.sent c.args.k c.in-Some.numbers.now c.in-Some.ensures in
     let old = c.index_mut-member.result.now in
     let e =
     heard_is s c.self.invariant c.args.k at.first at.last c.args.m inside old c.hear_vector.new.self
@@ -71,14 +48,28 @@ returns-clause-told g c =
     heard_world s c.self.invariant c.args.k at.first at.last c.args.m inside old c.hear_vector.new.self
     c.index_mut-member.ensures.value (g.D.Draws.draw c.args.draws.now) c.draw-draw.result e
     (c.draw-draw.ensures ∙ ap (g.D.Draws.draw c.args.draws.now c.args.m) c.next_draw.ensures) in
-    c.delivered.ensures ∙ ap (λ n. delivered_told n c.args.m c.in-Ok.mode) c.from.ensures
-    ∙ ap (delivered_told c.args.k c.args.m)
-    (c.in-Ok.ensures.mode
-    ∙ ap (λ (x : Member). mode_of x.machine.heard) (sym (member_set s.members c.args.m c.hear_vector.new.self inside))
-    ∙ ap (λ (w : World). mode_of (member w c.args.m).machine.heard) after)
-    ∙ ap (λ (x : GroupState). delivered_told c.args.k c.args.m
-    (mode_at (after_deliver (drawing (g.D.Draws.draw c.args.draws.now)) (world_of x) c.args.m
-    (sent_at (world_of x) c.args.k).vector) c.args.m)) c.self.view_is
+    record {
+      taken =
+          subst (λ (x : GroupState). unless_sent (world_of x) c.args.k ≡ None) c.self.view_is
+          (not_refused s c.args.k at.first at.last);
+      world =
+          after ∙ ap (λ (x : GroupState). after_deliver (drawing (g.D.Draws.draw c.args.draws.now)) (world_of x) c.args.m
+          (sent_at (world_of x) c.args.k).vector) c.self.view_is;
+      told =
+          c.delivered.ensures ∙ ap (λ n. delivered_told n c.args.m c.in-Ok.mode) c.from.ensures
+          ∙ ap (delivered_told c.args.k c.args.m)
+          (c.in-Ok.ensures.mode
+          ∙ ap (λ (x : Member). mode_of x.machine.heard) (sym (member_set s.members c.args.m c.hear_vector.new.self inside))
+          ∙ ap (λ (w : World). mode_of (member w c.args.m).machine.heard) after)
+          ∙ ap (λ (x : GroupState). delivered_told c.args.k c.args.m
+          (mode_at (after_deliver (drawing (g.D.Draws.draw c.args.draws.now)) (world_of x) c.args.m
+          (sent_at (world_of x) c.args.k).vector) c.args.m)) c.self.view_is;
+      joined = tt;
+      steps = ap (λ (x : GroupState). x.steps + 1) c.self.view_is;
+      keys = ap (λ (x : GroupState). x.keys) c.self.view_is;
+      refused = tt;
+      err = tt;
+    }
 
 pub vector_of-requires : goal.vector_of-requires
 vector_of-requires g c =

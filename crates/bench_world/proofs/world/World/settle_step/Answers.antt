@@ -1,4 +1,4 @@
-use Rattle.std.proofs.Common.{◌<◌, ◌+◌, sym, ap, ◌∙◌, subst}
+use Rattle.std.proofs.Common.{rules, refl, ◌<◌, ◌+◌, sym, ap, ◌∙◌, subst}
 use Rattle.group_model.specs.Steps.{after_gathering, after_settle}
 use Rattle.bench_world.specs.Serving.{outside, keyed}
 use Rattle.bench_world.specs.Worlds.{GroupState, world_of}
@@ -25,8 +25,8 @@ invariant_of-self g c =
     (world_state c.self-2.inside) c.self-2.invariant mid steps c.reset_all.new.members.items c.reset_all.ensures.len
     c.reset_all.ensures.each
 
-pub returns-clause-world : goal.returns-clause-world
-returns-clause-world g c =
+pub returns : goal.returns
+returns g c =
     let s = world_state c.self.inside in
     let few = subst (λ (x : GroupState). x.steps < 100000) (sym c.self.view_is) c.requires.few in
     let mid =
@@ -37,25 +37,22 @@ returns-clause-world g c =
     ap (λ (x : GroupState). x.steps) c.self-2.view_is
     ∙ c.settle.ensures.steps
     ∙ ap (λ (x : GroupState). x.steps + 1) (sym c.self.view_is) in
-    reset_world s c.self.invariant few (g.D.Draws.draw c.args.draws.now) (g.N.Net.passes c.args.net.now)
-    (world_state c.self-2.inside) c.self-2.invariant mid steps c.reset_all.new.members.items c.reset_all.ensures.len
-    c.reset_all.ensures.each
-    ∙ ap (λ (x : GroupState).
-    after_settle (outside x.keys (g.D.Draws.draw c.args.draws.now) (g.N.Net.passes c.args.net.now)) (world_of x))
-    c.self.view_is
-
-pub returns-clause-joined : goal.returns-clause-joined
-returns-clause-joined g c =
-    let s = world_state c.self.inside in
-    let few = subst (λ (x : GroupState). x.steps < 100000) (sym c.self.view_is) c.requires.few in
-    let mid =
-    ap world_of c.self-2.view_is
-    ∙ c.in-Ok.ensures.world
-    ∙ ap (λ (x : GroupState). after_gathering (keyed x.keys) (world_of x)) (sym c.self.view_is) in
-    let steps =
-    ap (λ (x : GroupState). x.steps) c.self-2.view_is
-    ∙ c.settle.ensures.steps
-    ∙ ap (λ (x : GroupState). x.steps + 1) (sym c.self.view_is) in
-    reset_joined s c.self.invariant few (g.D.Draws.draw c.args.draws.now) (g.N.Net.passes c.args.net.now)
-    (world_state c.self-2.inside) c.self-2.invariant mid steps c.reset_all.new.members.items c.reset_all.ensures.len
-    c.reset_all.ensures.each
+    record {
+      taken = refl;
+      world =
+          reset_world s c.self.invariant few (g.D.Draws.draw c.args.draws.now) (g.N.Net.passes c.args.net.now)
+          (world_state c.self-2.inside) c.self-2.invariant mid steps c.reset_all.new.members.items c.reset_all.ensures.len
+          c.reset_all.ensures.each
+          ∙ ap (λ (x : GroupState).
+          after_settle (outside x.keys (g.D.Draws.draw c.args.draws.now) (g.N.Net.passes c.args.net.now)) (world_of x))
+          c.self.view_is;
+      told = search rules;
+      joined =
+          reset_joined s c.self.invariant few (g.D.Draws.draw c.args.draws.now) (g.N.Net.passes c.args.net.now)
+          (world_state c.self-2.inside) c.self-2.invariant mid steps c.reset_all.new.members.items c.reset_all.ensures.len
+          c.reset_all.ensures.each;
+      steps = ap (λ (x : GroupState). x.steps) c.self-2.view_is ∙ c.settle.ensures.steps;
+      keys = ap (λ (x : GroupState). x.keys) c.self-2.view_is ∙ c.settle.ensures.keys;
+      refused = tt;
+      err = tt;
+    }
