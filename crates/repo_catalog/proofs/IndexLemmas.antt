@@ -64,9 +64,9 @@ key_gone : (h : ℕ) (x : Entry) (b : Bool) (o : Option Entry) → (b ≡ true �
 key_gone h x true o there =
     sym (ap (λ (z : Option Entry). not ((h == hash_of x.name) && true) && has_hash h z) (there refl)
     ∙ no (h == hash_of x.name)) where
-  no : (c : Bool) → (not (c && true) && c) ≡ false
-  no true = refl
-  no false = refl
+      no : (c : Bool) → (not (c && true) && c) ≡ false
+      no true = refl
+      no false = refl
 key_gone h x false o there = kept (h == hash_of x.name) where
   kept : (c : Bool) → has_hash h o ≡ (not (c && false) && has_hash h o)
   kept true = refl

@@ -147,7 +147,7 @@ loop-entry-preserved c =
     let in_order : IsCatalogue es = front_rises es aside before.in_order in
     let at : IsPlace (publication_of x) es (Ok i) = found_place es (publication_of x) (Ok i) in_order bound position in
     let there : entry_of (publication_of x) (es ++ aside)
-        ≡ option_or (Some (get_or es i x)) (entry_of (publication_of x) aside) =
+    ≡ option_or (Some (get_or es i x)) (entry_of (publication_of x) aside) =
     find-append (is_of (publication_of x)) es aside
     ∙ ap (λ (o : Option Entry). option_or o (entry_of (publication_of x) aside))
     (entry_at (publication_of x) es i x in_order at) in

@@ -34,7 +34,7 @@ loop-pair-preserved c =
           (w.in_ok-extend_from_slice.ensures.items ∙ ap (λ (xs : List Pair). all ++ xs) before) in
           let end = told_too later (drop place rest) in
           let moved : c.match-place.all.items ++ told_too later c.match-place.rest.now
-              ≡ ((all ++ take place rest) ++ p ∷ []) ++ end = λ j. pushed j ++ told_too later (behind j) in
+          ≡ ((all ++ take place rest) ++ p ∷ []) ++ end = λ j. pushed j ++ told_too later (behind j) in
           record {
             rises = subst (Rises pair_cmp) (sym behind) (rises_drop place rest c.loop-pair.invariant.rises);
             all =
