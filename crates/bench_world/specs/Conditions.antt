@@ -57,7 +57,7 @@ pub record CanFetchAt (g : GroupKeys) (w : World) (n most j : ℕ) (ms : List Al
 pub record CanGatherAll (g : GroupKeys) (w : World) (n : ℕ) (ms : List Alone) : Type 0 where
   pub workers : (1 ≤ n) × (n ≤ 16)
   pub logs : AreFewLogs g (group.logs w)
-  pub group : IsSoundGroup w
+  pub sound : IsSoundGroup w
   pub learnt : in_groups ms ≡ map (learnt_member w) w.members
   pub truly : AreTrueMembers g (group.logs w) ms
   pub numbers : MembersAreNumbered ms

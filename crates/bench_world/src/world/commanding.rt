@@ -151,7 +151,10 @@ impl World {
         requires few { self.old.steps < 100000 }
         ensures { IsStep (keyed self.old.keys) (EventValue.Order m octets.now) self.old result self.new }
     {
-        let verdict = order_verdict(self.alloc, &self.group, &self.issued, m, octets)?;
+        let verdict = match order_verdict(self.alloc, &self.group, &self.issued, m, octets) {
+            Ok(verdict) => verdict,
+            Err(fault) => return Err(fault),
+        };
         let member = &mut self.members[m as usize];
         let answered = match member.command_checked(&self.group, octets, verdict) {
             Ok(answered) => answered,

@@ -12,7 +12,7 @@ use Rattle.bench_world.proofs.exchange.gather_all.Goals as goal
 pub loop-j-init : goal.loop-j-init
 loop-j-init g c = record {
   so_far =
-      gathered_none c.args.g.now g.begun c.requires.1.1.1.1.group c.requires.1.1.1.1.logs.are c.args.members.now.items
+      gathered_none c.args.g.now g.begun c.requires.1.1.1.1.sound c.requires.1.1.1.1.logs.are c.args.members.now.items
       c.requires.1.1.1.1.learnt c.requires.1.1.1.1.truly c.requires.1.1.1.1.numbers
       c.requires.1.1.1.1.tried;
   parts = refl;
@@ -52,7 +52,7 @@ pub returns-in_err-came-clause-truly : goal.returns-in_err-came-clause-truly
 returns-in_err-came-clause-truly g c =
     let inside : c.loop-j.j < length c.loop-j.members.items =
     omega (arith, c.loop-j-test.true, c.len-count.ensures, c.loop-j.invariant.so_far.all.len, c.args.members.now.ok) in
-    (gathered_part c.args.g.now g.begun c.requires.1.1.1.1.group c.requires.1.1.1.1.logs.are c.args.members.now.items
+    (gathered_part c.args.g.now g.begun c.requires.1.1.1.1.sound c.requires.1.1.1.1.logs.are c.args.members.now.items
     c.requires.1.1.1.1.learnt
     c.loop-j.j c.loop-j.members.items c.loop-j.invariant.so_far inside c.gather_at.new.members.items
     c.gather_at.ensures.others c.gather_at.ensures.gains).truly
@@ -61,7 +61,7 @@ pub returns-in_err-came-clause-numbers : goal.returns-in_err-came-clause-numbers
 returns-in_err-came-clause-numbers g c =
     let inside : c.loop-j.j < length c.loop-j.members.items =
     omega (arith, c.loop-j-test.true, c.len-count.ensures, c.loop-j.invariant.so_far.all.len, c.args.members.now.ok) in
-    (gathered_part c.args.g.now g.begun c.requires.1.1.1.1.group c.requires.1.1.1.1.logs.are c.args.members.now.items
+    (gathered_part c.args.g.now g.begun c.requires.1.1.1.1.sound c.requires.1.1.1.1.logs.are c.args.members.now.items
     c.requires.1.1.1.1.learnt
     c.loop-j.j c.loop-j.members.items c.loop-j.invariant.so_far inside c.gather_at.new.members.items
     c.gather_at.ensures.others c.gather_at.ensures.gains).numbers
@@ -70,7 +70,7 @@ pub returns-in_err-came-clause-counts : goal.returns-in_err-came-clause-counts
 returns-in_err-came-clause-counts g c =
     let inside : c.loop-j.j < length c.loop-j.members.items =
     omega (arith, c.loop-j-test.true, c.len-count.ensures, c.loop-j.invariant.so_far.all.len, c.args.members.now.ok) in
-    (gathered_part c.args.g.now g.begun c.requires.1.1.1.1.group c.requires.1.1.1.1.logs.are c.args.members.now.items
+    (gathered_part c.args.g.now g.begun c.requires.1.1.1.1.sound c.requires.1.1.1.1.logs.are c.args.members.now.items
     c.requires.1.1.1.1.learnt
     c.loop-j.j c.loop-j.members.items c.loop-j.invariant.so_far inside c.gather_at.new.members.items
     c.gather_at.ensures.others c.gather_at.ensures.gains).counts
@@ -80,9 +80,9 @@ returns-in_err-came-clause-err g c =
     let inside : c.loop-j.j < length c.loop-j.members.items =
     omega (arith, c.loop-j-test.true, c.len-count.ensures, c.loop-j.invariant.so_far.all.len, c.args.members.now.ok) in
     where_err c.from_residual.result
-    (partly_all c.args.g.now g.begun c.requires.1.1.1.1.group c.requires.1.1.1.1.logs.are c.args.members.now.items
+    (partly_all c.args.g.now g.begun c.requires.1.1.1.1.sound c.requires.1.1.1.1.logs.are c.args.members.now.items
     c.requires.1.1.1.1.learnt c.gather_at.new.members.items
-    (gathered_part c.args.g.now g.begun c.requires.1.1.1.1.group c.requires.1.1.1.1.logs.are c.args.members.now.items
+    (gathered_part c.args.g.now g.begun c.requires.1.1.1.1.sound c.requires.1.1.1.1.logs.are c.args.members.now.items
     c.requires.1.1.1.1.learnt
     c.loop-j.j c.loop-j.members.items c.loop-j.invariant.so_far inside c.gather_at.new.members.items
     c.gather_at.ensures.others c.gather_at.ensures.gains))
@@ -92,7 +92,7 @@ overflow_add-octets g c =
     let inside : c.loop-j.j < length c.loop-j.members.items =
     omega (arith, c.loop-j-test.true, c.len-count.ensures, c.loop-j.invariant.so_far.all.len, c.args.members.now.ok) in
     let sixteen =
-    few_all c.args.g.now g.begun c.requires.1.1.1.1.group c.requires.1.1.1.1.logs.are c.args.members.now.items
+    few_all c.args.g.now g.begun c.requires.1.1.1.1.sound c.requires.1.1.1.1.logs.are c.args.members.now.items
     c.requires.1.1.1.1.learnt in
     let most =
     few_octets c.args.g.now (logs g.begun) c.requires.1.1.1.1.logs.are
@@ -118,18 +118,18 @@ loop-j-preserved g c =
     let few = c.requires.1.1.1.1.logs.few in
     record {
       so_far =
-          gathered_more c.args.g.now g.begun c.requires.1.1.1.1.group c.requires.1.1.1.1.logs.are
+          gathered_more c.args.g.now g.begun c.requires.1.1.1.1.sound c.requires.1.1.1.1.logs.are
           c.args.members.now.items c.requires.1.1.1.1.learnt
           c.loop-j.j c.loop-j.members.items c.loop-j.invariant.so_far inside c.gather_at.new.members.items
           c.gather_at.ensures.others c.gather_at.ensures.gains c.in_ok-came.ensures.left;
       parts =
-          sum_more c.args.g.now g.begun c.requires.1.1.1.1.group c.requires.1.1.1.1.logs.are c.args.members.now.items
+          sum_more c.args.g.now g.begun c.requires.1.1.1.1.sound c.requires.1.1.1.1.logs.are c.args.members.now.items
           c.requires.1.1.1.1.learnt
           c.loop-j.j c.loop-j.members.items c.loop-j.invariant.so_far inside c.gather_at.new.members.items
           c.gather_at.ensures.others c.gather_at.ensures.gains c.in_ok-came.ensures.left
           one_each c.loop-j.parts c.from-parts.result c.loop-j.invariant.parts many;
       octets =
-          sum_more c.args.g.now g.begun c.requires.1.1.1.1.group c.requires.1.1.1.1.logs.are c.args.members.now.items
+          sum_more c.args.g.now g.begun c.requires.1.1.1.1.sound c.requires.1.1.1.1.logs.are c.args.members.now.items
           c.requires.1.1.1.1.learnt
           c.loop-j.j c.loop-j.members.items c.loop-j.invariant.so_far inside c.gather_at.new.members.items
           c.gather_at.ensures.others c.gather_at.ensures.gains c.in_ok-came.ensures.left
@@ -145,7 +145,7 @@ pub returns-clause-parts : goal.returns-clause-parts
 returns-clause-parts g c =
     let all : c.loop-j.j ≡ length c.args.members.now.items =
     omega (arith, c.loop-j-test.false, c.loop-j.auto.j-end, c.len-count.ensures, c.args.members.now.ok) in
-    all_sum c.args.g.now g.begun c.requires.1.1.1.1.group c.requires.1.1.1.1.logs.are c.args.members.now.items
+    all_sum c.args.g.now g.begun c.requires.1.1.1.1.sound c.requires.1.1.1.1.logs.are c.args.members.now.items
     c.requires.1.1.1.1.learnt one_each c.loop-j.parts
     (c.loop-j.invariant.parts ∙ ap (λ n. gain_sum one_each g.begun (take n g.begun.members)) all)
     ∙ sum_ones g.begun
@@ -154,7 +154,7 @@ pub returns-clause-octets : goal.returns-clause-octets
 returns-clause-octets g c =
     let all : c.loop-j.j ≡ length c.args.members.now.items =
     omega (arith, c.loop-j-test.false, c.loop-j.auto.j-end, c.len-count.ensures, c.args.members.now.ok) in
-    all_sum c.args.g.now g.begun c.requires.1.1.1.1.group c.requires.1.1.1.1.logs.are c.args.members.now.items
+    all_sum c.args.g.now g.begun c.requires.1.1.1.1.sound c.requires.1.1.1.1.logs.are c.args.members.now.items
     c.requires.1.1.1.1.learnt (size_of c.args.g.now (logs g.begun)) c.loop-j.octets
     (c.loop-j.invariant.octets
     ∙ ap (λ n. gain_sum (size_of c.args.g.now (logs g.begun)) g.begun (take n g.begun.members)) all)
@@ -163,7 +163,7 @@ pub returns-clause-members : goal.returns-clause-members
 returns-clause-members g c =
     let all : c.loop-j.j ≡ length c.args.members.now.items =
     omega (arith, c.loop-j-test.false, c.loop-j.auto.j-end, c.len-count.ensures, c.args.members.now.ok) in
-    gathered_all c.args.g.now g.begun c.requires.1.1.1.1.group c.requires.1.1.1.1.logs.are c.args.members.now.items
+    gathered_all c.args.g.now g.begun c.requires.1.1.1.1.sound c.requires.1.1.1.1.logs.are c.args.members.now.items
     c.requires.1.1.1.1.learnt c.loop-j.members.items
     (subst (λ n. GatheredSoFar c.args.g.now g.begun c.args.members.now.items n c.loop-j.members.items) all
     c.loop-j.invariant.so_far)

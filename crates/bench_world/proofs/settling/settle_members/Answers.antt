@@ -77,7 +77,7 @@ gather_all-requires g c κs within =
             record {
               workers = c.requires.1.1.1.1.workers;
               logs = c.requires.1.1.1.1.logs;
-              group = c.requires.1.1.1.1.sound;
+              sound = c.requires.1.1.1.1.sound;
               learnt = learnt;
               truly = truly;
               numbers = numbers;

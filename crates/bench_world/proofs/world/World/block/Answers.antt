@@ -1,4 +1,5 @@
-use Rattle.std.proofs.Common.{rules, ◌≡◌, ◌<◌, ◌+◌, Option, None, Result, Ok, Err, length, refl, sym, ap, ◌∙◌, subst}
+use Rattle.std.proofs.Common.{rules, arith, ◌≡◌, ◌<◌, ◌+◌, Option, None, Result, Ok, Err, length, refl, sym, ap, ◌∙◌, subst}
+use Rattle.std.proofs.lemmas.Grind.{common_steps}
 use Rattle.group_model.specs.Events.{Event}
 use Rattle.group_model.specs.Refusals.{Refusal, refusal}
 use Rattle.group_model.specs.Steps.{after_event, block_at, next_seq_at, next_sync}
@@ -42,7 +43,7 @@ returns-in-Err-NumbersSpent g c =
           subst (λ (x : GroupState).
           IsFaultOf (refusal (drawing (g.D.Draws.draw c.args.draws.now)) (world_of x) event) (fault.Refused 8)) c.self.view_is
           (subst (λ (o : Option Refusal). IsFaultOf o (fault.Refused 8)) (sym spent) refl);
-      err = search rules;
+      err = grind (arith, common_steps);
     }
 
 pub invariant_of-self-2 : goal.invariant_of-self-2

@@ -1,9 +1,10 @@
-use Rattle.std.proofs.Common.{rules, ◌<◌, length, refl, sym, ap, ◌∙◌, subst}
-use Rattle.group_model.specs.Steps.{to_claim, after_claiming}
+use Rattle.std.proofs.Common.{◌≡◌, ◌<◌, ◌+◌, None, length, refl, sym, ap, ◌∙◌, subst}
+use Rattle.group_model.specs.Refusals.{if_busy}
+use Rattle.group_model.specs.Steps.{claim_at, to_claim, after_claiming}
 use Rattle.bench_world.specs.EventValues.{claim_told}
 use Rattle.bench_world.specs.Worlds.{GroupState, world_of}
 use Rattle.bench_world.specs.Kept.{world_state}
-use Rattle.bench_world.proofs.Claims.{to_claim_is, claimed_state, claimed_world}
+use Rattle.bench_world.proofs.Claims.{claim_is, to_claim_is, claimed_state, claimed_world}
 use Rattle.bench_world.proofs.world.World.claim.Goals as goal
 
 pub invariant_of-self-2 : goal.invariant_of-self-2
@@ -19,7 +20,11 @@ returns c =
     let s = world_state c.self.inside in
     let there = subst (λ (x : GroupState). c.args.m < length x.members) (sym c.self.view_is) c.requires.there in
     record {
-      taken = search rules;
+      taken =
+          subst (λ (x : GroupState). if_busy (claim_at (world_of x) c.args.m c.args.f) ≡ None) c.self.view_is
+          (ap if_busy
+          (claim_is s c.self.invariant c.args.m there c.index_mut-member.result.now c.index_mut-member.ensures.value c.args.f
+          ∙ c.in-Ok.ensures.idle.0 refl));
       world =
           claimed_world s c.self.invariant c.args.m there c.index_mut-member.result.now c.index_mut-member.ensures.value
           c.args.f c.in-Ok.claim c.in-Ok.ensures.part c.claim.new.self c.in-Ok.ensures.new (c.in-Ok.ensures.idle.0 refl)

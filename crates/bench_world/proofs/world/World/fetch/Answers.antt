@@ -1,4 +1,4 @@
-use Rattle.std.proofs.Common.{◌<◌, length, refl, sym, ap, ◌∙◌, subst, arith}
+use Rattle.std.proofs.Common.{◌<◌, length, refl, sym, ap, ◌∙◌, subst, arith, ◌+◌}
 use Rattle.group_model.specs.Steps.{planned_parts, fetched_parts, attempts_made, after_fetch}
 use Rattle.bench_world.specs.Serving.{outside}
 use Rattle.bench_world.specs.EventValues.{Told}

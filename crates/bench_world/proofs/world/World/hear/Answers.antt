@@ -1,4 +1,5 @@
-use Rattle.std.proofs.Common.{rules, ℕ, ◌≡◌, ◌<◌, length, None, sym, ap, ◌∙◌, subst}
+use Rattle.std.proofs.Common.{rules, arith, ℕ, ◌≡◌, ◌<◌, length, None, sym, ap, ◌∙◌, subst, ◌+◌}
+use Rattle.std.proofs.lemmas.Grind.{common_steps}
 use Rattle.std.proofs.lemmas.List.{get_or_default}
 use Rattle.svs_sync.specs.declared.sync_refusal.SyncRefusal.{SyncRefusal}
 use Rattle.group_model.specs.Refusals.{if_unsent}
@@ -116,7 +117,7 @@ returns-in-Err g c =
           c.self.view_is
           (foreign_so s c.self.invariant c.args.m there old c.index_mut-member.ensures.value r c.in-Ok.told.0 c.in-Ok.told.1
           told c.in-Err.fault c.in-Err.ensures.foreign);
-      err = search rules;
+      err = grind (arith, common_steps);
     }
 
 pub invariant_of-self-2 : goal.invariant_of-self-2

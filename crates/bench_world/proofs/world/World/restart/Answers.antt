@@ -1,4 +1,4 @@
-use Rattle.std.proofs.Common.{rules, refl, ◌<◌, length, sym, ap, ◌∙◌, subst}
+use Rattle.std.proofs.Common.{rules, refl, ◌<◌, length, sym, ap, ◌∙◌, subst, ◌+◌}
 use Rattle.group_model.specs.Steps.{after_restart}
 use Rattle.bench_world.specs.Worlds.{GroupState, world_of, drawing}
 use Rattle.bench_world.specs.Kept.{world_state}

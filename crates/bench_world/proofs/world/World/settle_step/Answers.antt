@@ -1,7 +1,10 @@
-use Rattle.std.proofs.Common.{rules, refl, ◌<◌, ◌+◌, sym, ap, ◌∙◌, subst}
+use Rattle.std.proofs.Common.{◌≡◌, ◌<◌, ◌+◌, length, refl, sym, ap, ◌∙◌, subst, arith}
+use Rattle.std.proofs.lemmas.List.{length-map}
 use Rattle.group_model.specs.Steps.{after_gathering, after_settle}
 use Rattle.bench_world.specs.Serving.{outside, keyed}
-use Rattle.bench_world.specs.Worlds.{GroupState, world_of}
+use Rattle.repo_member.specs.InGroup.{in_group}
+use Rattle.bench_world.specs.EventValues.{Told}
+use Rattle.bench_world.specs.Worlds.{GroupState, in_groups, world_of}
 use Rattle.bench_world.specs.Kept.{world_state}
 use Rattle.bench_world.proofs.Resets.{all_few, reset_world, reset_joined, reset_state}
 use Rattle.bench_world.proofs.world.World.settle_step.Goals as goal
@@ -37,6 +40,10 @@ returns g c =
     ap (λ (x : GroupState). x.steps) c.self-2.view_is
     ∙ c.settle.ensures.steps
     ∙ ap (λ (x : GroupState). x.steps + 1) (sym c.self.view_is) in
+    let among = length-map c.self.inside.members.items in_group in
+    let same = ap (λ (x : GroupState). length (in_groups x.members)) c.self.view_is in
+    let syncs : c.len-syncs.result ≡ length (in_groups c.args.self.now.members) =
+    omega (arith, c.len-syncs.ensures, c.self.inside.members.ok, among, same) in
     record {
       taken = refl;
       world =
@@ -46,7 +53,7 @@ returns g c =
           ∙ ap (λ (x : GroupState).
           after_settle (outside x.keys (g.D.Draws.draw c.args.draws.now) (g.N.Net.passes c.args.net.now)) (world_of x))
           c.self.view_is;
-      told = search rules;
+      told = λ i. Told.Settle (syncs i) (c.in-Ok.ensures.parts i);
       joined =
           reset_joined s c.self.invariant few (g.D.Draws.draw c.args.draws.now) (g.N.Net.passes c.args.net.now)
           (world_state c.self-2.inside) c.self-2.invariant mid steps c.reset_all.new.members.items c.reset_all.ensures.len

@@ -1,4 +1,4 @@
-use Rattle.std.proofs.Common.{rules, ◌≡◌, ◌<◌, None, refl, sym, ap, ◌∙◌, subst, arith}
+use Rattle.std.proofs.Common.{rules, ◌≡◌, ◌<◌, None, refl, sym, ap, ◌∙◌, subst, arith, ◌+◌}
 use Rattle.bench_net.specs.SentList.{SentPacket}
 use Rattle.group_model.specs.Events.{Event}
 use Rattle.group_model.specs.World.{sent_at}
