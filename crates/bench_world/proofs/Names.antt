@@ -1,7 +1,7 @@
 -- What is told of an event names members, and all of them where it names any in order.
 use Rattle.std.proofs.Common.{◌≡◌, ℕ, ◌-◌, ◌<◌, Bool, true, false, cond, Option, Some, None, List, map, length, refl, sym}
 use Rattle.std.proofs.Common.{ap, ◌∙◌, subst, arith}
-use Rattle.std.specs.Prelude.{Result, Ok, Err}
+use Rattle.std.specs.Prelude.{Result, Ok, Err, IfErr}
 use Rattle.std.specs.List.{All}
 use Rattle.std.proofs.lemmas.List.{length-map}
 use Rattle.std.proofs.lemmas.List.Elements.{All-map}
@@ -42,8 +42,9 @@ use Rattle.bench_world.specs.EventValues.{EventValue, Told, part_at, telling, de
 use Rattle.bench_world.specs.EventValues.{claim_told, lost_told, answer_told, dump_told, mode_told, heard_as, hear_told}
 use Rattle.bench_world.specs.EventValues.{ask_told, fed_told, feed_told, block_told}
 use Rattle.bench_world.specs.Readings.{read_as}
-use Rattle.bench_world.specs.Steps.{IsReady, NamesAll}
+use Rattle.bench_world.specs.Steps.{IsReady, SyncNamesMember, NamesAll}
 use Rattle.bench_world.proofs.NextParts.{all_from_in}
+use Rattle.bench_world.proofs.RefusedMembers.{refused_in_roster}
 
 module _ (n : ℕ) where
   -- ---- of a member that is there
@@ -100,15 +101,17 @@ module _ (n : ℕ) where
 
     of_heard : (heard : Result Mode (ℕ × ℕ)) → NamesAll n (heard_as m heard)
     of_heard (Ok mode) = of_mode mode
-    of_heard (Err ahead) = there
+    of_heard (Err ahead) = (there, tt)
 
-    of_hear : (r : Result (ℕ × List ℕ) SyncRefusal) (heard : HearOutcome (read_as r)) → NamesAll n (hear_told m r heard)
-    of_hear (Err refusal) heard = there
-    of_hear (Ok told) heard = of_heard heard
+    of_hear : (r : Result (ℕ × List ℕ) SyncRefusal) → IfErr r (SyncNamesMember n) → (heard : HearOutcome (read_as r))
+        → NamesAll n (hear_told m r heard)
+    of_hear (Err refusal) named heard = (there, named)
+    of_hear (Ok told) named heard = of_heard heard
 
   -- ---- of a sound group
 
-  module _ (g : GroupKeys) (out : Outside) (w : World) (many : length w.members ≡ n) (sound : IsSoundGroup w) where
+  module _ (g : GroupKeys) (out : Outside) (w : World) (roster : length g.members.names ≡ n)
+      (many : length w.members ≡ n) (sound : IsSoundGroup w) where
     of_sums : (f : CatalogueTotals → ℕ) → length (map f (all_totals w)) ≡ n
     of_sums f =
         length-map (all_totals w) f
@@ -141,6 +144,11 @@ module _ (n : ℕ) where
         is_member (pair_in p)
         (in_published (logs w) p (from_filter (holds_all (member w m)) (published (logs w)) p i).0).there))
 
+    of_refusal : (octets : List ℕ) → IfErr (group_verdict g octets) (SyncNamesMember n)
+    of_refusal octets =
+        subst (λ (k : ℕ). IfErr (group_verdict g octets) (SyncNamesMember k)) roster
+        (refused_in_roster g.members.names g.name g.members.ring octets)
+
     pub names_all : (e : EventValue) → IsReady n e → NamesAll n (telling g out w e)
     names_all (EventValue.Publish m name size content) r = r.0
     names_all (EventValue.Deliver k m) r = of_delivery m r k (mode_at (after_deliver out w m (sent_at w k).vector) m)
@@ -160,7 +168,8 @@ module _ (n : ℕ) where
     names_all (EventValue.Dump m p s x) r =
         of_dump m r.0 (cond (member_holds (member w m) (part_at p s x)) (true_packet g (logs w) (part_at p s x)) None)
     names_all (EventValue.Hear m octets) r =
-        of_hear m r (group_verdict g octets) (hear_outcome out w m (read_as (group_verdict g octets)))
+        of_hear m r (group_verdict g octets) (of_refusal octets)
+        (hear_outcome out w m (read_as (group_verdict g octets)))
     names_all (EventValue.Ask m octets) r = of_ask m r (served octets (true_packets g (logs w) (member w m).held))
     names_all (EventValue.Feed m f octets) r = of_feed m r.0 g w f octets (claim_at w m f)
     names_all (EventValue.Order m octets) r = r

@@ -285,34 +285,34 @@ block_told m seq sync (Whole p) = Told.BlockPublished m seq sync
 
 -- What is told of an event, by what the model tells of it. Of octets that are asked with or fed, the model has only
 -- whether they pass, and their verdict is told.
-abbrev pub told_of : (g : GroupKeys) → World → (e : EventValue) → OutcomeOf (group_event g e) → Told
-told_of g w (EventValue.Publish m name size content) told = Told.Publish m told.seq told.segments told.sync
-told_of g w (EventValue.Deliver k m) mode = delivered_told k m mode
-told_of g w (EventValue.Sync k) sync = Told.Sync k (sync_of g sync.sender sync.vector)
-told_of g w (EventValue.Advance ms) moment = Told.Advance moment
-told_of g w (EventValue.Fire m) told = fired_told m told.sync told.timer
-told_of g w (EventValue.Restart m) told = Told.Restart m
-told_of g w (EventValue.Vector m) vector = Told.Vector m (numbers_from 0 (length w.members)) vector
-told_of g w (EventValue.Catalogue m) entries = Told.Catalogue m (length entries) entries
-told_of g w (EventValue.Claim m f) part = claim_told m f part
-told_of g w (EventValue.Lose m f) part = lost_told m f part
-told_of g w (EventValue.Answer m f q) kept = answer_told m f kept
-told_of g w (EventValue.Fetch m workers tries loss) told = Told.Fetch m told.planned told.kept told.attempts
-told_of g w (EventValue.Settle workers) told = Told.Settle told.syncs told.kept
-told_of g w (EventValue.Dump m p s x) held =
+abbrev pub event_told : (g : GroupKeys) → World → (e : EventValue) → OutcomeOf (group_event g e) → Told
+event_told g w (EventValue.Publish m name size content) told = Told.Publish m told.seq told.segments told.sync
+event_told g w (EventValue.Deliver k m) mode = delivered_told k m mode
+event_told g w (EventValue.Sync k) sync = Told.Sync k (sync_of g sync.sender sync.vector)
+event_told g w (EventValue.Advance ms) moment = Told.Advance moment
+event_told g w (EventValue.Fire m) told = fired_told m told.sync told.timer
+event_told g w (EventValue.Restart m) told = Told.Restart m
+event_told g w (EventValue.Vector m) vector = Told.Vector m (numbers_from 0 (length w.members)) vector
+event_told g w (EventValue.Catalogue m) entries = Told.Catalogue m (length entries) entries
+event_told g w (EventValue.Claim m f) part = claim_told m f part
+event_told g w (EventValue.Lose m f) part = lost_told m f part
+event_told g w (EventValue.Answer m f q) kept = answer_told m f kept
+event_told g w (EventValue.Fetch m workers tries loss) told = Told.Fetch m told.planned told.kept told.attempts
+event_told g w (EventValue.Settle workers) told = Told.Settle told.syncs told.kept
+event_told g w (EventValue.Dump m p s x) held =
     dump_told m (if held then true_packet g (logs w) (part_at p s x) else None)
-told_of g w (EventValue.Hear m octets) heard = hear_told m (group_verdict g octets) heard
-told_of g w (EventValue.Ask m octets) found = ask_told m (served octets (true_packets g (logs w) (member w m).held))
-told_of g w (EventValue.Feed m f octets) kept = feed_told g w m f octets (claim_at w m f)
-told_of g w (EventValue.Order m octets) answer = order_told m answer
-told_of g w (EventValue.Insert m client name first last) answer = insert_told m answer
-told_of g w (EventValue.Block m process index content) told = block_told m told.seq told.sync told.state
-told_of g w (EventValue.Status m client process) answer = status_told m answer
-told_of g w (EventValue.Delete m client name) answer = delete_told m answer
-told_of g w EventValue.Summary totals = Told.Summary (numbers_from 0 (length w.members))
+event_told g w (EventValue.Hear m octets) heard = hear_told m (group_verdict g octets) heard
+event_told g w (EventValue.Ask m octets) found = ask_told m (served octets (true_packets g (logs w) (member w m).held))
+event_told g w (EventValue.Feed m f octets) kept = feed_told g w m f octets (claim_at w m f)
+event_told g w (EventValue.Order m octets) answer = order_told m answer
+event_told g w (EventValue.Insert m client name first last) answer = insert_told m answer
+event_told g w (EventValue.Block m process index content) told = block_told m told.seq told.sync told.state
+event_told g w (EventValue.Status m client process) answer = status_told m answer
+event_told g w (EventValue.Delete m client name) answer = delete_told m answer
+event_told g w EventValue.Summary totals = Told.Summary (numbers_from 0 (length w.members))
     (map (λ t. t.entries) totals) (map (λ t. t.segments) totals) (map (λ t. t.octets) totals)
-told_of g w EventValue.Traffic told =
+event_told g w EventValue.Traffic told =
     Told.Traffic told.syncs told.delivered told.attempts told.parts told.octets
 
 abbrev pub telling : GroupKeys → Outside → World → EventValue → Told
-telling g out w e = told_of g w e (outcome out w (group_event g e))
+telling g out w e = event_told g w e (outcome out w (group_event g e))

@@ -1,11 +1,17 @@
 -- When an event can be carried out, what comes of it, and lists of events.
 use Rattle.std.specs.Prelude.{ℕ, ◌≡◌, ◌+◌, ◌<◌, ◌≤◌, IsTrue, length, Option, Some, None}
 use Rattle.std.specs.List.{All}
+use Rattle.svs_vector.specs.declared.vector_fault.VectorFault.{VectorFault}
+use Rattle.svs_vector.specs.declared.vector_fault.VectorFault.TheVariants as vector
+use Rattle.svs_sync.specs.declared.sync_refusal.SyncRefusal.{SyncRefusal}
+use Rattle.svs_sync.specs.declared.sync_refusal.SyncRefusal.TheVariants as sync
 use Rattle.sorted_lists.specs.Range.{numbers_from}
 use Rattle.repo_plan.specs.Calls.{IsFetcher}
 use Rattle.repo_object.specs.Objects.{is_object_name, IsContent}
 use Rattle.repo_object.specs.Cuts.{pieces}
 use Rattle.group_model.specs.Refusals.{Refusal}
+use Rattle.repo_member.specs.declared.refusals.HearRefusal.{HearRefusal}
+use Rattle.repo_member.specs.declared.refusals.HearRefusal.TheVariants as hear
 use Rattle.bench_world.specs.declared.event.StepFault.{StepFault}
 use Rattle.bench_world.specs.declared.event.StepFault.TheVariants as fault
 use Rattle.bench_world.specs.EventValues.{EventValue, Told}
@@ -63,6 +69,19 @@ IsFaultOf (Some refusal) told = told ≡ fault_of refusal
 
 -- ---- members that are told of
 
+-- The member of which too large a number is told is one of so many.
+abbrev pub FaultNamesMember : ℕ → VectorFault → Type 0
+FaultNamesMember n (vector.NumberTooLarge member number) = member < n
+FaultNamesMember n _ = Unit {0}
+
+abbrev pub SyncNamesMember : ℕ → SyncRefusal → Type 0
+SyncNamesMember n (sync.Vector fault) = FaultNamesMember n fault
+SyncNamesMember n _ = Unit {0}
+
+abbrev pub HearNamesMember : ℕ → HearRefusal → Type 0
+HearNamesMember n (hear.Sync refusal) = SyncNamesMember n refusal
+HearNamesMember n _ = Unit {0}
+
 -- Each number that stands for a member is that of one of so many. Where all are told of, they stand in order, each with
 -- a number, or with its sums.
 abbrev pub NamesAll : ℕ → Told → Type 0
@@ -88,7 +107,7 @@ NamesAll n (Told.DumpHex m octets) = m < n
 NamesAll n (Told.DumpNone m) = m < n
 NamesAll n (Told.HearSteady m) = m < n
 NamesAll n (Told.HearSuppressed m) = m < n
-NamesAll n (Told.HearRefused m refusal) = m < n
+NamesAll n (Told.HearRefused m refusal) = (m < n) × HearNamesMember n refusal
 NamesAll n (Told.AskFound m octets) = m < n
 NamesAll n (Told.AskNone m) = m < n
 NamesAll n (Told.AskRefused m refusal) = m < n

@@ -1,4 +1,4 @@
-use Rattle.std.proofs.Common.{length, sym, ◌∙◌, subst}
+use Rattle.std.proofs.Common.{length, refl, sym, ◌∙◌, subst}
 use Rattle.std.proofs.lemmas.List.{length-map}
 use Rattle.repo_member.specs.InGroup.{in_group}
 use Rattle.bench_world.specs.Serving.{outside}
@@ -37,7 +37,7 @@ returns g c =
       told = made.told;
       all =
           all_named n (telling old.keys out (world_of old) event) c.carry_out.result made.told
-          (names_all n old.keys out (world_of old) many c.members-count.ensures.sound event c.requires.ready);
+          (names_all n old.keys out (world_of old) refl many c.members-count.ensures.sound event c.requires.ready);
       joined = made.joined;
       steps = made.steps;
       keys = made.keys;
