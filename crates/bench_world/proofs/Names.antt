@@ -38,7 +38,7 @@ use Rattle.repo_member.specs.Groups.{GroupKeys}
 use Rattle.repo_member.specs.Verdicts.{group_verdict}
 use Rattle.repo_member.specs.InGroup.{true_packet}
 use Rattle.repo_member.specs.TrueMembers.{true_want, true_packets}
-use Rattle.bench_world.specs.EventValues.{EventValue, Told, part_at, telling, delivered_told, fired_told}
+use Rattle.bench_world.specs.EventValues.{EventValue, part_at, telling, delivered_told, fired_told}
 use Rattle.bench_world.specs.EventValues.{claim_told, lost_told, answer_told, dump_told, mode_told, heard_as, hear_told}
 use Rattle.bench_world.specs.EventValues.{ask_told, fed_told, feed_told, block_told}
 use Rattle.bench_world.specs.Readings.{read_as}

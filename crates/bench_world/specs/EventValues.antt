@@ -1,5 +1,5 @@
 -- The events of a step, and what is told of them, as values: names as lists of components, octets as lists of numbers.
-use Rattle.std.specs.Prelude.{ℕ, ◌+◌, Bool, List, map, length, Option, Some, None, Result, Ok, Err, slice_index}
+use Rattle.std.specs.Prelude.{ℕ, Bool, List, map, length, Option, Some, None, Result, Ok, Err}
 use Rattle.std.specs.Prelude.{if◌then◌else◌}
 use Rattle.ndn_name.specs.Names.{Component}
 use Rattle.ndn_name.specs.declared.fault.PacketFault.{PacketFault}
@@ -16,7 +16,6 @@ use Rattle.repo_object.specs.Cuts.{pieces}
 use Rattle.repo_object.specs.Verdict.{ring_verdict}
 use Rattle.repo_store.specs.Served.{served}
 use Rattle.repo_catalog.specs.declared.entry.Entry.{Entry}
-use Rattle.group_model.specs.Member.{member_holds}
 use Rattle.group_model.specs.Events as group
 use Rattle.repo_command.specs.declared.command.Command.TheVariants as command
 use Rattle.repo_command.specs.declared.answer.Answer.{Answer as CommandAnswer}
