@@ -38,5 +38,5 @@ fn makes_two_steps(rt: &(impl Threads + Abort + Sync), world: &mut World, draws:
 
 fn is_of_three(rt: &impl Abort, group: &Group) {
     assert_eq!(rt; group.roster().len(), 3);
-    assert_eq!(rt; group.name().octets(), b"\x08\x01g");
+    assert_eq!(rt; group.name().octets(), b"\x08\x01g".as_slice());
 }
