@@ -94,7 +94,7 @@ module _ (out : Outside) (g : GroupKeys) (begun : World) (events : List Event) w
         → IsFaultOf (refusal out mid (group_event g (event_value item))) fault
         → StandsAsBefore (event_value item) mid_ new_
         → IsStopped out_ begun_ (event_values events) i fault new_
-    stopped_here out_ begun_ mid_ new_ fault out_is begun_is keys_are mid_is steps_are keys_stay because stands = record {
+    stopped_here out_ begun_ mid_ new_ fault out_is begun_is keys_are mid_is steps_are keys_stay cause stands = record {
       inside = let k = length-map events event_value in omega (arith, inside, k);
       taken =
           let e : group_events begun_.keys (take i (event_values events))
@@ -116,7 +116,7 @@ module _ (out : Outside) (g : GroupKeys) (begun : World) (events : List Event) w
       stands = subst (λ (v : EventValue). StandsAsBefore v mid_ new_) (sym (at_place EventValue.Traffic)) stands;
       because = subst (λ (r : Option Refusal). IsFaultOf r fault)
           (λ j. refusal (out_is j) (sym mid_is j) (group_event (sym keys_are j) (sym (at_place EventValue.Traffic) j)))
-          because;
+          cause;
     }
 
     module _ (not_refused : refusal out mid (group_event g (event_value item)) ≡ None)

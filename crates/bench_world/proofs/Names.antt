@@ -1,6 +1,6 @@
 -- What is told of an event names members, and all of them where it names any in order.
-use Rattle.std.proofs.Common.{◌≡◌, ℕ, ◌-◌, ◌<◌, Bool, true, false, cond, Option, Some, None, List, map, length, refl, sym}
-use Rattle.std.proofs.Common.{ap, ◌∙◌, subst, arith}
+use Rattle.std.proofs.Common.{◌≡◌, ℕ, ◌-◌, ◌<◌, Bool, true, false, cond, Option, Some, None, List, map, length, refl}
+use Rattle.std.proofs.Common.{sym, ap, ◌∙◌, subst, arith}
 use Rattle.std.specs.Prelude.{Result, Ok, Err, IfErr}
 use Rattle.std.specs.List.{All}
 use Rattle.std.proofs.lemmas.List.{length-map}
@@ -38,9 +38,9 @@ use Rattle.repo_member.specs.Groups.{GroupKeys}
 use Rattle.repo_member.specs.Verdicts.{group_verdict}
 use Rattle.repo_member.specs.InGroup.{true_packet}
 use Rattle.repo_member.specs.TrueMembers.{true_want, true_packets}
-use Rattle.bench_world.specs.EventValues.{EventValue, part_at, telling, delivered_told, fired_told}
-use Rattle.bench_world.specs.EventValues.{claim_told, lost_told, answer_told, dump_told, mode_told, heard_as, hear_told}
-use Rattle.bench_world.specs.EventValues.{ask_told, fed_told, feed_told, block_told}
+use Rattle.bench_world.specs.EventValues.{EventValue, part_at, telling, delivered_told, fired_told, claim_told}
+use Rattle.bench_world.specs.EventValues.{lost_told, answer_told, dump_told, mode_told, heard_as, hear_told, ask_told}
+use Rattle.bench_world.specs.EventValues.{fed_told, feed_told, block_told}
 use Rattle.bench_world.specs.Readings.{read_as}
 use Rattle.bench_world.specs.Steps.{IsReady, SyncNamesMember, NamesAll}
 use Rattle.bench_world.proofs.NextParts.{all_from_in}

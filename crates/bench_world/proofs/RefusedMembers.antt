@@ -40,7 +40,8 @@ module _ (roster : List (List Component)) where
   of_signer (Ok signer) = tt
   of_signer (Err refusal) = of_signature refusal
 
-  of_numbers : (r : Result (List ℕ) VectorFault) → IfErr r (FaultNamesMember (length roster)) → IfErr (vector_or r) Named
+  of_numbers : (r : Result (List ℕ) VectorFault) → IfErr r (FaultNamesMember (length roster))
+      → IfErr (vector_or r) Named
   of_numbers (Ok v) named = tt
   of_numbers (Err fault) named = named
 

@@ -13,7 +13,8 @@ use Rattle.group_model.specs.Member.{Member, member_holds, plan_of, catalogue}
 use Rattle.group_model.specs.World.{World, no_member, member, logs, logs_of, someone_holds}
 use Rattle.group_model.specs.Settles.{IsGathering, HasGathered}
 use Rattle.group_model.specs.Sound.{IsSoundGroup, IsSoundMember}
-use Rattle.group_model.specs.Steps.{settled_vector, settled_member, comes_to, new_parts, reset_each, after_gathering, after_settle}
+use Rattle.group_model.specs.Steps.{settled_vector, settled_member, comes_to, new_parts, reset_each, after_gathering}
+use Rattle.group_model.specs.Steps.{after_settle}
 use Rattle.group_model.specs.Publications.{all_parts}
 use Rattle.group_model.proofs.Catalogues.{in_all_parts}
 use Rattle.group_model.proofs.Gains.{held_fresh}

@@ -1,6 +1,6 @@
 -- What a step leaves that wanted memory, and lists of events.
-use Rattle.std.specs.Prelude.{ℕ, ◌≡◌, ◌+◌, ◌<◌, List, ◌++◌, map, take, length, slice_index_or, Option, None, Result, OnOk, IfOk}
-use Rattle.std.specs.Prelude.{OnErr, IfErr}
+use Rattle.std.specs.Prelude.{ℕ, ◌≡◌, ◌+◌, ◌<◌, List, ◌++◌, map, take, length, slice_index_or, Option, None, Result}
+use Rattle.std.specs.Prelude.{OnOk, IfOk, OnErr, IfErr}
 use Rattle.group_model.specs.Events as group
 use Rattle.group_model.specs.Refusals.{Refusal, refusal, EventsAreTaken}
 use Rattle.group_model.specs.World.{Outside, World, catalogue_at}
@@ -65,7 +65,8 @@ pub record ComesTo (why : Option Refusal) (then : World) (what : Told) (e : Even
 -- A step is what the model makes of the world, tells of it and refuses.
 abbrev pub IsStep : Outside → EventValue → GroupState → Result Happened StepFault → GroupState → Type 0
 IsStep out e old result new =
-    ComesTo (refusal out (world_of old) (group_event old.keys e)) (after_event out (world_of old) (group_event old.keys e))
+    ComesTo (refusal out (world_of old) (group_event old.keys e))
+    (after_event out (world_of old) (group_event old.keys e))
     (telling old.keys out (world_of old) e) e old result new
 
 -- ---- lists of events

@@ -1,6 +1,6 @@
 -- What stays listed.
-use Rattle.std.proofs.Common.{◌≡◌, inl, inr, ℕ, ◌-◌, ◌≤◌, ◌<◌, true, false, List, [], length, get_or, take, min, sym, ap}
-use Rattle.std.proofs.Common.{◌∙◌, subst, arith}
+use Rattle.std.proofs.Common.{◌≡◌, inl, inr, ℕ, ◌-◌, ◌≤◌, ◌<◌, true, false, List, [], length, get_or, take, min, sym}
+use Rattle.std.proofs.Common.{ap, ◌∙◌, subst, arith}
 use Rattle.std.proofs.lemmas.Bool.{true≢false, cases_Bool}
 use Rattle.std.proofs.lemmas.List.{get_or-take, get_or-map, length-take}
 use Rattle.repo_plan.specs.Parts.{Pair, part_of}
@@ -40,7 +40,8 @@ module _ (w new : World) (last : AllLast w new) (pair : Pair) (there : IsPublish
   same_object =
       ap (λ (l : List NamedContents). get_or l (pair.1 - 1) no_object) new_log
       ∙ sym (get_or-take (length (member w pair.0).log) (member new pair.0).log (pair.1 - 1) no_object inside)
-      ∙ ap (λ (l : List NamedContents). get_or l (pair.1 - 1) no_object) ((last.members pair.0 publisher).log ∙ sym old_log)
+      ∙ ap (λ (l : List NamedContents). get_or l (pair.1 - 1) no_object)
+      ((last.members pair.0 publisher).log ∙ sym old_log)
 
   longer : pair.1 ≤ last_of (logs new) pair.0
   longer =

@@ -49,8 +49,8 @@ pub record TrafficOutcome : Type 0 where
   pub parts : ℕ
   pub octets : ℕ
 
--- Of octets that are a sync Interest, the member's mode afterwards; or how many publications it has made, and the number
--- beyond them that it was told.
+-- Of octets that are a sync Interest, the member's mode afterwards; or how many publications it has made, and the
+-- number beyond them that it was told.
 abbrev pub HearOutcome : Option SyncInterest → Type 0
 HearOutcome None = Unit {0}
 HearOutcome (Some sync) = Result Mode (ℕ × ℕ)

@@ -1,6 +1,6 @@
 -- What holds of the faults of octets that are no state vector: where a number is too large, it is a member's.
-use Rattle.std.proofs.Common.{◌≡◌, ℕ, max, ◌==◌, ◌<◌, Bool, true, false, cond, List, [], ◌∷◌, length, Option, Some, None}
-use Rattle.std.proofs.Common.{refl}
+use Rattle.std.proofs.Common.{◌≡◌, ℕ, max, ◌==◌, ◌<◌, Bool, true, false, cond, List, [], ◌∷◌, length, Option, Some}
+use Rattle.std.proofs.Common.{None, refl}
 use Rattle.std.specs.Prelude.{Result, Ok, Err, IfErr, nat_lt, slice_index, slice_set}
 use Rattle.std.proofs.lemmas.List.Quantifiers.{position-Some}
 use Rattle.ndn_tlv.specs.declared.order_table.FieldFault.{FieldFault}

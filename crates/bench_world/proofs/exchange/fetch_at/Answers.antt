@@ -35,7 +35,8 @@ fetch-fetched-requires g c κs within =
               logs = c.requires.1.1.1.1.logs;
               others =
                   subst (AreTrueMembers c.args.g.now (logs g.begun)) (sym c.as_slice.ensures.value)
-                  (others_true c.args.g.now (logs g.begun) c.args.members.now.items c.remove-member.new.self.items c.args.j
+                  (others_true c.args.g.now (logs g.begun) c.args.members.now.items c.remove-member.new.self.items
+                  c.args.j
                   c.requires.1.1.1.1.truly c.remove-member.ensures.items);
               truly =
                   subst (IsTrueMember c.args.g.now (logs g.begun)) (sym here)

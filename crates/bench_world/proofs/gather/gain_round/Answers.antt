@@ -20,7 +20,8 @@ gain_phase-requires g c κs within = (
           loss = c.requires.1.1.1.1.loss;
           truly = c.phases.invariant.so_far.gains.truly;
           tried =
-              tried_still c.args.g.now g.logs c.args.link.now.others.now c.args.member.now c.phases.member c.phases.invariant.so_far.gains
+              tried_still c.args.g.now g.logs c.args.link.now.others.now c.args.member.now c.phases.member
+              c.phases.invariant.so_far.gains
               c.requires.1.1.1.1.tried;
         },
       ),

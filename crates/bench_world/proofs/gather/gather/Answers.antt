@@ -18,7 +18,8 @@ gain_round-requires g c κs within = (
           loss = c.requires.1.1.1.1.loss;
           truly = c.rounds.invariant.gains.truly;
           tried =
-              tried_still c.args.g.now g.logs c.args.link.now.others.now c.args.member.now c.rounds.member c.rounds.invariant.gains
+              tried_still c.args.g.now g.logs c.args.link.now.others.now c.args.member.now c.rounds.member
+              c.rounds.invariant.gains
               c.requires.1.1.1.1.tried;
         },
       ),

@@ -30,7 +30,8 @@ returns-in-Err c =
           c.self.view_is
           (subst (λ r. IsFaultOf r c.in-Err.fault) (answer_refusal s c.self.invariant c.args.m there c.args.f c.args.q)
           (fault_by s.keys (logs_around s.members) (claim_in s.members c.args.m c.args.f)
-          (came_in s.keys (logs_around s.members) s.members c.args.q (claim_in s.members c.args.m c.args.f)) c.in-Err.fault
+          (came_in s.keys (logs_around s.members) s.members c.args.q (claim_in s.members c.args.m c.args.f))
+          c.in-Err.fault
           c.in-Err.ensures.refused));
       err = search rules;
     }
@@ -57,7 +58,8 @@ returns c =
     let one = c.parts_of.ensures in
     record {
       taken =
-          subst (λ (x : GroupState). refusal (keyed x.keys) (world_of x) (Event.Answer c.args.m c.args.f c.args.q) ≡ None)
+          subst (λ (x : GroupState). refusal (keyed x.keys) (world_of x) (Event.Answer c.args.m c.args.f c.args.q)
+          ≡ None)
           c.self.view_is
           (answer_taken s c.self.invariant c.args.m there c.args.f c.args.q c.in-Ok.kept c.in-Ok.ensures.kept);
       world =

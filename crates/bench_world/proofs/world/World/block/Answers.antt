@@ -1,4 +1,5 @@
-use Rattle.std.proofs.Common.{rules, arith, ◌≡◌, ◌<◌, ◌+◌, Option, None, Result, Ok, Err, length, refl, sym, ap, ◌∙◌, subst}
+use Rattle.std.proofs.Common.{rules, arith, ◌≡◌, ◌<◌, ◌+◌, Option, None, Result, Ok, Err, length, refl, sym, ap, ◌∙◌}
+use Rattle.std.proofs.Common.{subst}
 use Rattle.std.proofs.lemmas.Grind.{common_steps}
 use Rattle.group_model.specs.Events.{Event}
 use Rattle.group_model.specs.Refusals.{Refusal, refusal}
@@ -41,7 +42,8 @@ returns-in-Err-NumbersSpent g c =
       keys = search rules;
       refused =
           subst (λ (x : GroupState).
-          IsFaultOf (refusal (drawing (g.D.Draws.draw c.args.draws.now)) (world_of x) event) (fault.Refused 8)) c.self.view_is
+          IsFaultOf (refusal (drawing (g.D.Draws.draw c.args.draws.now)) (world_of x) event) (fault.Refused 8))
+          c.self.view_is
           (subst (λ (o : Option Refusal). IsFaultOf o (fault.Refused 8)) (sym spent) refl);
       err = grind (arith, common_steps);
     }
@@ -89,16 +91,19 @@ returns g c =
       taken =
           subst (λ (x : GroupState). refusal (drawing (g.D.Draws.draw c.args.draws.now)) (world_of x) event ≡ None)
           c.self.view_is
-          (block_taken s c.self.invariant c.args.m there old c.index_mut-member.ensures.value c.args.process c.args.index
+          (block_taken s c.self.invariant c.args.m there old c.index_mut-member.ensures.value c.args.process
+          c.args.index
           c.args.content.now room (g.D.Draws.draw c.args.draws.now));
       world =
           after.world
-          ∙ ap (λ (x : GroupState). after_event (drawing (g.D.Draws.draw c.args.draws.now)) (world_of x) event) c.self.view_is;
+          ∙ ap (λ (x : GroupState). after_event (drawing (g.D.Draws.draw c.args.draws.now)) (world_of x) event)
+          c.self.view_is;
       told =
           told_so s c.self.invariant c.args.m there old c.index_mut-member.ensures.value c.args.process c.args.index
           c.args.content.now room c.block.new.self (g.D.Draws.draw c.args.draws.now) c.draw-draw.result
           (c.draw-draw.ensures ∙ ap (g.D.Draws.draw c.args.draws.now c.args.m) c.next_draw.ensures) c.in-Ok.ensures.ok
-          c.in-Ok.blocked c.in-Ok.ensures.told _ (length c.reserve.new.self.packets + 1) c.send_blocked-happened.ensures.told
+          c.in-Ok.blocked c.in-Ok.ensures.told _ (length c.reserve.new.self.packets + 1)
+          c.send_blocked-happened.ensures.told
           (ap (λ x. length x.packets + 1) c.in_ok-reserve.ensures.ok)
           ∙ ap (λ (x : GroupState). block_told c.args.m (next_seq_at (world_of x) c.args.m) (next_sync (world_of x))
           (block_at (world_of x) c.args.m c.args.process c.args.index c.args.content.now)) c.self.view_is;

@@ -23,7 +23,8 @@ returns c =
       taken =
           subst (λ (x : GroupState). if_busy (claim_at (world_of x) c.args.m c.args.f) ≡ None) c.self.view_is
           (ap if_busy
-          (claim_is s c.self.invariant c.args.m there c.index_mut-member.result.now c.index_mut-member.ensures.value c.args.f
+          (claim_is s c.self.invariant c.args.m there c.index_mut-member.result.now c.index_mut-member.ensures.value
+          c.args.f
           ∙ c.in-Ok.ensures.idle.0 refl));
       world =
           claimed_world s c.self.invariant c.args.m there c.index_mut-member.result.now c.index_mut-member.ensures.value
@@ -36,7 +37,8 @@ returns c =
           ∙ ap (claim_told c.args.m c.args.f)
           (c.in-Ok.ensures.part
           ∙ sym
-          (to_claim_is s c.self.invariant c.args.m there c.index_mut-member.result.now c.index_mut-member.ensures.value))
+          (to_claim_is s c.self.invariant c.args.m there c.index_mut-member.result.now
+          c.index_mut-member.ensures.value))
           ∙ ap (λ (x : GroupState). claim_told c.args.m c.args.f (to_claim (world_of x) c.args.m)) c.self.view_is;
       joined = tt;
       steps = ap (λ (x : GroupState). x.steps + 1) c.self.view_is;

@@ -53,13 +53,15 @@ returns g c =
           subst (λ (x : GroupState). unless_sent (world_of x) c.args.k ≡ None) c.self.view_is
           (not_refused s c.args.k at.first at.last);
       world =
-          after ∙ ap (λ (x : GroupState). after_deliver (drawing (g.D.Draws.draw c.args.draws.now)) (world_of x) c.args.m
+          after ∙ ap (λ (x : GroupState). after_deliver (drawing (g.D.Draws.draw c.args.draws.now)) (world_of x)
+          c.args.m
           (sent_at (world_of x) c.args.k).vector) c.self.view_is;
       told =
           c.delivered.ensures ∙ ap (λ n. delivered_told n c.args.m c.in-Ok.mode) c.from.ensures
           ∙ ap (delivered_told c.args.k c.args.m)
           (c.in-Ok.ensures.mode
-          ∙ ap (λ (x : Member). mode_of x.machine.heard) (sym (member_set s.members c.args.m c.hear_vector.new.self inside))
+          ∙ ap (λ (x : Member). mode_of x.machine.heard)
+          (sym (member_set s.members c.args.m c.hear_vector.new.self inside))
           ∙ ap (λ (w : World). mode_of (member w c.args.m).machine.heard) after)
           ∙ ap (λ (x : GroupState). delivered_told c.args.k c.args.m
           (mode_at (after_deliver (drawing (g.D.Draws.draw c.args.draws.now)) (world_of x) c.args.m

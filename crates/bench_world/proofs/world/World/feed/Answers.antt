@@ -28,10 +28,13 @@ returns-in-Err c =
       refused =
           subst (λ (x : GroupState). IsFaultOf
           (refusal (keyed x.keys) (world_of x)
-          (Event.Feed c.args.m c.args.f (λ logs t. octets_as x.keys logs t c.args.octets.now))) c.in-Err.fault) c.self.view_is
-          (subst (λ r. IsFaultOf r c.in-Err.fault) (feed_refusal s c.self.invariant c.args.m there c.args.f c.args.octets.now)
+          (Event.Feed c.args.m c.args.f (λ logs t. octets_as x.keys logs t c.args.octets.now))) c.in-Err.fault)
+          c.self.view_is
+          (subst (λ r. IsFaultOf r c.in-Err.fault)
+          (feed_refusal s c.self.invariant c.args.m there c.args.f c.args.octets.now)
           (fault_by s.keys (logs_around s.members) (claim_in s.members c.args.m c.args.f)
-          (came_for s.keys (logs_around s.members) c.args.octets.now (claim_in s.members c.args.m c.args.f)) c.in-Err.fault
+          (came_for s.keys (logs_around s.members) c.args.octets.now (claim_in s.members c.args.m c.args.f))
+          c.in-Err.fault
           c.in-Err.ensures.refused));
       err = search rules;
     }

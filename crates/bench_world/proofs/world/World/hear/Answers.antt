@@ -14,7 +14,8 @@ use Rattle.bench_world.specs.Steps.{IsFaultOf}
 use Rattle.bench_world.specs.Worlds.{GroupState, nobody, world_of, drawing}
 use Rattle.bench_world.specs.Kept.{world_state}
 use Rattle.bench_world.proofs.States.{few_draws}
-use Rattle.bench_world.proofs.Hearings.{hears_told, refused_so, foreign_so, sent_taken, heard_world, heard_state, heard_told}
+use Rattle.bench_world.proofs.Hearings.{hears_told, refused_so, foreign_so, sent_taken, heard_world, heard_state}
+use Rattle.bench_world.proofs.Hearings.{heard_told}
 use Rattle.bench_world.proofs.world.World.hear.Goals as goal
 
 sync_apart : (refusal : SyncRefusal) → hear.Sync refusal ≡ hear.NoMemory → ⊥
@@ -35,7 +36,8 @@ returns-in-Err-Sync g c =
     record {
       taken =
           subst
-          (λ (x : GroupState). if_unsent (world_of x) c.args.m (read_as (group_verdict x.keys c.args.octets.now)) ≡ None)
+          (λ (x : GroupState). if_unsent (world_of x) c.args.m (read_as (group_verdict x.keys c.args.octets.now))
+          ≡ None)
           c.self.view_is all.0;
       world =
           c.count.ensures.world
@@ -67,7 +69,8 @@ returns-in-Err-OwnNumberAhead g c =
     record {
       taken =
           subst
-          (λ (x : GroupState). if_unsent (world_of x) c.args.m (read_as (group_verdict x.keys c.args.octets.now)) ≡ None)
+          (λ (x : GroupState). if_unsent (world_of x) c.args.m (read_as (group_verdict x.keys c.args.octets.now))
+          ≡ None)
           c.self.view_is all.0;
       world =
           c.count-in-Err-OwnNumberAhead.ensures.world
@@ -115,7 +118,8 @@ returns-in-Err g c =
           subst (λ (x : GroupState).
           IsFaultOf (if_unsent (world_of x) c.args.m (read_as (group_verdict x.keys c.args.octets.now))) c.in-Err.fault)
           c.self.view_is
-          (foreign_so s c.self.invariant c.args.m there old c.index_mut-member.ensures.value r c.in-Ok.told.0 c.in-Ok.told.1
+          (foreign_so s c.self.invariant c.args.m there old c.index_mut-member.ensures.value r c.in-Ok.told.0
+          c.in-Ok.told.1
           told c.in-Err.fault c.in-Err.ensures.foreign);
       err = grind (arith, common_steps);
     }
@@ -154,20 +158,26 @@ returns g c =
     record {
       taken =
           subst
-          (λ (x : GroupState). if_unsent (world_of x) c.args.m (read_as (group_verdict x.keys c.args.octets.now)) ≡ None)
+          (λ (x : GroupState). if_unsent (world_of x) c.args.m (read_as (group_verdict x.keys c.args.octets.now))
+          ≡ None)
           c.self.view_is
-          (sent_taken s c.self.invariant c.args.m there old c.index_mut-member.ensures.value r c.in-Ok.told.0 c.in-Ok.told.1
+          (sent_taken s c.self.invariant c.args.m there old c.index_mut-member.ensures.value r c.in-Ok.told.0
+          c.in-Ok.told.1
           told c.in-Ok-hear_sent.ensures.sent);
       world =
-          heard_world s c.self.invariant c.args.m there old c.index_mut-member.ensures.value r c.in-Ok.told.0 c.in-Ok.told.1
-          told c.in-Ok-hear_sent.ensures.sent (g.D.Draws.draw c.args.draws.now) c.hear_sent.new.member c.draw-draw.result
+          heard_world s c.self.invariant c.args.m there old c.index_mut-member.ensures.value r c.in-Ok.told.0
+          c.in-Ok.told.1
+          told c.in-Ok-hear_sent.ensures.sent (g.D.Draws.draw c.args.draws.now) c.hear_sent.new.member
+          c.draw-draw.result
           c.in-Ok-hear_sent.ensures.ok drawn
           ∙ ap (λ (x : GroupState). after_hear (drawing (g.D.Draws.draw c.args.draws.now)) (world_of x) c.args.m
           (read_as (group_verdict x.keys c.args.octets.now))) c.self.view_is;
       told =
           c.heard.ensures
-          ∙ heard_told s c.self.invariant c.args.m there old c.index_mut-member.ensures.value r c.in-Ok.told.0 c.in-Ok.told.1
-          told c.in-Ok-hear_sent.ensures.sent (g.D.Draws.draw c.args.draws.now) c.hear_sent.new.member c.draw-draw.result
+          ∙ heard_told s c.self.invariant c.args.m there old c.index_mut-member.ensures.value r c.in-Ok.told.0
+          c.in-Ok.told.1
+          told c.in-Ok-hear_sent.ensures.sent (g.D.Draws.draw c.args.draws.now) c.hear_sent.new.member
+          c.draw-draw.result
           c.in-Ok-hear_sent.ensures.ok drawn c.in-Ok-hear_sent.mode c.in-Ok-hear_sent.ensures.mode
           ∙ ap (λ (x : GroupState). hears_told (drawing (g.D.Draws.draw c.args.draws.now)) (world_of x) c.args.m
           (group_verdict x.keys c.args.octets.now)) c.self.view_is;

@@ -22,10 +22,12 @@ returns c =
     record {
       taken = grind (arith, common_steps);
       world =
-          lost_world s c.self.invariant c.args.m there c.index_mut-member.result.now c.index_mut-member.ensures.value c.args.f
+          lost_world s c.self.invariant c.args.m there c.index_mut-member.result.now c.index_mut-member.ensures.value
+          c.args.f
           c.lose.new.self c.in-Ok.ensures.ok
           ∙ ap (λ (x : GroupState).
-          with_member (world_of x) c.args.m (member_with_claim c.args.f None (member (world_of x) c.args.m))) c.self.view_is;
+          with_member (world_of x) c.args.m (member_with_claim c.args.f None (member (world_of x) c.args.m)))
+          c.self.view_is;
       told = grind (arith, common_steps);
       joined = tt;
       steps = ap (λ (x : GroupState). x.steps + 1) c.self.view_is;

@@ -46,12 +46,14 @@ returns c =
     record {
       taken =
           subst (λ (x : GroupState).
-          if_unissued (world_of x) c.args.m (commanded.order_of x.keys c.args.m c.args.octets.now) ≡ None) c.self.view_is
+          if_unissued (world_of x) c.args.m (commanded.order_of x.keys c.args.m c.args.octets.now) ≡ None)
+          c.self.view_is
           (may_taken (world_of s) c.args.m (commanded.order_of s.keys c.args.m c.args.octets.now) may);
       world =
           obeyed_world s c.self.invariant c.args.m there old c.index_mut-member.ensures.value
           (commanded.order_of s.keys c.args.m c.args.octets.now) c.command_checked.new.self b_is
-          ∙ ap (λ (x : GroupState). after_order (world_of x) c.args.m (commanded.order_of x.keys c.args.m c.args.octets.now))
+          ∙ ap (λ (x : GroupState). after_order (world_of x) c.args.m
+          (commanded.order_of x.keys c.args.m c.args.octets.now))
           c.self.view_is;
       told =
           c.ordered.ensures
@@ -61,7 +63,8 @@ returns c =
           ∙ order_answered s c.self.invariant c.args.m there old c.index_mut-member.ensures.value
           (commanded.order_of s.keys c.args.m c.args.octets.now))
           ∙ ap (λ (x : GroupState).
-          order_told c.args.m (order_answer (world_of x) c.args.m (commanded.order_of x.keys c.args.m c.args.octets.now)))
+          order_told c.args.m (order_answer (world_of x) c.args.m
+          (commanded.order_of x.keys c.args.m c.args.octets.now)))
           c.self.view_is;
       joined = tt;
       steps = ap (λ (x : GroupState). x.steps + 1) c.self.view_is;

@@ -28,7 +28,8 @@ returns g c =
     record {
       taken = refl;
       world =
-          restarted_world s c.self.invariant c.args.m there c.index_mut-member.result.now c.index_mut-member.ensures.value
+          restarted_world s c.self.invariant c.args.m there c.index_mut-member.result.now
+          c.index_mut-member.ensures.value
           c.restart.new.self (g.D.Draws.draw c.args.draws.now) c.draw-draw.result
           (c.draw-draw.ensures ∙ ap (g.D.Draws.draw c.args.draws.now c.args.m) c.next_draw.ensures) c.restart.ensures
           ∙ ap (λ (x : GroupState). after_restart (drawing (g.D.Draws.draw c.args.draws.now)) (world_of x) c.args.m)

@@ -48,7 +48,8 @@ returns g c =
       taken = refl;
       world =
           reset_world s c.self.invariant few (g.D.Draws.draw c.args.draws.now) (g.N.Net.passes c.args.net.now)
-          (world_state c.self-2.inside) c.self-2.invariant mid steps c.reset_all.new.members.items c.reset_all.ensures.len
+          (world_state c.self-2.inside) c.self-2.invariant mid steps c.reset_all.new.members.items
+          c.reset_all.ensures.len
           c.reset_all.ensures.each
           ∙ ap (λ (x : GroupState).
           after_settle (outside x.keys (g.D.Draws.draw c.args.draws.now) (g.N.Net.passes c.args.net.now)) (world_of x))
@@ -56,7 +57,8 @@ returns g c =
       told = λ i. Told.Settle (syncs i) (c.in-Ok.ensures.parts i);
       joined =
           reset_joined s c.self.invariant few (g.D.Draws.draw c.args.draws.now) (g.N.Net.passes c.args.net.now)
-          (world_state c.self-2.inside) c.self-2.invariant mid steps c.reset_all.new.members.items c.reset_all.ensures.len
+          (world_state c.self-2.inside) c.self-2.invariant mid steps c.reset_all.new.members.items
+          c.reset_all.ensures.len
           c.reset_all.ensures.each;
       steps = ap (λ (x : GroupState). x.steps) c.self-2.view_is ∙ c.settle.ensures.steps;
       keys = ap (λ (x : GroupState). x.keys) c.self-2.view_is ∙ c.settle.ensures.keys;

@@ -33,7 +33,8 @@ returns c =
           (c.in_ok-octets.ensures.items_if_clones_equal (λ x y e. e) ∙ at.same
           ∙ octets_are s c.self.invariant c.args.k at.first at.last)
           ∙ ap (λ (x : GroupState).
-          Told.Sync c.args.k (sync_of x.keys (sent_at (world_of x) c.args.k).sender (sent_at (world_of x) c.args.k).vector))
+          Told.Sync c.args.k (sync_of x.keys (sent_at (world_of x) c.args.k).sender
+          (sent_at (world_of x) c.args.k).vector))
           c.self.view_is;
       joined = tt;
       steps = ap (λ (x : GroupState). x.steps + 1) c.self.view_is;
