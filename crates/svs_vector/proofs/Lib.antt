@@ -6,3 +6,4 @@ pub mod ToldLemmas
 pub mod SortedLemmas
 pub mod LengthLemmas
 pub mod ReadBackLemmas
+pub mod FaultLemmas
