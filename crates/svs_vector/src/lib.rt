@@ -25,5 +25,5 @@ pub use vector_fault::VectorFault;
 pub use vector_laws::{
     constants_are_the_formats, entries_are_written_in_canonical_order,
     entries_tell_the_same_in_any_order, state_vectors_tell_their_entries,
-    written_vectors_are_read_back,
+    vector_faults_are_of_the_octets, written_vectors_are_read_back,
 };
