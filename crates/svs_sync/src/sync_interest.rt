@@ -1,8 +1,8 @@
 ghost use Rattle.std.specs.Prelude.{◌≡◌, ◌≤◌, ◌⊎◌, IfOk, IsTrue, MatchResult, Ok, Err, Some, length, slice_get};
-ghost use Rattle.std.specs.Prelude.{◌≢◌, is_some, IfErr, IsOk};
+ghost use Rattle.std.specs.Prelude.{◌≢◌, is_some, IsOk};
 ghost use Rattle.std.specs.List.{All};
 ghost use Rattle.svs_sync.specs.SyncInterest.{sync_name, sync_interest, sync_verdict, is_sync_name, IsNodeName};
-ghost use Rattle.svs_sync.specs.SyncInterest.{IsKeyName, signer_verdict};
+ghost use Rattle.svs_sync.specs.SyncInterest.{IsKeyName};
 
 use crate::sync_refusal::SyncRefusal;
 use ndn_interest::{InterestView, signer_of, write_signed};
@@ -68,8 +68,7 @@ fn sync_name(alloc: Global, group: &Name) -> Result<Name, AllocError>
 /// that signed it, and the vector that it tells.
 ///
 /// The signer is known by its key alone, whatever the vector tells. What follows the state vector
-/// in the parameters is passed over. Only the vector takes memory, so want of it is told where all that is tested before
-/// the vector has passed.
+/// in the parameters is passed over. Only the vector takes memory, and that comes last.
 pub fn check_sync(
     alloc: Global,
     octets: &[u8],
@@ -81,8 +80,8 @@ pub fn check_sync(
         (λ told. sync_verdict group.now roster.now ring.now octets.now ≡ Ok (told.0, told.1))
         (λ refusal. (sync_verdict group.now roster.now ring.now octets.now ≡ Err refusal)
         ⊎ (refusal ≡ SyncRefusal.NoMemory)) }
-    ensures memory { IfErr result (λ refusal. refusal ≡ SyncRefusal.NoMemory
-        → IsOk (signer_verdict group.now ring.now octets.now)) }
+    ensures memory { result ≡ Err SyncRefusal.NoMemory
+        → IsOk (sync_verdict group.now roster.now ring.now octets.now) }
     ensures vector { result ≢ Err (SyncRefusal.Vector VectorFault.NoMemory) }
     ensures width { IfOk result (λ told. length told.1 ≡ length roster.now) }
 {
