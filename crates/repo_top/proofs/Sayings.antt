@@ -19,6 +19,7 @@ use Rattle.script_lang.specs.Texts.{AreOf, IsOfKind, IsLineText}
 use Rattle.script_lang.specs.Checking.{Declared, after_line}
 use Rattle.script_lang.proofs.LineTexts.{line_texts}
 use Rattle.script_lang.proofs.RefusalLemmas.{checked_for_a_cause, read_for_a_cause}
+use Rattle.script_lang.proofs.StatedForms.{read_in_its_form}
 use Rattle.bench_world.specs.EventValues.{EventValue, group_event}
 use Rattle.repo_top.specs.declared.refusal.Refusal.{Refusal}
 use Rattle.repo_top.specs.declared.refusal.Refusal.TheVariants as refusal
@@ -127,7 +128,8 @@ check_beyond check_fault.NoMemory cause = absurd (cause refl)
 line_beyond : (given : Given) (s : State) (octets : List ℕ) (line : Stated) → line_of octets ≡ Ok (Some line)
     → IsBeyondGrammar (judged_line given s line)
 unfolding judged_line
-line_beyond given s octets line is = go (after_line s.declared line) (checked_for_a_cause s.declared line) where
+line_beyond given s octets line is =
+    go (after_line s.declared line) (checked_for_a_cause s.declared line (read_in_its_form octets line is)) where
   text : IsLineText line octets
   text = (line_texts line octets).0 is
 
