@@ -7,6 +7,7 @@ mod laws;
 mod read;
 mod roster;
 mod roster_fault;
+mod told_numbers;
 mod types;
 mod vector;
 mod vector_fault;
@@ -20,6 +21,7 @@ pub use laws::{
 };
 pub use roster::{MEMBER_LIMIT, Roster};
 pub use roster_fault::RosterFault;
+pub use told_numbers::ToldNumbers;
 pub use vector::Vector;
 pub use vector_fault::VectorFault;
 pub use vector_laws::{

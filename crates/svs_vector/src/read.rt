@@ -5,6 +5,7 @@ ghost use Rattle.svs_vector.specs.StateVector.{with_vector_entry, vector_in, vec
 
 use crate::entry::{entry_in, fault_in};
 use crate::roster::{MEMBER_LIMIT, Roster};
+use crate::told_numbers::ToldNumbers;
 use crate::types;
 use crate::vector::Vector;
 use crate::vector_fault::VectorFault;
@@ -23,12 +24,8 @@ pub(crate) const VECTOR_PLACES: [Place<VectorField>; 1] = [Place {
 }];
 
 impl Vector {
-    /// The state vector that the octets begin with, of the members of a roster.
-    ///
-    /// Entries come in any order, and a node's greatest number counts. Nodes that are no members
-    /// are passed over.
-    //
-    // The entries are read before memory is taken: a roster has few members.
+    /// The state vector that the octets begin with, of the members of a roster, as
+    /// [`ToldNumbers::read`] reads it.
     pub fn read(alloc: Global, octets: &[u8], roster: &Roster) -> Result<Vector, VectorFault>
         ensures ok { IfOk result (λ vector. vector_of roster.now octets.now ≡ Ok vector) }
         ensures width { IfOk result (λ vector. length vector ≡ length roster.now) }
@@ -36,11 +33,29 @@ impl Vector {
             (vector_of roster.now octets.now ≡ Err fault) ⊎ (fault ≡ VectorFault.NoMemory)) }
         ensures memory { result ≡ Err VectorFault.NoMemory → IsOk (vector_of roster.now octets.now) }
     {
+        let told = ToldNumbers::read(octets, roster)?;
+        Ok(told.to_vector(alloc)?)
+    }
+}
+
+impl ToldNumbers {
+    /// The numbers of the state vector that the octets begin with, of the members of a roster. It
+    /// takes no memory.
+    ///
+    /// Entries come in any order, and a node's greatest number counts. Nodes that are no members
+    /// are passed over.
+    pub fn read(octets: &[u8], roster: &Roster) -> Result<ToldNumbers, VectorFault>
+        ensures told { MatchResult result
+            (λ told. vector_of roster.now octets.now ≡ Ok told)
+            (λ fault. vector_of roster.now octets.now ≡ Err fault) }
+        ensures width { IfOk result (λ told. length told ≡ length roster.now) }
+    {
         let element = vector_element(octets)?;
         let mut numbers = [0; MEMBER_LIMIT];
-        let (numbers, _) = numbers.split_at_mut(roster.len());
-        take_entries(numbers, element, roster)?;
-        Ok(Vector::of(alloc, numbers)?)
+        let members = roster.len();
+        let (told, _) = numbers.split_at_mut(members);
+        take_entries(told, element, roster)?;
+        Ok(ToldNumbers::new(numbers, members))
     }
 }
 
