@@ -1,6 +1,7 @@
 -- What is published in a script is within the limits of objects: an event that a line states publishes an object, or
 -- begins or goes on with an insertion that is within them.
-use Rattle.std.proofs.Common.{◌≡◌, ◌∙◌, inl, inr, ℕ, zero, suc, ◌+◌, ◌<◌, Bool, true, false, cond, not, ◌&&◌, ◌||◌, List, [], ◌∷◌, ◌++◌}
+use Rattle.std.proofs.Common.{◌≡◌, ◌∙◌, inl, inr, ℕ, zero, suc, ◌+◌, ◌<◌, Bool, true, false, cond, not, ◌&&◌, ◌||◌}
+use Rattle.std.proofs.Common.{List, [], ◌∷◌, ◌++◌}
 use Rattle.std.proofs.Common.{eqb, length, get_or, set, map, Option, Some, None, Result, Ok, Err, refl, sym, ap, subst}
 use Rattle.std.proofs.Common.{arith}
 use Rattle.std.specs.Prelude.{is_some, nat_le, unwrap_or}
@@ -302,7 +303,8 @@ module _ (g : GroupKeys) where
   issuing w j client command begins h = record {
     are = h.are;
     insertions = h.insertions;
-    issued = All-push IsBegunWithin w.issued (record { member = j; client = client; command = command }) h.issued begins;
+    issued =
+        All-push IsBegunWithin w.issued (record { member = j; client = client; command = command }) h.issued begins;
   }
 
   ordering : (w : World) (j : ℕ) (read : Result (ℕ × Command) ℕ) → if_unissued w j read ≡ None → IsLimited g w

@@ -30,7 +30,8 @@ use Rattle.script_lang.specs.Forms.{Stated, form, said}
 use Rattle.script_lang.specs.Lines.{line_of}
 use Rattle.script_lang.specs.Texts.{AreOf, IsLineText}
 use Rattle.script_lang.specs.Checking as checking
-use Rattle.script_lang.specs.Checking.{Declared, Party, after_group, after_line, is_party_among, is_there, party, party_label}
+use Rattle.script_lang.specs.Checking.{Declared, Party, after_group, after_line, is_party_among, is_there, party}
+use Rattle.script_lang.specs.Checking.{party_label}
 use Rattle.script_lang.proofs.LineTexts.{line_texts}
 use Rattle.bench_world.specs.EventValues.{EventValue, group_event}
 use Rattle.bench_world.specs.Steps.{IsReady}
@@ -135,7 +136,12 @@ pub record AreGroupKeys (g : GroupKeys) : Type 0 where
 
 group_of : (g : GroupKeys) → AreGroupKeys g → IsGroup g
 group_of g are =
-    record { name = are.name; members = are.members; clients = are.clients; apart = differ g.members g.clients are.apart }
+    record {
+      name = are.name;
+      members = are.members;
+      clients = are.clients;
+      apart = differ g.members g.clients are.apart;
+    }
 
 -- Nobody has the name of a party that may be declared.
 record IsNew (g : GroupKeys) (node : List Component) : Type 0 where
@@ -171,7 +177,8 @@ kept_beginning given = record {
   limited = λ h. cc;
 }
 
-opening_logs : (f : ℕ → Member) (k n : ℕ) → ((x : ℕ) → (f x).log ≡ []) → logs_of (map f (numbers_from k n)) ≡ replicate n []
+opening_logs : (f : ℕ → Member) (k n : ℕ) → ((x : ℕ) → (f x).log ≡ [])
+    → logs_of (map f (numbers_from k n)) ≡ replicate n []
 opening_logs f k zero empty = refl
 opening_logs f k (suc n) empty = λ i. empty k i ∷ opening_logs f (k + 1) n empty i
 
@@ -354,7 +361,8 @@ kept_lines given r (line ∷ lines) (report ∷ reports) last taken sound kept =
     kept_lines given next lines reports last taken.2 (sound_line given r.state line report next.state it sound)
     (kept_line given r.state line report next.state it sound kept)
 
-pub kept_from_start : (given : Given) (lines reports : List (List ℕ)) (r : Reached) → AreTakenFirst given lines reports r
+pub kept_from_start : (given : Given) (lines reports : List (List ℕ)) (r : Reached)
+    → AreTakenFirst given lines reports r
     → IsKept given r.state
 kept_from_start given lines reports r taken =
     kept_lines given nothing_reached lines reports r taken (sound_beginning given) (kept_beginning given)

@@ -1,5 +1,6 @@
 -- What the text of a script that is done shows for its `catalogue` lines.
-use Rattle.std.proofs.Common.{◌≡◌, ◌∙◌, ℕ, ◌+◌, Bool, true, false, not, ◌&&◌, List, [], ◌∷◌, ◌++◌, append_assoc, refl, sym}
+use Rattle.std.proofs.Common.{◌≡◌, ◌∙◌, ℕ, ◌+◌, Bool, true, false, not, ◌&&◌, List, [], ◌∷◌, ◌++◌, append_assoc, refl}
+use Rattle.std.proofs.Common.{sym}
 use Rattle.std.proofs.Common.{ap, subst, Option, Some, None, Result, Ok, Err, arith}
 use Rattle.std.specs.List.{concat, list_all}
 use Rattle.std.proofs.lemmas.Bool.{and_from}
@@ -40,7 +41,8 @@ record AllTaken (given : Given) (script : List (List ℕ)) (text : List ℕ) : T
   taken : AreTakenFirst given script reports last
   text_is : text ≡ concat reports
 
-not_done : (number : ℕ) (v : Verdict) (text : List ℕ) (ending : Ending) → EndsBy number v text ending → ending ≡ Done → ⊥
+not_done : (number : ℕ) (v : Verdict) (text : List ℕ) (ending : Ending) → EndsBy number v text ending → ending ≡ Done
+    → ⊥
 not_done number (says report next) text ending ends done = ends
 not_done number (verdict.refused why) text ending ends done = let one = sym ends.1 ∙ done in cc
 not_done number foreign text ending ends done = let one = sym ends.1 ∙ done in cc

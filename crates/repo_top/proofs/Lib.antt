@@ -21,6 +21,7 @@ pub mod LineLaws
 pub mod Readings
 pub mod Stories
 pub mod Runs
+pub mod KnownRuns
 pub mod Stops
 pub mod Labels
 pub mod Judgings

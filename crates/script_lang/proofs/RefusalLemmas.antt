@@ -22,8 +22,10 @@ use Rattle.script_lang.specs.Lines.{with_value, without_value, word_then, values
 use Rattle.script_lang.specs.Lines.{line_by, line_in_words, verb_of_word, spaced_words, says_nothing, is_printable}
 use Rattle.script_lang.specs.Lines.{mapped_line, line_in, line_within, ends_with, line_of, without_last_octet}
 use Rattle.script_lang.specs.Lines.{without_return}
-use Rattle.script_lang.specs.Checking.{Declared, Party, after_group, after_declaration, after_event, after_by, after_line}
-use Rattle.script_lang.specs.Checking.{may_declare, declared_then, is_there, are_known, adds, are_within_limits, with_totals, party}
+use Rattle.script_lang.specs.Checking.{Declared, Party, after_group, after_declaration, after_event, after_by}
+use Rattle.script_lang.specs.Checking.{after_line}
+use Rattle.script_lang.specs.Checking.{may_declare, declared_then, is_there, are_known, adds, are_within_limits}
+use Rattle.script_lang.specs.Checking.{with_totals, party}
 
 -- ---- the text of a line
 

@@ -1,6 +1,7 @@
 -- What octets are as a line: its verb and the values of its words; nothing; or why they are no line. A line that is
 -- too long is told first, then what isn't in the grammar, then what leaves a range.
-use Rattle.std.specs.Prelude.{ℕ, ◌-◌, ◌*◌, Bool, true, false, not, ◌&&◌, List, [], ◌∷◌, length, take, map, Option, Some, None}
+use Rattle.std.specs.Prelude.{ℕ, ◌-◌, ◌*◌, Bool, true, false, not, ◌&&◌, List, [], ◌∷◌, length, take, map, Option, Some}
+use Rattle.std.specs.Prelude.{None}
 use Rattle.std.specs.Prelude.{Result, Ok, Err, nat_le, nat_lt, ◌==◌, if◌then◌else◌, filter, slice_index}
 use Rattle.std.specs.List.{list_all, slice_split, find}
 use Rattle.std.specs.Str.{bytes_eq}

@@ -57,7 +57,7 @@ pub fn refusals_are_of_the_lines()
         → IfErr (after_line d s) (λ r. r ≢ refusal.NoMemory) }
 {}
 
-/// What a line states has the values that its form has, so that what definitions say of other values is said of no line.
+/// What a line states has the values of its form, so that what definitions say of other values is said of no line.
 pub fn lines_state_their_forms()
     ensures lines { (line : Line) → AreShaped (form (stated line).verb).kinds (stated line).values }
     ensures octets { (octets : List ℕ) (s : Stated) → line_of octets ≡ Ok (Some s)

@@ -57,7 +57,8 @@ module _ (group : List Component) (roster : List (List Component)) (ring : List 
       then_err (ensured (is_sync_name group i.name) WrongGroup) _ (ensured_err (is_sync_name group i.name))
       (λ _. then_err (signed_or (signer_of ring i)) _ (signed_err (signer_of ring i)) (λ signer.
       then_err (vector_or (vector_of roster (unwrap_or i.parameters []))) (λ v. Ok (signer, v))
-      (told_err (vector_of roster (unwrap_or i.parameters [])) (faults_of_octets roster (unwrap_or i.parameters []))) (λ v. tt)))
+      (told_err (vector_of roster (unwrap_or i.parameters [])) (faults_of_octets roster (unwrap_or i.parameters [])))
+      (λ v. tt)))
 
 pub refused_for_octets : (group : List Component) (roster : List (List Component)) (ring : List NamedKey)
     (octets : List ℕ) → IfErr (sync_verdict group roster ring octets)
