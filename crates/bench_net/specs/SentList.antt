@@ -24,6 +24,11 @@ abbrev pub sent_octets : List SentPacket → ℕ → Option (List ℕ)
 sent_octets packets k =
     if k == 0 then None else option_map (λ (p : SentPacket). p.octets) (slice_get packets (k - 1))
 
+-- The vector that it tells of.
+abbrev pub sent_vector : List SentPacket → ℕ → Option (List ℕ)
+sent_vector packets k =
+    if k == 0 then None else option_map (λ (p : SentPacket). p.vector) (slice_get packets (k - 1))
+
 -- The sender sent a packet that tells of this vector.
 abbrev pub was_sent : ℕ → List ℕ → List SentPacket → Bool
 was_sent sender vector packets =

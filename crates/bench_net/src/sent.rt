@@ -1,5 +1,5 @@
 ghost use Rattle.std.specs.Prelude.{◌≡◌, ◌+◌, ◌-◌, ◌<◌, [], ◌∷◌, ◌++◌, length, max, IfOk, OnOk, OnErr, option_map};
-ghost use Rattle.bench_net.specs.SentList.{sent_octets, sent_packet, was_sent};
+ghost use Rattle.bench_net.specs.SentList.{sent_octets, sent_packet, sent_vector, was_sent};
 
 use indexmap::IndexSet;
 use std::alloc::{AllocError, Global};
@@ -123,6 +123,15 @@ impl Sent {
         let place = k.checked_sub(1)?;
         let packet = self.packets.get(place as usize)?;
         Some(&packet.octets)
+    }
+
+    /// The vector that the packet of that number tells of.
+    pub fn vector(&self, k: u32) -> Option<&[u16]>
+        ensures { option_map (λ vector. vector.now) result ≡ sent_vector self.now.packets k }
+    {
+        let behind = k.checked_sub(1)?;
+        let packet = self.packets.get(behind as usize)?;
+        Some(self.vectors.as_slice()[packet.vector].as_slice())
     }
 
     /// Whether the sender sent a packet that tells of this vector.

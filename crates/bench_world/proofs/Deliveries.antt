@@ -1,11 +1,12 @@
 -- What a delivery makes of a world.
 use Rattle.std.proofs.Common.{◌≡◌, ℕ, ◌+◌, ◌-◌, ◌≤◌, ◌<◌, ◌==◌, Bool, true, false, cond, List, map, length, get_or, set}
 use Rattle.std.proofs.Common.{Option, Some, None, option_map, refl, sym, ap, ◌∙◌, subst, arith}
-use Rattle.std.specs.Prelude.{slice_get, nat_le, ◌&&◌, Ok, IsOkAnd}
-use Rattle.std.proofs.lemmas.Bool.{eqb-true, eqb-false, le-leb, leb-false, leb-true}
+use Rattle.std.specs.Prelude.{slice_get, slice_index, nat_le, nat_lt, ◌&&◌, Ok, Err, IsOkAnd}
+use Rattle.std.proofs.lemmas.Bool.{eqb-true, eqb-false, le-leb, leb-false, leb-true, ltb-true, false_from_ne_true}
 use Rattle.std.proofs.lemmas.List.{length-map, map-set, get_or-map}
 use Rattle.std.proofs.lemmas.Option.{slice_get-get_or, slice_get_past}
-use Rattle.bench_net.specs.SentList.{SentPacket, sent_octets}
+use Rattle.bench_net.specs.SentList.{SentPacket}
+use Rattle.group_model.specs.Publications.{last_of}
 use Rattle.group_model.specs.Member.{Member}
 use Rattle.group_model.specs.Events.{SyncInterest, Event}
 use Rattle.group_model.specs.World.{World, no_sync, member, sent_at}
@@ -14,66 +15,73 @@ use Rattle.group_model.specs.Refusals.{Refusal, unless, unless_sent}
 use Rattle.group_model.specs.Changes as group
 use Rattle.repo_member.specs.Alone.{Alone, alone_hears}
 use Rattle.repo_member.specs.InGroup.{in_group}
-use Rattle.repo_member.specs.Verdicts.{sync_of, hear_verdict}
+use Rattle.repo_member.specs.declared.refusals.HearRefusal.{HearRefusal}
+use Rattle.repo_member.specs.declared.refusals.HearRefusal.TheVariants.{OwnNumberAhead}
+use Rattle.repo_member.specs.Verdicts.{sync_of, vector_verdict}
 use Rattle.repo_member.specs.TrueMembers.{IsTrueMember}
-use Rattle.repo_member.proofs.PublicLaws.{syncs_are_taken, hears_true}
+use Rattle.repo_member.proofs.PublicLaws.{hears_true}
 use Rattle.bench_world.specs.Worlds.{GroupState, IsTrueState, IsTrueSync, in_groups, logs_around, sync_in, world_of}
 use Rattle.bench_world.specs.Worlds.{no_packet, drawing}
-use Rattle.bench_world.proofs.States.{truly, number_is, member_is, stepped_at}
+use Rattle.bench_world.proofs.States.{many, few_members, truly, number_is, member_is, stepped_at}
 
 -- ---- packets by number
 
+-- What there is of the packet of a number, as its octets and its vector.
+abbrev read_at : (SentPacket → List ℕ) → List SentPacket → ℕ → Option (List ℕ)
+read_at of packets k = cond (k == 0) None (option_map of (slice_get packets (k - 1)))
+
 -- There is a packet of a number, or none.
-data AtNumber (packets : List SentPacket) (k : ℕ) : Type 0 where
-  There : 1 ≤ k → k ≤ length packets → sent_octets packets k ≡ Some (get_or packets (k - 1) no_packet).octets
-      → AtNumber packets k
-  Nowhere : (nat_le 1 k && nat_le k (length packets)) ≡ false → sent_octets packets k ≡ None → AtNumber packets k
+data AtNumber (of : SentPacket → List ℕ) (packets : List SentPacket) (k : ℕ) : Type 0 where
+  There : 1 ≤ k → k ≤ length packets → read_at of packets k ≡ Some (of (get_or packets (k - 1) no_packet))
+      → AtNumber of packets k
+  Nowhere : (nat_le 1 k && nat_le k (length packets)) ≡ false → read_at of packets k ≡ None → AtNumber of packets k
 
 and_false : (b : Bool) → (b && false) ≡ false
 and_false true = refl
 and_false false = refl
 
-at_number : (packets : List SentPacket) (k : ℕ) → AtNumber packets k
-at_number packets k = go (k == 0) (nat_le k (length packets)) refl refl where
+at_number : (of : SentPacket → List ℕ) (packets : List SentPacket) (k : ℕ) → AtNumber of packets k
+at_number of packets k = go (k == 0) (nat_le k (length packets)) refl refl where
   read : Bool → Option (List ℕ)
-  read b = cond b None (option_map (λ (y : SentPacket). y.octets) (slice_get packets (k - 1)))
+  read b = cond b None (option_map of (slice_get packets (k - 1)))
 
-  go : (b c : Bool) → (k == 0) ≡ b → nat_le k (length packets) ≡ c → AtNumber packets k
+  go : (b c : Bool) → (k == 0) ≡ b → nat_le k (length packets) ≡ c → AtNumber of packets k
   go true c p q =
       Nowhere (let z : k ≡ 0 = eqb-true k 0 p in ap (λ (n : ℕ). nat_le 1 n && nat_le n (length packets)) z) (ap read p)
   go false c p q = inside c q (let z : k ≡ 0 → ⊥ = eqb-false k 0 p in omega (arith, z)) where
-    inside : (c : Bool) → nat_le k (length packets) ≡ c → 1 ≤ k → AtNumber packets k
+    inside : (c : Bool) → nat_le k (length packets) ≡ c → 1 ≤ k → AtNumber of packets k
     inside true q one =
         let last : k ≤ length packets = leb-true k (length packets) q in
         There one last
-        (ap read p ∙ ap (option_map (λ (y : SentPacket). y.octets))
+        (ap read p ∙ ap (option_map of)
         (slice_get-get_or packets (k - 1) no_packet (omega (arith, one, last))))
     inside false q one =
         let out : length packets < k = leb-false k (length packets) q in
         Nowhere (ap (λ (b : Bool). nat_le 1 k && b) q ∙ and_false (nat_le 1 k))
         (ap read p
-        ∙ ap (option_map (λ (y : SentPacket). y.octets)) (slice_get_past packets (k - 1) (omega (arith, one, out))))
+        ∙ ap (option_map of) (slice_get_past packets (k - 1) (omega (arith, one, out))))
 
-pub record IsThere (packets : List SentPacket) (k : ℕ) (x : List ℕ) : Type 0 where
+pub record IsThere (of : SentPacket → List ℕ) (packets : List SentPacket) (k : ℕ) (x : List ℕ) : Type 0 where
   pub first : 1 ≤ k
   pub last : k ≤ length packets
-  pub octets : x ≡ (get_or packets (k - 1) no_packet).octets
+  pub same : x ≡ of (get_or packets (k - 1) no_packet)
 
-pub there : (packets : List SentPacket) (k : ℕ) (x : List ℕ) → Some x ≡ sent_octets packets k → IsThere packets k x
-there packets k x e = go (at_number packets k) where
-  go : AtNumber packets k → IsThere packets k x
+pub there : (of : SentPacket → List ℕ) (packets : List SentPacket) (k : ℕ) (x : List ℕ)
+    → Some x ≡ read_at of packets k → IsThere of packets k x
+there of packets k x e = go (at_number of packets k) where
+  go : AtNumber of packets k → IsThere of packets k x
   go (There one last at) = record {
     first = one;
     last = last;
-    octets = let h : Some x ≡ Some (get_or packets (k - 1) no_packet).octets = e ∙ at in cc;
+    same = let h : Some x ≡ Some (of (get_or packets (k - 1) no_packet)) = e ∙ at in cc;
   }
   go (Nowhere none at) = absurd (let h : Some x ≡ None = e ∙ at in cc)
 
-pub nowhere : (packets : List SentPacket) (k : ℕ) → None ≡ sent_octets packets k
+nowhere : (of : SentPacket → List ℕ) (packets : List SentPacket) (k : ℕ) → None ≡ read_at of packets k
     → (nat_le 1 k && nat_le k (length packets)) ≡ false
-nowhere packets k e = go (at_number packets k) where
-  go : AtNumber packets k → (nat_le 1 k && nat_le k (length packets)) ≡ false
-  go (There one last at) = absurd (let h : None ≡ Some (get_or packets (k - 1) no_packet).octets = e ∙ at in cc)
+nowhere of packets k e = go (at_number of packets k) where
+  go : AtNumber of packets k → (nat_le 1 k && nat_le k (length packets)) ≡ false
+  go (There one last at) = absurd (let h : None ≡ Some (of (get_or packets (k - 1) no_packet)) = e ∙ at in cc)
   go (Nowhere none at) = none
 
 module _ (s : GroupState) (k : ℕ) where
@@ -86,10 +94,11 @@ module _ (s : GroupState) (k : ℕ) where
       let inside : k ≤ length (map sync_in s.sent) = omega (arith, last, many_sent) in
       (λ i. unless (le-leb 1 k one i && le-leb k (length (map sync_in s.sent)) inside i) Refusal.NoSuchPacket)
 
-  pub refused_so : None ≡ sent_octets s.sent k → unless_sent (world_of s) k ≡ Some Refusal.NoSuchPacket
-  refused_so e =
+  pub refused_so : (of : SentPacket → List ℕ) → None ≡ read_at of s.sent k
+      → unless_sent (world_of s) k ≡ Some Refusal.NoSuchPacket
+  refused_so of e =
       ap (λ (n : ℕ). unless (nat_le 1 k && nat_le k n) Refusal.NoSuchPacket) many_sent
-      ∙ ap (λ (b : Bool). unless b Refusal.NoSuchPacket) (nowhere s.sent k e)
+      ∙ ap (λ (b : Bool). unless b Refusal.NoSuchPacket) (nowhere of s.sent k e)
 
 module _ (s : GroupState) (is : IsTrueState s) (k : ℕ) (one : 1 ≤ k) (last : k ≤ length s.sent) where
   pub sync : IsTrueSync s.keys (logs_around s.members) (get_or s.sent (k - 1) no_packet)
@@ -103,16 +112,39 @@ module _ (s : GroupState) (is : IsTrueState s) (k : ℕ) (one : 1 ≤ k) (last :
       ≡ sync_of s.keys (sent_at (world_of s) k).sender (sent_at (world_of s) k).vector
   octets_are = sync.octets ∙ ap (λ (p : SyncInterest). sync_of s.keys p.sender p.vector) (sym sent_is)
 
+  -- It has a number for each member.
+  pub few_numbers : (told : List ℕ) → told ≡ (get_or s.sent (k - 1) no_packet).vector → length told ≤ 16
+  few_numbers told same =
+      let e = ap length same in let w = sync.vector.width in let n = many s is in let few = few_members s is in
+      omega (arith, e, w, n, few)
+
   module _ (m : ℕ) (there : m < length s.members) (old b : Alone) (old_is : old ≡ get_or s.members m old) where
-    pub heard_is : (octets : List ℕ) (moment draw : ℕ) → octets ≡ (get_or s.sent (k - 1) no_packet).octets
-        → IsOkAnd (hear_verdict s.keys old octets) (λ v. b ≡ alone_hears v moment draw old)
+    pub fits : length (get_or s.sent (k - 1) no_packet).vector ≡ length old.known
+    fits = sync.vector.width ∙ sym (truly s is m there old old_is).sound.width
+
+    -- It tells of no publication that there isn't.
+    taken : vector_verdict old (get_or s.sent (k - 1) no_packet).vector
+        ≡ Ok (get_or s.sent (k - 1) no_packet).vector
+    taken =
+        let v = (get_or s.sent (k - 1) no_packet).vector in
+        ap (λ (x : Bool). cond x (Err (OwnNumberAhead (length old.log) (slice_index v old.number))) (Ok v))
+        (false_from_ne_true (nat_lt (length old.log) (slice_index v old.number)) (λ more.
+        let h : length old.log < slice_index v old.number = ltb-true (length old.log) (slice_index v old.number) more in
+        let most : slice_index v old.number ≤ last_of (logs_around s.members) old.number =
+        sync.vector.no_more old.number in
+        let own : last_of (logs_around s.members) old.number ≡ length old.log =
+        ap length (truly s is m there old old_is).log in
+        omega (arith, h, most, own)))
+
+    pub not_refused_by : (told : List ℕ) → told ≡ (get_or s.sent (k - 1) no_packet).vector → (x : HearRefusal)
+        → vector_verdict old told ≡ Err x → ⊥
+    not_refused_by told at x refused = let k = ap (vector_verdict old) at ∙ taken in cc
+
+    pub heard_is : (told : List ℕ) (moment draw : ℕ) → told ≡ (get_or s.sent (k - 1) no_packet).vector
+        → IsOkAnd (vector_verdict old told) (λ v. b ≡ alone_hears v moment draw old)
         → b ≡ alone_hears (get_or s.sent (k - 1) no_packet).vector moment draw old
-    heard_is octets moment draw at heard =
-        let taken : hear_verdict s.keys old octets ≡ Ok (get_or s.sent (k - 1) no_packet).vector =
-        ap (hear_verdict s.keys old) (at ∙ sync.octets)
-        ∙ syncs_are_taken s.keys (logs_around s.members) old (get_or s.sent (k - 1) no_packet).sender
-        (get_or s.sent (k - 1) no_packet).vector is.are (truly s is m there old old_is) sync.sender sync.vector in
-        subst (λ r. IsOkAnd r (λ v. b ≡ alone_hears v moment draw old)) taken heard
+    heard_is told moment draw at heard =
+        subst (λ r. IsOkAnd r (λ v. b ≡ alone_hears v moment draw old)) (ap (vector_verdict old) at ∙ taken) heard
 
     told_is : (sent_at (world_of s) k).vector ≡ (get_or s.sent (k - 1) no_packet).vector
     told_is = ap (λ (p : SyncInterest). p.vector) sent_is

@@ -90,10 +90,11 @@ module _ (out : Outside) (g : GroupKeys) (begun : World) (events : List Event) w
     -- The fault of this event is that of the list.
     pub stopped_here : (out_ : Outside) (begun_ mid_ new_ : GroupState) (fault : StepFault) → out ≡ out_
         → world_of begun_ ≡ begun → begun_.keys ≡ g → world_of mid_ ≡ mid
+        → mid_.steps ≡ begun_.steps + i → mid_.keys ≡ begun_.keys
         → IsFaultOf (refusal out mid (group_event g (event_value item))) fault
         → StandsAsBefore (event_value item) mid_ new_
         → IsStopped out_ begun_ (event_values events) i fault new_
-    stopped_here out_ begun_ mid_ new_ fault out_is begun_is keys_are mid_is because stands = record {
+    stopped_here out_ begun_ mid_ new_ fault out_is begun_is keys_are mid_is steps_are keys_stay because stands = record {
       inside = let k = length-map events event_value in omega (arith, inside, k);
       taken =
           let e : group_events begun_.keys (take i (event_values events))
@@ -104,6 +105,8 @@ module _ (out : Outside) (g : GroupKeys) (begun : World) (events : List Event) w
           (subst (λ (w : World). EventsAreTaken out w (group_events begun_.keys (take i (event_values events))))
           (sym begun_is) (subst (EventsAreTaken out begun) (sym e) taken));
       before = mid_;
+      steps = steps_are;
+      keys = keys_stay;
       world =
           let e : group_events begun_.keys (take i (event_values events))
           ≡ group_events g (event_values (take i events)) =

@@ -36,6 +36,7 @@ use Rattle.bench_world.proofs.States.{many, few_here, member_at, member_within, 
 use Rattle.bench_world.proofs.States.{within_more, stepped}
 use Rattle.bench_world.proofs.Answered.{sizes_short}
 use Rattle.bench_world.proofs.Learnt.{partly_none}
+use Rattle.bench_world.proofs.Readers.{counted_state}
 
 -- ---- a fetch
 
@@ -189,9 +190,11 @@ module _ (s : GroupState) (is : IsTrueState s) where
         (more_within s.steps (s.steps + 1) (world_of (record s { members = mid; steps = s.steps + 1 })) (omega arith)
         (still_within mid (s.steps + 1) (omega arith) len numbers truly counts p))
 
-    pub partly : (mid : List Alone) → ArePartlySettled (only_members s.members) (in_groups mid)
+    pub partly : (mid : List Alone) → length mid ≡ length s.members → MembersAreNumbered mid
+        → AreTrueMembers s.keys (logs_around s.members) mid → AllCountsStay s.members mid
+        → ArePartlySettled (only_members s.members) (in_groups mid)
         → HaveSettledPart s (record s { members = mid; steps = s.steps + 1 })
-    partly mid p = record {
+    partly mid len numbers truly counts p = record {
       same = refl;
       members = record {
         len = p.len;
@@ -214,6 +217,8 @@ module _ (s : GroupState) (is : IsTrueState s) where
               came = e.came;
             };
       };
+      begun = is;
+      truly = failed_state mid len numbers truly counts p;
     }
 
     -- Nothing has been settled yet.
@@ -221,6 +226,8 @@ module _ (s : GroupState) (is : IsTrueState s) where
     partly_before = record {
       same = refl;
       members = partly_none s.keys (world_of s) is.are (sound_state s is) s.members refl is.members;
+      begun = is;
+      truly = counted_state s is few;
     }
 
     -- ---- where it succeeds

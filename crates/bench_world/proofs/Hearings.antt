@@ -15,8 +15,8 @@ use Rattle.svs_sync.specs.Suppression.{mode_of}
 use Rattle.group_model.specs.Publications.{Logs}
 use Rattle.group_model.specs.Member.{Member}
 use Rattle.group_model.specs.Events.{SyncInterest, Event}
-use Rattle.group_model.specs.World.{World, member}
-use Rattle.group_model.specs.Steps.{tells_too_much, after_deliver, after_hear, mode_at, drawn}
+use Rattle.group_model.specs.World.{Outside, World, member}
+use Rattle.group_model.specs.Steps.{tells_too_much, after_deliver, after_hear, hear_outcome, mode_at, drawn}
 use Rattle.group_model.specs.Refusals.{Refusal, has_sent, unless, if_unsent}
 use Rattle.group_model.specs.Changes as group
 use Rattle.group_model.specs.Sound.{IsTrueVector}
@@ -34,7 +34,7 @@ use Rattle.bench_world.specs.Worlds.{drawing}
 use Rattle.bench_world.specs.Readings.{read_as}
 use Rattle.bench_world.specs.Hearing.{told_sync}
 use Rattle.bench_world.specs.Steps.{IsFaultOf}
-use Rattle.bench_world.specs.EventValues.{Told, hear_told, mode_told}
+use Rattle.bench_world.specs.EventValues.{Told, mode_told, heard_as, hear_told}
 use Rattle.bench_world.proofs.States.{truly, number_is, member_is, member_set, stepped_at}
 
 abbrev made : ℕ × List ℕ → SyncInterest
@@ -82,6 +82,10 @@ sent_vector g logs sender v (p ∷ ps) h all =
 
 -- ---- the world
 
+-- What is told of octets by the verdict on them.
+abbrev pub hears_told : Outside → World → ℕ → Result (ℕ × List ℕ) SyncRefusal → Told
+hears_told out w m r = hear_told m r (hear_outcome out w m (read_as r))
+
 module _ (s : GroupState) (is : IsTrueState s) (m : ℕ) (there : m < length s.members) (old : Alone)
     (old_is : old ≡ get_or s.members m old) (r : Result (ℕ × List ℕ) SyncRefusal) where
   too_much : (sync : SyncInterest)
@@ -97,7 +101,7 @@ module _ (s : GroupState) (is : IsTrueState s) (m : ℕ) (there : m < length s.m
     refused_by : (r : Result (ℕ × List ℕ) SyncRefusal) → told_sync (length old.log) m r ≡ Err x
         → (if_unsent (world_of s) m (read_as r) ≡ None)
         × (after_hear (drawing draws) (world_of s) m (read_as r) ≡ world_of s)
-        × (hear_told (drawing draws) (world_of s) m r ≡ Told.HearRefused m x)
+        × (hears_told (drawing draws) (world_of s) m r ≡ Told.HearRefused m x)
     refused_by (Err refusal) e = (refl, refl, (let same : hear.Sync refusal ≡ x = cc in ap (Told.HearRefused m) same))
     refused_by (Ok told) e = go (nat_lt (length old.log) (slice_index told.1 m)) refl e where
       much : (b : Bool) → nat_lt (length old.log) (slice_index told.1 m) ≡ b
@@ -108,14 +112,14 @@ module _ (s : GroupState) (is : IsTrueState s) (m : ℕ) (there : m < length s.m
           → cond b (Err (hear.OwnNumberAhead (length old.log) (slice_index told.1 m))) (Ok (made told)) ≡ Err x
           → (if_unsent (world_of s) m (Some (made told)) ≡ None)
           × (after_hear (drawing draws) (world_of s) m (Some (made told)) ≡ world_of s)
-          × (hear_told (drawing draws) (world_of s) m (Ok told) ≡ Told.HearRefused m x)
+          × (hears_told (drawing draws) (world_of s) m (Ok told) ≡ Told.HearRefused m x)
       go true p h =
           let same : hear.OwnNumberAhead (length old.log) (slice_index told.1 m) ≡ x = cc in (
             ap (λ (b : Bool). cond b None (unless (has_sent (world_of s) (made told)) Refusal.Foreign)) (much true p),
             ap (λ (b : Bool). cond b (world_of s) (after_deliver (drawing draws) (world_of s) m told.1)) (much true p),
-            ap (λ (b : Bool). cond b
-                (Told.HearRefused m (hear.OwnNumberAhead (length (member (world_of s) m).log) (slice_index told.1 m)))
-                (mode_told m (mode_at (after_deliver (drawing draws) (world_of s) m told.1) m))) (much true p)
+            ap (λ (b : Bool). heard_as m (cond b
+                (Err (length (member (world_of s) m).log, slice_index told.1 m))
+                (Ok (mode_at (after_deliver (drawing draws) (world_of s) m told.1) m)))) (much true p)
                 ∙ ap (λ (y : Member). Told.HearRefused m (hear.OwnNumberAhead (length y.log) (slice_index told.1 m)))
                 (member_is s is m there old old_is)
                 ∙ ap (Told.HearRefused m) same,
@@ -125,7 +129,7 @@ module _ (s : GroupState) (is : IsTrueState s) (m : ℕ) (there : m < length s.m
     pub refused_so : (x ≡ hear.NoMemory → ⊥)
         → (if_unsent (world_of s) m (read_as r) ≡ None)
         × (after_hear (drawing draws) (world_of s) m (read_as r) ≡ world_of s)
-        × (hear_told (drawing draws) (world_of s) m r ≡ Told.HearRefused m x)
+        × (hears_told (drawing draws) (world_of s) m r ≡ Told.HearRefused m x)
     refused_so other = elim x_is [ inl memory ↦ absurd (other memory) | inr e ↦ refused_by r e ]
 
   -- ---- octets that are taken
@@ -229,12 +233,12 @@ module _ (s : GroupState) (is : IsTrueState s) (m : ℕ) (there : m < length s.m
             s.sent s.moment (record s.tally { delivered = s.tally.delivered + 1 }) is.sent heard_world
 
         pub heard_told : (mode : Mode) → mode ≡ mode_of b.machine.heard
-            → mode_told m mode ≡ hear_told (drawing draws) (world_of s) m r
+            → mode_told m mode ≡ hears_told (drawing draws) (world_of s) m r
         heard_told mode mode_is =
             ap (mode_told m)
             (mode_is ∙ ap (λ (y : Member). mode_of y.machine.heard) (sym (member_set s.members m b there))
             ∙ ap (λ (w : World). mode_at w m) delivered)
-            ∙ sym (ap (hear_told (drawing draws) (world_of s) m) read.0
-            ∙ ap (λ (c : Bool). cond c
-            (Told.HearRefused m (hear.OwnNumberAhead (length (member (world_of s) m).log) (slice_index v m)))
-            (mode_told m (mode_at (after_deliver (drawing draws) (world_of s) m v) m))) few_told)
+            ∙ sym (ap (hears_told (drawing draws) (world_of s) m) read.0
+            ∙ ap (λ (c : Bool). heard_as m (cond c
+            (Err (length (member (world_of s) m).log, slice_index v m))
+            (Ok (mode_at (after_deliver (drawing draws) (world_of s) m v) m)))) few_told)

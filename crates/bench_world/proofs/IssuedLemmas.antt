@@ -1,9 +1,8 @@
 -- Which commands were made, also when one more is.
-use Rattle.std.proofs.Common.{◌≡◌, ℕ, ◌+◌, ◌<◌, ◌≤◌, Bool, true, false, ◌||◌, ◌&&◌, List, [], ◌∷◌, ◌++◌, ◌⊎◌, inl, inr}
+use Rattle.std.proofs.Common.{◌≡◌, ℕ, ◌<◌, ◌≤◌, Bool, true, false, ◌||◌, ◌&&◌, List, [], ◌∷◌, ◌++◌, ◌⊎◌, inl, inr}
 use Rattle.std.proofs.Common.{length, length-append, get_or, Option, None, Some, refl, sym, ap, ◌∙◌, subst, arith}
 use Rattle.std.proofs.Common.{if◌then◌else◌}
-use Rattle.std.specs.Prelude.{Result, Ok, Err, IfErr, slice_get, ◌==◌}
-use Rattle.std.specs.Result.{IsErrAnd}
+use Rattle.std.specs.Prelude.{Result, Ok, Err, slice_get, ◌==◌}
 use Rattle.std.specs.List.{list_any, All}
 use Rattle.std.proofs.lemmas.Bool.{true≢false}
 use Rattle.std.proofs.lemmas.List.{map-append, get_or_append_left}
@@ -153,9 +152,3 @@ order_fault w m r told (inl memory) = subst (IsFaultOf (if_unissued w m r)) (sym
 order_fault w m r told (inr (foreign, e)) =
     subst (IsFaultOf (if_unissued w m r)) (sym foreign)
     (subst (λ (why : Option Refusal). IsFaultOf why fault.Foreign) (sym (may_foreign w m r e)) refl)
-
--- The `?` hands a fault on as it is.
-pub same_fault : {A : Type 0} (r : Result A StepFault) (told : StepFault) (P : StepFault → Type 0)
-    → IsErrAnd r (λ f. f ≡ told) → P told → IfErr r P
-same_fault (Ok x) told P is p = tt
-same_fault (Err f) told P is p = subst P (sym is) p

@@ -24,6 +24,7 @@ mod Hearings
 mod Summaries
 mod Gainings
 mod Resets
+mod RefusedMembers
 mod Names
 pub mod EventRuns
 mod ClientKeys

@@ -1,7 +1,10 @@
--- What is told of an event names all members where it names any.
-use Rattle.std.proofs.Common.{◌≡◌, ℕ, Bool, true, false, cond, Option, Some, None, List, map, length, ap, ◌∙◌, arith}
-use Rattle.std.specs.Prelude.{Result, Ok, Err, slice_index}
+-- What is told of an event names members, and all of them where it names any in order.
+use Rattle.std.proofs.Common.{◌≡◌, ℕ, ◌-◌, ◌<◌, Bool, true, false, cond, Option, Some, None, List, map, length, refl, sym}
+use Rattle.std.proofs.Common.{ap, ◌∙◌, subst, arith}
+use Rattle.std.specs.Prelude.{Result, Ok, Err, IfErr}
+use Rattle.std.specs.List.{All}
 use Rattle.std.proofs.lemmas.List.{length-map}
+use Rattle.std.proofs.lemmas.List.Elements.{All-map}
 use Rattle.ndn_data.specs.Data.{Data}
 use Rattle.ndn_name.specs.declared.fault.PacketFault.{PacketFault}
 use Rattle.svs_sync.specs.declared.mode.Mode.{Mode}
@@ -10,89 +13,105 @@ use Rattle.svs_sync.specs.declared.fired.Fired.{Fired}
 use Rattle.svs_sync.specs.declared.fired.Fired.TheVariants as fired
 use Rattle.svs_sync.specs.declared.sync_refusal.SyncRefusal.{SyncRefusal}
 use Rattle.repo_plan.specs.declared.part.Part.{Part}
+use Rattle.repo_plan.specs.Parts.{Pair, pair_of}
 use Rattle.sorted_lists.specs.Range.{numbers_from}
 use Rattle.repo_object.specs.declared.part_refusal.PartRefusal.{PartRefusal}
 use Rattle.repo_object.specs.Verdict.{ring_verdict}
 use Rattle.repo_process.specs.Processes.{BlockState}
 use Rattle.repo_process.specs.Processes.BlockState.{Unknown, Already, Waiting, Whole}
+use Rattle.repo_catalog.specs.declared.entry.Entry.{Entry}
 use Rattle.repo_store.specs.Served.{served}
-use Rattle.group_model.specs.Member.{Member, member_holds}
-use Rattle.group_model.specs.Replies.{CatalogueTotals}
-use Rattle.group_model.specs.Sound.{IsSoundGroup}
+use Rattle.group_model.specs.Publications.{Publication, pair_in, published, published_entry}
+use Rattle.group_model.specs.Member.{Member, member_holds, holds_all, catalogued}
+use Rattle.group_model.specs.Replies.{CatalogueTotals, HearOutcome}
+use Rattle.group_model.specs.Sound.{IsPublished, IsSoundGroup}
+use Rattle.group_model.specs.Wanted.{IsWantedPart}
 use Rattle.group_model.specs.World.{Outside, World, member, logs, sent_at, catalogue_at}
-use Rattle.group_model.specs.Steps.{catalogue_totals, claim_at, to_claim, timer_at, mode_at, after_deliver}
-use Rattle.group_model.specs.Steps.{tells_too_much, came_from, passes_checks, next_seq_at, next_sync, block_at}
+use Rattle.group_model.specs.Steps.{catalogue_totals, all_totals, claim_at, to_claim, timer_at, mode_at, after_deliver}
+use Rattle.group_model.specs.Steps.{came_from, passes_checks, next_seq_at, next_sync, block_at, hear_outcome}
+use Rattle.group_model.proofs.Lists.{from_filter}
+use Rattle.group_model.proofs.Members.{known_published}
+use Rattle.group_model.proofs.Parts.{publisher_within, in_published}
+use Rattle.group_model.proofs.PublicLaws.{tests_those, claims_first}
 use Rattle.group_model.proofs.Runs.{length_numbers}
-use Rattle.repo_member.specs.declared.refusals.HearRefusal.TheVariants as hear
 use Rattle.repo_member.specs.Groups.{GroupKeys}
 use Rattle.repo_member.specs.Verdicts.{group_verdict}
 use Rattle.repo_member.specs.InGroup.{true_packet}
 use Rattle.repo_member.specs.TrueMembers.{true_want, true_packets}
-use Rattle.bench_world.specs.EventValues.{EventValue, Told, part_at, telling, all_totals, delivered_told, fired_told}
-use Rattle.bench_world.specs.EventValues.{claim_told, lost_told, answer_told, dump_told, mode_told, hear_told, ask_told}
-use Rattle.bench_world.specs.EventValues.{fed_told, feed_told, block_told}
-use Rattle.bench_world.specs.Steps.{IsReady, NamesAll}
+use Rattle.bench_world.specs.EventValues.{EventValue, part_at, telling, delivered_told, fired_told}
+use Rattle.bench_world.specs.EventValues.{claim_told, lost_told, answer_told, dump_told, mode_told, heard_as, hear_told}
+use Rattle.bench_world.specs.EventValues.{ask_told, fed_told, feed_told, block_told}
+use Rattle.bench_world.specs.Readings.{read_as}
+use Rattle.bench_world.specs.Steps.{IsReady, SyncNamesMember, NamesAll}
+use Rattle.bench_world.proofs.NextParts.{all_from_in}
+use Rattle.bench_world.proofs.RefusedMembers.{refused_in_roster}
 
 module _ (n : ℕ) where
-  of_mode : (m : ℕ) (mode : Mode) → NamesAll n (mode_told m mode)
-  of_mode m Steady = tt
-  of_mode m Suppressed = tt
+  -- ---- of a member that is there
 
-  of_delivery : (k m : ℕ) (mode : Mode) → NamesAll n (delivered_told k m mode)
-  of_delivery k m Steady = tt
-  of_delivery k m Suppressed = tt
+  module _ (m : ℕ) (there : m < n) where
+    of_mode : (mode : Mode) → NamesAll n (mode_told m mode)
+    of_mode Steady = there
+    of_mode Suppressed = there
 
-  of_fire : (m k : ℕ) (x : Fired) → NamesAll n (fired_told m k x)
-  of_fire m k fired.Early = tt
-  of_fire m k fired.Quiet = tt
-  of_fire m k fired.Send = tt
+    of_delivery : (k : ℕ) (mode : Mode) → NamesAll n (delivered_told k m mode)
+    of_delivery k Steady = there
+    of_delivery k Suppressed = there
 
-  of_claim : (m f : ℕ) (o : Option Part) → NamesAll n (claim_told m f o)
-  of_claim m f None = tt
-  of_claim m f (Some t) = tt
+    of_fire : (k : ℕ) (x : Fired) → NamesAll n (fired_told m k x)
+    of_fire k fired.Early = there
+    of_fire k fired.Quiet = there
+    of_fire k fired.Send = there
 
-  of_loss : (m f : ℕ) (o : Option Part) → NamesAll n (lost_told m f o)
-  of_loss m f None = tt
-  of_loss m f (Some t) = tt
+    of_claim : (f : ℕ) (o : Option Part) → ((t : Part) → o ≡ Some t → t.publisher < n) → NamesAll n (claim_told m f o)
+    of_claim f None publisher = there
+    of_claim f (Some t) publisher = (there, publisher t refl)
 
-  of_answer : (m f : ℕ) (b : Bool) → NamesAll n (answer_told m f b)
-  of_answer m f true = tt
-  of_answer m f false = tt
+    of_loss : (f : ℕ) (o : Option Part) → ((t : Part) → o ≡ Some t → t.publisher < n) → NamesAll n (lost_told m f o)
+    of_loss f None publisher = there
+    of_loss f (Some t) publisher = (there, publisher t refl)
 
-  of_dump : (m : ℕ) (o : Option (List ℕ)) → NamesAll n (dump_told m o)
-  of_dump m None = tt
-  of_dump m (Some octets) = tt
+    of_answer : (f : ℕ) (b : Bool) → NamesAll n (answer_told m f b)
+    of_answer f true = there
+    of_answer f false = there
 
-  of_ask : (m : ℕ) (r : Result (Option (List ℕ)) PacketFault) → NamesAll n (ask_told m r)
-  of_ask m (Err fault) = tt
-  of_ask m (Ok None) = tt
-  of_ask m (Ok (Some octets)) = tt
+    of_dump : (o : Option (List ℕ)) → NamesAll n (dump_told m o)
+    of_dump None = there
+    of_dump (Some octets) = there
 
-  of_fed : (m f : ℕ) (r : Result Data PartRefusal) → NamesAll n (fed_told m f r)
-  of_fed m f (Ok d) = tt
-  of_fed m f (Err refusal) = tt
+    of_ask : (r : Result (Option (List ℕ)) PacketFault) → NamesAll n (ask_told m r)
+    of_ask (Err fault) = there
+    of_ask (Ok None) = there
+    of_ask (Ok (Some octets)) = there
 
-  of_feed : (g : GroupKeys) (w : World) (m f : ℕ) (octets : List ℕ) (o : Option Part)
-      → NamesAll n (feed_told g w m f octets o)
-  of_feed g w m f octets None = tt
-  of_feed g w m f octets (Some t) = of_fed m f (ring_verdict (true_want g (logs w) t) g.members.ring octets)
+    of_fed : (f : ℕ) (r : Result Data PartRefusal) → NamesAll n (fed_told m f r)
+    of_fed f (Ok d) = there
+    of_fed f (Err refusal) = there
 
-  of_block : (m seq sync : ℕ) (b : BlockState) → NamesAll n (block_told m seq sync b)
-  of_block m seq sync Unknown = tt
-  of_block m seq sync Already = tt
-  of_block m seq sync (Waiting p) = tt
-  of_block m seq sync (Whole p) = tt
+    of_feed : (g : GroupKeys) (w : World) (f : ℕ) (octets : List ℕ) (o : Option Part)
+        → NamesAll n (feed_told g w m f octets o)
+    of_feed g w f octets None = there
+    of_feed g w f octets (Some t) = of_fed f (ring_verdict (true_want g (logs w) t) g.members.ring octets)
 
-  of_hear : (out : Outside) (w : World) (m : ℕ) (r : Result (ℕ × List ℕ) SyncRefusal) → NamesAll n (hear_told out w m r)
-  of_hear out w m (Err refusal) = tt
-  of_hear out w m (Ok told) = go (tells_too_much w m (record { sender = told.0; vector = told.1 })) where
-    go : (b : Bool)
-        → NamesAll n (cond b (Told.HearRefused m (hear.OwnNumberAhead (length (member w m).log) (slice_index told.1 m)))
-        (mode_told m (mode_at (after_deliver out w m told.1) m)))
-    go true = tt
-    go false = of_mode m (mode_at (after_deliver out w m told.1) m)
+    of_block : (seq sync : ℕ) (b : BlockState) → NamesAll n (block_told m seq sync b)
+    of_block seq sync Unknown = there
+    of_block seq sync Already = there
+    of_block seq sync (Waiting p) = there
+    of_block seq sync (Whole p) = there
 
-  module _ (g : GroupKeys) (out : Outside) (w : World) (many : length w.members ≡ n) (sound : IsSoundGroup w) where
+    of_heard : (heard : Result Mode (ℕ × ℕ)) → NamesAll n (heard_as m heard)
+    of_heard (Ok mode) = of_mode mode
+    of_heard (Err ahead) = (there, tt)
+
+    of_hear : (r : Result (ℕ × List ℕ) SyncRefusal) → IfErr r (SyncNamesMember n) → (heard : HearOutcome (read_as r))
+        → NamesAll n (hear_told m r heard)
+    of_hear (Err refusal) named heard = (there, named)
+    of_hear (Ok told) named heard = of_heard heard
+
+  -- ---- of a sound group
+
+  module _ (g : GroupKeys) (out : Outside) (w : World) (roster : length g.members.names ≡ n)
+      (many : length w.members ≡ n) (sound : IsSoundGroup w) where
     of_sums : (f : CatalogueTotals → ℕ) → length (map f (all_totals w)) ≡ n
     of_sums f =
         length-map (all_totals w) f
@@ -100,33 +119,65 @@ module _ (n : ℕ) where
         ∙ length_numbers 0 (length w.members)
         ∙ many
 
+    is_member : (pair : Pair) → IsPublished (logs w) pair → pair.0 < n
+    is_member pair published = subst (λ (k : ℕ). pair.0 < k) many (publisher_within w pair published)
+
+    -- The publisher of a wanted part is a member.
+    of_wanted : (m : ℕ) → m < n → (t : Part) → IsWantedPart (logs w) (member w m) t → t.publisher < n
+    of_wanted m there t wanted =
+        let is = sound.members m (subst (λ (k : ℕ). m < k) (sym many) there) in
+        is_member (pair_of t) (known_published (logs w) (member w m).known (pair_of t) is.known wanted.known)
+
+    of_first : (m : ℕ) → m < n → (t : Part) → to_claim w m ≡ Some t → t.publisher < n
+    of_first m there t first = of_wanted m there t (claims_first w m t first).wanted
+
+    of_claimed : (m f : ℕ) → m < n → (t : Part) → claim_at w m f ≡ Some t → t.publisher < n
+    of_claimed m f there t claimed =
+        let is = sound.members m (subst (λ (k : ℕ). m < k) (sym many) there) in
+        of_wanted m there t ((tests_those (logs w) (member w m) t).0 (is.claimed (f - 1) t claimed))
+
+    -- So is that of each entry.
+    of_entries : (m : ℕ) → All (λ (e : Entry). e.publisher < n) (catalogue_at w m)
+    of_entries m =
+        All-map (λ (e : Entry). e.publisher < n) published_entry (catalogued (logs w) (member w m))
+        (all_from_in (λ (p : Publication). p.publisher < n) (catalogued (logs w) (member w m)) (λ p i.
+        is_member (pair_in p)
+        (in_published (logs w) p (from_filter (holds_all (member w m)) (published (logs w)) p i).0).there))
+
+    of_refusal : (octets : List ℕ) → IfErr (group_verdict g octets) (SyncNamesMember n)
+    of_refusal octets =
+        subst (λ (k : ℕ). IfErr (group_verdict g octets) (SyncNamesMember k)) roster
+        (refused_in_roster g.members.names g.name g.members.ring octets)
+
     pub names_all : (e : EventValue) → IsReady n e → NamesAll n (telling g out w e)
-    names_all (EventValue.Publish m name size content) r = tt
-    names_all (EventValue.Deliver k m) r = of_delivery k m (mode_at (after_deliver out w m (sent_at w k).vector) m)
+    names_all (EventValue.Publish m name size content) r = r.0
+    names_all (EventValue.Deliver k m) r = of_delivery m r k (mode_at (after_deliver out w m (sent_at w k).vector) m)
     names_all (EventValue.Sync k) r = tt
     names_all (EventValue.Advance ms) r = tt
-    names_all (EventValue.Fire m) r = of_fire m (next_sync w) (timer_at w m)
-    names_all (EventValue.Restart m) r = tt
+    names_all (EventValue.Fire m) r = of_fire m r (next_sync w) (timer_at w m)
+    names_all (EventValue.Restart m) r = r
     names_all (EventValue.Vector m) r =
         let width : length (member w m).known ≡ length (logs w) = (sound.members m (omega (arith, r, many))).width in
-        (ap (numbers_from 0) many, width ∙ length-map w.members (λ (x : Member). x.log) ∙ many)
-    names_all (EventValue.Catalogue m) r = tt
-    names_all (EventValue.Claim m f) r = of_claim m f (to_claim w m)
-    names_all (EventValue.Lose m f) r = of_loss m f (claim_at w m f)
-    names_all (EventValue.Answer m f q) r = of_answer m f (passes_checks (came_from out w q (claim_at w m f)))
-    names_all (EventValue.Fetch m workers tries loss) r = tt
+        (ap (numbers_from 0) many, width ∙ length-map w.members (λ (x : Member). x.log) ∙ many, r)
+    names_all (EventValue.Catalogue m) r = (r, of_entries m)
+    names_all (EventValue.Claim m f) r = of_claim m r.0 f (to_claim w m) (of_first m r.0)
+    names_all (EventValue.Lose m f) r = of_loss m r.0 f (claim_at w m f) (of_claimed m f r.0)
+    names_all (EventValue.Answer m f q) r = of_answer m r.0 f (passes_checks (came_from out w q (claim_at w m f)))
+    names_all (EventValue.Fetch m workers tries loss) r = r.0
     names_all (EventValue.Settle workers) r = tt
     names_all (EventValue.Dump m p s x) r =
-        of_dump m (cond (member_holds (member w m) (part_at p s x)) (true_packet g (logs w) (part_at p s x)) None)
-    names_all (EventValue.Hear m octets) r = of_hear out w m (group_verdict g octets)
-    names_all (EventValue.Ask m octets) r = of_ask m (served octets (true_packets g (logs w) (member w m).held))
-    names_all (EventValue.Feed m f octets) r = of_feed g w m f octets (claim_at w m f)
-    names_all (EventValue.Order m octets) r = tt
-    names_all (EventValue.Insert m client name first last) r = tt
+        of_dump m r.0 (cond (member_holds (member w m) (part_at p s x)) (true_packet g (logs w) (part_at p s x)) None)
+    names_all (EventValue.Hear m octets) r =
+        of_hear m r (group_verdict g octets) (of_refusal octets)
+        (hear_outcome out w m (read_as (group_verdict g octets)))
+    names_all (EventValue.Ask m octets) r = of_ask m r (served octets (true_packets g (logs w) (member w m).held))
+    names_all (EventValue.Feed m f octets) r = of_feed m r.0 g w f octets (claim_at w m f)
+    names_all (EventValue.Order m octets) r = r
+    names_all (EventValue.Insert m client name first last) r = r.0
     names_all (EventValue.Block m process index content) r =
-        of_block m (next_seq_at w m) (next_sync w) (block_at w m process index content)
-    names_all (EventValue.Status m client process) r = tt
-    names_all (EventValue.Delete m client name) r = tt
+        of_block m r.0 (next_seq_at w m) (next_sync w) (block_at w m process index content)
+    names_all (EventValue.Status m client process) r = r
+    names_all (EventValue.Delete m client name) r = r.0
     names_all EventValue.Summary r =
         (ap (numbers_from 0) many, of_sums (λ t. t.entries), of_sums (λ t. t.segments), of_sums (λ t. t.octets))
     names_all EventValue.Traffic r = tt

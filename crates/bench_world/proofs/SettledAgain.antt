@@ -9,11 +9,11 @@ use Rattle.repo_plan.specs.Parts.{pair_of, record_of}
 use Rattle.repo_plan.specs.Plan.{no_claims, is_wanted}
 use Rattle.sorted_lists.proofs.Sets.{In, in_map, from_map}
 use Rattle.group_model.specs.Publications.{Logs}
-use Rattle.group_model.specs.Member.{Member, member_holds, plan_of}
-use Rattle.group_model.specs.World.{World, no_member, member, logs, someone_holds}
+use Rattle.group_model.specs.Member.{Member, member_holds, plan_of, catalogue}
+use Rattle.group_model.specs.World.{World, no_member, member, logs, logs_of, someone_holds}
 use Rattle.group_model.specs.Settles.{IsGathering, HasGathered}
 use Rattle.group_model.specs.Sound.{IsSoundGroup, IsSoundMember}
-use Rattle.group_model.specs.Steps.{settled_vector, settled_member, comes_to, new_parts, reset_each}
+use Rattle.group_model.specs.Steps.{settled_vector, settled_member, comes_to, new_parts, reset_each, after_gathering, after_settle}
 use Rattle.group_model.specs.Publications.{all_parts}
 use Rattle.group_model.proofs.Catalogues.{in_all_parts}
 use Rattle.group_model.proofs.Gains.{held_fresh}
@@ -22,8 +22,10 @@ use Rattle.group_model.proofs.Members.{known_published}
 use Rattle.group_model.proofs.Plans.{IsWanted, wanted_parts}
 use Rattle.group_model.proofs.PublicLaws.{gathering_settles}
 use Rattle.group_model.proofs.Settles.{comes, someone, join_all_each, join_all_most, sound_gathered, keeps_held, gets}
-use Rattle.bench_world.specs.Settling.{ArePartlySettled, SettlesAgain}
-use Rattle.bench_world.specs.Worlds.{drawing}
+use Rattle.bench_world.specs.Settling.{ArePartlySettled}
+use Rattle.bench_world.specs.Runs.{HaveSettledPart, HaveSameMembers, GathersAgain, SettlesAgain}
+use Rattle.bench_world.specs.Worlds.{GroupState, in_groups, world_of, drawing}
+use Rattle.bench_world.proofs.States.{sound_state}
 
 someone_is : (ms : List Member) (t : Part) → someone_holds ms t ≡ true
     → (k : ℕ) × (k < length ms) × (member_holds (get_or ms k no_member) t ≡ true)
@@ -185,5 +187,34 @@ module _ (w : World) (new : List Member) (group : IsSoundGroup w) (partly : AreP
       get_or-map (settled_member stopped) new i no_member no_member inside_new ∙ settled_same i inside
       ∙ sym (get_or-map (settled_member w) w.members i no_member no_member inside))
 
+-- ---- groups with their packets
+
+abbrev members_settled : World → List Member
+members_settled w = map (settled_member w) w.members
+
+have_same : (w v : World) → w.members ≡ v.members → HaveSameMembers w v
+have_same w v same = record {
+  members = same;
+  catalogues = λ j. ap (λ (ms : List Member). catalogue (logs_of ms) (get_or ms j no_member)) same;
+}
+
+module _ (old new : GroupState) (part : HaveSettledPart old new) where
+  world_is : world_of new ≡ record (world_of old) { members = in_groups new.members }
+  world_is = ap world_of part.same
+
+  all_settled : members_settled (record (world_of old) { members = in_groups new.members })
+      ≡ members_settled (world_of old)
+  all_settled =
+      members_same (world_of old) (in_groups new.members) (sound_state old part.begun) part.members
+      (subst IsSoundGroup world_is (sound_state new part.truly))
+
+pub gathers_again : GathersAgain
+gathers_again out old new part =
+    have_same (after_gathering out (world_of new)) (after_gathering out (world_of old))
+    (ap members_settled (world_is old new part) ∙ all_settled old new part)
+
 pub settles_again : SettlesAgain
-settles_again out w new group partly again = ap (reset_each out w.moment 0) (members_same w new group partly again)
+settles_again out old new part =
+    have_same (after_settle out (world_of new)) (after_settle out (world_of old))
+    (ap (λ (w : World). reset_each out w.moment 0 (members_settled w)) (world_is old new part)
+    ∙ ap (reset_each out old.moment 0) (all_settled old new part))

@@ -15,7 +15,7 @@ use Rattle.group_model.specs.Publications.{Logs, Publication, no_object, publish
 use Rattle.group_model.specs.Member.{Member, holds_all, catalogued, catalogue}
 use Rattle.group_model.specs.Replies.{CatalogueTotals}
 use Rattle.group_model.specs.World.{catalogue_at, member}
-use Rattle.group_model.specs.Steps.{catalogue_totals}
+use Rattle.group_model.specs.Steps.{all_totals, catalogue_totals}
 use Rattle.group_model.proofs.Runs.{length_numbers}
 use Rattle.group_model.proofs.Parts.{IsIn, in_published}
 use Rattle.group_model.proofs.Lists.{from_filter, in_at}
@@ -23,7 +23,6 @@ use Rattle.repo_member.specs.Alone.{Alone}
 use Rattle.repo_member.specs.InGroup.{in_group}
 use Rattle.repo_member.specs.Listed.{alone_catalogue}
 use Rattle.repo_member.proofs.PublicLaws.{catalogues_alike}
-use Rattle.bench_world.specs.EventValues.{all_totals}
 use Rattle.bench_world.specs.Sums.{totals_in, HasFewTotals}
 use Rattle.bench_world.specs.Worlds.{GroupState, IsTrueState, nobody, alone_at, in_groups, logs_around, world_of}
 use Rattle.bench_world.proofs.States.{in_world, true_in}

@@ -1,5 +1,5 @@
 -- The events of a step, and what is told of them, as values: names as lists of components, octets as lists of numbers.
-use Rattle.std.specs.Prelude.{ℕ, ◌+◌, Bool, List, map, length, Option, Some, None, Result, Ok, Err, slice_index}
+use Rattle.std.specs.Prelude.{ℕ, Bool, List, map, length, Option, Some, None, Result, Ok, Err}
 use Rattle.std.specs.Prelude.{if◌then◌else◌}
 use Rattle.ndn_name.specs.Names.{Component}
 use Rattle.ndn_name.specs.declared.fault.PacketFault.{PacketFault}
@@ -16,18 +16,14 @@ use Rattle.repo_object.specs.Cuts.{pieces}
 use Rattle.repo_object.specs.Verdict.{ring_verdict}
 use Rattle.repo_store.specs.Served.{served}
 use Rattle.repo_catalog.specs.declared.entry.Entry.{Entry}
-use Rattle.group_model.specs.Member.{member_holds}
-use Rattle.group_model.specs.Events.{SyncInterest}
 use Rattle.group_model.specs.Events as group
 use Rattle.repo_command.specs.declared.command.Command.TheVariants as command
 use Rattle.repo_command.specs.declared.answer.Answer.{Answer as CommandAnswer}
 use Rattle.repo_process.specs.Processes.{BlockState}
 use Rattle.repo_process.specs.Processes.BlockState.{Unknown, Already, Waiting, Whole}
-use Rattle.group_model.specs.Replies.{CatalogueTotals}
-use Rattle.group_model.specs.World.{Outside, World, member, logs, sent_at, catalogue_at}
-use Rattle.group_model.specs.Steps.{claim_at, to_claim, timer_at, mode_at, after_deliver, tells_too_much, came_from}
-use Rattle.group_model.specs.Steps.{passes_checks, planned_parts, fetched_parts, attempts_made, settle_gains}
-use Rattle.group_model.specs.Steps.{next_seq_at, next_sync, catalogue_totals, order_answer, command_answer, block_at}
+use Rattle.group_model.specs.Replies.{HearOutcome, OutcomeOf}
+use Rattle.group_model.specs.World.{Outside, World, member, logs}
+use Rattle.group_model.specs.Steps.{claim_at, outcome}
 use Rattle.repo_member.specs.declared.refusals.HearRefusal.{HearRefusal}
 use Rattle.repo_member.specs.declared.refusals.HearRefusal.TheVariants as hear
 use Rattle.repo_member.specs.Groups.{GroupKeys}
@@ -243,13 +239,14 @@ abbrev pub mode_told : ℕ → Mode → Told
 mode_told m Steady = Told.HearSteady m
 mode_told m Suppressed = Told.HearSuppressed m
 
-abbrev pub hear_told : Outside → World → ℕ → Result (ℕ × List ℕ) SyncRefusal → Told
-hear_told out w m (Err refusal) = Told.HearRefused m (hear.Sync refusal)
-hear_told out w m (Ok told) =
-    let sync : SyncInterest = record { sender = told.0; vector = told.1 } in
-    if tells_too_much w m sync
-    then Told.HearRefused m (hear.OwnNumberAhead (length (member w m).log) (slice_index told.1 m))
-    else mode_told m (mode_at (after_deliver out w m told.1) m)
+abbrev pub heard_as : ℕ → Result Mode (ℕ × ℕ) → Told
+heard_as m (Ok mode) = mode_told m mode
+heard_as m (Err ahead) = Told.HearRefused m (hear.OwnNumberAhead ahead.0 ahead.1)
+
+-- Where octets are refused, why is told by the verdict on them.
+abbrev pub hear_told : (m : ℕ) (verdict : Result (ℕ × List ℕ) SyncRefusal) → HearOutcome (read_as verdict) → Told
+hear_told m (Err refusal) heard = Told.HearRefused m (hear.Sync refusal)
+hear_told m (Ok told) heard = heard_as m heard
 
 abbrev pub ask_told : ℕ → Result (Option (List ℕ)) PacketFault → Told
 ask_told m (Err fault) = Told.AskRefused m fault
@@ -285,40 +282,36 @@ block_told m seq sync Already = Told.Block200 m
 block_told m seq sync (Waiting p) = Told.Block300 m
 block_told m seq sync (Whole p) = Told.BlockPublished m seq sync
 
-abbrev pub all_totals : World → List CatalogueTotals
-all_totals w = map (λ j. catalogue_totals (catalogue_at w j)) (numbers_from 0 (length w.members))
+-- What is told of an event, by what the model tells of it. Of octets that are asked with or fed, the model has only
+-- whether they pass, and their verdict is told.
+abbrev pub event_told : (g : GroupKeys) → World → (e : EventValue) → OutcomeOf (group_event g e) → Told
+event_told g w (EventValue.Publish m name size content) told = Told.Publish m told.seq told.segments told.sync
+event_told g w (EventValue.Deliver k m) mode = delivered_told k m mode
+event_told g w (EventValue.Sync k) sync = Told.Sync k (sync_of g sync.sender sync.vector)
+event_told g w (EventValue.Advance ms) moment = Told.Advance moment
+event_told g w (EventValue.Fire m) told = fired_told m told.sync told.timer
+event_told g w (EventValue.Restart m) told = Told.Restart m
+event_told g w (EventValue.Vector m) vector = Told.Vector m (numbers_from 0 (length w.members)) vector
+event_told g w (EventValue.Catalogue m) entries = Told.Catalogue m (length entries) entries
+event_told g w (EventValue.Claim m f) part = claim_told m f part
+event_told g w (EventValue.Lose m f) part = lost_told m f part
+event_told g w (EventValue.Answer m f q) kept = answer_told m f kept
+event_told g w (EventValue.Fetch m workers tries loss) told = Told.Fetch m told.planned told.kept told.attempts
+event_told g w (EventValue.Settle workers) told = Told.Settle told.syncs told.kept
+event_told g w (EventValue.Dump m p s x) held =
+    dump_told m (if held then true_packet g (logs w) (part_at p s x) else None)
+event_told g w (EventValue.Hear m octets) heard = hear_told m (group_verdict g octets) heard
+event_told g w (EventValue.Ask m octets) found = ask_told m (served octets (true_packets g (logs w) (member w m).held))
+event_told g w (EventValue.Feed m f octets) kept = feed_told g w m f octets (claim_at w m f)
+event_told g w (EventValue.Order m octets) answer = order_told m answer
+event_told g w (EventValue.Insert m client name first last) answer = insert_told m answer
+event_told g w (EventValue.Block m process index content) told = block_told m told.seq told.sync told.state
+event_told g w (EventValue.Status m client process) answer = status_told m answer
+event_told g w (EventValue.Delete m client name) answer = delete_told m answer
+event_told g w EventValue.Summary totals = Told.Summary (numbers_from 0 (length w.members))
+    (map (λ t. t.entries) totals) (map (λ t. t.segments) totals) (map (λ t. t.octets) totals)
+event_told g w EventValue.Traffic told =
+    Told.Traffic told.syncs told.delivered told.attempts told.parts told.octets
 
 abbrev pub telling : GroupKeys → Outside → World → EventValue → Told
-telling g out w (EventValue.Publish m name size content) =
-    Told.Publish m (next_seq_at w m) (length (pieces size content)) (next_sync w)
-telling g out w (EventValue.Deliver k m) =
-    delivered_told k m (mode_at (after_deliver out w m (sent_at w k).vector) m)
-telling g out w (EventValue.Sync k) = Told.Sync k (sync_of g (sent_at w k).sender (sent_at w k).vector)
-telling g out w (EventValue.Advance ms) = Told.Advance (w.moment + ms)
-telling g out w (EventValue.Fire m) = fired_told m (next_sync w) (timer_at w m)
-telling g out w (EventValue.Restart m) = Told.Restart m
-telling g out w (EventValue.Vector m) = Told.Vector m (numbers_from 0 (length w.members)) (member w m).known
-telling g out w (EventValue.Catalogue m) = Told.Catalogue m (length (catalogue_at w m)) (catalogue_at w m)
-telling g out w (EventValue.Claim m f) = claim_told m f (to_claim w m)
-telling g out w (EventValue.Lose m f) = lost_told m f (claim_at w m f)
-telling g out w (EventValue.Answer m f q) = answer_told m f (passes_checks (came_from out w q (claim_at w m f)))
-telling g out w (EventValue.Fetch m workers tries loss) =
-    Told.Fetch m (length (planned_parts w m)) (length (fetched_parts out w m tries loss))
-    (attempts_made out w m tries loss)
-telling g out w (EventValue.Settle workers) = Told.Settle (length w.members) (settle_gains w)
-telling g out w (EventValue.Dump m p s x) =
-    dump_told m (if member_holds (member w m) (part_at p s x) then true_packet g (logs w) (part_at p s x) else None)
-telling g out w (EventValue.Hear m octets) = hear_told out w m (group_verdict g octets)
-telling g out w (EventValue.Ask m octets) = ask_told m (served octets (true_packets g (logs w) (member w m).held))
-telling g out w (EventValue.Feed m f octets) = feed_told g w m f octets (claim_at w m f)
-telling g out w (EventValue.Order m octets) = order_told m (order_answer w m (order_of g m octets))
-telling g out w (EventValue.Insert m client name first last) =
-    insert_told m (command_answer w m (command.Insert name first last))
-telling g out w (EventValue.Block m process index content) =
-    block_told m (next_seq_at w m) (next_sync w) (block_at w m process index content)
-telling g out w (EventValue.Status m client process) = status_told m (command_answer w m (command.Check process))
-telling g out w (EventValue.Delete m client name) = delete_told m (command_answer w m (command.Delete name))
-telling g out w EventValue.Summary = Told.Summary (numbers_from 0 (length w.members))
-    (map (λ t. t.entries) (all_totals w)) (map (λ t. t.segments) (all_totals w)) (map (λ t. t.octets) (all_totals w))
-telling g out w EventValue.Traffic =
-    Told.Traffic (length w.sent) w.tally.delivered w.tally.attempts w.tally.parts w.tally.octets
+telling g out w e = event_told g w e (outcome out w (group_event g e))

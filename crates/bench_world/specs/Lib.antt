@@ -19,6 +19,7 @@ pub mod Answerable
 pub mod Replying
 pub mod Sums
 pub mod Runs
+pub mod Conditions
 pub mod Workers
 pub mod Commanding
 pub mod IssuedList

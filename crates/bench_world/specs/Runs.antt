@@ -1,25 +1,43 @@
 -- What a step leaves that wanted memory, and lists of events.
-use Rattle.std.specs.Prelude.{ℕ, ◌≡◌, ◌+◌, ◌<◌, List, ◌++◌, map, take, length, slice_index_or, None, Result, OnOk, IfOk}
+use Rattle.std.specs.Prelude.{ℕ, ◌≡◌, ◌+◌, ◌<◌, List, ◌++◌, map, take, length, slice_index_or, Option, None, Result, OnOk, IfOk}
 use Rattle.std.specs.Prelude.{OnErr, IfErr}
 use Rattle.group_model.specs.Events as group
-use Rattle.group_model.specs.Refusals.{refusal, EventsAreTaken}
-use Rattle.group_model.specs.World.{Outside, World}
-use Rattle.group_model.specs.Steps.{after_event, after_events}
+use Rattle.group_model.specs.Refusals.{Refusal, refusal, EventsAreTaken}
+use Rattle.group_model.specs.World.{Outside, World, catalogue_at}
+use Rattle.group_model.specs.Steps.{after_event, after_events, after_gathering}
 use Rattle.group_model.specs.Laws.{NothingHidden, NothingWanted, AllJoined, TellsAll}
 use Rattle.repo_member.specs.Groups.{GroupKeys}
 use Rattle.bench_world.specs.declared.event.Event.{Event}
 use Rattle.bench_world.specs.declared.event.Happened.{Happened}
 use Rattle.bench_world.specs.declared.event.StepFault.{StepFault}
-use Rattle.bench_world.specs.EventValues.{EventValue, event_value, group_event, told_value, telling}
+use Rattle.bench_world.specs.EventValues.{EventValue, Told, event_value, group_event, told_value, telling}
 use Rattle.bench_world.specs.Settling.{ArePartlySettled}
 use Rattle.bench_world.specs.Steps.{IsFaultOf}
-use Rattle.bench_world.specs.Worlds.{GroupState, in_groups, world_of}
+use Rattle.bench_world.specs.Worlds.{GroupState, IsTrueState, in_groups, world_of}
 
 -- What a settle leaves that wanted memory: it counts as a step, each member has come a part of the way, and nothing
--- else has changed.
+-- else has changed. The group was true and is, what its members store among it.
 pub record HaveSettledPart (old new : GroupState) : Type 0 where
   pub same : new ≡ record old { members = new.members; steps = old.steps + 1 }
   pub members : ArePartlySettled (world_of old) (in_groups new.members)
+  pub begun : IsTrueState old
+  pub truly : IsTrueState new
+
+-- Two groups have the same members, and so the same catalogues.
+pub record HaveSameMembers (w v : World) : Type 0 where
+  pub members : w.members ≡ v.members
+  pub catalogues : (j : ℕ) → catalogue_at w j ≡ catalogue_at v j
+
+-- A settle that then succeeds leaves the members that the one that failed would have left.
+abbrev pub GathersAgain : Type 0
+GathersAgain = (out : Outside) (old new : GroupState) → HaveSettledPart old new
+    → HaveSameMembers (after_gathering out (world_of new)) (after_gathering out (world_of old))
+
+-- So does its step.
+abbrev pub SettlesAgain : Type 0
+SettlesAgain = (out : Outside) (old new : GroupState) → HaveSettledPart old new
+    → HaveSameMembers (after_event out (world_of new) group.Event.Settle)
+    (after_event out (world_of old) group.Event.Settle)
 
 -- All stands as before, but for such a settle.
 abbrev pub StandsAsBefore : EventValue → GroupState → GroupState → Type 0
@@ -31,17 +49,24 @@ abbrev pub JoinsAfter : EventValue → World → Type 0
 JoinsAfter (EventValue.Settle workers) w = NothingHidden w → AllJoined w
 JoinsAfter _ w = Unit {0}
 
--- What an event comes to: where it is taken, what the model makes of the world and tells of it; else why it isn't.
-pub record IsStep (out : Outside) (e : EventValue) (old : GroupState) (result : Result Happened StepFault)
-    (new : GroupState) : Type 0 where
-  pub taken : OnOk result (refusal out (world_of old) (group_event old.keys e) ≡ None)
-  pub world : OnOk result (world_of new ≡ after_event out (world_of old) (group_event old.keys e))
-  pub told : IfOk result (λ happened. told_value happened ≡ telling old.keys out (world_of old) e)
+-- What an event comes to, by what refuses it and what is to become of the world and to be told: where nothing refuses
+-- it, these; else why it isn't taken.
+pub record ComesTo (why : Option Refusal) (then : World) (what : Told) (e : EventValue) (old : GroupState)
+    (result : Result Happened StepFault) (new : GroupState) : Type 0 where
+  pub taken : OnOk result (why ≡ None)
+  pub world : OnOk result (world_of new ≡ then)
+  pub told : IfOk result (λ happened. told_value happened ≡ what)
   pub joined : OnOk result (JoinsAfter e (world_of new))
   pub steps : OnOk result (new.steps ≡ old.steps + 1)
   pub keys : new.keys ≡ old.keys
-  pub refused : IfErr result (IsFaultOf (refusal out (world_of old) (group_event old.keys e)))
+  pub refused : IfErr result (IsFaultOf why)
   pub err : OnErr result (StandsAsBefore e old new)
+
+-- A step is what the model makes of the world, tells of it and refuses.
+abbrev pub IsStep : Outside → EventValue → GroupState → Result Happened StepFault → GroupState → Type 0
+IsStep out e old result new =
+    ComesTo (refusal out (world_of old) (group_event old.keys e)) (after_event out (world_of old) (group_event old.keys e))
+    (telling old.keys out (world_of old) e) e old result new
 
 -- ---- lists of events
 
@@ -51,12 +76,14 @@ event_values events = map event_value events
 abbrev pub group_events : GroupKeys → List EventValue → List group.Event
 group_events g events = map (group_event g) events
 
--- The events before that of this number were carried out, and left this group; then came the fault.
+-- The events before that of this number were carried out, each a step, and left this group; then came the fault.
 pub record IsStopped (out : Outside) (begun : GroupState) (events : List EventValue) (k : ℕ) (told : StepFault)
     (new : GroupState) : Type 0 where
   pub inside : k < length events
   pub taken : EventsAreTaken out (world_of begun) (group_events begun.keys (take k events))
   pub before : GroupState
+  pub steps : before.steps ≡ begun.steps + k
+  pub keys : before.keys ≡ begun.keys
   pub world : world_of before ≡ after_events out (world_of begun) (group_events begun.keys (take k events))
   pub stands : StandsAsBefore (slice_index_or events k EventValue.Traffic) before new
   pub because : IsFaultOf

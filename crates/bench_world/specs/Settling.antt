@@ -4,10 +4,8 @@ use Rattle.repo_plan.specs.declared.part.Part.{Part}
 use Rattle.repo_plan.specs.Plan.{no_claims}
 use Rattle.group_model.specs.Member.{Member, member_holds}
 use Rattle.group_model.specs.Settles.{IsGathering}
-use Rattle.group_model.specs.Sound.{IsSoundGroup}
-use Rattle.group_model.specs.Events.{Event}
-use Rattle.group_model.specs.World.{Outside, World, member, logs, someone_holds}
-use Rattle.group_model.specs.Steps.{settled_vector, settled_member, new_parts, after_event}
+use Rattle.group_model.specs.World.{World, member, logs, someone_holds}
+use Rattle.group_model.specs.Steps.{settled_vector, settled_member, new_parts}
 use Rattle.repo_member.specs.Groups.{GroupKeys}
 use Rattle.repo_member.specs.Alone.{Alone}
 use Rattle.repo_member.specs.InGroup.{in_group}
@@ -63,12 +61,3 @@ pub record GatheredSoFar (g : GroupKeys) (w : World) (begun : List Alone) (j : �
   pub all : AreGathering g w begun members
   pub done : (i : ℕ) → i < j → in_group (alone_at members i) ≡ settled_member w (member w i)
   pub still : (i : ℕ) → j ≤ i → alone_at members i ≡ alone_at begun i
-
--- ---- again
-
--- The members after a settle that then succeeds are those that the one that failed would have left, and so are their
--- catalogues.
-abbrev pub SettlesAgain : Type 0
-SettlesAgain = (out : Outside) (w : World) (new : List Member) → IsSoundGroup w → ArePartlySettled w new →
-    let stopped = record w { members = new } in
-    IsSoundGroup stopped → (after_event out stopped Event.Settle).members ≡ (after_event out w Event.Settle).members

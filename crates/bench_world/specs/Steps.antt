@@ -1,10 +1,17 @@
 -- When an event can be carried out, what comes of it, and lists of events.
 use Rattle.std.specs.Prelude.{ℕ, ◌≡◌, ◌+◌, ◌<◌, ◌≤◌, IsTrue, length, Option, Some, None}
+use Rattle.std.specs.List.{All}
+use Rattle.svs_vector.specs.declared.vector_fault.VectorFault.{VectorFault}
+use Rattle.svs_vector.specs.declared.vector_fault.VectorFault.TheVariants as vector
+use Rattle.svs_sync.specs.declared.sync_refusal.SyncRefusal.{SyncRefusal}
+use Rattle.svs_sync.specs.declared.sync_refusal.SyncRefusal.TheVariants as sync
 use Rattle.sorted_lists.specs.Range.{numbers_from}
 use Rattle.repo_plan.specs.Calls.{IsFetcher}
 use Rattle.repo_object.specs.Objects.{is_object_name, IsContent}
 use Rattle.repo_object.specs.Cuts.{pieces}
 use Rattle.group_model.specs.Refusals.{Refusal}
+use Rattle.repo_member.specs.declared.refusals.HearRefusal.{HearRefusal}
+use Rattle.repo_member.specs.declared.refusals.HearRefusal.TheVariants as hear
 use Rattle.bench_world.specs.declared.event.StepFault.{StepFault}
 use Rattle.bench_world.specs.declared.event.StepFault.TheVariants as fault
 use Rattle.bench_world.specs.EventValues.{EventValue, Told}
@@ -60,9 +67,60 @@ IsFaultOf refusal fault.NoMemory = Unit {0}
 IsFaultOf None _ = ⊥
 IsFaultOf (Some refusal) told = told ≡ fault_of refusal
 
--- All members are named, each with a number, or with its sums.
+-- ---- members that are told of
+
+-- The member of which too large a number is told is one of so many.
+abbrev pub FaultNamesMember : ℕ → VectorFault → Type 0
+FaultNamesMember n (vector.NumberTooLarge member number) = member < n
+FaultNamesMember n _ = Unit {0}
+
+abbrev pub SyncNamesMember : ℕ → SyncRefusal → Type 0
+SyncNamesMember n (sync.Vector fault) = FaultNamesMember n fault
+SyncNamesMember n _ = Unit {0}
+
+abbrev pub HearNamesMember : ℕ → HearRefusal → Type 0
+HearNamesMember n (hear.Sync refusal) = SyncNamesMember n refusal
+HearNamesMember n _ = Unit {0}
+
+-- Each number that stands for a member is that of one of so many. Where all are told of, they stand in order, each with
+-- a number, or with its sums.
 abbrev pub NamesAll : ℕ → Told → Type 0
-NamesAll n (Told.Vector m members numbers) = (members ≡ numbers_from 0 n) × (length numbers ≡ n)
+NamesAll n (Told.Publish m seq segments sync) = m < n
+NamesAll n (Told.DeliverSteady k m) = m < n
+NamesAll n (Told.DeliverSuppressed k m) = m < n
+NamesAll n (Told.Sync k octets) = Unit {0}
+NamesAll n (Told.Advance now) = Unit {0}
+NamesAll n (Told.FireEarly m) = m < n
+NamesAll n (Told.FireQuiet m) = m < n
+NamesAll n (Told.FireSent m k) = m < n
+NamesAll n (Told.Restart m) = m < n
+NamesAll n (Told.Vector m members numbers) = (members ≡ numbers_from 0 n) × (length numbers ≡ n) × (m < n)
+NamesAll n (Told.Catalogue m count entries) = (m < n) × All (λ e. e.publisher < n) entries
+NamesAll n (Told.ClaimPart m f publisher seq x) = (m < n) × (publisher < n)
+NamesAll n (Told.ClaimNone m f) = m < n
+NamesAll n (Told.Lose m f publisher seq x) = (m < n) × (publisher < n)
+NamesAll n (Told.AnswerKept m f) = m < n
+NamesAll n (Told.AnswerNone m f) = m < n
+NamesAll n (Told.Fetch m planned kept attempts) = m < n
+NamesAll n (Told.Settle syncs kept) = Unit {0}
+NamesAll n (Told.DumpHex m octets) = m < n
+NamesAll n (Told.DumpNone m) = m < n
+NamesAll n (Told.HearSteady m) = m < n
+NamesAll n (Told.HearSuppressed m) = m < n
+NamesAll n (Told.HearRefused m refusal) = (m < n) × HearNamesMember n refusal
+NamesAll n (Told.AskFound m octets) = m < n
+NamesAll n (Told.AskNone m) = m < n
+NamesAll n (Told.AskRefused m refusal) = m < n
+NamesAll n (Told.FeedKept m f) = m < n
+NamesAll n (Told.FeedRefused m f refusal) = m < n
+NamesAll n (Told.Order m code process inserted deleted) = m < n
+NamesAll n (Told.Insert m code process inserted deleted) = m < n
+NamesAll n (Told.Status m code process inserted deleted) = m < n
+NamesAll n (Told.Delete m code process inserted deleted) = m < n
+NamesAll n (Told.Block300 m) = m < n
+NamesAll n (Told.Block404 m) = m < n
+NamesAll n (Told.Block200 m) = m < n
+NamesAll n (Told.BlockPublished m seq sync) = m < n
 NamesAll n (Told.Summary members entries segments octets) =
     (members ≡ numbers_from 0 n) × (length entries ≡ n) × (length segments ≡ n) × (length octets ≡ n)
-NamesAll n _ = Unit {0}
+NamesAll n (Told.Traffic syncs delivered attempts parts octets) = Unit {0}

@@ -1,17 +1,15 @@
 // What a member gets of the others in a settle or a fetch.
-ghost use Rattle.std.specs.Prelude.{◌≡◌, ◌<◌, ◌≤◌, length, map, slice_set, IfOk, OnOk, OnErr};
+ghost use Rattle.std.specs.Prelude.{◌≡◌, ◌<◌, length, map, slice_set, IfOk, OnOk, OnErr};
 ghost use Rattle.std.specs.List.{sum_by};
 ghost use Rattle.group_model.specs.Publications.{Logs};
 ghost use Rattle.group_model.specs.World.{World, logs};
-ghost use Rattle.group_model.specs.Sound.{IsSoundGroup};
-ghost use Rattle.group_model.specs.Settles.{learnt_member};
 ghost use Rattle.group_model.specs.Steps.{settled_member, settle_gains};
 ghost use Rattle.group_model.specs.Steps.{planned_parts, fetched_parts, attempts_made, after_fetch};
 ghost use Rattle.bench_world.specs.Gathering.{one_each, Counts, GainsParts, NothingLeft};
 ghost use Rattle.bench_world.specs.Serving.{outside};
 ghost use Rattle.bench_world.specs.Settling.{gain_sum, ArePartlySettled};
 ghost use Rattle.bench_world.specs.Sizes.{size_of};
-ghost use Rattle.bench_world.specs.Truth.{AreFewLogs, AllTriedFew};
+ghost use Rattle.bench_world.specs.Conditions.{CanGatherAt, CanGatherAll, CanFetchAt};
 ghost use Rattle.bench_world.specs.Worlds.{alone_at, others_than, in_groups};
 ghost use Rattle.bench_world.specs.Worlds.{AllCountsStay, AreTrueMembers, MembersAreNumbered};
 
@@ -34,11 +32,7 @@ fn gather_at<N: Net + Sync, R: Threads + Sync>(
     j: u32,
 ) -> Result<Kept, AllocError>
     ghost logs: { Logs }
-    requires workers { (1 ≤ workers) × (workers ≤ 16) }
-    requires there { j < length members.old.items }
-    requires logs { AreFewLogs g.now logs }
-    requires members { AreTrueMembers g.now logs members.old.items }
-    requires tried { AllTriedFew members.old.items }
+    requires { CanGatherAt g.now logs workers j members.old.items }
     ensures others { members.new.items ≡ slice_set members.old.items j (alone_at members.new.items j) }
     ensures gains { GainsParts g.now logs (others_than j members.old.items)
         (alone_at members.old.items j) (alone_at members.new.items j) }
@@ -73,13 +67,7 @@ pub(crate) fn gather_all<N: Net + Sync, R: Threads + Sync>(
     members: &mut Vec<Member>,
 ) -> Result<(u64, u64), AllocError>
     ghost begun: { World }
-    requires workers { (1 ≤ workers) × (workers ≤ 16) }
-    requires logs { AreFewLogs g.now (logs begun) }
-    requires group { IsSoundGroup begun }
-    requires learnt { in_groups members.old.items ≡ map (learnt_member begun) begun.members }
-    requires truly { AreTrueMembers g.now (logs begun) members.old.items }
-    requires numbers { MembersAreNumbered members.old.items }
-    requires tried { AllTriedFew members.old.items }
+    requires { CanGatherAll g.now begun workers members.old.items }
     ensures parts { IfOk result (λ r. r.0 ≡ settle_gains begun) }
     ensures octets { IfOk result (λ r. r.1 ≡ gain_sum (size_of g.now (logs begun)) begun begun.members) }
     ensures members { OnOk result (in_groups members.new.items ≡ map (settled_member begun) begun.members) }
@@ -113,14 +101,7 @@ pub(crate) fn fetch_at<N: Net + Sync, R: Threads + Sync>(
     loss: u32,
 ) -> Result<FetchCounts, AllocError>
     ghost begun: { World }
-    requires workers { (1 ≤ workers) × (workers ≤ 16) }
-    requires tries { (1 ≤ tries) × (tries ≤ 16) }
-    requires there { j < length members.old.items }
-    requires logs { AreFewLogs g.now (logs begun) }
-    requires begun { in_groups members.old.items ≡ begun.members }
-    requires numbers { MembersAreNumbered members.old.items }
-    requires truly { AreTrueMembers g.now (logs begun) members.old.items }
-    requires tried { AllTriedFew members.old.items }
+    requires { CanFetchAt g.now begun workers tries j members.old.items }
     ensures members { OnOk result (in_groups members.new.items
         ≡ (after_fetch (outside g.now (λ _ _. 0) (N.passes net.now)) begun j tries loss).members) }
     ensures planned { IfOk result (λ r. r.planned ≡ length (planned_parts begun j)) }

@@ -4,11 +4,9 @@ ghost use Rattle.std.specs.List.{sum_by};
 ghost use Rattle.group_model.specs.Publications.{Logs};
 ghost use Rattle.repo_member.specs.Alone.{alone_takes};
 ghost use Rattle.repo_member.specs.InGroup.{that_came};
-ghost use Rattle.repo_member.specs.TrueMembers.{IsTrueMember};
 ghost use Rattle.bench_world.specs.Lending.{attempt_comes};
 ghost use Rattle.bench_world.specs.Sizes.{size_of};
-ghost use Rattle.bench_world.specs.Truth.{AreFewLogs, TriedFew};
-ghost use Rattle.bench_world.specs.Worlds.{AreTrueMembers};
+ghost use Rattle.bench_world.specs.Conditions.{CanFetch};
 ghost use Rattle.bench_world.specs.Gathering.{next_parts};
 ghost use Rattle.bench_world.specs.Fetching.{fetched_all};
 
@@ -39,12 +37,7 @@ pub(crate) fn fetch<N: Net + Sync, R: Threads + Sync>(
     member: &mut Member,
 ) -> Result<FetchCounts, AllocError>
     ghost logs: { Logs }
-    requires workers { (1 ≤ workers) × (workers ≤ 16) }
-    requires tries { (1 ≤ tries) × (tries ≤ 16) }
-    requires logs { AreFewLogs g.now logs }
-    requires others { AreTrueMembers g.now logs link.now.others.now }
-    requires truly { IsTrueMember g.now logs member.old }
-    requires tried { TriedFew member.old }
+    requires { CanFetch g.now logs workers tries link.now.others.now member.old }
     ensures new { OnOk result (member.new ≡ alone_takes (fetched_all
         (attempt_comes (N.passes link.now.net.now) link.now.asker link.now.loss) link.now.others.now tries member.old
         (next_parts None member.old)) member.old) }

@@ -1,13 +1,11 @@
 // What a member gathers of others in a settle.
-ghost use Rattle.std.specs.Prelude.{◌≡◌, ◌≤◌, None, IfOk, OnOk, OnErr, length};
+ghost use Rattle.std.specs.Prelude.{◌≡◌, None, IfOk, OnOk, OnErr, length};
 ghost use Rattle.std.specs.List.{filter, sum_by};
 ghost use Rattle.group_model.specs.Publications.{Logs};
 ghost use Rattle.repo_member.specs.Alone.{alone_takes};
-ghost use Rattle.repo_member.specs.TrueMembers.{IsTrueMember};
 ghost use Rattle.bench_world.specs.Lending.{lends};
 ghost use Rattle.bench_world.specs.Sizes.{size_of};
-ghost use Rattle.bench_world.specs.Truth.{AreFewLogs, TriedFew};
-ghost use Rattle.bench_world.specs.Worlds.{AreTrueMembers};
+ghost use Rattle.bench_world.specs.Conditions.{CanGather};
 ghost use Rattle.bench_world.specs.Gathering.{next_parts, lent_all, one_each, Counts, IsPlaceIn, GainsParts};
 ghost use Rattle.bench_world.specs.Gathering.{NothingLeft};
 
@@ -39,12 +37,7 @@ fn gain_phase<N: Net + Sync, R: Threads + Sync>(
     after: Option<Part>,
 ) -> Result<(Option<Part>, Kept), AllocError>
     ghost logs: { Logs }
-    requires workers { (1 ≤ workers) × (workers ≤ 16) }
-    requires logs { AreFewLogs g.now logs }
-    requires others { AreTrueMembers g.now logs link.now.others.now }
-    requires loss { link.now.loss ≡ None }
-    requires truly { IsTrueMember g.now logs member.old }
-    requires tried { TriedFew member.old }
+    requires { CanGather g.now logs workers link.now.others.now link.now.loss member.old }
     ensures new { OnOk result (member.new
         ≡ alone_takes (lent_all link.now.others.now (next_parts after member.old)) member.old) }
     ensures place { IfOk result (λ r. IsPlaceIn (next_parts after member.old) r.0) }
@@ -76,12 +69,7 @@ fn gain_round<N: Net + Sync, R: Threads + Sync>(
     member: &mut Member,
 ) -> Result<Kept, AllocError>
     ghost logs: { Logs }
-    requires workers { (1 ≤ workers) × (workers ≤ 16) }
-    requires logs { AreFewLogs g.now logs }
-    requires others { AreTrueMembers g.now logs link.now.others.now }
-    requires loss { link.now.loss ≡ None }
-    requires truly { IsTrueMember g.now logs member.old }
-    requires tried { TriedFew member.old }
+    requires { CanGather g.now logs workers link.now.others.now link.now.loss member.old }
     ensures gains { GainsParts g.now logs link.now.others.now member.old member.new }
     ensures parts { IfOk result (λ kept. Counts one_each kept.parts member.old member.new) }
     ensures octets { IfOk result (λ kept. Counts (size_of g.now logs) kept.octets member.old member.new) }
@@ -110,12 +98,7 @@ pub(crate) fn gather<N: Net + Sync, R: Threads + Sync>(
     member: &mut Member,
 ) -> Result<Kept, AllocError>
     ghost logs: { Logs }
-    requires workers { (1 ≤ workers) × (workers ≤ 16) }
-    requires logs { AreFewLogs g.now logs }
-    requires others { AreTrueMembers g.now logs link.now.others.now }
-    requires loss { link.now.loss ≡ None }
-    requires truly { IsTrueMember g.now logs member.old }
-    requires tried { TriedFew member.old }
+    requires { CanGather g.now logs workers link.now.others.now link.now.loss member.old }
     ensures gains { GainsParts g.now logs link.now.others.now member.old member.new }
     ensures parts { IfOk result (λ kept. Counts one_each kept.parts member.old member.new) }
     ensures octets { IfOk result (λ kept. Counts (size_of g.now logs) kept.octets member.old member.new) }

@@ -3,6 +3,7 @@ ghost use Rattle.repo_member.specs.Groups.{GroupKeys};
 ghost use Rattle.bench_world.specs.EventValues.{EventValue};
 ghost use Rattle.bench_world.specs.Worlds.{GroupState, IsTrueState};
 ghost use Rattle.bench_world.specs.Answerable.{HoldersCanAnswer, PublishersCanAnswer};
+ghost use Rattle.bench_world.specs.Runs.{GathersAgain, SettlesAgain};
 ghost use Rattle.bench_world.specs.Workers.{ComeToTheSame};
 
 /// Where segments' packets are told by their names and digests, an answer from a member that holds the claimed part is
@@ -10,6 +11,12 @@ ghost use Rattle.bench_world.specs.Workers.{ComeToTheSame};
 pub fn claimed_parts_can_be_answered()
     ensures holders { (s : GroupState) → IsTrueState s → HoldersCanAnswer s }
     ensures publishers { (s : GroupState) → IsTrueState s → PublishersCanAnswer s }
+{}
+
+/// A settle that wanted memory can be made again, and then leaves what it would have left at first.
+pub fn a_settle_can_be_made_again()
+    ensures settle { GathersAgain }
+    ensures step { SettlesAgain }
 {}
 
 /// How many workers fetch or settle is nothing to what refuses the event, to what it makes of the world and to what is

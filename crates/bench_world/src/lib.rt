@@ -21,6 +21,7 @@ mod telling;
 mod world;
 
 pub use event::{Event, Happened, StepFault};
-pub use laws::{claimed_parts_can_be_answered, workers_make_no_difference};
-pub use settling::a_settle_can_be_made_again;
+pub use laws::{
+    a_settle_can_be_made_again, claimed_parts_can_be_answered, workers_make_no_difference,
+};
 pub use world::World;

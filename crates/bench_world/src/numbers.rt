@@ -15,3 +15,15 @@ pub(crate) fn numbers(alloc: Global, vector: &Vector) -> Result<Vec<u16>, AllocE
     }
     Ok(numbers)
 }
+
+/// The vector of these numbers.
+pub(crate) fn vector_of(alloc: Global, numbers: &[u16]) -> Result<Vector, AllocError>
+    requires { length numbers.now ≤ 16 }
+    ensures { IfOk result (λ vector. vector ≡ numbers.now) }
+{
+    let mut vector = Vector::new(alloc, numbers.len())?;
+    for (member, number) in numbers.iter().enumerate() {
+        vector.raise(member as u32, *number);
+    }
+    Ok(vector)
+}

@@ -1,14 +1,13 @@
 // What a settle makes of all members.
 ghost use Rattle.std.specs.Prelude.{◌≡◌, ◌+◌, ◌++◌, ◌≤◌, ◌<◌, ◌^◌, ℕ, length, map, IfOk, OnOk, OnErr, vec_len};
 ghost use Rattle.group_model.specs.World.{World, logs};
-ghost use Rattle.group_model.specs.Sound.{IsSoundGroup};
 ghost use Rattle.group_model.specs.Steps.{settled_member, settle_gains};
 ghost use Rattle.repo_member.specs.Alone.{alone_resets};
 ghost use Rattle.bench_world.specs.Sizes.{size_of};
-ghost use Rattle.bench_world.specs.Truth.{AreFewLogs, AllTriedFew};
+ghost use Rattle.bench_world.specs.Conditions.{CanSettle};
 ghost use Rattle.bench_world.specs.Worlds.{alone_at, in_groups, tells, AllCountsStay, AreTrueMembers};
 ghost use Rattle.bench_world.specs.Worlds.{MembersAreNumbered};
-ghost use Rattle.bench_world.specs.Settling.{told_of, gain_sum, ArePartlySettled, SettlesAgain};
+ghost use Rattle.bench_world.specs.Settling.{told_of, gain_sum, ArePartlySettled};
 
 use crate::exchange::gather_all;
 use crate::telling::{Told, all_known, learn_all, tell_all};
@@ -29,13 +28,7 @@ pub(crate) fn settle_members<N: Net + Sync, R: Threads + Sync>(
     members: &mut Vec<Member>,
 ) -> Result<(Vec<Told>, u64, u64), AllocError>
     ghost begun: { World }
-    requires workers { (1 ≤ workers) × (workers ≤ 16) }
-    requires logs { AreFewLogs g.now (logs begun) }
-    requires begun { in_groups members.old.items ≡ begun.members }
-    requires numbers { MembersAreNumbered members.old.items }
-    requires truly { AreTrueMembers g.now (logs begun) members.old.items }
-    requires sound { IsSoundGroup begun }
-    requires tried { AllTriedFew members.old.items }
+    requires { CanSettle g.now begun workers members.old.items }
     ensures told { IfOk result (λ r. map told_of r.0.items ≡ map (tells g.now) members.old.items) }
     ensures parts { IfOk result (λ r. r.1 ≡ settle_gains begun) }
     ensures octets { IfOk result (λ r. r.2 ≡ gain_sum (size_of g.now (logs begun)) begun begun.members) }
@@ -53,11 +46,6 @@ pub(crate) fn settle_members<N: Net + Sync, R: Threads + Sync>(
     let (parts, octets) = gather_all(rt, alloc, g, net, workers, members)?;
     Ok((told, parts, octets))
 }
-
-/// A settle that wanted memory can be made again, and then leaves what it would have left at first.
-pub fn a_settle_can_be_made_again()
-    ensures { SettlesAgain }
-{}
 
 /// What was told is sent, for which room was made.
 pub(crate) fn send_all(sent: &mut Sent, told: Vec<Told>)

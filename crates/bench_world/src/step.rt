@@ -45,23 +45,6 @@ impl World {
     {
         // Read for its clauses alone: the invariant holds.
         let _count = self.members();
-        self.carry_out_in_order(rt, event, net, draws)
-    }
-
-    // The same, where the members are counted by themselves.
-    fn carry_out_in_order<N: Net + Sync, D: Draws, R: Threads + Sync>(
-        &mut self,
-        rt: &R,
-        event: &Event,
-        net: &N,
-        draws: &D,
-    ) -> Result<Happened, StepFault>
-        requires ready { IsReady (length self.old.members) (event_value event.now) }
-        requires clients { NamesClient (length self.old.keys.clients.names) (event_value event.now) }
-        requires few { self.old.steps < 100000 }
-        ensures { IsStep (outside self.old.keys (D.draw draws.now) (N.passes net.now)) (event_value event.now)
-            self.old result self.new }
-    {
         self.order_names_for(event);
         self.carry_out(rt, event, net, draws)
     }
@@ -78,7 +61,7 @@ impl World {
         }
     }
 
-    // The same, where names are in order.
+    // The event is carried out, by the method of its kind.
     fn carry_out<N: Net + Sync, D: Draws, R: Threads + Sync>(
         &mut self,
         rt: &R,

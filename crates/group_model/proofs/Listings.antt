@@ -1,21 +1,18 @@
 -- What stays listed.
-use Rattle.std.proofs.Common.{◌≡◌, inl, inr, ℕ, ◌-◌, ◌≤◌, ◌<◌, true, false, List, [], length, get_or, take, min, refl, sym, ap}
+use Rattle.std.proofs.Common.{◌≡◌, inl, inr, ℕ, ◌-◌, ◌≤◌, ◌<◌, true, false, List, [], length, get_or, take, min, sym, ap}
 use Rattle.std.proofs.Common.{◌∙◌, subst, arith}
 use Rattle.std.proofs.lemmas.Bool.{true≢false, cases_Bool}
 use Rattle.std.proofs.lemmas.List.{get_or-take, get_or-map, length-take}
-use Rattle.repo_plan.specs.Parts.{Pair, part_of, pair_of}
-use Rattle.repo_catalog.specs.Entries.{lists}
+use Rattle.repo_plan.specs.Parts.{Pair, part_of}
 use Rattle.repo_object.specs.Objects.{NamedContents}
-use Rattle.group_model.specs.Publications.{Logs, count, last_of, object_at, no_object}
-use Rattle.group_model.specs.Member.{Member, member_holds, member_hides}
-use Rattle.group_model.specs.World.{Outside, World, no_member, member, logs, catalogue_at}
-use Rattle.group_model.specs.Events.{Event}
+use Rattle.group_model.specs.Publications.{last_of, object_at, no_object}
+use Rattle.group_model.specs.Member.{Member, member_hides}
+use Rattle.group_model.specs.World.{World, no_member, member, logs}
 use Rattle.group_model.specs.Steps.{after_events}
-use Rattle.group_model.specs.Refusals.{EventsAreTaken}
 use Rattle.group_model.specs.Sound.{IsSoundGroup, IsPublished}
 use Rattle.group_model.specs.Catalogues.{IsWhollyHeld}
 use Rattle.group_model.specs.Reached.{InSoundGroups}
-use Rattle.group_model.specs.Lasting.{Lasts, AllLast, EntriesStay}
+use Rattle.group_model.specs.Lasting.{AllLast, EntriesStay}
 use Rattle.group_model.proofs.Parts.{publisher_within}
 use Rattle.group_model.proofs.Catalogues.{lists_those}
 use Rattle.group_model.proofs.Lasting.{nothing_taken_back}

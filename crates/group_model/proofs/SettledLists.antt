@@ -1,14 +1,12 @@
 -- What members list right after a settle, whatever was deleted.
-use Rattle.std.proofs.Common.{◌≡◌, inl, inr, ℕ, ◌≤◌, ◌<◌, true, false, List, length, get_or, refl, sym, ap, ◌∙◌, subst}
+use Rattle.std.proofs.Common.{◌≡◌, inl, inr, ℕ, ◌≤◌, ◌<◌, true, false, length, get_or, refl, sym, ap, ◌∙◌, subst}
 use Rattle.std.proofs.Common.{arith}
 use Rattle.std.proofs.lemmas.Bool.{true≢false, false_from_ne_true, cases_Bool}
-use Rattle.std.specs.Prelude.{◌↔◌}
 use Rattle.repo_plan.specs.declared.part.Part.{Part}
-use Rattle.repo_plan.specs.Parts.{Pair, part_of, pair_of}
-use Rattle.repo_catalog.specs.Entries.{lists}
+use Rattle.repo_plan.specs.Parts.{Pair, part_of}
 use Rattle.group_model.specs.Publications.{Logs, count, last_of, all_parts}
 use Rattle.group_model.specs.Member.{Member, member_holds, member_hides}
-use Rattle.group_model.specs.World.{Outside, World, no_member, member, logs, someone_holds, catalogue_at}
+use Rattle.group_model.specs.World.{World, no_member, member, logs, someone_holds}
 use Rattle.group_model.specs.Events.{Event}
 use Rattle.group_model.specs.Steps.{settled_vector, settled_member, comes_to, new_parts, after_settle}
 use Rattle.group_model.specs.Sound.{IsSoundGroup, IsPublished}
@@ -19,7 +17,7 @@ use Rattle.group_model.proofs.Lists.{from_filter, in_at}
 use Rattle.sorted_lists.proofs.Sets.{In}
 use Rattle.group_model.proofs.Parts.{publisher_within}
 use Rattle.group_model.proofs.Gains.{held_either}
-use Rattle.group_model.proofs.Settles.{someone, settles, ComesTo, comes, told_by, keeps_held, gets, logs_settled}
+use Rattle.group_model.proofs.Settles.{someone, settles, comes, told_by, keeps_held, gets, logs_settled}
 use Rattle.group_model.proofs.Settles.{length_settled, member_settled}
 use Rattle.group_model.proofs.Catalogues.{in_all_parts, lists_those}
 use Rattle.group_model.proofs.Worlds.{sound_after}

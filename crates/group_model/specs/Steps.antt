@@ -29,7 +29,7 @@ use Rattle.group_model.specs.Changes.{resets, publishes, learns, restarts, membe
 use Rattle.group_model.specs.Changes.{member_with_process, member_starts}
 use Rattle.group_model.specs.Events.{SyncInterest, Came, Event}
 use Rattle.group_model.specs.Events.Came.{Nothing, Its, Another}
-use Rattle.group_model.specs.Replies.{CatalogueTotals, Reply}
+use Rattle.group_model.specs.Replies.{CatalogueTotals, HearOutcome, OutcomeOf, Reply, reply_of}
 use Rattle.group_model.specs.World.{Issued, World, Outside, no_member, member, with_member, logs, sent_at, catalogue_at}
 use Rattle.group_model.specs.World.{someone_holds}
 
@@ -325,50 +325,54 @@ next_seq_at w j = length (member w j).log + 1
 abbrev pub next_sync : World → ℕ
 next_sync w = length w.sent + 1
 
-abbrev pub fire_reply : World → Fired → Reply
-fire_reply w Early = Reply.Early
-fire_reply w Quiet = Reply.Quiet
-fire_reply w Send = Reply.Sent (next_sync w)
+abbrev pub all_totals : World → List CatalogueTotals
+all_totals w = map (λ j. catalogue_totals (catalogue_at w j)) (numbers_from 0 (length w.members))
 
-abbrev pub hear_reply : Outside → World → ℕ → Option SyncInterest → Reply
-hear_reply out w j None = Reply.HearRefused
-hear_reply out w j (Some sync) =
-    if tells_too_much w j sync then Reply.OwnNumberAhead (length (member w j).log) (slice_index sync.vector j)
-    else Reply.Heard (mode_at (after_deliver out w j sync.vector) j)
+abbrev pub hear_outcome : Outside → World → ℕ → (read : Option SyncInterest) → HearOutcome read
+hear_outcome out w j None = tt
+hear_outcome out w j (Some sync) =
+    if tells_too_much w j sync then Err (length (member w j).log, slice_index sync.vector j)
+    else Ok (mode_at (after_deliver out w j sync.vector) j)
 
-abbrev pub block_reply : World → ℕ → BlockState → Reply
-block_reply w j Unknown = Reply.NoBlock
-block_reply w j Already = Reply.BlockLate
-block_reply w j (Waiting p) = Reply.BlockKept
-block_reply w j (Whole p) = Reply.BlockPublished (next_seq_at w j) (next_sync w)
+-- What is told of an event.
+abbrev pub outcome : Outside → World → (e : Event) → OutcomeOf e
+outcome out w (Event.Publish j o) =
+    record { seq = next_seq_at w j; segments = length o.contents; sync = next_sync w }
+outcome out w (Event.Deliver k j) = mode_at (after_deliver out w j (sent_at w k).vector) j
+outcome out w (Event.Sync k) = sent_at w k
+outcome out w (Event.Advance ms) = w.moment + ms
+outcome out w (Event.Fire j) = record { timer = timer_at w j; sync = next_sync w }
+outcome out w (Event.Restart j) = tt
+outcome out w (Event.Vector j) = (member w j).known
+outcome out w (Event.Catalogue j) = catalogue_at w j
+outcome out w (Event.Claim j f) = to_claim w j
+outcome out w (Event.Lose j f) = claim_at w j f
+outcome out w (Event.Answer j f q) = passes_checks (came_from out w q (claim_at w j f))
+outcome out w (Event.Fetch j tries loss) = record {
+  planned = length (planned_parts w j);
+  kept = length (fetched_parts out w j tries loss);
+  attempts = attempts_made out w j tries loss;
+}
+outcome out w Event.Settle = record { syncs = length w.members; kept = settle_gains w }
+outcome out w (Event.Dump j t) = member_holds (member w j) t
+outcome out w (Event.Hear j read) = hear_outcome out w j read
+outcome out w (Event.Ask j find) = find (logs w) (member w j).held
+outcome out w (Event.Feed j f read) = passes_checks (came_as w read (claim_at w j f))
+outcome out w (Event.Order j read) = order_answer w j read
+outcome out w (Event.Issue j client command) = command_answer w j command
+outcome out w (Event.Block j process index content) =
+    record { state = block_at w j process index content; seq = next_seq_at w j; sync = next_sync w }
+outcome out w Event.Summary = all_totals w
+outcome out w Event.Traffic = record {
+  syncs = length w.sent;
+  delivered = w.tally.delivered;
+  attempts = w.tally.attempts;
+  parts = w.tally.parts;
+  octets = w.tally.octets;
+}
 
 abbrev pub reply_to : Outside → World → Event → Reply
-reply_to out w (Event.Publish j o) = Reply.Published (next_seq_at w j) (length o.contents) (next_sync w)
-reply_to out w (Event.Deliver k j) = Reply.Delivered (mode_at (after_deliver out w j (sent_at w k).vector) j)
-reply_to out w (Event.Sync k) = Reply.Synced (sent_at w k)
-reply_to out w (Event.Advance ms) = Reply.Advanced (w.moment + ms)
-reply_to out w (Event.Fire j) = fire_reply w (timer_at w j)
-reply_to out w (Event.Restart j) = Reply.Restarted
-reply_to out w (Event.Vector j) = Reply.Numbers (member w j).known
-reply_to out w (Event.Catalogue j) = Reply.Entries (catalogue_at w j)
-reply_to out w (Event.Claim j f) = Reply.Claimed (to_claim w j)
-reply_to out w (Event.Lose j f) = Reply.Lost (claim_at w j f)
-reply_to out w (Event.Answer j f q) = Reply.Answered (passes_checks (came_from out w q (claim_at w j f)))
-reply_to out w (Event.Fetch j tries loss) =
-    Reply.Fetched (length (planned_parts w j)) (length (fetched_parts out w j tries loss))
-    (attempts_made out w j tries loss)
-reply_to out w Event.Settle = Reply.Settled (length w.members) (settle_gains w)
-reply_to out w (Event.Dump j t) = Reply.Dumped (if member_holds (member w j) t then Some t else None)
-reply_to out w (Event.Hear j read) = hear_reply out w j read
-reply_to out w (Event.Ask j find) = Reply.Asked (find (logs w) (member w j).held)
-reply_to out w (Event.Feed j f read) = Reply.Fed (passes_checks (came_as w read (claim_at w j f)))
-reply_to out w (Event.Order j read) = Reply.Commanded (order_answer w j read)
-reply_to out w (Event.Issue j client command) = Reply.Commanded (command_answer w j command)
-reply_to out w (Event.Block j process index content) = block_reply w j (block_at w j process index content)
-reply_to out w Event.Summary =
-    Reply.Summed (map (λ j. catalogue_totals (catalogue_at w j)) (numbers_from 0 (length w.members)))
-reply_to out w Event.Traffic =
-    Reply.Counted (length w.sent) w.tally.delivered w.tally.attempts w.tally.parts w.tally.octets
+reply_to out w e = reply_of e (outcome out w e)
 
 abbrev pub replies : Outside → World → List Event → List Reply
 replies out w [] = []

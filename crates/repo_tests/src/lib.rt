@@ -27,3 +27,5 @@ mod watch;
 mod work;
 #[cfg(test)]
 mod worked;
+#[cfg(test)]
+mod world;

@@ -53,7 +53,7 @@ fn add(
 }
 
 // The group "/g" of alice, bob and carol.
-fn three_members(rt: &(impl Abort + AllocGlobal)) -> Group
+pub(crate) fn three_members(rt: &(impl Abort + AllocGlobal)) -> Group
     ensures { length result.members.names ≡ 3 }
 {
     let mut g = Group::new(rt.alloc(), &node_name(rt, "/g")).expect(rt, "memory");

@@ -1,12 +1,10 @@
 // Blocks of insertion processes.
-ghost use Rattle.std.specs.Prelude.{◌≡◌, ◌+◌, ◌<◌, None, length, IfOk, IfErr, OnOk, OnErr};
+ghost use Rattle.std.specs.Prelude.{◌≡◌, ◌+◌, ◌<◌, length};
 ghost use Rattle.repo_object.specs.Objects.{IsContent};
-ghost use Rattle.group_model.specs.Steps.{after_event};
-ghost use Rattle.group_model.specs.Refusals.{refusal};
-ghost use Rattle.bench_world.specs.Worlds.{world_of, drawing};
-ghost use Rattle.bench_world.specs.EventValues.{EventValue, group_event, told_value, telling};
+ghost use Rattle.bench_world.specs.Worlds.{drawing};
+ghost use Rattle.bench_world.specs.EventValues.{EventValue, told_value};
 ghost use Rattle.bench_world.specs.Blocks.{after_blocked, blocked_told};
-ghost use Rattle.bench_world.specs.Steps.{IsFaultOf};
+ghost use Rattle.bench_world.specs.Runs.{IsStep};
 
 use super::World;
 use crate::event::{Happened, StepFault};
@@ -28,17 +26,8 @@ impl World {
         requires there { m < length self.old.members }
         requires content { IsContent content.now }
         requires few { self.old.steps < 100000 }
-        ensures taken { OnOk result (refusal (drawing (D.draw draws.now)) (world_of self.old)
-            (group_event self.old.keys (EventValue.Block m process index content.now)) ≡ None) }
-        ensures world { OnOk result (world_of self.new ≡ after_event (drawing (D.draw draws.now)) (world_of self.old)
-            (group_event self.old.keys (EventValue.Block m process index content.now))) }
-        ensures told { IfOk result (λ happened. told_value happened ≡ telling self.old.keys
-            (drawing (D.draw draws.now)) (world_of self.old) (EventValue.Block m process index content.now)) }
-        ensures steps { OnOk result (self.new.steps ≡ self.old.steps + 1) }
-        ensures keys { self.new.keys ≡ self.old.keys }
-        ensures refused { IfErr result (IsFaultOf (refusal (drawing (D.draw draws.now)) (world_of self.old)
-            (group_event self.old.keys (EventValue.Block m process index content.now)))) }
-        ensures err { OnErr result (self.new ≡ self.old) }
+        ensures { IsStep (drawing (D.draw draws.now)) (EventValue.Block m process index content.now)
+            self.old result self.new }
     {
         self.sent.reserve(1)?;
         let member = &mut self.members[m as usize];

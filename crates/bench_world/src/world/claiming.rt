@@ -1,12 +1,9 @@
 // What fetchers claim.
-ghost use Rattle.std.specs.Prelude.{◌≡◌, ◌+◌, ◌<◌, ◌≤◌, None, length, IfOk, IfErr, OnOk, OnErr};
-ghost use Rattle.group_model.specs.Steps.{after_event};
-ghost use Rattle.group_model.specs.Refusals.{refusal};
+ghost use Rattle.std.specs.Prelude.{◌≡◌, ◌+◌, ◌<◌, None, length};
 ghost use Rattle.repo_plan.specs.Calls.{IsFetcher};
 ghost use Rattle.bench_world.specs.Serving.{keyed};
-ghost use Rattle.bench_world.specs.Worlds.{world_of};
-ghost use Rattle.bench_world.specs.EventValues.{EventValue, group_event, told_value, telling, claim_told};
-ghost use Rattle.bench_world.specs.Steps.{IsFaultOf};
+ghost use Rattle.bench_world.specs.EventValues.{EventValue, told_value, claim_told};
+ghost use Rattle.bench_world.specs.Runs.{IsStep};
 
 use super::World;
 use crate::event::{Happened, StepFault};
@@ -19,17 +16,7 @@ impl World {
         requires there { m < length self.old.members }
         requires fetcher { IsFetcher f }
         requires few { self.old.steps < 100000 }
-        ensures taken { OnOk result (refusal (keyed self.old.keys) (world_of self.old)
-            (group_event self.old.keys (EventValue.Claim m f)) ≡ None) }
-        ensures world { OnOk result (world_of self.new ≡ after_event (keyed self.old.keys) (world_of self.old)
-            (group_event self.old.keys (EventValue.Claim m f))) }
-        ensures told { IfOk result (λ happened. told_value happened
-            ≡ telling self.old.keys (keyed self.old.keys) (world_of self.old) (EventValue.Claim m f)) }
-        ensures steps { OnOk result (self.new.steps ≡ self.old.steps + 1) }
-        ensures keys { self.new.keys ≡ self.old.keys }
-        ensures refused { IfErr result (IsFaultOf (refusal (keyed self.old.keys) (world_of self.old)
-            (group_event self.old.keys (EventValue.Claim m f)))) }
-        ensures err { OnErr result (self.new ≡ self.old) }
+        ensures { IsStep (keyed self.old.keys) (EventValue.Claim m f) self.old result self.new }
     {
         let member = &mut self.members[m as usize];
         let Ok(claim) = member.claim(f as u8) else {
@@ -44,17 +31,7 @@ impl World {
         requires there { m < length self.old.members }
         requires fetcher { IsFetcher f }
         requires few { self.old.steps < 100000 }
-        ensures taken { OnOk result (refusal (keyed self.old.keys) (world_of self.old)
-            (group_event self.old.keys (EventValue.Lose m f)) ≡ None) }
-        ensures world { OnOk result (world_of self.new ≡ after_event (keyed self.old.keys) (world_of self.old)
-            (group_event self.old.keys (EventValue.Lose m f))) }
-        ensures told { IfOk result (λ happened. told_value happened
-            ≡ telling self.old.keys (keyed self.old.keys) (world_of self.old) (EventValue.Lose m f)) }
-        ensures steps { OnOk result (self.new.steps ≡ self.old.steps + 1) }
-        ensures keys { self.new.keys ≡ self.old.keys }
-        ensures refused { IfErr result (IsFaultOf (refusal (keyed self.old.keys) (world_of self.old)
-            (group_event self.old.keys (EventValue.Lose m f)))) }
-        ensures err { OnErr result (self.new ≡ self.old) }
+        ensures { IsStep (keyed self.old.keys) (EventValue.Lose m f) self.old result self.new }
     {
         let member = &mut self.members[m as usize];
         let Ok(part) = member.lose(f as u8) else {

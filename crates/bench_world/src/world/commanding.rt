@@ -1,18 +1,17 @@
 // Commands.
-ghost use Rattle.std.specs.Prelude.{◌≡◌, ◌⊎◌, ◌+◌, ◌<◌, ◌≤◌, true, false, None, IsTrue, length, map, IfOk, IfErr, OnOk};
-ghost use Rattle.std.specs.Prelude.{OnErr, option_map};
+ghost use Rattle.std.specs.Prelude.{◌≡◌, ◌⊎◌, ◌+◌, ◌<◌, ◌≤◌, true, false, IsTrue, length, IfOk, IfErr, OnOk};
+ghost use Rattle.std.specs.Prelude.{OnErr};
 ghost use Rattle.repo_object.specs.Objects.{key_name, is_object_name};
 ghost use Rattle.repo_command.specs.Commands.{is_command, CommandIsSpelled};
 ghost use Rattle.group_model.specs.Limits.{IsShortInsertion};
-ghost use Rattle.group_model.specs.Refusals.{refusal};
-ghost use Rattle.group_model.specs.Steps.{after_event, after_issue, command_answer};
+ghost use Rattle.group_model.specs.Steps.{after_issue, command_answer};
 ghost use Rattle.repo_member.specs.Groups.{client_at};
 ghost use Rattle.repo_member.specs.Commanded.{coded, order_of, order_made};
 ghost use Rattle.bench_world.specs.Serving.{keyed};
 ghost use Rattle.bench_world.specs.Worlds.{world_of};
 ghost use Rattle.bench_world.specs.Commanding.{may_order};
-ghost use Rattle.bench_world.specs.EventValues.{EventValue, group_event, told_value, telling, order_told};
-ghost use Rattle.bench_world.specs.Steps.{IsFaultOf};
+ghost use Rattle.bench_world.specs.EventValues.{EventValue, told_value, order_told};
+ghost use Rattle.bench_world.specs.Runs.{IsStep};
 
 use super::World;
 use crate::event::{Happened, StepFault};
@@ -70,18 +69,8 @@ impl World {
         requires order { first ≤ last }
         requires blocks { last < first + 200 }
         requires few { self.old.steps < 100000 }
-        ensures taken { OnOk result (refusal (keyed self.old.keys) (world_of self.old)
-            (group_event self.old.keys (EventValue.Insert m client name.now first last)) ≡ None) }
-        ensures world { OnOk result (world_of self.new ≡ after_event (keyed self.old.keys) (world_of self.old)
-            (group_event self.old.keys (EventValue.Insert m client name.now first last))) }
-        ensures told { IfOk result (λ happened. told_value happened
-            ≡ telling self.old.keys (keyed self.old.keys) (world_of self.old)
-            (EventValue.Insert m client name.now first last)) }
-        ensures steps { OnOk result (self.new.steps ≡ self.old.steps + 1) }
-        ensures keys { self.new.keys ≡ self.old.keys }
-        ensures refused { IfErr result (IsFaultOf (refusal (keyed self.old.keys) (world_of self.old)
-            (group_event self.old.keys (EventValue.Insert m client name.now first last)))) }
-        ensures err { OnErr result (self.new ≡ self.old) }
+        ensures { IsStep (keyed self.old.keys) (EventValue.Insert m client name.now first last)
+            self.old result self.new }
     {
         // Read for its clause alone: the components are a name's.
         let _octets = name.octets();
@@ -112,17 +101,7 @@ impl World {
         requires there { m < length self.old.members }
         requires client { client < length self.old.keys.clients.names }
         requires few { self.old.steps < 100000 }
-        ensures taken { OnOk result (refusal (keyed self.old.keys) (world_of self.old)
-            (group_event self.old.keys (EventValue.Status m client process)) ≡ None) }
-        ensures world { OnOk result (world_of self.new ≡ after_event (keyed self.old.keys) (world_of self.old)
-            (group_event self.old.keys (EventValue.Status m client process))) }
-        ensures told { IfOk result (λ happened. told_value happened
-            ≡ telling self.old.keys (keyed self.old.keys) (world_of self.old) (EventValue.Status m client process)) }
-        ensures steps { OnOk result (self.new.steps ≡ self.old.steps + 1) }
-        ensures keys { self.new.keys ≡ self.old.keys }
-        ensures refused { IfErr result (IsFaultOf (refusal (keyed self.old.keys) (world_of self.old)
-            (group_event self.old.keys (EventValue.Status m client process)))) }
-        ensures err { OnErr result (self.new ≡ self.old) }
+        ensures { IsStep (keyed self.old.keys) (EventValue.Status m client process) self.old result self.new }
     {
         let command = Command::Check {
             process: u64::from(process),
@@ -145,17 +124,7 @@ impl World {
         requires client { client < length self.old.keys.clients.names }
         requires name { IsTrue (is_object_name name.now) }
         requires few { self.old.steps < 100000 }
-        ensures taken { OnOk result (refusal (keyed self.old.keys) (world_of self.old)
-            (group_event self.old.keys (EventValue.Delete m client name.now)) ≡ None) }
-        ensures world { OnOk result (world_of self.new ≡ after_event (keyed self.old.keys) (world_of self.old)
-            (group_event self.old.keys (EventValue.Delete m client name.now))) }
-        ensures told { IfOk result (λ happened. told_value happened
-            ≡ telling self.old.keys (keyed self.old.keys) (world_of self.old) (EventValue.Delete m client name.now)) }
-        ensures steps { OnOk result (self.new.steps ≡ self.old.steps + 1) }
-        ensures keys { self.new.keys ≡ self.old.keys }
-        ensures refused { IfErr result (IsFaultOf (refusal (keyed self.old.keys) (world_of self.old)
-            (group_event self.old.keys (EventValue.Delete m client name.now)))) }
-        ensures err { OnErr result (self.new ≡ self.old) }
+        ensures { IsStep (keyed self.old.keys) (EventValue.Delete m client name.now) self.old result self.new }
     {
         // Read for its clause alone: the components are a name's.
         let _octets = name.octets();
@@ -180,19 +149,12 @@ impl World {
     pub(crate) fn order(&mut self, m: u32, octets: &[u8]) -> Result<Happened, StepFault>
         requires there { m < length self.old.members }
         requires few { self.old.steps < 100000 }
-        ensures taken { OnOk result (refusal (keyed self.old.keys) (world_of self.old)
-            (group_event self.old.keys (EventValue.Order m octets.now)) ≡ None) }
-        ensures world { OnOk result (world_of self.new ≡ after_event (keyed self.old.keys) (world_of self.old)
-            (group_event self.old.keys (EventValue.Order m octets.now))) }
-        ensures told { IfOk result (λ happened. told_value happened
-            ≡ telling self.old.keys (keyed self.old.keys) (world_of self.old) (EventValue.Order m octets.now)) }
-        ensures steps { OnOk result (self.new.steps ≡ self.old.steps + 1) }
-        ensures keys { self.new.keys ≡ self.old.keys }
-        ensures refused { IfErr result (IsFaultOf (refusal (keyed self.old.keys) (world_of self.old)
-            (group_event self.old.keys (EventValue.Order m octets.now)))) }
-        ensures err { OnErr result (self.new ≡ self.old) }
+        ensures { IsStep (keyed self.old.keys) (EventValue.Order m octets.now) self.old result self.new }
     {
-        let verdict = order_verdict(self.alloc, &self.group, &self.issued, m, octets)?;
+        let verdict = match order_verdict(self.alloc, &self.group, &self.issued, m, octets) {
+            Ok(verdict) => verdict,
+            Err(fault) => return Err(fault),
+        };
         let member = &mut self.members[m as usize];
         let answered = match member.command_checked(&self.group, octets, verdict) {
             Ok(answered) => answered,

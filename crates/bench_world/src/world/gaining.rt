@@ -1,13 +1,12 @@
 // What members gain of each other, in a fetch and in a settle.
-ghost use Rattle.std.specs.Prelude.{◌≡◌, ◌+◌, ◌<◌, ◌≤◌, None, length, IfOk, IfErr, OnOk, OnErr};
+ghost use Rattle.std.specs.Prelude.{◌≡◌, ◌+◌, ◌<◌, ◌≤◌, length, IfOk, OnOk, OnErr};
 ghost use Rattle.group_model.specs.Laws.{NothingHidden, AllJoined};
-ghost use Rattle.group_model.specs.Steps.{after_event, after_gathering, settle_gains};
-ghost use Rattle.group_model.specs.Refusals.{refusal};
+ghost use Rattle.group_model.specs.Steps.{after_gathering, settle_gains};
 ghost use Rattle.bench_world.specs.Serving.{outside, keyed};
 ghost use Rattle.bench_world.specs.Worlds.{world_of};
 ghost use Rattle.bench_world.specs.Runs.{HaveSettledPart};
-ghost use Rattle.bench_world.specs.EventValues.{EventValue, group_event, told_value, telling};
-ghost use Rattle.bench_world.specs.Steps.{IsFaultOf};
+ghost use Rattle.bench_world.specs.EventValues.{EventValue};
+ghost use Rattle.bench_world.specs.Runs.{IsStep};
 
 use super::World;
 use crate::event::{Happened, StepFault};
@@ -33,19 +32,8 @@ impl World {
         requires workers { (1 ≤ workers) × (workers ≤ 16) }
         requires tries { (1 ≤ tries) × (tries ≤ 16) }
         requires few { self.old.steps < 100000 }
-        ensures taken { OnOk result (refusal (outside self.old.keys (λ _ _. 0) (N.passes net.now)) (world_of self.old)
-            (group_event self.old.keys (EventValue.Fetch m workers tries loss)) ≡ None) }
-        ensures world { OnOk result (world_of self.new
-            ≡ after_event (outside self.old.keys (λ _ _. 0) (N.passes net.now)) (world_of self.old)
-            (group_event self.old.keys (EventValue.Fetch m workers tries loss))) }
-        ensures told { IfOk result (λ happened. told_value happened
-            ≡ telling self.old.keys (outside self.old.keys (λ _ _. 0) (N.passes net.now)) (world_of self.old)
-            (EventValue.Fetch m workers tries loss)) }
-        ensures steps { OnOk result (self.new.steps ≡ self.old.steps + 1) }
-        ensures keys { self.new.keys ≡ self.old.keys }
-        ensures refused { IfErr result (IsFaultOf (refusal (outside self.old.keys (λ _ _. 0) (N.passes net.now))
-            (world_of self.old) (group_event self.old.keys (EventValue.Fetch m workers tries loss)))) }
-        ensures err { OnErr result (self.new ≡ self.old) }
+        ensures { IsStep (outside self.old.keys (λ _ _. 0) (N.passes net.now)) (EventValue.Fetch m workers tries loss)
+            self.old result self.new }
     {
         let fetched = fetch_at(
             rt,
@@ -118,21 +106,8 @@ impl World {
     ) -> Result<Happened, StepFault>
         requires workers { (1 ≤ workers) × (workers ≤ 16) }
         requires few { self.old.steps < 100000 }
-        ensures taken { OnOk result
-            (refusal (outside self.old.keys (D.draw draws.now) (N.passes net.now)) (world_of self.old)
-            (group_event self.old.keys (EventValue.Settle workers)) ≡ None) }
-        ensures world { OnOk result (world_of self.new
-            ≡ after_event (outside self.old.keys (D.draw draws.now) (N.passes net.now)) (world_of self.old)
-            (group_event self.old.keys (EventValue.Settle workers))) }
-        ensures told { IfOk result (λ happened. told_value happened
-            ≡ telling self.old.keys (outside self.old.keys (D.draw draws.now) (N.passes net.now)) (world_of self.old)
-            (EventValue.Settle workers)) }
-        ensures joined { OnOk result (NothingHidden (world_of self.new) → AllJoined (world_of self.new)) }
-        ensures steps { OnOk result (self.new.steps ≡ self.old.steps + 1) }
-        ensures keys { self.new.keys ≡ self.old.keys }
-        ensures refused { IfErr result (IsFaultOf (refusal (outside self.old.keys (D.draw draws.now) (N.passes net.now))
-            (world_of self.old) (group_event self.old.keys (EventValue.Settle workers)))) }
-        ensures err { OnErr result (HaveSettledPart self.old self.new) }
+        ensures { IsStep (outside self.old.keys (D.draw draws.now) (N.passes net.now)) (EventValue.Settle workers)
+            self.old result self.new }
     {
         let syncs = self.members.len() as u64;
         let Ok(kept) = self.settle(rt, workers, net) else {

@@ -4,11 +4,11 @@ ghost use Rattle.std.specs.List.{All};
 ghost use Rattle.repo_object.specs.Objects.{is_object_name, IsContent};
 ghost use Rattle.repo_object.specs.Cuts.{pieces};
 ghost use Rattle.group_model.specs.Events.{Event};
-ghost use Rattle.group_model.specs.Steps.{after_event, after_publish, next_seq_at, next_sync};
+ghost use Rattle.group_model.specs.Steps.{after_publish, next_seq_at, next_sync};
 ghost use Rattle.group_model.specs.Refusals.{Refusal, refusal};
 ghost use Rattle.bench_world.specs.Worlds.{world_of, drawing};
-ghost use Rattle.bench_world.specs.EventValues.{EventValue, group_event, told_value, telling};
-ghost use Rattle.bench_world.specs.Steps.{IsFaultOf};
+ghost use Rattle.bench_world.specs.EventValues.{EventValue};
+ghost use Rattle.bench_world.specs.Runs.{IsStep};
 
 use super::World;
 use crate::event::{Happened, StepFault};
@@ -33,17 +33,8 @@ impl World {
         requires size { (1 ≤ size) × (size ≤ 8000) }
         requires segments { length (pieces size content.now) ≤ 200 }
         requires few { self.old.steps < 100000 }
-        ensures taken { OnOk result (refusal (drawing (D.draw draws.now)) (world_of self.old)
-            (group_event self.old.keys (EventValue.Publish m name.now size content.now)) ≡ None) }
-        ensures world { OnOk result (world_of self.new ≡ after_event (drawing (D.draw draws.now)) (world_of self.old)
-            (group_event self.old.keys (EventValue.Publish m name.now size content.now))) }
-        ensures told { IfOk result (λ happened. told_value happened ≡ telling self.old.keys
-            (drawing (D.draw draws.now)) (world_of self.old) (EventValue.Publish m name.now size content.now)) }
-        ensures steps { OnOk result (self.new.steps ≡ self.old.steps + 1) }
-        ensures keys { self.new.keys ≡ self.old.keys }
-        ensures refused { IfErr result (IsFaultOf (refusal (drawing (D.draw draws.now)) (world_of self.old)
-            (group_event self.old.keys (EventValue.Publish m name.now size content.now)))) }
-        ensures err { OnErr result (self.new ≡ self.old) }
+        ensures { IsStep (drawing (D.draw draws.now)) (EventValue.Publish m name.now size content.now)
+            self.old result self.new }
     {
         // There are few enough segments, so only memory can be wanting.
         let Ok(contents) = cut(self.alloc, content, size as usize) else {

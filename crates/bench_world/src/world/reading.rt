@@ -1,13 +1,13 @@
 // What is read of a world.
-ghost use Rattle.std.specs.Prelude.{◌≡◌, ◌+◌, ◌<◌, ◌≤◌, ℕ, None, length, map, IfOk, IfErr, OnOk, OnErr};
+ghost use Rattle.std.specs.Prelude.{◌≡◌, ◌<◌, ◌≤◌, ℕ, None, length, map, IfOk};
 ghost use Rattle.sorted_lists.specs.Range.{numbers_from};
 ghost use Rattle.repo_plan.specs.Parts.{part_cmp};
 ghost use Rattle.sorted_lists.specs.SortedList.{value_of};
 ghost use Rattle.bench_world.specs.Serving.{keyed};
-ghost use Rattle.bench_world.specs.Worlds.{world_of, alone_at};
-ghost use Rattle.bench_world.specs.Steps.{IsFaultOf};
+ghost use Rattle.bench_world.specs.Worlds.{alone_at};
+ghost use Rattle.bench_world.specs.Runs.{IsStep};
 ghost use Rattle.bench_world.specs.Sums.{totals_in, HasFewTotals};
-ghost use Rattle.bench_world.specs.EventValues.{EventValue, told_value, telling, dump_told};
+ghost use Rattle.bench_world.specs.EventValues.{EventValue, told_value, dump_told};
 
 use super::World;
 use crate::event::{Happened, StepFault};
@@ -22,13 +22,7 @@ impl World {
     pub(crate) fn vector(&mut self, m: u32) -> Result<Happened, StepFault>
         requires there { m < length self.old.members }
         requires few { self.old.steps < 100000 }
-        ensures world { OnOk result (world_of self.new ≡ world_of self.old) }
-        ensures told { IfOk result (λ happened. told_value happened
-            ≡ telling self.old.keys (keyed self.old.keys) (world_of self.old) (EventValue.Vector m)) }
-        ensures steps { OnOk result (self.new.steps ≡ self.old.steps + 1) }
-        ensures keys { self.new.keys ≡ self.old.keys }
-        ensures refused { IfErr result (IsFaultOf None) }
-        ensures err { OnErr result (self.new ≡ self.old) }
+        ensures { IsStep (keyed self.old.keys) (EventValue.Vector m) self.old result self.new }
     {
         let numbers = known(self.alloc, self.members[m as usize].vector())?;
         let members = self.numbered()?;
@@ -44,13 +38,7 @@ impl World {
     pub(crate) fn catalogue(&mut self, m: u32) -> Result<Happened, StepFault>
         requires there { m < length self.old.members }
         requires few { self.old.steps < 100000 }
-        ensures world { OnOk result (world_of self.new ≡ world_of self.old) }
-        ensures told { IfOk result (λ happened. told_value happened
-            ≡ telling self.old.keys (keyed self.old.keys) (world_of self.old) (EventValue.Catalogue m)) }
-        ensures steps { OnOk result (self.new.steps ≡ self.old.steps + 1) }
-        ensures keys { self.new.keys ≡ self.old.keys }
-        ensures refused { IfErr result (IsFaultOf None) }
-        ensures err { OnErr result (self.new ≡ self.old) }
+        ensures { IsStep (keyed self.old.keys) (EventValue.Catalogue m) self.old result self.new }
     {
         let entries = copied(self.alloc, self.member(m).catalogue().entries())?;
         self.count();
@@ -64,11 +52,7 @@ impl World {
     /// What was counted.
     pub(crate) fn traffic(&mut self) -> Happened
         requires few { self.old.steps < 100000 }
-        ensures world { world_of self.new ≡ world_of self.old }
-        ensures told { told_value result
-            ≡ telling self.old.keys (keyed self.old.keys) (world_of self.old) EventValue.Traffic }
-        ensures steps { self.new.steps ≡ self.old.steps + 1 }
-        ensures keys { self.new.keys ≡ self.old.keys }
+        ensures { IsStep (keyed self.old.keys) EventValue.Traffic self.old (Ok result) self.new }
     {
         let tally = self.tally();
         self.count();
@@ -84,13 +68,7 @@ impl World {
     /// What all catalogues come to.
     pub(crate) fn summary(&mut self) -> Result<Happened, StepFault>
         requires few { self.old.steps < 100000 }
-        ensures world { OnOk result (world_of self.new ≡ world_of self.old) }
-        ensures told { IfOk result (λ happened. told_value happened
-            ≡ telling self.old.keys (keyed self.old.keys) (world_of self.old) EventValue.Summary) }
-        ensures steps { OnOk result (self.new.steps ≡ self.old.steps + 1) }
-        ensures keys { self.new.keys ≡ self.old.keys }
-        ensures refused { IfErr result (IsFaultOf None) }
-        ensures err { OnErr result (self.new ≡ self.old) }
+        ensures { IsStep (keyed self.old.keys) EventValue.Summary self.old result self.new }
     {
         let members = self.numbered()?;
         let sums = add_up(self.alloc, self.members.as_slice())?;
@@ -108,13 +86,7 @@ impl World {
         requires there { m < length self.old.members }
         requires small { (s < 65536) × (x < 256) }
         requires few { self.old.steps < 100000 }
-        ensures world { OnOk result (world_of self.new ≡ world_of self.old) }
-        ensures told { IfOk result (λ happened. told_value happened
-            ≡ telling self.old.keys (keyed self.old.keys) (world_of self.old) (EventValue.Dump m p s x)) }
-        ensures steps { OnOk result (self.new.steps ≡ self.old.steps + 1) }
-        ensures keys { self.new.keys ≡ self.old.keys }
-        ensures refused { IfErr result (IsFaultOf None) }
-        ensures err { OnErr result (self.new ≡ self.old) }
+        ensures { IsStep (keyed self.old.keys) (EventValue.Dump m p s x) self.old result self.new }
     {
         let part = Part {
             publisher: p,

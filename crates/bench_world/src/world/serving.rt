@@ -1,16 +1,14 @@
 // What comes for claims, from other members and from outside, and what octets from outside are told.
-ghost use Rattle.std.specs.Prelude.{◌≡◌, ◌+◌, ◌<◌, None, length, IfOk, IfErr, OnOk, OnErr};
-ghost use Rattle.group_model.specs.Steps.{after_event};
-ghost use Rattle.group_model.specs.Refusals.{refusal};
+ghost use Rattle.std.specs.Prelude.{◌≡◌, ◌+◌, ◌<◌, length, IfOk};
 ghost use Rattle.repo_plan.specs.Calls.{IsFetcher};
 ghost use Rattle.repo_store.specs.Served.{served};
 ghost use Rattle.bench_world.specs.Serving.{keyed};
-ghost use Rattle.bench_world.specs.Worlds.{world_of, drawing};
+ghost use Rattle.bench_world.specs.Worlds.{drawing};
 ghost use Rattle.bench_world.specs.Answering.{kept_of};
 ghost use Rattle.bench_world.specs.Replying.{fed_reply, parts_kept};
-ghost use Rattle.bench_world.specs.EventValues.{EventValue, group_event, told_value, telling, answer_told, ask_told};
+ghost use Rattle.bench_world.specs.EventValues.{EventValue, told_value, answer_told, ask_told};
 ghost use Rattle.bench_world.specs.EventValues.{mode_told};
-ghost use Rattle.bench_world.specs.Steps.{IsFaultOf};
+ghost use Rattle.bench_world.specs.Runs.{IsStep};
 
 use super::World;
 use crate::answering::{Fed, ask, feed};
@@ -38,17 +36,7 @@ impl World {
         requires fetcher { IsFetcher f }
         requires other { q < length self.old.members }
         requires few { self.old.steps < 100000 }
-        ensures taken { OnOk result (refusal (keyed self.old.keys) (world_of self.old)
-            (group_event self.old.keys (EventValue.Answer m f q)) ≡ None) }
-        ensures world { OnOk result (world_of self.new ≡ after_event (keyed self.old.keys) (world_of self.old)
-            (group_event self.old.keys (EventValue.Answer m f q))) }
-        ensures told { IfOk result (λ happened. told_value happened
-            ≡ telling self.old.keys (keyed self.old.keys) (world_of self.old) (EventValue.Answer m f q)) }
-        ensures steps { OnOk result (self.new.steps ≡ self.old.steps + 1) }
-        ensures keys { self.new.keys ≡ self.old.keys }
-        ensures refused { IfErr result (IsFaultOf (refusal (keyed self.old.keys) (world_of self.old)
-            (group_event self.old.keys (EventValue.Answer m f q)))) }
-        ensures err { OnErr result (self.new ≡ self.old) }
+        ensures { IsStep (keyed self.old.keys) (EventValue.Answer m f q) self.old result self.new }
     {
         let kept = match ask(self.alloc, &self.group, &mut self.members, m, f as u8, q) {
             Ok(kept) => kept,
@@ -68,17 +56,7 @@ impl World {
         requires there { m < length self.old.members }
         requires fetcher { IsFetcher f }
         requires few { self.old.steps < 100000 }
-        ensures taken { OnOk result (refusal (keyed self.old.keys) (world_of self.old)
-            (group_event self.old.keys (EventValue.Feed m f octets.now)) ≡ None) }
-        ensures world { OnOk result (world_of self.new ≡ after_event (keyed self.old.keys) (world_of self.old)
-            (group_event self.old.keys (EventValue.Feed m f octets.now))) }
-        ensures told { IfOk result (λ happened. told_value happened
-            ≡ telling self.old.keys (keyed self.old.keys) (world_of self.old) (EventValue.Feed m f octets.now)) }
-        ensures steps { OnOk result (self.new.steps ≡ self.old.steps + 1) }
-        ensures keys { self.new.keys ≡ self.old.keys }
-        ensures refused { IfErr result (IsFaultOf (refusal (keyed self.old.keys) (world_of self.old)
-            (group_event self.old.keys (EventValue.Feed m f octets.now)))) }
-        ensures err { OnErr result (self.new ≡ self.old) }
+        ensures { IsStep (keyed self.old.keys) (EventValue.Feed m f octets.now) self.old result self.new }
     {
         let fed = match feed(
             self.alloc,
@@ -102,13 +80,7 @@ impl World {
     pub(crate) fn ask(&mut self, m: u32, octets: &[u8]) -> Result<Happened, StepFault>
         requires there { m < length self.old.members }
         requires few { self.old.steps < 100000 }
-        ensures world { OnOk result (world_of self.new ≡ world_of self.old) }
-        ensures told { IfOk result (λ happened. told_value happened
-            ≡ telling self.old.keys (keyed self.old.keys) (world_of self.old) (EventValue.Ask m octets.now)) }
-        ensures steps { OnOk result (self.new.steps ≡ self.old.steps + 1) }
-        ensures keys { self.new.keys ≡ self.old.keys }
-        ensures refused { IfErr result (IsFaultOf None) }
-        ensures err { OnErr result (self.new ≡ self.old) }
+        ensures { IsStep (keyed self.old.keys) (EventValue.Ask m octets.now) self.old result self.new }
     {
         let happened = asked(self.alloc, m, &self.members[m as usize], octets)?;
         self.count();
@@ -126,17 +98,7 @@ impl World {
     ) -> Result<Happened, StepFault>
         requires there { m < length self.old.members }
         requires few { self.old.steps < 100000 }
-        ensures taken { OnOk result (refusal (drawing (D.draw draws.now)) (world_of self.old)
-            (group_event self.old.keys (EventValue.Hear m octets.now)) ≡ None) }
-        ensures world { OnOk result (world_of self.new ≡ after_event (drawing (D.draw draws.now)) (world_of self.old)
-            (group_event self.old.keys (EventValue.Hear m octets.now))) }
-        ensures told { IfOk result (λ happened. told_value happened ≡ telling self.old.keys
-            (drawing (D.draw draws.now)) (world_of self.old) (EventValue.Hear m octets.now)) }
-        ensures steps { OnOk result (self.new.steps ≡ self.old.steps + 1) }
-        ensures keys { self.new.keys ≡ self.old.keys }
-        ensures refused { IfErr result (IsFaultOf (refusal (drawing (D.draw draws.now)) (world_of self.old)
-            (group_event self.old.keys (EventValue.Hear m octets.now)))) }
-        ensures err { OnErr result (self.new ≡ self.old) }
+        ensures { IsStep (drawing (D.draw draws.now)) (EventValue.Hear m octets.now) self.old result self.new }
     {
         let (signer, vector) = match told_by(
             self.alloc,

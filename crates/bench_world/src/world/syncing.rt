@@ -1,16 +1,13 @@
 // What members tell each other, and their timers.
-ghost use Rattle.std.specs.Prelude.{◌≡◌, ◌+◌, ◌<◌, ◌≤◌, None, length, IfOk, IfErr, OnOk, OnErr, option_map};
-ghost use Rattle.group_model.specs.Steps.{after_event};
-ghost use Rattle.group_model.specs.Refusals.{refusal};
-ghost use Rattle.bench_net.specs.SentList.{sent_octets};
-ghost use Rattle.bench_world.specs.Worlds.{world_of, drawing};
+ghost use Rattle.std.specs.Prelude.{◌≡◌, ◌+◌, ◌<◌, ◌≤◌, length};
+ghost use Rattle.bench_world.specs.Worlds.{drawing};
 ghost use Rattle.bench_world.specs.Timers.{after_firing, fire_told};
-ghost use Rattle.bench_world.specs.EventValues.{EventValue, group_event, told_value, telling, delivered_told};
-ghost use Rattle.bench_world.specs.Steps.{IsFaultOf};
+ghost use Rattle.bench_world.specs.EventValues.{EventValue, told_value, delivered_told};
+ghost use Rattle.bench_world.specs.Runs.{IsStep};
 
 use super::World;
 use crate::event::{Happened, StepFault};
-use crate::numbers::numbers;
+use crate::numbers::{numbers, vector_of};
 use bench_net::{Draws, Sent};
 use repo_member::Fire;
 use svs_sync::Mode;
@@ -25,26 +22,17 @@ impl World {
     ) -> Result<Happened, StepFault>
         requires there { m < length self.old.members }
         requires few { self.old.steps < 100000 }
-        ensures taken { OnOk result (refusal (drawing (D.draw draws.now)) (world_of self.old)
-            (group_event self.old.keys (EventValue.Deliver k m)) ≡ None) }
-        ensures world { OnOk result (world_of self.new ≡ after_event (drawing (D.draw draws.now)) (world_of self.old)
-            (group_event self.old.keys (EventValue.Deliver k m))) }
-        ensures told { IfOk result (λ happened. told_value happened
-            ≡ telling self.old.keys (drawing (D.draw draws.now)) (world_of self.old) (EventValue.Deliver k m)) }
-        ensures steps { OnOk result (self.new.steps ≡ self.old.steps + 1) }
-        ensures keys { self.new.keys ≡ self.old.keys }
-        ensures refused { IfErr result (IsFaultOf (refusal (drawing (D.draw draws.now)) (world_of self.old)
-            (group_event self.old.keys (EventValue.Deliver k m)))) }
-        ensures err { OnErr result (self.new ≡ self.old) }
+        ensures { IsStep (drawing (D.draw draws.now)) (EventValue.Deliver k m) self.old result self.new }
     {
-        let Some(octets) = self.sent.octets(k) else {
+        let Some(numbers) = self.sent.vector(k) else {
             return Err(StepFault::Refused { number: 5 });
         };
+        let told = vector_of(self.alloc, numbers)?;
         let member = &mut self.members[m as usize];
         let draw = draws.draw(m, member.next_draw());
-        // It was sent by a member, so only memory can be wanting.
-        let Ok(mode) = member.hear(&self.group, octets, self.moment, draw) else {
-            return Err(StepFault::NoMemory);
+        // A member sent it, so it tells of no publication that there isn't.
+        let Ok(mode) = member.hear_vector(&told, self.moment, draw) else {
+            unreachable!()
         };
         self.delivered += 1;
         self.steps += 1;
@@ -54,17 +42,7 @@ impl World {
     /// The octets of a sync Interest that was sent, by its number.
     pub(crate) fn sync(&mut self, k: u32) -> Result<Happened, StepFault>
         requires few { self.old.steps < 100000 }
-        ensures taken { OnOk result (refusal (drawing (λ _ _. 0)) (world_of self.old)
-            (group_event self.old.keys (EventValue.Sync k)) ≡ None) }
-        ensures world { OnOk result (world_of self.new ≡ after_event (drawing (λ _ _. 0)) (world_of self.old)
-            (group_event self.old.keys (EventValue.Sync k))) }
-        ensures told { IfOk result (λ happened. told_value happened
-            ≡ telling self.old.keys (drawing (λ _ _. 0)) (world_of self.old) (EventValue.Sync k)) }
-        ensures steps { OnOk result (self.new.steps ≡ self.old.steps + 1) }
-        ensures keys { self.new.keys ≡ self.old.keys }
-        ensures refused { IfErr result (IsFaultOf (refusal (drawing (λ _ _. 0)) (world_of self.old)
-            (group_event self.old.keys (EventValue.Sync k)))) }
-        ensures err { OnErr result (self.new ≡ self.old) }
+        ensures { IsStep (drawing (λ _ _. 0)) (EventValue.Sync k) self.old result self.new }
     {
         let Some(octets) = self.sent.octets(k) else {
             return Err(StepFault::Refused { number: 5 });
@@ -81,12 +59,7 @@ impl World {
     pub(crate) fn advance(&mut self, ms: u64) -> Happened
         requires short { ms ≤ 1000000000 }
         requires few { self.old.steps < 100000 }
-        ensures world { world_of self.new ≡ after_event (drawing (λ _ _. 0)) (world_of self.old)
-            (group_event self.old.keys (EventValue.Advance ms)) }
-        ensures told { told_value result
-            ≡ telling self.old.keys (drawing (λ _ _. 0)) (world_of self.old) (EventValue.Advance ms) }
-        ensures steps { self.new.steps ≡ self.old.steps + 1 }
-        ensures keys { self.new.keys ≡ self.old.keys }
+        ensures { IsStep (drawing (λ _ _. 0)) (EventValue.Advance ms) self.old (Ok result) self.new }
     {
         self.moment += ms;
         self.steps += 1;
@@ -97,17 +70,7 @@ impl World {
     pub(crate) fn fire<D: Draws>(&mut self, m: u32, draws: &D) -> Result<Happened, StepFault>
         requires there { m < length self.old.members }
         requires few { self.old.steps < 100000 }
-        ensures taken { OnOk result (refusal (drawing (D.draw draws.now)) (world_of self.old)
-            (group_event self.old.keys (EventValue.Fire m)) ≡ None) }
-        ensures world { OnOk result (world_of self.new ≡ after_event (drawing (D.draw draws.now)) (world_of self.old)
-            (group_event self.old.keys (EventValue.Fire m))) }
-        ensures told { IfOk result (λ happened. told_value happened
-            ≡ telling self.old.keys (drawing (D.draw draws.now)) (world_of self.old) (EventValue.Fire m)) }
-        ensures steps { OnOk result (self.new.steps ≡ self.old.steps + 1) }
-        ensures keys { self.new.keys ≡ self.old.keys }
-        ensures refused { IfErr result (IsFaultOf (refusal (drawing (D.draw draws.now)) (world_of self.old)
-            (group_event self.old.keys (EventValue.Fire m)))) }
-        ensures err { OnErr result (self.new ≡ self.old) }
+        ensures { IsStep (drawing (D.draw draws.now)) (EventValue.Fire m) self.old result self.new }
     {
         self.sent.reserve(1)?;
         let member = &mut self.members[m as usize];
@@ -125,12 +88,7 @@ impl World {
     pub(crate) fn restart<D: Draws>(&mut self, m: u32, draws: &D) -> Happened
         requires there { m < length self.old.members }
         requires few { self.old.steps < 100000 }
-        ensures world { world_of self.new ≡ after_event (drawing (D.draw draws.now)) (world_of self.old)
-            (group_event self.old.keys (EventValue.Restart m)) }
-        ensures told { told_value result
-            ≡ telling self.old.keys (drawing (D.draw draws.now)) (world_of self.old) (EventValue.Restart m) }
-        ensures steps { self.new.steps ≡ self.old.steps + 1 }
-        ensures keys { self.new.keys ≡ self.old.keys }
+        ensures { IsStep (drawing (D.draw draws.now)) (EventValue.Restart m) self.old (Ok result) self.new }
     {
         let member = &mut self.members[m as usize];
         let draw = draws.draw(m, member.next_draw());

@@ -9,14 +9,14 @@ use Rattle.bench_world.proofs.exchange.gather_at.Goals as goal
 pub returns-clause-others : goal.returns-clause-others
 returns-clause-others g c =
     put_changed c.args.members.now.items c.remove-member.new.self.items c.insert.new.self.items c.args.j
-    c.gather-kept.new.member c.requires.1.1.1.1.1.0
+    c.gather-kept.new.member c.requires.1.1.1.1.there
     c.remove-member.ensures.items c.in-Ok.ensures.items
 
 pub gather-kept-requires : goal.gather-kept-requires
 gather-kept-requires g c κs within =
     let here =
     c.remove-member.ensures.value
-    ∙ get_or_default c.args.members.now.items c.args.j c.remove-member.result nobody c.requires.1.1.1.1.1.0 in (
+    ∙ get_or_default c.args.members.now.items c.args.j c.remove-member.result nobody c.requires.1.1.1.1.there in (
       within.0,
       (
         within.1,
@@ -24,25 +24,19 @@ gather-kept-requires g c κs within =
           c.requires.1.1.0,
           (
             c.requires.1.1.1.0,
-            (
-              c.requires.1.1.1.1.0,
-              (
-                c.requires.1.1.1.1.1.1.0,
-                (
+            record {
+              workers = c.requires.1.1.1.1.workers;
+              logs = c.requires.1.1.1.1.logs;
+              others =
                   subst (AreTrueMembers c.args.g.now g.logs) (sym c.as_slice.ensures.value)
-                      (others_true c.args.g.now g.logs c.args.members.now.items c.remove-member.new.self.items c.args.j
-                      c.requires.1.1.1.1.1.1.1.0 c.remove-member.ensures.items),
-                  (
-                    refl,
-                    (
-                      subst (IsTrueMember c.args.g.now g.logs) (sym here)
-                          (c.requires.1.1.1.1.1.1.1.0 c.args.j c.requires.1.1.1.1.1.0),
-                      subst TriedFew (sym here) (c.requires.1.1.1.1.1.1.1.1 c.args.j c.requires.1.1.1.1.1.0),
-                    ),
-                  ),
-                ),
-              ),
-            ),
+                  (others_true c.args.g.now g.logs c.args.members.now.items c.remove-member.new.self.items c.args.j
+                  c.requires.1.1.1.1.members c.remove-member.ensures.items);
+              loss = refl;
+              truly =
+                  subst (IsTrueMember c.args.g.now g.logs) (sym here)
+                  (c.requires.1.1.1.1.members c.args.j c.requires.1.1.1.1.there);
+              tried = subst TriedFew (sym here) (c.requires.1.1.1.1.tried c.args.j c.requires.1.1.1.1.there);
+            },
           ),
         ),
       ),

@@ -10,28 +10,28 @@ use Rattle.bench_world.proofs.gather.gain_phase.Goals as goal
 pub phase-requires-clause-few : goal.phase-requires-clause-few
 phase-requires-clause-few g c κs within =
     few_jobs (g.N.Net.passes c.args.link.now.net.now) c.args.g.now g.logs c.args.member.now c.args.link.now.others.now
-    c.args.link.now.asker c.args.link.now.loss c.requires.1.1.1.1.1.0.are c.requires.1.1.1.1.1.1.1.1.0
-    c.requires.1.1.1.1.1.1.0
-    c.requires.1.1.1.1.1.1.1.1.1 c.args.after c.deref-2.result.now (c.deref-2.ensures.value ∙ c.in_ok-jobs.ensures)
+    c.args.link.now.asker c.args.link.now.loss c.requires.1.1.1.1.logs.are c.requires.1.1.1.1.truly
+    c.requires.1.1.1.1.others
+    c.requires.1.1.1.1.tried c.args.after c.deref-2.result.now (c.deref-2.ensures.value ∙ c.in_ok-jobs.ensures)
     c.members.result.now c.members.ensures.ring
 
 pub phase-requires-clause-jobs : goal.phase-requires-clause-jobs
 phase-requires-clause-jobs g c κs within =
     can_be_tried (g.N.Net.passes c.args.link.now.net.now) c.args.g.now g.logs c.args.member.now
-    c.args.link.now.others.now c.args.link.now.asker c.args.link.now.loss c.requires.1.1.1.1.1.0.are
-    c.requires.1.1.1.1.1.1.1.1.0 c.requires.1.1.1.1.1.1.0
-    c.requires.1.1.1.1.1.1.1.1.1 c.args.after c.deref-2.result.now (c.deref-2.ensures.value ∙ c.in_ok-jobs.ensures)
+    c.args.link.now.others.now c.args.link.now.asker c.args.link.now.loss c.requires.1.1.1.1.logs.are
+    c.requires.1.1.1.1.truly c.requires.1.1.1.1.others
+    c.requires.1.1.1.1.tried c.args.after c.deref-2.result.now (c.deref-2.ensures.value ∙ c.in_ok-jobs.ensures)
     c.members.result.now c.members.ensures.ring 1 (omega arith)
 
 pub take_outcome-requires-clause-outcome : goal.take_outcome-requires-clause-outcome
 take_outcome-requires-clause-outcome g c =
     let long : length c.deref-3.result.now ≡ c.len.result = c.deref-3.ensures.len ∙ sym c.len.ensures in
     gain_outcome (g.N.Net.passes c.args.link.now.net.now) c.args.g.now g.logs c.args.member.now
-    c.args.link.now.others.now c.args.link.now.asker c.args.link.now.loss c.requires.1.1.1.1.1.0.are
-    c.requires.1.1.1.1.1.1.1.1.0 c.requires.1.1.1.1.1.1.0
-    c.requires.1.1.1.1.1.1.1.1.1 c.args.after c.deref-3.result.now (c.deref-3.ensures.value ∙ c.in_ok-jobs.ensures)
+    c.args.link.now.others.now c.args.link.now.asker c.args.link.now.loss c.requires.1.1.1.1.logs.are
+    c.requires.1.1.1.1.truly c.requires.1.1.1.1.others
+    c.requires.1.1.1.1.tried c.args.after c.deref-3.result.now (c.deref-3.ensures.value ∙ c.in_ok-jobs.ensures)
     c.members.result.now c.members.ensures.ring
-    c.requires.1.1.1.1.1.1.1.0 c.deref-2.result.now (c.deref-2.ensures.value ∙ c.in_ok-jobs.ensures)
+    c.requires.1.1.1.1.loss c.deref-2.result.now (c.deref-2.ensures.value ∙ c.in_ok-jobs.ensures)
     c.in_ok-outcome.outcome.parts.items c.deref-4.result.now c.deref-4.ensures.value
     c.in_ok-outcome.outcome.attempts.items c.in_ok-outcome.ensures.first c.deref-5.result.now
     (c.deref-5.ensures.value ∙ c.in_ok-attempts.ensures.items_if_clones_equal (λ y e. e)
@@ -42,11 +42,11 @@ returns-clause-new g c =
     let long : length c.deref-3.result.now ≡ c.len.result = c.deref-3.ensures.len ∙ sym c.len.ensures in
     c.in_ok-kept.ensures.ok ∙ ap (λ (xs : List Fetched). alone_takes xs c.args.member.now)
     (gain_is (g.N.Net.passes c.args.link.now.net.now) c.args.g.now g.logs c.args.member.now c.args.link.now.others.now
-    c.args.link.now.asker c.args.link.now.loss c.requires.1.1.1.1.1.0.are c.requires.1.1.1.1.1.1.1.1.0
-    c.requires.1.1.1.1.1.1.0
-    c.requires.1.1.1.1.1.1.1.1.1 c.args.after c.deref-3.result.now (c.deref-3.ensures.value ∙ c.in_ok-jobs.ensures)
+    c.args.link.now.asker c.args.link.now.loss c.requires.1.1.1.1.logs.are c.requires.1.1.1.1.truly
+    c.requires.1.1.1.1.others
+    c.requires.1.1.1.1.tried c.args.after c.deref-3.result.now (c.deref-3.ensures.value ∙ c.in_ok-jobs.ensures)
     c.members.result.now c.members.ensures.ring
-    c.requires.1.1.1.1.1.1.1.0 c.deref-2.result.now (c.deref-2.ensures.value ∙ c.in_ok-jobs.ensures)
+    c.requires.1.1.1.1.loss c.deref-2.result.now (c.deref-2.ensures.value ∙ c.in_ok-jobs.ensures)
     c.in_ok-outcome.outcome.parts.items c.deref-4.result.now c.deref-4.ensures.value
     c.in_ok-outcome.outcome.attempts.items c.in_ok-outcome.ensures.first c.deref-5.result.now
     (c.deref-5.ensures.value ∙ c.in_ok-attempts.ensures.items_if_clones_equal (λ y e. e)
@@ -56,9 +56,9 @@ pub returns-clause-place : goal.returns-clause-place
 returns-clause-place g c =
     ap (contains part_cmp (next_parts c.args.after c.args.member.now)) c.part-place.ensures
     ∙ planned_place (g.N.Net.passes c.args.link.now.net.now) c.args.g.now g.logs c.args.member.now
-    c.args.link.now.others.now c.args.link.now.asker c.args.link.now.loss c.requires.1.1.1.1.1.0.are
-    c.requires.1.1.1.1.1.1.1.1.0 c.requires.1.1.1.1.1.1.0
-    c.requires.1.1.1.1.1.1.1.1.1 c.args.after c.deref.result.now (c.deref.ensures.value ∙ c.in_ok-jobs.ensures)
+    c.args.link.now.others.now c.args.link.now.asker c.args.link.now.loss c.requires.1.1.1.1.logs.are
+    c.requires.1.1.1.1.truly c.requires.1.1.1.1.others
+    c.requires.1.1.1.1.tried c.args.after c.deref.result.now (c.deref.ensures.value ∙ c.in_ok-jobs.ensures)
     c.members.result.now c.members.ensures.ring
     c.in-Some.last.now (length c.deref.result.now - 1) (sym c.in-Some.ensures.value)
 
@@ -67,11 +67,11 @@ returns-clause-parts g c =
     let long : length c.deref-3.result.now ≡ c.len.result = c.deref-3.ensures.len ∙ sym c.len.ensures in
     c.in_ok-kept.ensures.parts
     ∙ gain_parts (g.N.Net.passes c.args.link.now.net.now) c.args.g.now g.logs c.args.member.now
-    c.args.link.now.others.now c.args.link.now.asker c.args.link.now.loss c.requires.1.1.1.1.1.0.are
-    c.requires.1.1.1.1.1.1.1.1.0 c.requires.1.1.1.1.1.1.0
-    c.requires.1.1.1.1.1.1.1.1.1 c.args.after c.deref-3.result.now (c.deref-3.ensures.value ∙ c.in_ok-jobs.ensures)
+    c.args.link.now.others.now c.args.link.now.asker c.args.link.now.loss c.requires.1.1.1.1.logs.are
+    c.requires.1.1.1.1.truly c.requires.1.1.1.1.others
+    c.requires.1.1.1.1.tried c.args.after c.deref-3.result.now (c.deref-3.ensures.value ∙ c.in_ok-jobs.ensures)
     c.members.result.now c.members.ensures.ring
-    c.requires.1.1.1.1.1.1.1.0 c.deref-2.result.now (c.deref-2.ensures.value ∙ c.in_ok-jobs.ensures)
+    c.requires.1.1.1.1.loss c.deref-2.result.now (c.deref-2.ensures.value ∙ c.in_ok-jobs.ensures)
     c.in_ok-outcome.outcome.parts.items c.deref-4.result.now c.deref-4.ensures.value
     c.in_ok-outcome.outcome.attempts.items c.in_ok-outcome.ensures.first c.deref-5.result.now
     (c.deref-5.ensures.value ∙ c.in_ok-attempts.ensures.items_if_clones_equal (λ y e. e)
@@ -82,11 +82,11 @@ returns-clause-octets g c =
     let long : length c.deref-3.result.now ≡ c.len.result = c.deref-3.ensures.len ∙ sym c.len.ensures in
     c.in_ok-kept.ensures.octets
     ∙ gain_octets (g.N.Net.passes c.args.link.now.net.now) c.args.g.now g.logs c.args.member.now
-    c.args.link.now.others.now c.args.link.now.asker c.args.link.now.loss c.requires.1.1.1.1.1.0.are
-    c.requires.1.1.1.1.1.1.1.1.0 c.requires.1.1.1.1.1.1.0
-    c.requires.1.1.1.1.1.1.1.1.1 c.args.after c.deref-3.result.now (c.deref-3.ensures.value ∙ c.in_ok-jobs.ensures)
+    c.args.link.now.others.now c.args.link.now.asker c.args.link.now.loss c.requires.1.1.1.1.logs.are
+    c.requires.1.1.1.1.truly c.requires.1.1.1.1.others
+    c.requires.1.1.1.1.tried c.args.after c.deref-3.result.now (c.deref-3.ensures.value ∙ c.in_ok-jobs.ensures)
     c.members.result.now c.members.ensures.ring
-    c.requires.1.1.1.1.1.1.1.0 c.deref-2.result.now (c.deref-2.ensures.value ∙ c.in_ok-jobs.ensures)
+    c.requires.1.1.1.1.loss c.deref-2.result.now (c.deref-2.ensures.value ∙ c.in_ok-jobs.ensures)
     c.in_ok-outcome.outcome.parts.items c.deref-4.result.now c.deref-4.ensures.value
     c.in_ok-outcome.outcome.attempts.items c.in_ok-outcome.ensures.first c.deref-5.result.now
     (c.deref-5.ensures.value ∙ c.in_ok-attempts.ensures.items_if_clones_equal (λ y e. e)

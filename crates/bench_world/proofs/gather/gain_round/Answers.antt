@@ -13,23 +13,16 @@ gain_phase-requires g c κs within = (
       c.requires.1.1.0,
       (
         c.requires.1.1.1.0,
-        (
-          c.requires.1.1.1.1.0,
-          (
-            c.requires.1.1.1.1.1.0,
-            (
-              c.requires.1.1.1.1.1.1.0,
-              (
-                c.requires.1.1.1.1.1.1.1.0,
-                (
-                  c.phases.invariant.so_far.gains.truly,
-                  tried_still c.args.g.now g.logs c.args.link.now.others.now c.args.member.now c.phases.member
-                      c.phases.invariant.so_far.gains c.requires.1.1.1.1.1.1.1.1.1,
-                ),
-              ),
-            ),
-          ),
-        ),
+        record {
+          workers = c.requires.1.1.1.1.workers;
+          logs = c.requires.1.1.1.1.logs;
+          others = c.requires.1.1.1.1.others;
+          loss = c.requires.1.1.1.1.loss;
+          truly = c.phases.invariant.so_far.gains.truly;
+          tried =
+              tried_still c.args.g.now g.logs c.args.link.now.others.now c.args.member.now c.phases.member c.phases.invariant.so_far.gains
+              c.requires.1.1.1.1.tried;
+        },
       ),
     ),
   ),
@@ -38,58 +31,58 @@ gain_phase-requires g c κs within = (
 pub overflow_add-kept : goal.overflow_add-kept
 overflow_add-kept g c =
     let gains =
-    went_gains c.args.g.now g.logs c.args.link.now.others.now c.requires.1.1.1.1.1.0.are c.requires.1.1.1.1.1.1.0
+    went_gains c.args.g.now g.logs c.args.link.now.others.now c.requires.1.1.1.1.logs.are c.requires.1.1.1.1.others
     c.phases.after c.phases.kept.parts c.args.member.now c.phases.member c.phases.invariant.so_far
     c.gain_phase.new.member c.in_ok-place.came.parts c.in_ok-place.ensures.new c.in_ok-place.ensures.parts in
     let count =
-    went_count c.args.g.now g.logs c.args.link.now.others.now c.requires.1.1.1.1.1.0.are c.requires.1.1.1.1.1.1.0
+    went_count c.args.g.now g.logs c.args.link.now.others.now c.requires.1.1.1.1.logs.are c.requires.1.1.1.1.others
     c.phases.after c.phases.kept.parts c.args.member.now c.phases.member c.phases.invariant.so_far
     c.gain_phase.new.member c.in_ok-place.came.parts c.in_ok-place.ensures.new c.in_ok-place.ensures.parts in
-    let most = few_held c.args.g.now g.logs c.requires.1.1.1.1.1.0.are c.gain_phase.new.member gains.truly in
-    let few = c.requires.1.1.1.1.1.0.few in
+    let most = few_held c.args.g.now g.logs c.requires.1.1.1.1.logs.are c.gain_phase.new.member gains.truly in
+    let few = c.requires.1.1.1.1.logs.few in
     omega (arith, count, most, few)
 
 pub overflow_add-kept-in-phases : goal.overflow_add-kept-in-phases
 overflow_add-kept-in-phases g c =
     let gains =
-    went_gains c.args.g.now g.logs c.args.link.now.others.now c.requires.1.1.1.1.1.0.are c.requires.1.1.1.1.1.1.0
+    went_gains c.args.g.now g.logs c.args.link.now.others.now c.requires.1.1.1.1.logs.are c.requires.1.1.1.1.others
     c.phases.after c.phases.kept.parts c.args.member.now c.phases.member c.phases.invariant.so_far
     c.gain_phase.new.member c.in_ok-place.came.parts c.in_ok-place.ensures.new c.in_ok-place.ensures.parts in
     let count =
-    went_counts c.args.g.now g.logs c.args.link.now.others.now c.requires.1.1.1.1.1.0.are c.requires.1.1.1.1.1.1.0
+    went_counts c.args.g.now g.logs c.args.link.now.others.now c.requires.1.1.1.1.logs.are c.requires.1.1.1.1.others
     c.phases.after c.phases.kept.parts c.args.member.now c.phases.member c.phases.invariant.so_far
     c.gain_phase.new.member c.in_ok-place.came.parts c.in_ok-place.ensures.new c.in_ok-place.ensures.parts
     (size_of c.args.g.now g.logs) c.in_ok-place.came.octets c.in_ok-place.ensures.octets in
-    let most = few_octets c.args.g.now g.logs c.requires.1.1.1.1.1.0.are c.gain_phase.new.member gains.truly in
-    let few = c.requires.1.1.1.1.1.0.few in
+    let most = few_octets c.args.g.now g.logs c.requires.1.1.1.1.logs.are c.gain_phase.new.member gains.truly in
+    let few = c.requires.1.1.1.1.logs.few in
     let before = c.phases.invariant.octets in
     omega (arith, count, most, few, before)
 
 pub returns-in_default-clause-left : goal.returns-in_default-clause-left
 returns-in_default-clause-left g c =
-    went_left c.args.g.now g.logs c.args.link.now.others.now c.requires.1.1.1.1.1.0.are c.requires.1.1.1.1.1.1.0
+    went_left c.args.g.now g.logs c.args.link.now.others.now c.requires.1.1.1.1.logs.are c.requires.1.1.1.1.others
     c.phases.after c.phases.kept.parts c.args.member.now c.phases.member c.phases.invariant.so_far
     c.gain_phase.new.member c.in_ok-place.came.parts c.in_ok-place.ensures.new c.in_ok-place.ensures.parts
     c.in_ok-place.place c.in_default.is c.in_ok-place.ensures.place
 
 pub phases-smaller : goal.phases-smaller
 phases-smaller g c =
-    went_smaller c.args.g.now g.logs c.args.link.now.others.now c.requires.1.1.1.1.1.0.are c.requires.1.1.1.1.1.1.0
+    went_smaller c.args.g.now g.logs c.args.link.now.others.now c.requires.1.1.1.1.logs.are c.requires.1.1.1.1.others
     c.phases.after c.phases.kept.parts c.args.member.now c.phases.member c.phases.invariant.so_far
     c.gain_phase.new.member c.in_ok-place.came.parts c.in_ok-place.ensures.new c.in_ok-place.ensures.parts
     c.in-Some.last c.in_ok-place.place c.in-Some.is c.in_ok-place.ensures.place
 
 pub phases-preserved : goal.phases-preserved
 phases-preserved g c = record {
-  so_far = went_on c.args.g.now g.logs c.args.link.now.others.now c.requires.1.1.1.1.1.0.are c.requires.1.1.1.1.1.1.0
+  so_far = went_on c.args.g.now g.logs c.args.link.now.others.now c.requires.1.1.1.1.logs.are c.requires.1.1.1.1.others
       c.phases.after c.phases.kept.parts c.args.member.now c.phases.member c.phases.invariant.so_far
       c.gain_phase.new.member c.in_ok-place.came.parts c.in_ok-place.ensures.new c.in_ok-place.ensures.parts
       c.in-Some.last c.in_ok-place.place c.in-Some.is c.in_ok-place.ensures.place;
   octets =
-      counts_both c.args.g.now g.logs c.args.link.now.others.now c.requires.1.1.1.1.1.0.are c.requires.1.1.1.1.1.1.0
+      counts_both c.args.g.now g.logs c.args.link.now.others.now c.requires.1.1.1.1.logs.are c.requires.1.1.1.1.others
       (size_of c.args.g.now g.logs) c.phases.kept.octets c.in_ok-place.came.octets c.args.member.now c.phases.member
       c.gain_phase.new.member c.phases.invariant.octets
-      (went_counts c.args.g.now g.logs c.args.link.now.others.now c.requires.1.1.1.1.1.0.are c.requires.1.1.1.1.1.1.0
+      (went_counts c.args.g.now g.logs c.args.link.now.others.now c.requires.1.1.1.1.logs.are c.requires.1.1.1.1.others
       c.phases.after c.phases.kept.parts c.args.member.now c.phases.member c.phases.invariant.so_far
       c.gain_phase.new.member c.in_ok-place.came.parts c.in_ok-place.ensures.new c.in_ok-place.ensures.parts
       (size_of c.args.g.now g.logs) c.in_ok-place.came.octets c.in_ok-place.ensures.octets);

@@ -11,23 +11,16 @@ gain_round-requires g c κs within = (
       c.requires.1.1.0,
       (
         c.requires.1.1.1.0,
-        (
-          c.requires.1.1.1.1.0,
-          (
-            c.requires.1.1.1.1.1.0,
-            (
-              c.requires.1.1.1.1.1.1.0,
-              (
-                c.requires.1.1.1.1.1.1.1.0,
-                (
-                  c.rounds.invariant.gains.truly,
-                  tried_still c.args.g.now g.logs c.args.link.now.others.now c.args.member.now c.rounds.member
-                      c.rounds.invariant.gains c.requires.1.1.1.1.1.1.1.1.1,
-                ),
-              ),
-            ),
-          ),
-        ),
+        record {
+          workers = c.requires.1.1.1.1.workers;
+          logs = c.requires.1.1.1.1.logs;
+          others = c.requires.1.1.1.1.others;
+          loss = c.requires.1.1.1.1.loss;
+          truly = c.rounds.invariant.gains.truly;
+          tried =
+              tried_still c.args.g.now g.logs c.args.link.now.others.now c.args.member.now c.rounds.member c.rounds.invariant.gains
+              c.requires.1.1.1.1.tried;
+        },
       ),
     ),
   ),
@@ -36,8 +29,8 @@ gain_round-requires g c κs within = (
 pub overflow_add-kept : goal.overflow_add-kept
 overflow_add-kept g c =
     let most =
-    few_held c.args.g.now g.logs c.requires.1.1.1.1.1.0.are c.gain_round.new.member c.gain_round.ensures.gains.truly in
-    let few = c.requires.1.1.1.1.1.0.few in
+    few_held c.args.g.now g.logs c.requires.1.1.1.1.logs.are c.gain_round.new.member c.gain_round.ensures.gains.truly in
+    let few = c.requires.1.1.1.1.logs.few in
     let one = c.in_ok-came.ensures.parts in
     let before = c.rounds.invariant.parts in
     omega (arith, most, few, one, before)
@@ -45,9 +38,9 @@ overflow_add-kept g c =
 pub overflow_add-kept-in-rounds : goal.overflow_add-kept-in-rounds
 overflow_add-kept-in-rounds g c =
     let most =
-    few_octets c.args.g.now g.logs c.requires.1.1.1.1.1.0.are c.gain_round.new.member
+    few_octets c.args.g.now g.logs c.requires.1.1.1.1.logs.are c.gain_round.new.member
     c.gain_round.ensures.gains.truly in
-    let few = c.requires.1.1.1.1.1.0.few in
+    let few = c.requires.1.1.1.1.logs.few in
     let one = c.in_ok-came.ensures.octets in
     let before = c.rounds.invariant.octets in
     omega (arith, most, few, one, before)
@@ -55,6 +48,6 @@ overflow_add-kept-in-rounds g c =
 pub rounds-smaller : goal.rounds-smaller
 rounds-smaller g c =
     let most =
-    few_held c.args.g.now g.logs c.requires.1.1.1.1.1.0.are c.gain_round.new.member c.gain_round.ensures.gains.truly in
+    few_held c.args.g.now g.logs c.requires.1.1.1.1.logs.are c.gain_round.new.member c.gain_round.ensures.gains.truly in
     let one = c.in_ok-came.ensures.parts in
     omega (arith, most, one, c.if-came-eq0.false)

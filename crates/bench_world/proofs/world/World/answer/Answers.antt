@@ -1,4 +1,4 @@
-use Rattle.std.proofs.Common.{◌≡◌, ◌<◌, ◌+◌, None, length, sym, ap, ◌∙◌, subst}
+use Rattle.std.proofs.Common.{rules, ◌≡◌, ◌<◌, ◌+◌, None, length, sym, ap, ◌∙◌, subst}
 use Rattle.group_model.specs.Events.{Event}
 use Rattle.group_model.specs.World.{Tally}
 use Rattle.group_model.specs.Refusals.{refusal}
@@ -13,17 +13,27 @@ use Rattle.bench_world.proofs.Answered.{answer_refusal, answer_taken, answer_pas
 use Rattle.bench_world.proofs.Answered.{fault_by}
 use Rattle.bench_world.proofs.world.World.answer.Goals as goal
 
-pub returns-in-Err-clause-refused : goal.returns-in-Err-clause-refused
-returns-in-Err-clause-refused c =
+pub returns-in-Err : goal.returns-in-Err
+returns-in-Err c =
     let s = world_state c.self.inside in
     let there = subst (λ (x : GroupState). c.args.m < length x.members) (sym c.self.view_is) c.requires.there in
-    subst (λ (x : GroupState).
-    IsFaultOf (refusal (keyed x.keys) (world_of x) (Event.Answer c.args.m c.args.f c.args.q)) c.in-Err.fault)
-    c.self.view_is
-    (subst (λ r. IsFaultOf r c.in-Err.fault) (answer_refusal s c.self.invariant c.args.m there c.args.f c.args.q)
-    (fault_by s.keys (logs_around s.members) (claim_in s.members c.args.m c.args.f)
-    (came_in s.keys (logs_around s.members) s.members c.args.q (claim_in s.members c.args.m c.args.f)) c.in-Err.fault
-    c.in-Err.ensures.refused))
+    record {
+      taken = tt;
+      world = tt;
+      told = tt;
+      joined = tt;
+      steps = tt;
+      keys = search rules;
+      refused =
+          subst (λ (x : GroupState).
+          IsFaultOf (refusal (keyed x.keys) (world_of x) (Event.Answer c.args.m c.args.f c.args.q)) c.in-Err.fault)
+          c.self.view_is
+          (subst (λ r. IsFaultOf r c.in-Err.fault) (answer_refusal s c.self.invariant c.args.m there c.args.f c.args.q)
+          (fault_by s.keys (logs_around s.members) (claim_in s.members c.args.m c.args.f)
+          (came_in s.keys (logs_around s.members) s.members c.args.q (claim_in s.members c.args.m c.args.f)) c.in-Err.fault
+          c.in-Err.ensures.refused));
+      err = search rules;
+    }
 
 pub invariant_of-self-2 : goal.invariant_of-self-2
 invariant_of-self-2 c =
@@ -40,37 +50,37 @@ invariant_of-self-2 c =
     c.ask.new.members.items c.in-Ok.ensures.members
     (subst (λ (x : GroupState). x.steps < 100000) (sym c.self.view_is) c.requires.few))
 
-pub returns-clause-taken : goal.returns-clause-taken
-returns-clause-taken c =
-    let s = world_state c.self.inside in
-    let there = subst (λ (x : GroupState). c.args.m < length x.members) (sym c.self.view_is) c.requires.there in
-    subst (λ (x : GroupState). refusal (keyed x.keys) (world_of x) (Event.Answer c.args.m c.args.f c.args.q) ≡ None)
-    c.self.view_is
-    (answer_taken s c.self.invariant c.args.m there c.args.f c.args.q c.in-Ok.kept c.in-Ok.ensures.kept)
-
-pub returns-clause-world : goal.returns-clause-world
-returns-clause-world c =
+pub returns : goal.returns
+returns c =
     let s = world_state c.self.inside in
     let there = subst (λ (x : GroupState). c.args.m < length x.members) (sym c.self.view_is) c.requires.there in
     let one = c.parts_of.ensures in
-    ap (λ (t : Tally). world_of (record s { members = c.ask.new.members.items; tally = t; steps = s.steps + 1 }))
-    (λ i. record s.tally {
-      attempts = s.tally.attempts + 1;
-      parts = s.tally.parts + one i;
-      octets = s.tally.octets + c.unwrap_or.ensures i;
-    })
-    ∙ answer_world s c.self.invariant c.args.m there c.args.f c.args.q c.in-Ok.kept c.in-Ok.ensures.kept
-    c.ask.new.members.items c.in-Ok.ensures.members
-    ∙ ap (λ (x : GroupState). after_event (keyed x.keys) (world_of x) (Event.Answer c.args.m c.args.f c.args.q))
-    c.self.view_is
-
-pub returns-clause-told : goal.returns-clause-told
-returns-clause-told c =
-    let s = world_state c.self.inside in
-    let there = subst (λ (x : GroupState). c.args.m < length x.members) (sym c.self.view_is) c.requires.there in
-    c.answered.ensures ∙ (λ i. answer_told c.args.m (c.from.ensures i) (c.is_some.ensures i))
-    ∙ ap (answer_told c.args.m c.args.f)
-    (answer_passes s c.self.invariant c.args.m there c.args.f c.args.q c.in-Ok.kept c.in-Ok.ensures.kept)
-    ∙ ap (λ (x : GroupState). answer_told c.args.m c.args.f
-    (passes_checks (came_from (keyed x.keys) (world_of x) c.args.q (claim_at (world_of x) c.args.m c.args.f))))
-    c.self.view_is
+    record {
+      taken =
+          subst (λ (x : GroupState). refusal (keyed x.keys) (world_of x) (Event.Answer c.args.m c.args.f c.args.q) ≡ None)
+          c.self.view_is
+          (answer_taken s c.self.invariant c.args.m there c.args.f c.args.q c.in-Ok.kept c.in-Ok.ensures.kept);
+      world =
+          ap (λ (t : Tally). world_of (record s { members = c.ask.new.members.items; tally = t; steps = s.steps + 1 }))
+          (λ i. record s.tally {
+            attempts = s.tally.attempts + 1;
+            parts = s.tally.parts + one i;
+            octets = s.tally.octets + c.unwrap_or.ensures i;
+          })
+          ∙ answer_world s c.self.invariant c.args.m there c.args.f c.args.q c.in-Ok.kept c.in-Ok.ensures.kept
+          c.ask.new.members.items c.in-Ok.ensures.members
+          ∙ ap (λ (x : GroupState). after_event (keyed x.keys) (world_of x) (Event.Answer c.args.m c.args.f c.args.q))
+          c.self.view_is;
+      told =
+          c.answered.ensures ∙ (λ i. answer_told c.args.m (c.from.ensures i) (c.is_some.ensures i))
+          ∙ ap (answer_told c.args.m c.args.f)
+          (answer_passes s c.self.invariant c.args.m there c.args.f c.args.q c.in-Ok.kept c.in-Ok.ensures.kept)
+          ∙ ap (λ (x : GroupState). answer_told c.args.m c.args.f
+          (passes_checks (came_from (keyed x.keys) (world_of x) c.args.q (claim_at (world_of x) c.args.m c.args.f))))
+          c.self.view_is;
+      joined = tt;
+      steps = ap (λ (x : GroupState). x.steps + 1) c.self.view_is;
+      keys = ap (λ (x : GroupState). x.keys) c.self.view_is;
+      refused = tt;
+      err = tt;
+    }

@@ -1,4 +1,5 @@
-use Rattle.std.proofs.Common.{◌≡◌, ◌<◌, ◌+◌, Option, None, Result, Ok, Err, length, refl, sym, ap, ◌∙◌, subst}
+use Rattle.std.proofs.Common.{rules, arith, ◌≡◌, ◌<◌, ◌+◌, Option, None, Result, Ok, Err, length, refl, sym, ap, ◌∙◌, subst}
+use Rattle.std.proofs.lemmas.Grind.{common_steps}
 use Rattle.group_model.specs.Events.{Event}
 use Rattle.group_model.specs.Refusals.{Refusal, refusal}
 use Rattle.group_model.specs.Steps.{after_event, block_at, next_seq_at, next_sync}
@@ -20,8 +21,8 @@ block-requires-clause-draws g c =
     let there = subst (λ (x : GroupState). c.args.m < length x.members) (sym c.self.view_is) c.requires.there in
     few_draws s c.self.invariant c.args.m there c.index_mut-member.result.now c.index_mut-member.ensures.value
 
-pub returns-in-Err-NumbersSpent-clause-refused : goal.returns-in-Err-NumbersSpent-clause-refused
-returns-in-Err-NumbersSpent-clause-refused g c =
+pub returns-in-Err-NumbersSpent : goal.returns-in-Err-NumbersSpent
+returns-in-Err-NumbersSpent g c =
     let s = world_state c.self.inside in
     let there = subst (λ (x : GroupState). c.args.m < length x.members) (sym c.self.view_is) c.requires.there in
     let event = Event.Block c.args.m c.args.process c.args.index c.args.content.now in
@@ -31,9 +32,19 @@ returns-in-Err-NumbersSpent-clause-refused g c =
     block_refused s c.self.invariant c.args.m there c.index_mut-member.result.now c.index_mut-member.ensures.value
     c.args.process c.args.index c.args.content.now (g.D.Draws.draw c.args.draws.now) r c.in-Err-NumbersSpent.field-0-0
     is_err c.in-Err-NumbersSpent.ensures.spent in
-    subst (λ (x : GroupState).
-    IsFaultOf (refusal (drawing (g.D.Draws.draw c.args.draws.now)) (world_of x) event) (fault.Refused 8)) c.self.view_is
-    (subst (λ (o : Option Refusal). IsFaultOf o (fault.Refused 8)) (sym spent) refl)
+    record {
+      taken = tt;
+      world = tt;
+      told = tt;
+      joined = tt;
+      steps = tt;
+      keys = search rules;
+      refused =
+          subst (λ (x : GroupState).
+          IsFaultOf (refusal (drawing (g.D.Draws.draw c.args.draws.now)) (world_of x) event) (fault.Refused 8)) c.self.view_is
+          (subst (λ (o : Option Refusal). IsFaultOf o (fault.Refused 8)) (sym spent) refl);
+      err = grind (arith, common_steps);
+    }
 
 pub invariant_of-self-2 : goal.invariant_of-self-2
 invariant_of-self-2 g c =
@@ -55,8 +66,8 @@ invariant_of-self-2 g c =
     c.send_blocked-happened.ensures.sent in
     after.state
 
-pub returns-clause-taken : goal.returns-clause-taken
-returns-clause-taken g c =
+pub returns : goal.returns
+returns g c =
     let s = world_state c.self.inside in
     let there = subst (λ (x : GroupState). c.args.m < length x.members) (sym c.self.view_is) c.requires.there in
     let old = c.index_mut-member.result.now in
@@ -65,20 +76,6 @@ returns-clause-taken g c =
     finds_number s c.self.invariant c.args.m there old c.index_mut-member.ensures.value c.args.process c.args.index
     c.args.content.now r c.in-Ok.blocked refl c.in-Ok.ensures.spent in
     let event = Event.Block c.args.m c.args.process c.args.index c.args.content.now in
-    subst (λ (x : GroupState). refusal (drawing (g.D.Draws.draw c.args.draws.now)) (world_of x) event ≡ None)
-    c.self.view_is
-    (block_taken s c.self.invariant c.args.m there old c.index_mut-member.ensures.value c.args.process c.args.index
-    c.args.content.now room (g.D.Draws.draw c.args.draws.now))
-
-pub returns-clause-world : goal.returns-clause-world
-returns-clause-world g c =
-    let s = world_state c.self.inside in
-    let there = subst (λ (x : GroupState). c.args.m < length x.members) (sym c.self.view_is) c.requires.there in
-    let old = c.index_mut-member.result.now in
-    let r : Result Blocked PublishRefusal = Ok c.in-Ok.blocked in
-    let room =
-    finds_number s c.self.invariant c.args.m there old c.index_mut-member.ensures.value c.args.process c.args.index
-    c.args.content.now r c.in-Ok.blocked refl c.in-Ok.ensures.spent in
     let few = subst (λ (x : GroupState). x.steps < 100000) (sym c.self.view_is) c.requires.few in
     let after =
     after_so s c.self.invariant c.args.m there old c.index_mut-member.ensures.value c.args.process c.args.index
@@ -88,23 +85,26 @@ returns-clause-world g c =
     c.send_blocked-happened.new.sent.packets c.reserve.new.self.packets c.in_ok-vector.vector.items
     (ap (λ x. x.packets) c.in_ok-reserve.ensures.ok) (c.in_ok-vector.ensures ∙ c.vector.ensures.known)
     c.send_blocked-happened.ensures.sent in
-    let event = Event.Block c.args.m c.args.process c.args.index c.args.content.now in
-    after.world
-    ∙ ap (λ (x : GroupState). after_event (drawing (g.D.Draws.draw c.args.draws.now)) (world_of x) event) c.self.view_is
-
-pub returns-clause-told : goal.returns-clause-told
-returns-clause-told g c =
-    let s = world_state c.self.inside in
-    let there = subst (λ (x : GroupState). c.args.m < length x.members) (sym c.self.view_is) c.requires.there in
-    let old = c.index_mut-member.result.now in
-    let r : Result Blocked PublishRefusal = Ok c.in-Ok.blocked in
-    let room =
-    finds_number s c.self.invariant c.args.m there old c.index_mut-member.ensures.value c.args.process c.args.index
-    c.args.content.now r c.in-Ok.blocked refl c.in-Ok.ensures.spent in
-    told_so s c.self.invariant c.args.m there old c.index_mut-member.ensures.value c.args.process c.args.index
-    c.args.content.now room c.block.new.self (g.D.Draws.draw c.args.draws.now) c.draw-draw.result
-    (c.draw-draw.ensures ∙ ap (g.D.Draws.draw c.args.draws.now c.args.m) c.next_draw.ensures) c.in-Ok.ensures.ok
-    c.in-Ok.blocked c.in-Ok.ensures.told _ (length c.reserve.new.self.packets + 1) c.send_blocked-happened.ensures.told
-    (ap (λ x. length x.packets + 1) c.in_ok-reserve.ensures.ok)
-    ∙ ap (λ (x : GroupState). block_told c.args.m (next_seq_at (world_of x) c.args.m) (next_sync (world_of x))
-    (block_at (world_of x) c.args.m c.args.process c.args.index c.args.content.now)) c.self.view_is
+    record {
+      taken =
+          subst (λ (x : GroupState). refusal (drawing (g.D.Draws.draw c.args.draws.now)) (world_of x) event ≡ None)
+          c.self.view_is
+          (block_taken s c.self.invariant c.args.m there old c.index_mut-member.ensures.value c.args.process c.args.index
+          c.args.content.now room (g.D.Draws.draw c.args.draws.now));
+      world =
+          after.world
+          ∙ ap (λ (x : GroupState). after_event (drawing (g.D.Draws.draw c.args.draws.now)) (world_of x) event) c.self.view_is;
+      told =
+          told_so s c.self.invariant c.args.m there old c.index_mut-member.ensures.value c.args.process c.args.index
+          c.args.content.now room c.block.new.self (g.D.Draws.draw c.args.draws.now) c.draw-draw.result
+          (c.draw-draw.ensures ∙ ap (g.D.Draws.draw c.args.draws.now c.args.m) c.next_draw.ensures) c.in-Ok.ensures.ok
+          c.in-Ok.blocked c.in-Ok.ensures.told _ (length c.reserve.new.self.packets + 1) c.send_blocked-happened.ensures.told
+          (ap (λ x. length x.packets + 1) c.in_ok-reserve.ensures.ok)
+          ∙ ap (λ (x : GroupState). block_told c.args.m (next_seq_at (world_of x) c.args.m) (next_sync (world_of x))
+          (block_at (world_of x) c.args.m c.args.process c.args.index c.args.content.now)) c.self.view_is;
+      joined = tt;
+      steps = ap (λ (x : GroupState). x.steps + 1) c.self.view_is;
+      keys = ap (λ (x : GroupState). x.keys) c.self.view_is;
+      refused = tt;
+      err = tt;
+    }

@@ -1,9 +1,10 @@
-use Rattle.std.proofs.Common.{◌<◌, length, refl, sym, ap, ◌∙◌, subst}
-use Rattle.group_model.specs.Steps.{to_claim, after_claiming}
+use Rattle.std.proofs.Common.{◌≡◌, ◌<◌, ◌+◌, None, length, refl, sym, ap, ◌∙◌, subst}
+use Rattle.group_model.specs.Refusals.{if_busy}
+use Rattle.group_model.specs.Steps.{claim_at, to_claim, after_claiming}
 use Rattle.bench_world.specs.EventValues.{claim_told}
 use Rattle.bench_world.specs.Worlds.{GroupState, world_of}
 use Rattle.bench_world.specs.Kept.{world_state}
-use Rattle.bench_world.proofs.Claims.{to_claim_is, claimed_state, claimed_world}
+use Rattle.bench_world.proofs.Claims.{claim_is, to_claim_is, claimed_state, claimed_world}
 use Rattle.bench_world.proofs.world.World.claim.Goals as goal
 
 pub invariant_of-self-2 : goal.invariant_of-self-2
@@ -14,23 +15,32 @@ invariant_of-self-2 c =
     c.args.f c.in-Ok.claim c.in-Ok.ensures.part c.claim.new.self c.in-Ok.ensures.new (c.in-Ok.ensures.idle.0 refl)
     (subst (λ (x : GroupState). x.steps < 100000) (sym c.self.view_is) c.requires.few)
 
-pub returns-clause-world : goal.returns-clause-world
-returns-clause-world c =
+pub returns : goal.returns
+returns c =
     let s = world_state c.self.inside in
     let there = subst (λ (x : GroupState). c.args.m < length x.members) (sym c.self.view_is) c.requires.there in
-    claimed_world s c.self.invariant c.args.m there c.index_mut-member.result.now c.index_mut-member.ensures.value
-    c.args.f c.in-Ok.claim c.in-Ok.ensures.part c.claim.new.self c.in-Ok.ensures.new (c.in-Ok.ensures.idle.0 refl)
-    ∙ ap (λ (x : GroupState). after_claiming (world_of x) c.args.m c.args.f (to_claim (world_of x) c.args.m))
-    c.self.view_is
-
-pub returns-clause-told : goal.returns-clause-told
-returns-clause-told c =
-    let s = world_state c.self.inside in
-    let there = subst (λ (x : GroupState). c.args.m < length x.members) (sym c.self.view_is) c.requires.there in
-    c.claimed.ensures
-    ∙ ap (λ k. claim_told c.args.m k c.in-Ok.claim) c.from.ensures
-    ∙ ap (claim_told c.args.m c.args.f)
-    (c.in-Ok.ensures.part
-    ∙ sym
-    (to_claim_is s c.self.invariant c.args.m there c.index_mut-member.result.now c.index_mut-member.ensures.value))
-    ∙ ap (λ (x : GroupState). claim_told c.args.m c.args.f (to_claim (world_of x) c.args.m)) c.self.view_is
+    record {
+      taken =
+          subst (λ (x : GroupState). if_busy (claim_at (world_of x) c.args.m c.args.f) ≡ None) c.self.view_is
+          (ap if_busy
+          (claim_is s c.self.invariant c.args.m there c.index_mut-member.result.now c.index_mut-member.ensures.value c.args.f
+          ∙ c.in-Ok.ensures.idle.0 refl));
+      world =
+          claimed_world s c.self.invariant c.args.m there c.index_mut-member.result.now c.index_mut-member.ensures.value
+          c.args.f c.in-Ok.claim c.in-Ok.ensures.part c.claim.new.self c.in-Ok.ensures.new (c.in-Ok.ensures.idle.0 refl)
+          ∙ ap (λ (x : GroupState). after_claiming (world_of x) c.args.m c.args.f (to_claim (world_of x) c.args.m))
+          c.self.view_is;
+      told =
+          c.claimed.ensures
+          ∙ ap (λ k. claim_told c.args.m k c.in-Ok.claim) c.from.ensures
+          ∙ ap (claim_told c.args.m c.args.f)
+          (c.in-Ok.ensures.part
+          ∙ sym
+          (to_claim_is s c.self.invariant c.args.m there c.index_mut-member.result.now c.index_mut-member.ensures.value))
+          ∙ ap (λ (x : GroupState). claim_told c.args.m c.args.f (to_claim (world_of x) c.args.m)) c.self.view_is;
+      joined = tt;
+      steps = ap (λ (x : GroupState). x.steps + 1) c.self.view_is;
+      keys = ap (λ (x : GroupState). x.keys) c.self.view_is;
+      refused = tt;
+      err = tt;
+    }

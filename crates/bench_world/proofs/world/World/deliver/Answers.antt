@@ -1,4 +1,5 @@
-use Rattle.std.proofs.Common.{◌≡◌, ◌<◌, length, None, sym, ap, ◌∙◌, subst}
+use Rattle.std.proofs.Common.{◌≡◌, ◌<◌, length, None, sym, ap, ◌∙◌, subst, ◌+◌}
+use Rattle.bench_net.specs.SentList.{SentPacket}
 use Rattle.group_model.specs.Member.{Member}
 use Rattle.group_model.specs.World.{World, sent_at, member}
 use Rattle.group_model.specs.Refusals.{unless_sent}
@@ -8,69 +9,95 @@ use Rattle.bench_world.specs.EventValues.{delivered_told}
 use Rattle.bench_world.specs.Worlds.{GroupState, world_of, drawing}
 use Rattle.bench_world.specs.Kept.{world_state}
 use Rattle.bench_world.proofs.States.{few_draws, member_set}
-use Rattle.bench_world.proofs.Deliveries.{there, not_refused, heard_is, heard_state, heard_world}
+use Rattle.bench_world.proofs.Deliveries.{there, not_refused, few_numbers, fits, not_refused_by, heard_is, heard_state}
+use Rattle.bench_world.proofs.Deliveries.{heard_world}
 use Rattle.bench_world.proofs.world.World.deliver.Goals as goal
 
-pub hear-requires-clause-few : goal.hear-requires-clause-few
-hear-requires-clause-few g c =
+pub hear_vector-requires-clause-few : goal.hear_vector-requires-clause-few
+hear_vector-requires-clause-few g c =
     let s = world_state c.self.inside in
     let inside = subst (λ (x : GroupState). c.args.m < length x.members) (sym c.self.view_is) c.requires.there in
     few_draws s c.self.invariant c.args.m inside c.index_mut-member.result.now c.index_mut-member.ensures.value
 
-pub invariant_of-self-2 : goal.invariant_of-self-2
-invariant_of-self-2 g c =
+pub invariant_of-self : goal.invariant_of-self
+invariant_of-self g c =
     let s = world_state c.self.inside in
     let inside = subst (λ (x : GroupState). c.args.m < length x.members) (sym c.self.view_is) c.requires.there in
-    let at = there s.sent c.args.k c.in-Some.octets.now c.in-Some.ensures in
+    let at = there (λ (p : SentPacket). p.vector) s.sent c.args.k c.in-Some.numbers.now c.in-Some.ensures in
     let old = c.index_mut-member.result.now in
     let e =
-    heard_is s c.self.invariant c.args.k at.first at.last c.args.m inside old c.hear.new.self
-    c.index_mut-member.ensures.value c.in-Some.octets.now s.moment c.draw-draw.result at.octets c.in-Ok.ensures.ok in
-    heard_state s c.self.invariant c.args.k at.first at.last c.args.m inside old c.hear.new.self
+    heard_is s c.self.invariant c.args.k at.first at.last c.args.m inside old c.hear_vector.new.self
+    c.index_mut-member.ensures.value c.in_ok-told.told s.moment c.draw-draw.result (c.in_ok-told.ensures ∙ at.same)
+    c.in-Ok.ensures.ok in
+    heard_state s c.self.invariant c.args.k at.first at.last c.args.m inside old c.hear_vector.new.self
     c.index_mut-member.ensures.value (g.D.Draws.draw c.args.draws.now) c.draw-draw.result e
     (c.draw-draw.ensures ∙ ap (g.D.Draws.draw c.args.draws.now c.args.m) c.next_draw.ensures)
     (subst (λ (x : GroupState). x.steps < 100000) (sym c.self.view_is) c.requires.few)
 
-pub returns-clause-taken : goal.returns-clause-taken
-returns-clause-taken g c =
+pub returns : goal.returns
+returns g c =
     let s = world_state c.self.inside in
-    let at = there s.sent c.args.k c.in-Some.octets.now c.in-Some.ensures in
-    subst (λ (x : GroupState). unless_sent (world_of x) c.args.k ≡ None) c.self.view_is
-    (not_refused s c.args.k at.first at.last)
-
-pub returns-clause-world : goal.returns-clause-world
-returns-clause-world g c =
-    let s = world_state c.self.inside in
+    let at = there (λ (p : SentPacket). p.vector) s.sent c.args.k c.in-Some.numbers.now c.in-Some.ensures in
     let inside = subst (λ (x : GroupState). c.args.m < length x.members) (sym c.self.view_is) c.requires.there in
-    let at = there s.sent c.args.k c.in-Some.octets.now c.in-Some.ensures in
     let old = c.index_mut-member.result.now in
     let e =
-    heard_is s c.self.invariant c.args.k at.first at.last c.args.m inside old c.hear.new.self
-    c.index_mut-member.ensures.value c.in-Some.octets.now s.moment c.draw-draw.result at.octets c.in-Ok.ensures.ok in
-    heard_world s c.self.invariant c.args.k at.first at.last c.args.m inside old c.hear.new.self
-    c.index_mut-member.ensures.value (g.D.Draws.draw c.args.draws.now) c.draw-draw.result e
-    (c.draw-draw.ensures ∙ ap (g.D.Draws.draw c.args.draws.now c.args.m) c.next_draw.ensures)
-    ∙ ap (λ (x : GroupState). after_deliver (drawing (g.D.Draws.draw c.args.draws.now)) (world_of x) c.args.m
-    (sent_at (world_of x) c.args.k).vector) c.self.view_is
-
-pub returns-clause-told : goal.returns-clause-told
-returns-clause-told g c =
-    let s = world_state c.self.inside in
-    let inside = subst (λ (x : GroupState). c.args.m < length x.members) (sym c.self.view_is) c.requires.there in
-    let at = there s.sent c.args.k c.in-Some.octets.now c.in-Some.ensures in
-    let old = c.index_mut-member.result.now in
-    let e =
-    heard_is s c.self.invariant c.args.k at.first at.last c.args.m inside old c.hear.new.self
-    c.index_mut-member.ensures.value c.in-Some.octets.now s.moment c.draw-draw.result at.octets c.in-Ok.ensures.ok in
+    heard_is s c.self.invariant c.args.k at.first at.last c.args.m inside old c.hear_vector.new.self
+    c.index_mut-member.ensures.value c.in_ok-told.told s.moment c.draw-draw.result (c.in_ok-told.ensures ∙ at.same)
+    c.in-Ok.ensures.ok in
     let after =
-    heard_world s c.self.invariant c.args.k at.first at.last c.args.m inside old c.hear.new.self
+    heard_world s c.self.invariant c.args.k at.first at.last c.args.m inside old c.hear_vector.new.self
     c.index_mut-member.ensures.value (g.D.Draws.draw c.args.draws.now) c.draw-draw.result e
     (c.draw-draw.ensures ∙ ap (g.D.Draws.draw c.args.draws.now c.args.m) c.next_draw.ensures) in
-    c.delivered.ensures ∙ ap (λ n. delivered_told n c.args.m c.in-Ok.mode) c.from.ensures
-    ∙ ap (delivered_told c.args.k c.args.m)
-    (c.in-Ok.ensures.mode
-    ∙ ap (λ (x : Member). mode_of x.machine.heard) (sym (member_set s.members c.args.m c.hear.new.self inside))
-    ∙ ap (λ (w : World). mode_of (member w c.args.m).machine.heard) after)
-    ∙ ap (λ (x : GroupState). delivered_told c.args.k c.args.m
-    (mode_at (after_deliver (drawing (g.D.Draws.draw c.args.draws.now)) (world_of x) c.args.m
-    (sent_at (world_of x) c.args.k).vector) c.args.m)) c.self.view_is
+    record {
+      taken =
+          subst (λ (x : GroupState). unless_sent (world_of x) c.args.k ≡ None) c.self.view_is
+          (not_refused s c.args.k at.first at.last);
+      world =
+          after ∙ ap (λ (x : GroupState). after_deliver (drawing (g.D.Draws.draw c.args.draws.now)) (world_of x) c.args.m
+          (sent_at (world_of x) c.args.k).vector) c.self.view_is;
+      told =
+          c.delivered.ensures ∙ ap (λ n. delivered_told n c.args.m c.in-Ok.mode) c.from.ensures
+          ∙ ap (delivered_told c.args.k c.args.m)
+          (c.in-Ok.ensures.mode
+          ∙ ap (λ (x : Member). mode_of x.machine.heard) (sym (member_set s.members c.args.m c.hear_vector.new.self inside))
+          ∙ ap (λ (w : World). mode_of (member w c.args.m).machine.heard) after)
+          ∙ ap (λ (x : GroupState). delivered_told c.args.k c.args.m
+          (mode_at (after_deliver (drawing (g.D.Draws.draw c.args.draws.now)) (world_of x) c.args.m
+          (sent_at (world_of x) c.args.k).vector) c.args.m)) c.self.view_is;
+      joined = tt;
+      steps = ap (λ (x : GroupState). x.steps + 1) c.self.view_is;
+      keys = ap (λ (x : GroupState). x.keys) c.self.view_is;
+      refused = tt;
+      err = tt;
+    }
+
+pub vector_of-requires : goal.vector_of-requires
+vector_of-requires g c =
+    let s = world_state c.self.inside in
+    let at = there (λ (p : SentPacket). p.vector) s.sent c.args.k c.in-Some.numbers.now c.in-Some.ensures in
+    few_numbers s c.self.invariant c.args.k at.first at.last c.in-Some.numbers.now at.same
+
+pub hear_vector-requires-clause-width : goal.hear_vector-requires-clause-width
+hear_vector-requires-clause-width g c =
+    let s = world_state c.self.inside in
+    let inside = subst (λ (x : GroupState). c.args.m < length x.members) (sym c.self.view_is) c.requires.there in
+    let at = there (λ (p : SentPacket). p.vector) s.sent c.args.k c.in-Some.numbers.now c.in-Some.ensures in
+    let old = c.index_mut-member.result.now in
+    ap length (c.in_ok-told.ensures ∙ at.same)
+    ∙ fits s c.self.invariant c.args.k at.first at.last c.args.m inside old old c.index_mut-member.ensures.value
+
+pub hear_vector-requires-clause-members : goal.hear_vector-requires-clause-members
+hear_vector-requires-clause-members g c =
+    let s = world_state c.self.inside in
+    let at = there (λ (p : SentPacket). p.vector) s.sent c.args.k c.in-Some.numbers.now c.in-Some.ensures in
+    few_numbers s c.self.invariant c.args.k at.first at.last c.in_ok-told.told (c.in_ok-told.ensures ∙ at.same)
+
+pub unreachable-requires : goal.unreachable-requires
+unreachable-requires g c =
+    let s = world_state c.self.inside in
+    let inside = subst (λ (x : GroupState). c.args.m < length x.members) (sym c.self.view_is) c.requires.there in
+    let at = there (λ (p : SentPacket). p.vector) s.sent c.args.k c.in-Some.numbers.now c.in-Some.ensures in
+    let old = c.index_mut-member.result.now in
+    not_refused_by s c.self.invariant c.args.k at.first at.last c.args.m inside old old
+    c.index_mut-member.ensures.value c.in_ok-told.told (c.in_ok-told.ensures ∙ at.same)
+    c.in_default-hear_vector.field-0 c.in_default-hear_vector.ensures.refused

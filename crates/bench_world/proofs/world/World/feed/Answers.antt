@@ -1,4 +1,4 @@
-use Rattle.std.proofs.Common.{◌≡◌, ◌<◌, ◌+◌, None, length, sym, ap, ◌∙◌, subst}
+use Rattle.std.proofs.Common.{rules, ◌≡◌, ◌<◌, ◌+◌, None, length, sym, ap, ◌∙◌, subst}
 use Rattle.std.specs.Prelude.{Ok}
 use Rattle.group_model.specs.Events.{Event}
 use Rattle.group_model.specs.World.{Tally}
@@ -14,17 +14,27 @@ use Rattle.bench_world.specs.Kept.{world_state}
 use Rattle.bench_world.proofs.Answered.{feed_refusal, feed_taken, feed_is, feed_world, feed_state, fault_by}
 use Rattle.bench_world.proofs.world.World.feed.Goals as goal
 
-pub returns-in-Err-clause-refused : goal.returns-in-Err-clause-refused
-returns-in-Err-clause-refused c =
+pub returns-in-Err : goal.returns-in-Err
+returns-in-Err c =
     let s = world_state c.self.inside in
     let there = subst (λ (x : GroupState). c.args.m < length x.members) (sym c.self.view_is) c.requires.there in
-    subst (λ (x : GroupState). IsFaultOf
-    (refusal (keyed x.keys) (world_of x)
-    (Event.Feed c.args.m c.args.f (λ logs t. octets_as x.keys logs t c.args.octets.now))) c.in-Err.fault) c.self.view_is
-    (subst (λ r. IsFaultOf r c.in-Err.fault) (feed_refusal s c.self.invariant c.args.m there c.args.f c.args.octets.now)
-    (fault_by s.keys (logs_around s.members) (claim_in s.members c.args.m c.args.f)
-    (came_for s.keys (logs_around s.members) c.args.octets.now (claim_in s.members c.args.m c.args.f)) c.in-Err.fault
-    c.in-Err.ensures.refused))
+    record {
+      taken = tt;
+      world = tt;
+      told = tt;
+      joined = tt;
+      steps = tt;
+      keys = search rules;
+      refused =
+          subst (λ (x : GroupState). IsFaultOf
+          (refusal (keyed x.keys) (world_of x)
+          (Event.Feed c.args.m c.args.f (λ logs t. octets_as x.keys logs t c.args.octets.now))) c.in-Err.fault) c.self.view_is
+          (subst (λ r. IsFaultOf r c.in-Err.fault) (feed_refusal s c.self.invariant c.args.m there c.args.f c.args.octets.now)
+          (fault_by s.keys (logs_around s.members) (claim_in s.members c.args.m c.args.f)
+          (came_for s.keys (logs_around s.members) c.args.octets.now (claim_in s.members c.args.m c.args.f)) c.in-Err.fault
+          c.in-Err.ensures.refused));
+      err = search rules;
+    }
 
 pub invariant_of-self-2 : goal.invariant_of-self-2
 invariant_of-self-2 c =
@@ -38,35 +48,35 @@ invariant_of-self-2 c =
     c.in-Ok.ensures.members
     (subst (λ (x : GroupState). x.steps < 100000) (sym c.self.view_is) c.requires.few))
 
-pub returns-clause-taken : goal.returns-clause-taken
-returns-clause-taken c =
-    let s = world_state c.self.inside in
-    let there = subst (λ (x : GroupState). c.args.m < length x.members) (sym c.self.view_is) c.requires.there in
-    subst (λ (x : GroupState). refusal (keyed x.keys) (world_of x)
-    (Event.Feed c.args.m c.args.f (λ logs t. octets_as x.keys logs t c.args.octets.now))
-    ≡ None) c.self.view_is
-    (feed_taken s c.self.invariant c.args.m there c.args.f c.args.octets.now c.kept_octets-kept.result
-    (c.in-Ok.ensures.kept ∙ ap (λ k. Ok k) (sym c.kept_octets-kept.ensures)))
-
-pub returns-clause-world : goal.returns-clause-world
-returns-clause-world c =
+pub returns : goal.returns
+returns c =
     let s = world_state c.self.inside in
     let there = subst (λ (x : GroupState). c.args.m < length x.members) (sym c.self.view_is) c.requires.there in
     let one = c.parts_of.ensures in
-    ap (λ (t : Tally). world_of (record s { members = c.feed.new.members.items; tally = t; steps = s.steps + 1 }))
-    (λ i. record s.tally { parts = s.tally.parts + one i; octets = s.tally.octets + c.unwrap_or.ensures i })
-    ∙ feed_world s c.self.invariant c.args.m there c.args.f c.args.octets.now c.kept_octets-kept.result
-    (c.in-Ok.ensures.kept ∙ ap (λ k. Ok k) (sym c.kept_octets-kept.ensures)) c.feed.new.members.items
-    c.in-Ok.ensures.members
-    ∙ ap (λ (x : GroupState). after_event (keyed x.keys) (world_of x)
-    (Event.Feed c.args.m c.args.f (λ logs t. octets_as x.keys logs t c.args.octets.now))) c.self.view_is
-
-pub returns-clause-told : goal.returns-clause-told
-returns-clause-told c =
-    let s = world_state c.self.inside in
-    let there = subst (λ (x : GroupState). c.args.m < length x.members) (sym c.self.view_is) c.requires.there in
-    c.fed_happened.ensures ∙ ap (λ n. fed_reply c.args.m n c.in-Ok.fed) c.from.ensures
-    ∙ feed_is s c.self.invariant c.args.m there c.args.f c.args.octets.now c.in-Ok.fed c.in-Ok.ensures.fed
-    ∙ ap (λ (x : GroupState).
-    feed_told x.keys (world_of x) c.args.m c.args.f c.args.octets.now (claim_at (world_of x) c.args.m c.args.f))
-    c.self.view_is
+    record {
+      taken =
+          subst (λ (x : GroupState). refusal (keyed x.keys) (world_of x)
+          (Event.Feed c.args.m c.args.f (λ logs t. octets_as x.keys logs t c.args.octets.now))
+          ≡ None) c.self.view_is
+          (feed_taken s c.self.invariant c.args.m there c.args.f c.args.octets.now c.kept_octets-kept.result
+          (c.in-Ok.ensures.kept ∙ ap (λ k. Ok k) (sym c.kept_octets-kept.ensures)));
+      world =
+          ap (λ (t : Tally). world_of (record s { members = c.feed.new.members.items; tally = t; steps = s.steps + 1 }))
+          (λ i. record s.tally { parts = s.tally.parts + one i; octets = s.tally.octets + c.unwrap_or.ensures i })
+          ∙ feed_world s c.self.invariant c.args.m there c.args.f c.args.octets.now c.kept_octets-kept.result
+          (c.in-Ok.ensures.kept ∙ ap (λ k. Ok k) (sym c.kept_octets-kept.ensures)) c.feed.new.members.items
+          c.in-Ok.ensures.members
+          ∙ ap (λ (x : GroupState). after_event (keyed x.keys) (world_of x)
+          (Event.Feed c.args.m c.args.f (λ logs t. octets_as x.keys logs t c.args.octets.now))) c.self.view_is;
+      told =
+          c.fed_happened.ensures ∙ ap (λ n. fed_reply c.args.m n c.in-Ok.fed) c.from.ensures
+          ∙ feed_is s c.self.invariant c.args.m there c.args.f c.args.octets.now c.in-Ok.fed c.in-Ok.ensures.fed
+          ∙ ap (λ (x : GroupState).
+          feed_told x.keys (world_of x) c.args.m c.args.f c.args.octets.now (claim_at (world_of x) c.args.m c.args.f))
+          c.self.view_is;
+      joined = tt;
+      steps = ap (λ (x : GroupState). x.steps + 1) c.self.view_is;
+      keys = ap (λ (x : GroupState). x.keys) c.self.view_is;
+      refused = tt;
+      err = tt;
+    }

@@ -1,4 +1,4 @@
-use Rattle.std.proofs.Common.{◌<◌, length, refl, sym, ap, ◌∙◌, subst, arith}
+use Rattle.std.proofs.Common.{◌<◌, length, refl, sym, ap, ◌∙◌, subst, arith, ◌+◌}
 use Rattle.group_model.specs.Steps.{planned_parts, fetched_parts, attempts_made, after_fetch}
 use Rattle.bench_world.specs.Serving.{outside}
 use Rattle.bench_world.specs.EventValues.{Told}
@@ -19,19 +19,16 @@ fetch_at-fetched-requires g c κs within =
           c.type_bounds.sync-N,
           (
             c.type_bounds.sync-R,
-            (
-              c.requires.workers,
-              (
-                c.requires.tries,
-                (
-                  there,
-                  (
-                    few_logs s c.self.invariant,
-                    (refl, (c.self.invariant.numbers, (c.self.invariant.members, tried_few s c.self.invariant))),
-                  ),
-                ),
-              ),
-            ),
+            record {
+              workers = c.requires.workers;
+              tries = c.requires.tries;
+              there = there;
+              logs = few_logs s c.self.invariant;
+              begun = refl;
+              numbers = c.self.invariant.numbers;
+              truly = c.self.invariant.members;
+              tried = tried_few s c.self.invariant;
+            },
           ),
         ),
       ),
@@ -67,23 +64,30 @@ invariant_of-self-2 g c =
     c.fetch_at-fetched.new.members.items c.in-Ok.ensures.members c.fetch_at-fetched.ensures.len
     c.fetch_at-fetched.ensures.numbers c.fetch_at-fetched.ensures.truly
 
-pub returns-clause-world : goal.returns-clause-world
-returns-clause-world g c =
+pub returns : goal.returns
+returns g c =
     let s = world_state c.self.inside in
     let few = subst (λ (x : GroupState). x.steps < 100000) (sym c.self.view_is) c.requires.few in
-    fetch_world s c.self.invariant few (g.N.Net.passes c.args.net.now) c.args.m c.args.tries c.args.loss
-    c.requires.tries.1 c.in-Ok.counts.attempts c.from.result c.in-Ok.counts.kept.octets
-    c.in-Ok.ensures.attempts (c.from.ensures ∙ c.in-Ok.ensures.parts) c.in-Ok.ensures.octets
-    c.fetch_at-fetched.new.members.items c.in-Ok.ensures.members
-    ∙ ap (λ (x : GroupState). after_fetch (outside x.keys (λ _ _. 0) (g.N.Net.passes c.args.net.now)) (world_of x)
-    c.args.m c.args.tries c.args.loss) c.self.view_is
-
-pub returns-clause-told : goal.returns-clause-told
-returns-clause-told g c =
-    (λ i. Told.Fetch c.args.m (c.in-Ok.ensures.planned i) ((c.from-2.ensures ∙ c.in-Ok.ensures.parts) i)
-    (c.in-Ok.ensures.attempts i))
-    ∙ ap (λ (x : GroupState). Told.Fetch c.args.m (length (planned_parts (world_of x) c.args.m))
-    (length (fetched_parts (outside x.keys (λ _ _. 0) (g.N.Net.passes c.args.net.now)) (world_of x) c.args.m
-    c.args.tries c.args.loss))
-    (attempts_made (outside x.keys (λ _ _. 0) (g.N.Net.passes c.args.net.now)) (world_of x) c.args.m c.args.tries
-    c.args.loss)) c.self.view_is
+    record {
+      taken = refl;
+      world =
+          fetch_world s c.self.invariant few (g.N.Net.passes c.args.net.now) c.args.m c.args.tries c.args.loss
+          c.requires.tries.1 c.in-Ok.counts.attempts c.from.result c.in-Ok.counts.kept.octets
+          c.in-Ok.ensures.attempts (c.from.ensures ∙ c.in-Ok.ensures.parts) c.in-Ok.ensures.octets
+          c.fetch_at-fetched.new.members.items c.in-Ok.ensures.members
+          ∙ ap (λ (x : GroupState). after_fetch (outside x.keys (λ _ _. 0) (g.N.Net.passes c.args.net.now)) (world_of x)
+          c.args.m c.args.tries c.args.loss) c.self.view_is;
+      told =
+          (λ i. Told.Fetch c.args.m (c.in-Ok.ensures.planned i) ((c.from-2.ensures ∙ c.in-Ok.ensures.parts) i)
+          (c.in-Ok.ensures.attempts i))
+          ∙ ap (λ (x : GroupState). Told.Fetch c.args.m (length (planned_parts (world_of x) c.args.m))
+          (length (fetched_parts (outside x.keys (λ _ _. 0) (g.N.Net.passes c.args.net.now)) (world_of x) c.args.m
+          c.args.tries c.args.loss))
+          (attempts_made (outside x.keys (λ _ _. 0) (g.N.Net.passes c.args.net.now)) (world_of x) c.args.m c.args.tries
+          c.args.loss)) c.self.view_is;
+      joined = tt;
+      steps = ap (λ (x : GroupState). x.steps + 1) c.self.view_is;
+      keys = ap (λ (x : GroupState). x.keys) c.self.view_is;
+      refused = tt;
+      err = tt;
+    }

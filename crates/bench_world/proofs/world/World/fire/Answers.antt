@@ -1,4 +1,4 @@
-use Rattle.std.proofs.Common.{◌<◌, ◌+◌, length, sym, ap, ◌∙◌, subst}
+use Rattle.std.proofs.Common.{refl, ◌<◌, ◌+◌, length, sym, ap, ◌∙◌, subst}
 use Rattle.group_model.specs.Steps.{after_fire, timer_at, next_sync}
 use Rattle.bench_world.specs.EventValues.{fired_told}
 use Rattle.bench_world.specs.Worlds.{GroupState, world_of, drawing}
@@ -26,27 +26,32 @@ invariant_of-self-2 g c =
     (ap (λ x. x.packets) c.in_ok-reserve.ensures.ok) (c.in_ok-vector.ensures ∙ c.vector.ensures.known)
     c.send_fired-happened.ensures.sent few
 
-pub returns-clause-world : goal.returns-clause-world
-returns-clause-world g c =
+pub returns : goal.returns
+returns g c =
     let s = world_state c.self.inside in
     let there = subst (λ (x : GroupState). c.args.m < length x.members) (sym c.self.view_is) c.requires.there in
-    fired_world s c.self.invariant c.args.m there c.index_mut-member.result.now c.index_mut-member.ensures.value
-    c.fire.new.self (g.D.Draws.draw c.args.draws.now) c.draw-draw.result
-    (c.draw-draw.ensures ∙ ap (g.D.Draws.draw c.args.draws.now c.args.m) c.next_draw.ensures) c.in-Ok.ensures.ok
-    c.in-Ok.fire c.in-Ok.ensures.fire
-    c.send_fired-happened.new.sent.packets c.reserve.new.self.packets c.in_ok-vector.vector.items
-    (ap (λ x. x.packets) c.in_ok-reserve.ensures.ok) (c.in_ok-vector.ensures ∙ c.vector.ensures.known)
-    c.send_fired-happened.ensures.sent
-    ∙ ap (λ (x : GroupState).
-    after_fire (drawing (g.D.Draws.draw c.args.draws.now)) (world_of x) c.args.m (timer_at (world_of x) c.args.m))
-    c.self.view_is
-
-pub returns-clause-told : goal.returns-clause-told
-returns-clause-told g c =
-    let s = world_state c.self.inside in
-    let there = subst (λ (x : GroupState). c.args.m < length x.members) (sym c.self.view_is) c.requires.there in
-    fires_so s c.self.invariant c.args.m there c.index_mut-member.result.now c.index_mut-member.ensures.value
-    (length c.reserve.new.self.packets + 1) c.in-Ok.fire _ c.in-Ok.ensures.fire c.send_fired-happened.ensures.told
-    (ap (λ x. length x.packets + 1) c.in_ok-reserve.ensures.ok)
-    ∙ ap (λ (x : GroupState). fired_told c.args.m (next_sync (world_of x)) (timer_at (world_of x) c.args.m))
-    c.self.view_is
+    record {
+      taken = refl;
+      world =
+          fired_world s c.self.invariant c.args.m there c.index_mut-member.result.now c.index_mut-member.ensures.value
+          c.fire.new.self (g.D.Draws.draw c.args.draws.now) c.draw-draw.result
+          (c.draw-draw.ensures ∙ ap (g.D.Draws.draw c.args.draws.now c.args.m) c.next_draw.ensures) c.in-Ok.ensures.ok
+          c.in-Ok.fire c.in-Ok.ensures.fire
+          c.send_fired-happened.new.sent.packets c.reserve.new.self.packets c.in_ok-vector.vector.items
+          (ap (λ x. x.packets) c.in_ok-reserve.ensures.ok) (c.in_ok-vector.ensures ∙ c.vector.ensures.known)
+          c.send_fired-happened.ensures.sent
+          ∙ ap (λ (x : GroupState).
+          after_fire (drawing (g.D.Draws.draw c.args.draws.now)) (world_of x) c.args.m (timer_at (world_of x) c.args.m))
+          c.self.view_is;
+      told =
+          fires_so s c.self.invariant c.args.m there c.index_mut-member.result.now c.index_mut-member.ensures.value
+          (length c.reserve.new.self.packets + 1) c.in-Ok.fire _ c.in-Ok.ensures.fire c.send_fired-happened.ensures.told
+          (ap (λ x. length x.packets + 1) c.in_ok-reserve.ensures.ok)
+          ∙ ap (λ (x : GroupState). fired_told c.args.m (next_sync (world_of x)) (timer_at (world_of x) c.args.m))
+          c.self.view_is;
+      joined = tt;
+      steps = ap (λ (x : GroupState). x.steps + 1) c.self.view_is;
+      keys = ap (λ (x : GroupState). x.keys) c.self.view_is;
+      refused = tt;
+      err = tt;
+    }

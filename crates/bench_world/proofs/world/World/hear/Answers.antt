@@ -1,110 +1,90 @@
-use Rattle.std.proofs.Common.{◌≡◌, ◌<◌, length, None, sym, ap, ◌∙◌, subst}
+use Rattle.std.proofs.Common.{rules, arith, ℕ, ◌≡◌, ◌<◌, length, None, sym, ap, ◌∙◌, subst, ◌+◌}
+use Rattle.std.proofs.lemmas.Grind.{common_steps}
 use Rattle.std.proofs.lemmas.List.{get_or_default}
+use Rattle.svs_sync.specs.declared.sync_refusal.SyncRefusal.{SyncRefusal}
 use Rattle.group_model.specs.Refusals.{if_unsent}
 use Rattle.group_model.specs.Steps.{after_hear}
 use Rattle.repo_member.specs.Alone.{Alone}
 use Rattle.repo_member.specs.Verdicts.{group_verdict}
 use Rattle.repo_member.specs.declared.refusals.HearRefusal.TheVariants as hear
-use Rattle.bench_world.specs.EventValues.{Told, hear_told}
+use Rattle.bench_world.specs.EventValues.{Told}
 use Rattle.bench_world.specs.Hearing.{told_sync}
 use Rattle.bench_world.specs.Readings.{read_as}
 use Rattle.bench_world.specs.Steps.{IsFaultOf}
 use Rattle.bench_world.specs.Worlds.{GroupState, nobody, world_of, drawing}
 use Rattle.bench_world.specs.Kept.{world_state}
 use Rattle.bench_world.proofs.States.{few_draws}
-use Rattle.bench_world.proofs.Hearings.{refused_so, foreign_so, sent_taken, heard_world, heard_state, heard_told}
+use Rattle.bench_world.proofs.Hearings.{hears_told, refused_so, foreign_so, sent_taken, heard_world, heard_state, heard_told}
 use Rattle.bench_world.proofs.world.World.hear.Goals as goal
 
-pub returns-in-Err-Sync-clause-taken : goal.returns-in-Err-Sync-clause-taken
-returns-in-Err-Sync-clause-taken g c =
+sync_apart : (refusal : SyncRefusal) → hear.Sync refusal ≡ hear.NoMemory → ⊥
+sync_apart refusal h = cc
+
+ahead_apart : (own told : ℕ) → hear.OwnNumberAhead own told ≡ hear.NoMemory → ⊥
+ahead_apart own told h = cc
+
+pub returns-in-Err-Sync : goal.returns-in-Err-Sync
+returns-in-Err-Sync g c =
     let s = world_state c.self.inside in
     let there = subst (λ (x : GroupState). c.args.m < length x.members) (sym c.self.view_is) c.requires.there in
     let r = group_verdict s.keys c.args.octets.now in
     let all =
     refused_so s c.self.invariant c.args.m there c.index.result.now c.index.ensures r (g.D.Draws.draw c.args.draws.now)
-    c.in-Err-Sync.field-0 c.in-Err-Sync.ensures.refused (λ memory. apart (sym c.in-Err-Sync.field-0-is ∙ memory)) in
-    subst
-    (λ (x : GroupState). if_unsent (world_of x) c.args.m (read_as (group_verdict x.keys c.args.octets.now)) ≡ None)
-    c.self.view_is all.0 where
-      apart : hear.Sync c.in-Err-Sync.refusal ≡ hear.NoMemory → ⊥
-      apart h = cc
+    c.in-Err-Sync.field-0 c.in-Err-Sync.ensures.refused
+    (λ memory. sync_apart c.in-Err-Sync.refusal (sym c.in-Err-Sync.field-0-is ∙ memory)) in
+    record {
+      taken =
+          subst
+          (λ (x : GroupState). if_unsent (world_of x) c.args.m (read_as (group_verdict x.keys c.args.octets.now)) ≡ None)
+          c.self.view_is all.0;
+      world =
+          c.count.ensures.world
+          ∙ subst (λ (x : GroupState). world_of x
+          ≡ after_hear (drawing (g.D.Draws.draw c.args.draws.now)) (world_of x) c.args.m
+          (read_as (group_verdict x.keys c.args.octets.now))) c.self.view_is (sym all.1);
+      told =
+          ap (Told.HearRefused c.args.m) (sym c.in-Err-Sync.field-0-is)
+          ∙ subst (λ (x : GroupState). Told.HearRefused c.args.m c.in-Err-Sync.field-0
+          ≡ hears_told (drawing (g.D.Draws.draw c.args.draws.now)) (world_of x) c.args.m
+          (group_verdict x.keys c.args.octets.now)) c.self.view_is (sym all.2);
+      joined = tt;
+      steps = c.count.ensures.steps;
+      keys = c.count.ensures.keys;
+      refused = tt;
+      err = tt;
+    }
 
-pub returns-in-Err-Sync-clause-world : goal.returns-in-Err-Sync-clause-world
-returns-in-Err-Sync-clause-world g c =
-    let s = world_state c.self.inside in
-    let there = subst (λ (x : GroupState). c.args.m < length x.members) (sym c.self.view_is) c.requires.there in
-    let r = group_verdict s.keys c.args.octets.now in
-    let all =
-    refused_so s c.self.invariant c.args.m there c.index.result.now c.index.ensures r (g.D.Draws.draw c.args.draws.now)
-    c.in-Err-Sync.field-0 c.in-Err-Sync.ensures.refused (λ memory. apart (sym c.in-Err-Sync.field-0-is ∙ memory)) in
-    c.count.ensures.world
-    ∙ subst (λ (x : GroupState). world_of x
-    ≡ after_hear (drawing (g.D.Draws.draw c.args.draws.now)) (world_of x) c.args.m
-    (read_as (group_verdict x.keys c.args.octets.now))) c.self.view_is (sym all.1) where
-      apart : hear.Sync c.in-Err-Sync.refusal ≡ hear.NoMemory → ⊥
-      apart h = cc
-
-pub returns-in-Err-Sync-clause-told : goal.returns-in-Err-Sync-clause-told
-returns-in-Err-Sync-clause-told g c =
-    let s = world_state c.self.inside in
-    let there = subst (λ (x : GroupState). c.args.m < length x.members) (sym c.self.view_is) c.requires.there in
-    let r = group_verdict s.keys c.args.octets.now in
-    let all =
-    refused_so s c.self.invariant c.args.m there c.index.result.now c.index.ensures r (g.D.Draws.draw c.args.draws.now)
-    c.in-Err-Sync.field-0 c.in-Err-Sync.ensures.refused (λ memory. apart (sym c.in-Err-Sync.field-0-is ∙ memory)) in
-    ap (Told.HearRefused c.args.m) (sym c.in-Err-Sync.field-0-is)
-    ∙ subst (λ (x : GroupState). Told.HearRefused c.args.m c.in-Err-Sync.field-0
-    ≡ hear_told (drawing (g.D.Draws.draw c.args.draws.now)) (world_of x) c.args.m
-    (group_verdict x.keys c.args.octets.now)) c.self.view_is (sym all.2) where
-      apart : hear.Sync c.in-Err-Sync.refusal ≡ hear.NoMemory → ⊥
-      apart h = cc
-
-pub returns-in-Err-OwnNumberAhead-clause-taken : goal.returns-in-Err-OwnNumberAhead-clause-taken
-returns-in-Err-OwnNumberAhead-clause-taken g c =
+pub returns-in-Err-OwnNumberAhead : goal.returns-in-Err-OwnNumberAhead
+returns-in-Err-OwnNumberAhead g c =
     let s = world_state c.self.inside in
     let there = subst (λ (x : GroupState). c.args.m < length x.members) (sym c.self.view_is) c.requires.there in
     let r = group_verdict s.keys c.args.octets.now in
     let all =
     refused_so s c.self.invariant c.args.m there c.index.result.now c.index.ensures r (g.D.Draws.draw c.args.draws.now)
     c.in-Err-OwnNumberAhead.field-0 c.in-Err-OwnNumberAhead.ensures.refused
-    (λ memory. apart (sym c.in-Err-OwnNumberAhead.field-0-is ∙ memory)) in
-    subst
-    (λ (x : GroupState). if_unsent (world_of x) c.args.m (read_as (group_verdict x.keys c.args.octets.now)) ≡ None)
-    c.self.view_is all.0 where
-      apart : hear.OwnNumberAhead c.in-Err-OwnNumberAhead.own c.in-Err-OwnNumberAhead.told ≡ hear.NoMemory → ⊥
-      apart h = cc
-
-pub returns-in-Err-OwnNumberAhead-clause-world : goal.returns-in-Err-OwnNumberAhead-clause-world
-returns-in-Err-OwnNumberAhead-clause-world g c =
-    let s = world_state c.self.inside in
-    let there = subst (λ (x : GroupState). c.args.m < length x.members) (sym c.self.view_is) c.requires.there in
-    let r = group_verdict s.keys c.args.octets.now in
-    let all =
-    refused_so s c.self.invariant c.args.m there c.index.result.now c.index.ensures r (g.D.Draws.draw c.args.draws.now)
-    c.in-Err-OwnNumberAhead.field-0 c.in-Err-OwnNumberAhead.ensures.refused
-    (λ memory. apart (sym c.in-Err-OwnNumberAhead.field-0-is ∙ memory)) in
-    c.count-in-Err-OwnNumberAhead.ensures.world
-    ∙ subst (λ (x : GroupState). world_of x
-    ≡ after_hear (drawing (g.D.Draws.draw c.args.draws.now)) (world_of x) c.args.m
-    (read_as (group_verdict x.keys c.args.octets.now))) c.self.view_is (sym all.1) where
-      apart : hear.OwnNumberAhead c.in-Err-OwnNumberAhead.own c.in-Err-OwnNumberAhead.told ≡ hear.NoMemory → ⊥
-      apart h = cc
-
-pub returns-in-Err-OwnNumberAhead-clause-told : goal.returns-in-Err-OwnNumberAhead-clause-told
-returns-in-Err-OwnNumberAhead-clause-told g c =
-    let s = world_state c.self.inside in
-    let there = subst (λ (x : GroupState). c.args.m < length x.members) (sym c.self.view_is) c.requires.there in
-    let r = group_verdict s.keys c.args.octets.now in
-    let all =
-    refused_so s c.self.invariant c.args.m there c.index.result.now c.index.ensures r (g.D.Draws.draw c.args.draws.now)
-    c.in-Err-OwnNumberAhead.field-0 c.in-Err-OwnNumberAhead.ensures.refused
-    (λ memory. apart (sym c.in-Err-OwnNumberAhead.field-0-is ∙ memory)) in
-    ap (Told.HearRefused c.args.m) (sym c.in-Err-OwnNumberAhead.field-0-is)
-    ∙ subst (λ (x : GroupState). Told.HearRefused c.args.m c.in-Err-OwnNumberAhead.field-0
-    ≡ hear_told (drawing (g.D.Draws.draw c.args.draws.now)) (world_of x) c.args.m
-    (group_verdict x.keys c.args.octets.now)) c.self.view_is (sym all.2) where
-      apart : hear.OwnNumberAhead c.in-Err-OwnNumberAhead.own c.in-Err-OwnNumberAhead.told ≡ hear.NoMemory → ⊥
-      apart h = cc
+    (λ memory. ahead_apart c.in-Err-OwnNumberAhead.own c.in-Err-OwnNumberAhead.told
+    (sym c.in-Err-OwnNumberAhead.field-0-is ∙ memory)) in
+    record {
+      taken =
+          subst
+          (λ (x : GroupState). if_unsent (world_of x) c.args.m (read_as (group_verdict x.keys c.args.octets.now)) ≡ None)
+          c.self.view_is all.0;
+      world =
+          c.count-in-Err-OwnNumberAhead.ensures.world
+          ∙ subst (λ (x : GroupState). world_of x
+          ≡ after_hear (drawing (g.D.Draws.draw c.args.draws.now)) (world_of x) c.args.m
+          (read_as (group_verdict x.keys c.args.octets.now))) c.self.view_is (sym all.1);
+      told =
+          ap (Told.HearRefused c.args.m) (sym c.in-Err-OwnNumberAhead.field-0-is)
+          ∙ subst (λ (x : GroupState). Told.HearRefused c.args.m c.in-Err-OwnNumberAhead.field-0
+          ≡ hears_told (drawing (g.D.Draws.draw c.args.draws.now)) (world_of x) c.args.m
+          (group_verdict x.keys c.args.octets.now)) c.self.view_is (sym all.2);
+      joined = tt;
+      steps = c.count-in-Err-OwnNumberAhead.ensures.steps;
+      keys = c.count-in-Err-OwnNumberAhead.ensures.keys;
+      refused = tt;
+      err = tt;
+    }
 
 pub hear_sent-requires-clause-few : goal.hear_sent-requires-clause-few
 hear_sent-requires-clause-few g c =
@@ -112,8 +92,8 @@ hear_sent-requires-clause-few g c =
     let there = subst (λ (x : GroupState). c.args.m < length x.members) (sym c.self.view_is) c.requires.there in
     few_draws s c.self.invariant c.args.m there c.index_mut-member.result.now c.index_mut-member.ensures.value
 
-pub returns-in-Err-clause-refused : goal.returns-in-Err-clause-refused
-returns-in-Err-clause-refused g c =
+pub returns-in-Err : goal.returns-in-Err
+returns-in-Err g c =
     let s = world_state c.self.inside in
     let there = subst (λ (x : GroupState). c.args.m < length x.members) (sym c.self.view_is) c.requires.there in
     let r = group_verdict s.keys c.args.octets.now in
@@ -124,11 +104,21 @@ returns-in-Err-clause-refused g c =
     ∙ sym
     (c.index_mut-member.ensures.value ∙ get_or_default s.members c.args.m c.index_mut-member.result.now nobody there) in
     let told = ap (λ (a : Alone). told_sync (length a.log) c.args.m r) (sym same) ∙ c.in-Ok.ensures.told in
-    subst (λ (x : GroupState).
-    IsFaultOf (if_unsent (world_of x) c.args.m (read_as (group_verdict x.keys c.args.octets.now))) c.in-Err.fault)
-    c.self.view_is
-    (foreign_so s c.self.invariant c.args.m there old c.index_mut-member.ensures.value r c.in-Ok.told.0 c.in-Ok.told.1
-    told c.in-Err.fault c.in-Err.ensures.foreign)
+    record {
+      taken = tt;
+      world = tt;
+      told = tt;
+      joined = tt;
+      steps = tt;
+      keys = search rules;
+      refused =
+          subst (λ (x : GroupState).
+          IsFaultOf (if_unsent (world_of x) c.args.m (read_as (group_verdict x.keys c.args.octets.now))) c.in-Err.fault)
+          c.self.view_is
+          (foreign_so s c.self.invariant c.args.m there old c.index_mut-member.ensures.value r c.in-Ok.told.0 c.in-Ok.told.1
+          told c.in-Err.fault c.in-Err.ensures.foreign);
+      err = grind (arith, common_steps);
+    }
 
 pub invariant_of-self-2 : goal.invariant_of-self-2
 invariant_of-self-2 g c =
@@ -148,26 +138,8 @@ invariant_of-self-2 g c =
     c.in-Ok-hear_sent.ensures.ok drawn
     (subst (λ (x : GroupState). x.steps < 100000) (sym c.self.view_is) c.requires.few)
 
-pub returns-clause-taken : goal.returns-clause-taken
-returns-clause-taken g c =
-    let s = world_state c.self.inside in
-    let there = subst (λ (x : GroupState). c.args.m < length x.members) (sym c.self.view_is) c.requires.there in
-    let r = group_verdict s.keys c.args.octets.now in
-    let old = c.index_mut-member.result.now in
-    let same : c.index.result.now ≡ c.index_mut-member.result.now =
-    c.index.ensures
-    ∙ get_or_default s.members c.args.m c.index.result.now nobody there
-    ∙ sym
-    (c.index_mut-member.ensures.value ∙ get_or_default s.members c.args.m c.index_mut-member.result.now nobody there) in
-    let told = ap (λ (a : Alone). told_sync (length a.log) c.args.m r) (sym same) ∙ c.in-Ok.ensures.told in
-    subst
-    (λ (x : GroupState). if_unsent (world_of x) c.args.m (read_as (group_verdict x.keys c.args.octets.now)) ≡ None)
-    c.self.view_is
-    (sent_taken s c.self.invariant c.args.m there old c.index_mut-member.ensures.value r c.in-Ok.told.0 c.in-Ok.told.1
-    told c.in-Ok-hear_sent.ensures.sent)
-
-pub returns-clause-world : goal.returns-clause-world
-returns-clause-world g c =
+pub returns : goal.returns
+returns g c =
     let s = world_state c.self.inside in
     let there = subst (λ (x : GroupState). c.args.m < length x.members) (sym c.self.view_is) c.requires.there in
     let r = group_verdict s.keys c.args.octets.now in
@@ -179,28 +151,29 @@ returns-clause-world g c =
     (c.index_mut-member.ensures.value ∙ get_or_default s.members c.args.m c.index_mut-member.result.now nobody there) in
     let told = ap (λ (a : Alone). told_sync (length a.log) c.args.m r) (sym same) ∙ c.in-Ok.ensures.told in
     let drawn = c.draw-draw.ensures ∙ ap (g.D.Draws.draw c.args.draws.now c.args.m) c.next_draw.ensures in
-    heard_world s c.self.invariant c.args.m there old c.index_mut-member.ensures.value r c.in-Ok.told.0 c.in-Ok.told.1
-    told c.in-Ok-hear_sent.ensures.sent (g.D.Draws.draw c.args.draws.now) c.hear_sent.new.member c.draw-draw.result
-    c.in-Ok-hear_sent.ensures.ok drawn
-    ∙ ap (λ (x : GroupState). after_hear (drawing (g.D.Draws.draw c.args.draws.now)) (world_of x) c.args.m
-    (read_as (group_verdict x.keys c.args.octets.now))) c.self.view_is
-
-pub returns-clause-told : goal.returns-clause-told
-returns-clause-told g c =
-    let s = world_state c.self.inside in
-    let there = subst (λ (x : GroupState). c.args.m < length x.members) (sym c.self.view_is) c.requires.there in
-    let r = group_verdict s.keys c.args.octets.now in
-    let old = c.index_mut-member.result.now in
-    let same : c.index.result.now ≡ c.index_mut-member.result.now =
-    c.index.ensures
-    ∙ get_or_default s.members c.args.m c.index.result.now nobody there
-    ∙ sym
-    (c.index_mut-member.ensures.value ∙ get_or_default s.members c.args.m c.index_mut-member.result.now nobody there) in
-    let told = ap (λ (a : Alone). told_sync (length a.log) c.args.m r) (sym same) ∙ c.in-Ok.ensures.told in
-    let drawn = c.draw-draw.ensures ∙ ap (g.D.Draws.draw c.args.draws.now c.args.m) c.next_draw.ensures in
-    c.heard.ensures
-    ∙ heard_told s c.self.invariant c.args.m there old c.index_mut-member.ensures.value r c.in-Ok.told.0 c.in-Ok.told.1
-    told c.in-Ok-hear_sent.ensures.sent (g.D.Draws.draw c.args.draws.now) c.hear_sent.new.member c.draw-draw.result
-    c.in-Ok-hear_sent.ensures.ok drawn c.in-Ok-hear_sent.mode c.in-Ok-hear_sent.ensures.mode
-    ∙ ap (λ (x : GroupState). hear_told (drawing (g.D.Draws.draw c.args.draws.now)) (world_of x) c.args.m
-    (group_verdict x.keys c.args.octets.now)) c.self.view_is
+    record {
+      taken =
+          subst
+          (λ (x : GroupState). if_unsent (world_of x) c.args.m (read_as (group_verdict x.keys c.args.octets.now)) ≡ None)
+          c.self.view_is
+          (sent_taken s c.self.invariant c.args.m there old c.index_mut-member.ensures.value r c.in-Ok.told.0 c.in-Ok.told.1
+          told c.in-Ok-hear_sent.ensures.sent);
+      world =
+          heard_world s c.self.invariant c.args.m there old c.index_mut-member.ensures.value r c.in-Ok.told.0 c.in-Ok.told.1
+          told c.in-Ok-hear_sent.ensures.sent (g.D.Draws.draw c.args.draws.now) c.hear_sent.new.member c.draw-draw.result
+          c.in-Ok-hear_sent.ensures.ok drawn
+          ∙ ap (λ (x : GroupState). after_hear (drawing (g.D.Draws.draw c.args.draws.now)) (world_of x) c.args.m
+          (read_as (group_verdict x.keys c.args.octets.now))) c.self.view_is;
+      told =
+          c.heard.ensures
+          ∙ heard_told s c.self.invariant c.args.m there old c.index_mut-member.ensures.value r c.in-Ok.told.0 c.in-Ok.told.1
+          told c.in-Ok-hear_sent.ensures.sent (g.D.Draws.draw c.args.draws.now) c.hear_sent.new.member c.draw-draw.result
+          c.in-Ok-hear_sent.ensures.ok drawn c.in-Ok-hear_sent.mode c.in-Ok-hear_sent.ensures.mode
+          ∙ ap (λ (x : GroupState). hears_told (drawing (g.D.Draws.draw c.args.draws.now)) (world_of x) c.args.m
+          (group_verdict x.keys c.args.octets.now)) c.self.view_is;
+      joined = tt;
+      steps = ap (λ (x : GroupState). x.steps + 1) c.self.view_is;
+      keys = ap (λ (x : GroupState). x.keys) c.self.view_is;
+      refused = tt;
+      err = tt;
+    }

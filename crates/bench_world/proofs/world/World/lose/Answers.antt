@@ -1,4 +1,5 @@
-use Rattle.std.proofs.Common.{◌<◌, length, None, sym, ap, ◌∙◌, subst}
+use Rattle.std.proofs.Common.{◌<◌, ◌+◌, length, None, sym, ap, ◌∙◌, subst, arith}
+use Rattle.std.proofs.lemmas.Grind.{common_steps}
 use Rattle.group_model.specs.World.{member, with_member}
 use Rattle.group_model.specs.Changes.{member_with_claim}
 use Rattle.bench_world.specs.Worlds.{GroupState, world_of}
@@ -14,11 +15,21 @@ invariant_of-self-2 c =
     c.lose.new.self c.in-Ok.ensures.ok
     (subst (λ (x : GroupState). x.steps < 100000) (sym c.self.view_is) c.requires.few)
 
-pub returns-clause-world : goal.returns-clause-world
-returns-clause-world c =
+pub returns : goal.returns
+returns c =
     let s = world_state c.self.inside in
     let there = subst (λ (x : GroupState). c.args.m < length x.members) (sym c.self.view_is) c.requires.there in
-    lost_world s c.self.invariant c.args.m there c.index_mut-member.result.now c.index_mut-member.ensures.value c.args.f
-    c.lose.new.self c.in-Ok.ensures.ok
-    ∙ ap (λ (x : GroupState).
-    with_member (world_of x) c.args.m (member_with_claim c.args.f None (member (world_of x) c.args.m))) c.self.view_is
+    record {
+      taken = grind (arith, common_steps);
+      world =
+          lost_world s c.self.invariant c.args.m there c.index_mut-member.result.now c.index_mut-member.ensures.value c.args.f
+          c.lose.new.self c.in-Ok.ensures.ok
+          ∙ ap (λ (x : GroupState).
+          with_member (world_of x) c.args.m (member_with_claim c.args.f None (member (world_of x) c.args.m))) c.self.view_is;
+      told = grind (arith, common_steps);
+      joined = tt;
+      steps = ap (λ (x : GroupState). x.steps + 1) c.self.view_is;
+      keys = ap (λ (x : GroupState). x.keys) c.self.view_is;
+      refused = tt;
+      err = tt;
+    }

@@ -1,4 +1,4 @@
-use Rattle.std.proofs.Common.{◌<◌, length, sym, ap, ◌∙◌, subst}
+use Rattle.std.proofs.Common.{rules, refl, ◌<◌, length, sym, ap, ◌∙◌, subst, ◌+◌}
 use Rattle.group_model.specs.Steps.{after_restart}
 use Rattle.bench_world.specs.Worlds.{GroupState, world_of, drawing}
 use Rattle.bench_world.specs.Kept.{world_state}
@@ -21,12 +21,22 @@ invariant_of-self g c =
     c.restart.new.self (g.D.Draws.draw c.args.draws.now) c.draw-draw.result
     (c.draw-draw.ensures ∙ ap (g.D.Draws.draw c.args.draws.now c.args.m) c.next_draw.ensures) c.restart.ensures few
 
-pub returns-clause-world : goal.returns-clause-world
-returns-clause-world g c =
+pub returns : goal.returns
+returns g c =
     let s = world_state c.self.inside in
     let there = subst (λ (x : GroupState). c.args.m < length x.members) (sym c.self.view_is) c.requires.there in
-    restarted_world s c.self.invariant c.args.m there c.index_mut-member.result.now c.index_mut-member.ensures.value
-    c.restart.new.self (g.D.Draws.draw c.args.draws.now) c.draw-draw.result
-    (c.draw-draw.ensures ∙ ap (g.D.Draws.draw c.args.draws.now c.args.m) c.next_draw.ensures) c.restart.ensures
-    ∙ ap (λ (x : GroupState). after_restart (drawing (g.D.Draws.draw c.args.draws.now)) (world_of x) c.args.m)
-    c.self.view_is
+    record {
+      taken = refl;
+      world =
+          restarted_world s c.self.invariant c.args.m there c.index_mut-member.result.now c.index_mut-member.ensures.value
+          c.restart.new.self (g.D.Draws.draw c.args.draws.now) c.draw-draw.result
+          (c.draw-draw.ensures ∙ ap (g.D.Draws.draw c.args.draws.now c.args.m) c.next_draw.ensures) c.restart.ensures
+          ∙ ap (λ (x : GroupState). after_restart (drawing (g.D.Draws.draw c.args.draws.now)) (world_of x) c.args.m)
+          c.self.view_is;
+      told = search rules;
+      joined = tt;
+      steps = ap (λ (x : GroupState). x.steps + 1) c.self.view_is;
+      keys = ap (λ (x : GroupState). x.keys) c.self.view_is;
+      refused = tt;
+      err = tt;
+    }

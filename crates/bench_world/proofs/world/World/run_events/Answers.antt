@@ -94,5 +94,5 @@ returns-in-Err-clause-stopped g c =
     (stopped_here out c.args.self.now.keys (world_of c.args.self.now) c.args.events.now i inside item c.event-item.is
     (world_of c.loop-event.self) (world_of c.step.new.self) (length c.args.self.now.keys.members.names) inv.many ready
     inv.taken inv.world
-    out c.args.self.now c.loop-event.self c.step.new.self c.in-Err.fault refl refl refl refl because
-    c.in-Err.ensures.err)
+    out c.args.self.now c.loop-event.self c.step.new.self c.in-Err.fault refl refl refl refl inv.steps
+    inv.keys because c.in-Err.ensures.err)

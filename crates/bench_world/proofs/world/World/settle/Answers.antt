@@ -41,19 +41,15 @@ settle_members-settled-requires g c κs within =
           c.type_bounds.sync-N,
           (
             c.type_bounds.sync-R,
-            (
-              c.requires.workers,
-              (
-                few_logs s c.self.invariant,
-                (
-                  refl,
-                  (
-                    c.self.invariant.numbers,
-                    (c.self.invariant.members, (sound_only s c.self.invariant, tried_few s c.self.invariant)),
-                  ),
-                ),
-              ),
-            ),
+            record {
+              workers = c.requires.workers;
+              logs = few_logs s c.self.invariant;
+              begun = refl;
+              numbers = c.self.invariant.numbers;
+              truly = c.self.invariant.members;
+              sound = sound_only s c.self.invariant;
+              tried = tried_few s c.self.invariant;
+            },
           ),
         ),
       ),
@@ -83,7 +79,9 @@ returns-in-Err-clause-err g c =
     })) c.self.view_is
     (subst (λ (ps : List SentPacket). HaveSettledPart s
     (record s { members = c.settle_members-settled.new.members.items; sent = ps; steps = s.steps + 1 })) (sym same)
-    (partly s c.self.invariant few c.settle_members-settled.new.members.items c.in-Err.ensures.err))
+    (partly s c.self.invariant few c.settle_members-settled.new.members.items c.settle_members-settled.ensures.len
+    c.settle_members-settled.ensures.numbers c.settle_members-settled.ensures.truly
+    c.settle_members-settled.ensures.counts c.in-Err.ensures.err))
 
 pub send_all-requires-clause-room : goal.send_all-requires-clause-room
 send_all-requires-clause-room g c =

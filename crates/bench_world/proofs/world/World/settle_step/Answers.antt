@@ -1,7 +1,10 @@
-use Rattle.std.proofs.Common.{◌<◌, ◌+◌, sym, ap, ◌∙◌, subst}
+use Rattle.std.proofs.Common.{◌≡◌, ◌<◌, ◌+◌, length, refl, sym, ap, ◌∙◌, subst, arith}
+use Rattle.std.proofs.lemmas.List.{length-map}
 use Rattle.group_model.specs.Steps.{after_gathering, after_settle}
 use Rattle.bench_world.specs.Serving.{outside, keyed}
-use Rattle.bench_world.specs.Worlds.{GroupState, world_of}
+use Rattle.repo_member.specs.InGroup.{in_group}
+use Rattle.bench_world.specs.EventValues.{Told}
+use Rattle.bench_world.specs.Worlds.{GroupState, in_groups, world_of}
 use Rattle.bench_world.specs.Kept.{world_state}
 use Rattle.bench_world.proofs.Resets.{all_few, reset_world, reset_joined, reset_state}
 use Rattle.bench_world.proofs.world.World.settle_step.Goals as goal
@@ -25,8 +28,8 @@ invariant_of-self g c =
     (world_state c.self-2.inside) c.self-2.invariant mid steps c.reset_all.new.members.items c.reset_all.ensures.len
     c.reset_all.ensures.each
 
-pub returns-clause-world : goal.returns-clause-world
-returns-clause-world g c =
+pub returns : goal.returns
+returns g c =
     let s = world_state c.self.inside in
     let few = subst (λ (x : GroupState). x.steps < 100000) (sym c.self.view_is) c.requires.few in
     let mid =
@@ -37,25 +40,26 @@ returns-clause-world g c =
     ap (λ (x : GroupState). x.steps) c.self-2.view_is
     ∙ c.settle.ensures.steps
     ∙ ap (λ (x : GroupState). x.steps + 1) (sym c.self.view_is) in
-    reset_world s c.self.invariant few (g.D.Draws.draw c.args.draws.now) (g.N.Net.passes c.args.net.now)
-    (world_state c.self-2.inside) c.self-2.invariant mid steps c.reset_all.new.members.items c.reset_all.ensures.len
-    c.reset_all.ensures.each
-    ∙ ap (λ (x : GroupState).
-    after_settle (outside x.keys (g.D.Draws.draw c.args.draws.now) (g.N.Net.passes c.args.net.now)) (world_of x))
-    c.self.view_is
-
-pub returns-clause-joined : goal.returns-clause-joined
-returns-clause-joined g c =
-    let s = world_state c.self.inside in
-    let few = subst (λ (x : GroupState). x.steps < 100000) (sym c.self.view_is) c.requires.few in
-    let mid =
-    ap world_of c.self-2.view_is
-    ∙ c.in-Ok.ensures.world
-    ∙ ap (λ (x : GroupState). after_gathering (keyed x.keys) (world_of x)) (sym c.self.view_is) in
-    let steps =
-    ap (λ (x : GroupState). x.steps) c.self-2.view_is
-    ∙ c.settle.ensures.steps
-    ∙ ap (λ (x : GroupState). x.steps + 1) (sym c.self.view_is) in
-    reset_joined s c.self.invariant few (g.D.Draws.draw c.args.draws.now) (g.N.Net.passes c.args.net.now)
-    (world_state c.self-2.inside) c.self-2.invariant mid steps c.reset_all.new.members.items c.reset_all.ensures.len
-    c.reset_all.ensures.each
+    let among = length-map c.self.inside.members.items in_group in
+    let same = ap (λ (x : GroupState). length (in_groups x.members)) c.self.view_is in
+    let syncs : c.len-syncs.result ≡ length (in_groups c.args.self.now.members) =
+    omega (arith, c.len-syncs.ensures, c.self.inside.members.ok, among, same) in
+    record {
+      taken = refl;
+      world =
+          reset_world s c.self.invariant few (g.D.Draws.draw c.args.draws.now) (g.N.Net.passes c.args.net.now)
+          (world_state c.self-2.inside) c.self-2.invariant mid steps c.reset_all.new.members.items c.reset_all.ensures.len
+          c.reset_all.ensures.each
+          ∙ ap (λ (x : GroupState).
+          after_settle (outside x.keys (g.D.Draws.draw c.args.draws.now) (g.N.Net.passes c.args.net.now)) (world_of x))
+          c.self.view_is;
+      told = λ i. Told.Settle (syncs i) (c.in-Ok.ensures.parts i);
+      joined =
+          reset_joined s c.self.invariant few (g.D.Draws.draw c.args.draws.now) (g.N.Net.passes c.args.net.now)
+          (world_state c.self-2.inside) c.self-2.invariant mid steps c.reset_all.new.members.items c.reset_all.ensures.len
+          c.reset_all.ensures.each;
+      steps = ap (λ (x : GroupState). x.steps) c.self-2.view_is ∙ c.settle.ensures.steps;
+      keys = ap (λ (x : GroupState). x.keys) c.self-2.view_is ∙ c.settle.ensures.keys;
+      refused = tt;
+      err = tt;
+    }

@@ -1,9 +1,10 @@
-use Rattle.std.proofs.Common.{◌<◌, ℕ, List, length, map, sym, ap, ◌∙◌, subst}
+use Rattle.std.proofs.Common.{refl, ◌<◌, ℕ, List, length, map, sym, ap, ◌∙◌, subst}
 use Rattle.std.proofs.lemmas.List.{length-map}
 use Rattle.sorted_lists.specs.Range.{numbers_from}
 use Rattle.repo_member.specs.Alone.{Alone}
 use Rattle.repo_member.specs.InGroup.{in_group}
-use Rattle.bench_world.specs.EventValues.{Told, all_totals}
+use Rattle.group_model.specs.Steps.{all_totals}
+use Rattle.bench_world.specs.EventValues.{Told}
 use Rattle.bench_world.specs.Sums.{totals_in, HasFewTotals}
 use Rattle.bench_world.specs.Worlds.{GroupState, alone_at, world_of}
 use Rattle.bench_world.specs.Kept.{world_state}
@@ -15,8 +16,8 @@ add_up-requires c =
     subst (λ (ms : List Alone). (j : ℕ) → j < length ms → HasFewTotals (totals_in (alone_at ms j)))
     (sym c.as_slice.ensures.value) (few_totals_at (world_state c.self.inside) c.self.invariant)
 
-pub returns-clause-told : goal.returns-clause-told
-returns-clause-told c =
+pub returns : goal.returns
+returns c =
     let s = world_state c.self.inside in
     let numbers =
     c.in_ok-members.ensures
@@ -34,7 +35,17 @@ returns-clause-told c =
     c.in_ok-sums.ensures.octets
     ∙ ap (map (λ a. (totals_in a).octets)) c.as_slice.ensures.value
     ∙ sums_are s c.self.invariant (λ t. t.octets) in
-    (λ i. Told.Summary (numbers i) (entries i) (segments i) (octets i))
-    ∙ ap (λ (x : GroupState). Told.Summary (numbers_from 0 (length (world_of x).members))
-    (map (λ t. t.entries) (all_totals (world_of x))) (map (λ t. t.segments) (all_totals (world_of x)))
-    (map (λ t. t.octets) (all_totals (world_of x)))) c.self.view_is
+    record {
+      taken = refl;
+      world = c.count.ensures.world;
+      told =
+          (λ i. Told.Summary (numbers i) (entries i) (segments i) (octets i))
+          ∙ ap (λ (x : GroupState). Told.Summary (numbers_from 0 (length (world_of x).members))
+          (map (λ t. t.entries) (all_totals (world_of x))) (map (λ t. t.segments) (all_totals (world_of x)))
+          (map (λ t. t.octets) (all_totals (world_of x)))) c.self.view_is;
+      joined = tt;
+      steps = c.count.ensures.steps;
+      keys = c.count.ensures.keys;
+      refused = tt;
+      err = tt;
+    }

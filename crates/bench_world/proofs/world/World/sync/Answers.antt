@@ -1,4 +1,5 @@
-use Rattle.std.proofs.Common.{◌≡◌, ◌<◌, None, refl, sym, ap, ◌∙◌, subst, arith}
+use Rattle.std.proofs.Common.{rules, ◌≡◌, ◌<◌, None, refl, sym, ap, ◌∙◌, subst, arith, ◌+◌}
+use Rattle.bench_net.specs.SentList.{SentPacket}
 use Rattle.group_model.specs.Events.{Event}
 use Rattle.group_model.specs.World.{sent_at}
 use Rattle.group_model.specs.Refusals.{unless_sent}
@@ -17,21 +18,26 @@ invariant_of-self c =
     (drawing (λ _ _. 0)) (λ t. omega arith) (Event.Sync c.args.k) tt s.members s.sent s.moment s.tally refl
     c.self.invariant.numbers c.self.invariant.members c.self.invariant.sent refl
 
-pub returns-clause-taken : goal.returns-clause-taken
-returns-clause-taken c =
+pub returns : goal.returns
+returns c =
     let s = world_state c.self.inside in
-    let at = there s.sent c.args.k c.in-Some.octets.now c.in-Some.ensures in
-    subst (λ (x : GroupState). unless_sent (world_of x) c.args.k ≡ None) c.self.view_is
-    (not_refused s c.args.k at.first at.last)
-
-pub returns-clause-told : goal.returns-clause-told
-returns-clause-told c =
-    let s = world_state c.self.inside in
-    let at = there s.sent c.args.k c.in-Some.octets.now c.in-Some.ensures in
-    ap (λ k. Told.Sync k c.in_ok-octets.octets.items) c.from.ensures
-    ∙ ap (Told.Sync c.args.k)
-    (c.in_ok-octets.ensures.items_if_clones_equal (λ x y e. e) ∙ at.octets
-    ∙ octets_are s c.self.invariant c.args.k at.first at.last)
-    ∙ ap (λ (x : GroupState).
-    Told.Sync c.args.k (sync_of x.keys (sent_at (world_of x) c.args.k).sender (sent_at (world_of x) c.args.k).vector))
-    c.self.view_is
+    let at = there (λ (p : SentPacket). p.octets) s.sent c.args.k c.in-Some.octets.now c.in-Some.ensures in
+    record {
+      taken =
+          subst (λ (x : GroupState). unless_sent (world_of x) c.args.k ≡ None) c.self.view_is
+          (not_refused s c.args.k at.first at.last);
+      world = search rules;
+      told =
+          ap (λ k. Told.Sync k c.in_ok-octets.octets.items) c.from.ensures
+          ∙ ap (Told.Sync c.args.k)
+          (c.in_ok-octets.ensures.items_if_clones_equal (λ x y e. e) ∙ at.same
+          ∙ octets_are s c.self.invariant c.args.k at.first at.last)
+          ∙ ap (λ (x : GroupState).
+          Told.Sync c.args.k (sync_of x.keys (sent_at (world_of x) c.args.k).sender (sent_at (world_of x) c.args.k).vector))
+          c.self.view_is;
+      joined = tt;
+      steps = ap (λ (x : GroupState). x.steps + 1) c.self.view_is;
+      keys = ap (λ (x : GroupState). x.keys) c.self.view_is;
+      refused = tt;
+      err = tt;
+    }
