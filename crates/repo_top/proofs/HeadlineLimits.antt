@@ -24,7 +24,7 @@ use Rattle.repo_process.specs.Processes.{is_whole, object_of, starting, with_blo
 use Rattle.repo_process.specs.Processes.BlockState.{Unknown, Already, Waiting, Whole}
 use Rattle.repo_command.specs.declared.command.Command.{Command}
 use Rattle.repo_command.specs.declared.command.Command.TheVariants.{Insert, Check, Delete}
-use Rattle.group_model.specs.Publications.{Logs, Publication, last_of, pair_in}
+use Rattle.group_model.specs.Publications.{Publication, last_of, pair_in}
 use Rattle.group_model.specs.Commands.{is_equal_command}
 use Rattle.group_model.specs.Member.{Member, catalogued_under, member_hides_all, member_hides_too}
 use Rattle.group_model.specs.Changes.{member_starts, publishes}

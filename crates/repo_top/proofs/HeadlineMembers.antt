@@ -1,7 +1,7 @@
 -- The members and clients of a script are those of a group, and what is published in it is within the limits.
 use Rattle.std.proofs.Common.{◌≡◌, ◌∙◌, ℕ, zero, suc, ◌+◌, ◌-◌, ◌<◌, ◌≤◌, true, false, List, [], ◌∷◌, ◌++◌, length, map}
-use Rattle.std.proofs.Common.{replicate, Option, Some, None, Result, Ok, refl, sym, ap, subst, arith}
-use Rattle.std.specs.List.{All, list_any}
+use Rattle.std.proofs.Common.{replicate, Option, Some, None, Ok, refl, sym, ap, subst, arith}
+use Rattle.std.specs.List.{list_any}
 use Rattle.std.specs.Option.{IfSome}
 use Rattle.std.proofs.lemmas.Bool.{or_parts, true≢false}
 use Rattle.std.proofs.lemmas.List.{length-map, map-append}
@@ -10,12 +10,11 @@ use Rattle.ndn_name.specs.Names.{Component, IsName, encoding}
 use Rattle.ndn_name.specs.UriText.{is_digest}
 use Rattle.ndn_name.specs.UriVerdict.{HasUri}
 use Rattle.sorted_lists.specs.Range.{numbers_from}
-use Rattle.repo_object.specs.Cuts.{pieces}
 use Rattle.repo_object.proofs.CutLemmas.{cut_pieces}
 use Rattle.repo_process.proofs.ProcessLemmas.{length-numbers}
 use Rattle.group_model.specs.Events as group
 use Rattle.group_model.specs.Member.{Member}
-use Rattle.group_model.specs.World.{Outside, World, logs, logs_of, no_member, opening_world}
+use Rattle.group_model.specs.World.{Outside, World, logs_of}
 use Rattle.group_model.specs.Steps.{after_event}
 use Rattle.group_model.specs.Refusals as refusals
 use Rattle.group_model.specs.Refusals.{NamesThose}
@@ -35,7 +34,6 @@ use Rattle.script_lang.specs.Checking.{party_label}
 use Rattle.script_lang.proofs.LineTexts.{line_texts}
 use Rattle.bench_world.specs.EventValues.{EventValue, group_event}
 use Rattle.bench_world.specs.Steps.{IsReady}
-use Rattle.bench_world.specs.Worlds.{drawing}
 use Rattle.bench_world.proofs.EventRuns.{named_ready}
 use Rattle.repo_top.specs.SaidEvents.{said_by, said_event}
 use Rattle.repo_top.specs.Judging.{Given, State, acted_by, acted_if, found_world, group_named, opening_state}

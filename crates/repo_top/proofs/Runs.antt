@@ -3,7 +3,6 @@ use Rattle.std.proofs.Common.{◌≡◌, ◌≢◌, ℕ, zero, suc, ◌+◌, ◌
 use Rattle.std.proofs.Common.{length, take, drop, Option, Some, None, IfSome, refl, sym, ap, subst, ◌∙◌, append_assoc}
 use Rattle.std.proofs.Common.{length-append, arith, ◌⊎◌, inl, inr}
 use Rattle.std.specs.List.{concat, filter}
-use Rattle.std.specs.Io.KnownBytes.{IsAtEnd, Keeps, prepend_known}
 use Rattle.std.proofs.KnownBytes.{Appends-trans}
 use Rattle.std.proofs.lemmas.Bool.{or_from, or_left, or_right, le-ltb, lt-ltb}
 use Rattle.std.proofs.lemmas.Bool.Decides.{leb_tells}
@@ -24,7 +23,7 @@ use Rattle.repo_top.specs.Story.{Reached, Story, reached_behind, behind_text, en
 use Rattle.repo_top.specs.Story.{story_from, story_of}
 use Rattle.repo_top.specs.Taken.{FallsShortNear, IsTakenNear, LacksText, can_be_judged, end_of_line, lines_so_far}
 use Rattle.repo_top.specs.Taken.{lines_taken, report_of, report_through, taken}
-use Rattle.repo_top.specs.Carrying.{Carried, EndsIn, Finishes, IsStopping, Known, Ran, Stops, StatusTells, Took}
+use Rattle.repo_top.specs.Carrying.{Carried, EndsIn, Finishes, IsStopping, Ran, Stops, StatusTells, Took}
 use Rattle.repo_top.proofs.LineLaws.{open_line, whole_first}
 use Rattle.repo_top.proofs.Outputs.{front_behind, front_so_far, front_whole, nothing_gained}
 use Rattle.repo_top.proofs.Stories.{behind_behind, first_line_story, goes_on, long_refused, no_lines, refused_story}
