@@ -8,6 +8,7 @@ pub mod Fitting
 pub mod Sayings
 pub mod HeadlineLines
 pub mod HeadlineGroups
+pub mod HeadlineNames
 pub mod HeadlineCatalogues
 pub mod HeadlineSettles
 pub mod HeadlineDeletions

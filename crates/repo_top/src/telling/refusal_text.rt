@@ -1,4 +1,5 @@
-ghost use Rattle.std.specs.Prelude.{◌≡◌, map, string_bytes, IfOk};
+ghost use Rattle.std.specs.Prelude.{◌≡◌, length, map, string_bytes, IfOk};
+ghost use Rattle.bench_world.specs.Steps.{FaultNamesMember, HearNamesMember, SyncNamesMember};
 ghost use Rattle.repo_top.specs.RefusalTexts.{field_word, hear_refusal_text, packet_fault_text, part_refusal_text};
 ghost use Rattle.repo_top.specs.RefusalTexts.{sync_refusal_text, tlv_fault_text, vector_fault_text};
 
@@ -18,6 +19,7 @@ pub(crate) fn hear_refusal(
     labels: &[String],
     refusal: &HearRefusal,
 ) -> Result<String, AllocError>
+    requires { HearNamesMember (length labels.now) refusal.now }
     ensures { IfOk result (λ text. string_bytes text ≡ hear_refusal_text (map string_bytes labels.now) refusal.now) }
 {
     match refusal {
@@ -32,6 +34,7 @@ fn sync_refusal(
     labels: &[String],
     refusal: &SyncRefusal,
 ) -> Result<String, AllocError>
+    requires { SyncNamesMember (length labels.now) refusal.now }
     ensures { IfOk result (λ text. string_bytes text ≡ sync_refusal_text (map string_bytes labels.now) refusal.now) }
 {
     match refusal {
@@ -47,6 +50,7 @@ fn sync_refusal(
 }
 
 fn vector_fault(alloc: Global, labels: &[String], fault: &VectorFault) -> Result<String, AllocError>
+    requires { FaultNamesMember (length labels.now) fault.now }
     ensures { IfOk result (λ text. string_bytes text ≡ vector_fault_text (map string_bytes labels.now) fault.now) }
 {
     match fault {
