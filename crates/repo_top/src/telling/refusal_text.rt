@@ -25,7 +25,7 @@ pub(crate) fn hear_refusal(
     match refusal {
         HearRefusal::Sync(refusal) => sync_refusal(alloc, labels, refusal),
         HearRefusal::OwnNumberAhead { .. } => "OwnNumberAhead".to_string(alloc),
-        HearRefusal::NoMemory => "NoMemory".to_string(alloc),
+        HearRefusal::NoMemory => unreachable!(),
     }
 }
 
@@ -45,7 +45,7 @@ fn sync_refusal(
         SyncRefusal::UnknownKey => "UnknownKey".to_string(alloc),
         SyncRefusal::BadSignature => "BadSignature".to_string(alloc),
         SyncRefusal::Vector(fault) => vector_fault(alloc, labels, fault),
-        SyncRefusal::NoMemory => "NoMemory".to_string(alloc),
+        SyncRefusal::NoMemory => unreachable!(),
     }
 }
 
@@ -59,7 +59,7 @@ fn vector_fault(alloc: Global, labels: &[String], fault: &VectorFault) -> Result
             let label = label(labels, *member);
             format!(in alloc; "NumberTooLarge {label} {number}")
         }
-        VectorFault::NoMemory => "NoMemory".to_string(alloc),
+        VectorFault::NoMemory => unreachable!(),
     }
 }
 
