@@ -25,7 +25,7 @@ mod Summaries
 mod Gainings
 mod Resets
 mod RefusedMembers
-mod Names
+pub mod Names
 pub mod EventRuns
 mod ClientKeys
 mod Orders

@@ -69,18 +69,21 @@ IsFaultOf (Some refusal) told = told ≡ fault_of refusal
 
 -- ---- members that are told of
 
--- The member of which too large a number is told is one of so many.
+-- The member of which too large a number is told is one of so many. No octets are refused for want of memory.
 abbrev pub FaultNamesMember : ℕ → VectorFault → Type 0
+FaultNamesMember n (vector.BadVector at) = Unit {0}
 FaultNamesMember n (vector.NumberTooLarge member number) = member < n
-FaultNamesMember n _ = Unit {0}
+FaultNamesMember n vector.NoMemory = ⊥
 
 abbrev pub SyncNamesMember : ℕ → SyncRefusal → Type 0
 SyncNamesMember n (sync.Vector fault) = FaultNamesMember n fault
+SyncNamesMember n sync.NoMemory = ⊥
 SyncNamesMember n _ = Unit {0}
 
 abbrev pub HearNamesMember : ℕ → HearRefusal → Type 0
 HearNamesMember n (hear.Sync refusal) = SyncNamesMember n refusal
-HearNamesMember n _ = Unit {0}
+HearNamesMember n (hear.OwnNumberAhead own told) = Unit {0}
+HearNamesMember n hear.NoMemory = ⊥
 
 -- Each number that stands for a member is that of one of so many. Where all are told of, they stand in order, each with
 -- a number, or with its sums.

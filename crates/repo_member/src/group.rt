@@ -1,6 +1,4 @@
-ghost use Rattle.std.specs.Prelude.{◌≡◌, ◌≤◌, ◌↔◌, ◌⊎◌, true, false, length, MatchResult, IfOk, OnOk, OnErr, Ok, Err};
-ghost use Rattle.std.specs.Prelude.{IfErr, IsOk};
-ghost use Rattle.svs_sync.specs.SyncInterest.{signer_verdict};
+ghost use Rattle.std.specs.Prelude.{◌≡◌, ◌≤◌, ◌↔◌, true, false, length, MatchResult, IfOk, OnOk, OnErr, Ok, Err};
 ghost use Rattle.repo_member.specs.Groups.{IsPlainNodeName, IsKey, IsGroup, HaveKeys, is_name_taken, node_limit};
 ghost use Rattle.repo_member.specs.Groups.{no_nodes, with_node};
 ghost use Rattle.repo_member.specs.Verdicts.{group_verdict};
@@ -11,8 +9,8 @@ use ndn_name::Name;
 use ndn_sign::KeyRing;
 use std::alloc::{AllocError, Global};
 use std::marker::Model;
-use svs_sync::{SyncRefusal, check_sync};
-use svs_vector::{MEMBER_LIMIT, Roster, Vector};
+use svs_sync::{SyncRefusal, check_told};
+use svs_vector::{MEMBER_LIMIT, Roster, ToldNumbers};
 
 /// How many clients a group may have.
 const CLIENT_LIMIT: usize = MEMBER_LIMIT;
@@ -138,22 +136,16 @@ impl Group {
         &self.name
     }
 
-    /// The number of the member that signed a sync Interest of the group, and the vector that it tells. Want of memory
-    /// is told where all that is tested before the vector has passed.
-    pub(crate) fn check_sync(
-        &self,
-        alloc: Global,
-        octets: &[u8],
-    ) -> Result<(u32, Vector), SyncRefusal>
+    /// The number of the member that signed a sync Interest of the group, and the numbers that it tells. It takes no
+    /// memory.
+    pub(crate) fn check_told(&self, octets: &[u8]) -> Result<(u32, ToldNumbers), SyncRefusal>
         ensures verdict { MatchResult result
             (λ told. group_verdict self.now octets.now ≡ Ok (told.0, told.1))
-            (λ refusal. (group_verdict self.now octets.now ≡ Err refusal) ⊎ (refusal ≡ SyncRefusal.NoMemory)) }
-        ensures memory { IfErr result (λ refusal. refusal ≡ SyncRefusal.NoMemory
-            → IsOk (signer_verdict self.now.name self.now.members.ring octets.now)) }
+            (λ refusal. group_verdict self.now octets.now ≡ Err refusal) }
         ensures width { IfOk result (λ told. length told.1 ≡ length self.now.members.names) }
         ensures members { IfOk result (λ told. length told.1 ≤ node_limit) }
     {
-        check_sync(alloc, octets, &self.name, self.roster(), self.members())
+        check_told(octets, &self.name, self.roster(), self.members())
     }
 
     // Whether a member or a client has the name.

@@ -127,8 +127,8 @@ impl Member {
         self.held.packet(part)
     }
 
-    /// Puts the packets that came since in order of their names, so that an Interest is answered fast. The member stays as
-    /// it is. It takes no memory.
+    /// Puts the packets that came since in order of their names, so that an Interest is answered fast. The member stays
+    /// as it is. It takes no memory.
     pub fn order_names(&mut self)
         ensures { self.new ≡ self.old }
     {

@@ -1,6 +1,6 @@
 -- A member or a client more leaves a group one.
-use Rattle.std.proofs.Common.{◌≡◌, ◌∙◌, ℕ, ◌+◌, ◌≤◌, ◌<◌, Bool, false, ◌||◌, List, [], ◌∷◌, ◌++◌, length, length-append, map}
-use Rattle.std.proofs.Common.{None, get_or, refl, sym, ap, subst, arith}
+use Rattle.std.proofs.Common.{◌≡◌, ◌∙◌, ℕ, ◌<◌, Bool, false, ◌||◌, List, [], ◌∷◌, ◌++◌, length, length-append}
+use Rattle.std.proofs.Common.{get_or, refl, sym, ap, subst, arith}
 use Rattle.std.specs.List.{All, IsDistinct, list_any}
 use Rattle.std.proofs.lemmas.Bool.{or_parts}
 use Rattle.std.proofs.lemmas.List.{map-append}
@@ -10,7 +10,7 @@ use Rattle.std.proofs.lemmas.Map.Keys.{IsDistinct-push}
 use Rattle.std.proofs.lemmas.Option.{unwrap_or-slice_get}
 use Rattle.ndn_name.specs.Names.{Component, encoding}
 use Rattle.ndn_sign.specs.Ring.{NamedKey, pair}
-use Rattle.svs_vector.specs.Rosters.{IsOwnName, IsRoster, has_same_octets, member_of}
+use Rattle.svs_vector.specs.Rosters.{IsOwnName, has_same_octets}
 use Rattle.repo_object.specs.Objects.{IsPublisher, key_name}
 use Rattle.repo_member.specs.Groups.{DifferInNames, GroupKeys, HaveKeys, IsGroup, IsKey, IsPlainNodeName, NodeKeys}
 use Rattle.repo_member.specs.Groups.{no_nodes, node_at, publisher_at, with_node}

@@ -16,7 +16,7 @@ use Rattle.repo_top.specs.Inspection.{decoded_story, inspect_story, lines_story,
 use Rattle.repo_top.specs.Judging.{Given, State}
 use Rattle.repo_top.specs.Story.{Story, refused}
 use Rattle.repo_top.specs.Carrying.{EndsIn, Known, LeavesWorld, Leaving, Ran}
-use Rattle.repo_top.proofs.Runs.{ran_as}
+use Rattle.repo_top.proofs.KnownRuns.{ran_as}
 
 same_keys : (left : Option GroupState) (state : State) (s : Story) → s.keys ≡ state.keys
     → IfSome left (λ world. world.keys ≡ state.keys) → IfSome left (λ world. world.keys ≡ s.keys)

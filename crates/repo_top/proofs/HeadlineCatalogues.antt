@@ -10,7 +10,7 @@ use Rattle.repo_plan.specs.Parts.{Pair}
 use Rattle.sorted_lists.proofs.Sets.{In, from_map}
 use Rattle.repo_catalog.specs.declared.entry.Entry.{Entry}
 use Rattle.repo_catalog.specs.Entries.{lists, publication_of}
-use Rattle.group_model.specs.Publications.{Logs, Publication, count, published, published_entry}
+use Rattle.group_model.specs.Publications.{Logs, Publication, published, published_entry}
 use Rattle.group_model.specs.Member.{Member, catalogue, catalogued, holds_all, member_hides}
 use Rattle.group_model.specs.World.{Outside, World, catalogue_at, logs, member}
 use Rattle.group_model.specs.Sound.{IsPublished, IsSoundGroup, IsSoundMember}

@@ -1,38 +1,36 @@
 -- The packets of the parts that members hold: they pass their checks, and entries tell what is in them.
-use Rattle.std.proofs.Common.{◌≡◌, ◌∙◌, inl, inr, ℕ, zero, suc, ◌+◌, ◌-◌, ◌≤◌, ◌<◌, Bool, true, false, cond, List, [], ◌∷◌, length}
-use Rattle.std.proofs.Common.{get_or, map, Option, Some, None, Result, Ok, refl, sym, ap, subst, arith}
+use Rattle.std.proofs.Common.{◌≡◌, ◌∙◌, inl, inr, ℕ, suc, ◌+◌, ◌-◌, ◌≤◌, ◌<◌, Bool, true, cond, List, []}
+use Rattle.std.proofs.Common.{◌∷◌, length}
+use Rattle.std.proofs.Common.{get_or, map, Option, Some, None, Ok, refl, sym, ap, subst, arith}
 use Rattle.std.specs.Prelude.{IsSomeAnd}
-use Rattle.std.specs.List.{concat}
 use Rattle.std.specs.Option.{option_and_then}
 use Rattle.std.proofs.lemmas.Bool.{cases_Bool}
 use Rattle.std.proofs.lemmas.List.{length-map}
 use Rattle.std.proofs.lemmas.Option.{get_or_from_slice_get}
-use Rattle.sha2.specs.Sha256.{sha256}
 use Rattle.ndn_data.specs.Data.{Data, data_of}
 use Rattle.sorted_lists.specs.Range.{numbers_from}
 use Rattle.sorted_lists.proofs.Sets.{In, from_map}
 use Rattle.repo_plan.specs.declared.part.Part.{Part}
-use Rattle.repo_plan.specs.Parts.{Pair, pair_of, part_of}
+use Rattle.repo_plan.specs.Parts.{pair_of, part_of}
 use Rattle.repo_object.specs.Objects.{IsObject, NamedContents}
 use Rattle.repo_object.proofs.Publications.{segment_is}
 use Rattle.repo_catalog.specs.declared.entry.Entry.{Entry}
-use Rattle.repo_catalog.specs.Entries.{publication_of}
 use Rattle.group_model.specs.Publications.{Logs, Publication, no_object, object_at, pair_in, published}
 use Rattle.group_model.specs.Publications.{published_entry}
 use Rattle.group_model.specs.Member.{Member, catalogued, holds_all, member_holds}
 use Rattle.group_model.specs.World.{World, catalogue_at, logs, member}
-use Rattle.group_model.specs.Sound.{IsPublished, IsPublishedPart, IsSoundGroup}
+use Rattle.group_model.specs.Sound.{IsPublishedPart, IsSoundGroup}
 use Rattle.group_model.proofs.Lists.{each_all, from_filter, in_at}
 use Rattle.group_model.proofs.Members.{known_published}
 use Rattle.group_model.proofs.Parts.{IsIn, in_parts_in, in_published, publisher_within}
 use Rattle.repo_member.specs.Groups.{GroupKeys, publisher_at}
 use Rattle.repo_member.specs.InGroup.{AreLogs, true_packet}
 use Rattle.repo_member.proofs.PublicLaws.{packets_are_there, packets_pass}
-use Rattle.repo_top.specs.Judging.{Given, found_world}
+use Rattle.repo_top.specs.Judging.{Given}
 use Rattle.repo_top.specs.Story.{Reached}
 use Rattle.repo_top.specs.Headline.{AreTakenFirst, group_at}
 use Rattle.repo_top.specs.HeldPackets.{EntriesTellOfDumped, HoldsChecked, MembersHoldChecked, PassesItsChecks}
-use Rattle.repo_top.specs.HeldPackets.{TellsOfDumped, all_there, content_in, content_read, dumped, dumped_contents}
+use Rattle.repo_top.specs.HeldPackets.{TellsOfDumped, all_there, content_in, content_read, dumped}
 use Rattle.repo_top.proofs.HeadlineGroups.{IsSoundState, sound_from_start}
 use Rattle.repo_top.proofs.DeclaredGroups.{publisher_is}
 use Rattle.repo_top.proofs.HeadlineMembers.{kept_from_start}

@@ -69,7 +69,7 @@ not_said refusals.Refusal.FetcherIdle report new h = cc
 not_said refusals.Refusal.NumbersSpent report new h = cc
 not_said refusals.Refusal.Foreign report new h = cc
 
-says_report : (report told : List ℕ) (new s : State) → says told s ≡ says report new → report ≡ told
+pub says_report : (report told : List ℕ) (new s : State) → says told s ≡ says report new → report ≡ told
 says_report report told new s h = cc
 
 pub says_state : (report told : List ℕ) (new s : State) → says told s ≡ says report new → new ≡ s
@@ -100,7 +100,7 @@ pub data LineTaken (given : Given) (s : State) (line report : List ℕ) (new : S
   stating : (stated : Stated) (d : Declared) → line_of line ≡ Ok (Some stated) → after_line s.declared stated ≡ Ok d
       → taken_by stated.verb given s d stated ≡ says report new → LineTaken given s line report new
 
-not_checked : (fault : CheckFault) (report : List ℕ) (new : State) → check_refused fault ≡ says report new → ⊥
+pub not_checked : (fault : CheckFault) (report : List ℕ) (new : State) → check_refused fault ≡ says report new → ⊥
 not_checked check_fault.NoGroup report new h = cc
 not_checked check_fault.Late report new h = cc
 not_checked check_fault.UnknownLabel report new h = cc

@@ -1,6 +1,7 @@
 -- What is published in a script is within the limits of objects: an event that a line states publishes an object, or
 -- begins or goes on with an insertion that is within them.
-use Rattle.std.proofs.Common.{◌≡◌, ◌∙◌, inl, inr, ℕ, zero, suc, ◌+◌, ◌<◌, Bool, true, false, cond, not, ◌&&◌, ◌||◌, List, [], ◌∷◌, ◌++◌}
+use Rattle.std.proofs.Common.{◌≡◌, ◌∙◌, inl, inr, ℕ, zero, suc, ◌+◌, ◌<◌, Bool, true, false, cond, not, ◌&&◌, ◌||◌}
+use Rattle.std.proofs.Common.{List, [], ◌∷◌, ◌++◌}
 use Rattle.std.proofs.Common.{eqb, length, get_or, set, map, Option, Some, None, Result, Ok, Err, refl, sym, ap, subst}
 use Rattle.std.proofs.Common.{arith}
 use Rattle.std.specs.Prelude.{is_some, nat_le, unwrap_or}
@@ -23,7 +24,7 @@ use Rattle.repo_process.specs.Processes.{is_whole, object_of, starting, with_blo
 use Rattle.repo_process.specs.Processes.BlockState.{Unknown, Already, Waiting, Whole}
 use Rattle.repo_command.specs.declared.command.Command.{Command}
 use Rattle.repo_command.specs.declared.command.Command.TheVariants.{Insert, Check, Delete}
-use Rattle.group_model.specs.Publications.{Logs, Publication, last_of, pair_in}
+use Rattle.group_model.specs.Publications.{Publication, last_of, pair_in}
 use Rattle.group_model.specs.Commands.{is_equal_command}
 use Rattle.group_model.specs.Member.{Member, catalogued_under, member_hides_all, member_hides_too}
 use Rattle.group_model.specs.Changes.{member_starts, publishes}
@@ -302,7 +303,8 @@ module _ (g : GroupKeys) where
   issuing w j client command begins h = record {
     are = h.are;
     insertions = h.insertions;
-    issued = All-push IsBegunWithin w.issued (record { member = j; client = client; command = command }) h.issued begins;
+    issued =
+        All-push IsBegunWithin w.issued (record { member = j; client = client; command = command }) h.issued begins;
   }
 
   ordering : (w : World) (j : ℕ) (read : Result (ℕ × Command) ℕ) → if_unissued w j read ≡ None → IsLimited g w

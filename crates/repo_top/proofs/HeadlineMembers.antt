@@ -1,7 +1,7 @@
 -- The members and clients of a script are those of a group, and what is published in it is within the limits.
 use Rattle.std.proofs.Common.{◌≡◌, ◌∙◌, ℕ, zero, suc, ◌+◌, ◌-◌, ◌<◌, ◌≤◌, true, false, List, [], ◌∷◌, ◌++◌, length, map}
-use Rattle.std.proofs.Common.{replicate, Option, Some, None, Result, Ok, refl, sym, ap, subst, arith}
-use Rattle.std.specs.List.{All, list_any}
+use Rattle.std.proofs.Common.{replicate, Option, Some, None, Ok, refl, sym, ap, subst, arith}
+use Rattle.std.specs.List.{list_any}
 use Rattle.std.specs.Option.{IfSome}
 use Rattle.std.proofs.lemmas.Bool.{or_parts, true≢false}
 use Rattle.std.proofs.lemmas.List.{length-map, map-append}
@@ -10,12 +10,11 @@ use Rattle.ndn_name.specs.Names.{Component, IsName, encoding}
 use Rattle.ndn_name.specs.UriText.{is_digest}
 use Rattle.ndn_name.specs.UriVerdict.{HasUri}
 use Rattle.sorted_lists.specs.Range.{numbers_from}
-use Rattle.repo_object.specs.Cuts.{pieces}
 use Rattle.repo_object.proofs.CutLemmas.{cut_pieces}
 use Rattle.repo_process.proofs.ProcessLemmas.{length-numbers}
 use Rattle.group_model.specs.Events as group
 use Rattle.group_model.specs.Member.{Member}
-use Rattle.group_model.specs.World.{Outside, World, logs, logs_of, no_member, opening_world}
+use Rattle.group_model.specs.World.{Outside, World, logs_of}
 use Rattle.group_model.specs.Steps.{after_event}
 use Rattle.group_model.specs.Refusals as refusals
 use Rattle.group_model.specs.Refusals.{NamesThose}
@@ -30,11 +29,11 @@ use Rattle.script_lang.specs.Forms.{Stated, form, said}
 use Rattle.script_lang.specs.Lines.{line_of}
 use Rattle.script_lang.specs.Texts.{AreOf, IsLineText}
 use Rattle.script_lang.specs.Checking as checking
-use Rattle.script_lang.specs.Checking.{Declared, Party, after_group, after_line, is_party_among, is_there, party, party_label}
+use Rattle.script_lang.specs.Checking.{Declared, Party, after_group, after_line, is_party_among, is_there, party}
+use Rattle.script_lang.specs.Checking.{party_label}
 use Rattle.script_lang.proofs.LineTexts.{line_texts}
 use Rattle.bench_world.specs.EventValues.{EventValue, group_event}
 use Rattle.bench_world.specs.Steps.{IsReady}
-use Rattle.bench_world.specs.Worlds.{drawing}
 use Rattle.bench_world.proofs.EventRuns.{named_ready}
 use Rattle.repo_top.specs.SaidEvents.{said_by, said_event}
 use Rattle.repo_top.specs.Judging.{Given, State, acted_by, acted_if, found_world, group_named, opening_state}
@@ -135,7 +134,12 @@ pub record AreGroupKeys (g : GroupKeys) : Type 0 where
 
 group_of : (g : GroupKeys) → AreGroupKeys g → IsGroup g
 group_of g are =
-    record { name = are.name; members = are.members; clients = are.clients; apart = differ g.members g.clients are.apart }
+    record {
+      name = are.name;
+      members = are.members;
+      clients = are.clients;
+      apart = differ g.members g.clients are.apart;
+    }
 
 -- Nobody has the name of a party that may be declared.
 record IsNew (g : GroupKeys) (node : List Component) : Type 0 where
@@ -171,7 +175,8 @@ kept_beginning given = record {
   limited = λ h. cc;
 }
 
-opening_logs : (f : ℕ → Member) (k n : ℕ) → ((x : ℕ) → (f x).log ≡ []) → logs_of (map f (numbers_from k n)) ≡ replicate n []
+opening_logs : (f : ℕ → Member) (k n : ℕ) → ((x : ℕ) → (f x).log ≡ [])
+    → logs_of (map f (numbers_from k n)) ≡ replicate n []
 opening_logs f k zero empty = refl
 opening_logs f k (suc n) empty = λ i. empty k i ∷ opening_logs f (k + 1) n empty i
 
@@ -354,7 +359,8 @@ kept_lines given r (line ∷ lines) (report ∷ reports) last taken sound kept =
     kept_lines given next lines reports last taken.2 (sound_line given r.state line report next.state it sound)
     (kept_line given r.state line report next.state it sound kept)
 
-pub kept_from_start : (given : Given) (lines reports : List (List ℕ)) (r : Reached) → AreTakenFirst given lines reports r
+pub kept_from_start : (given : Given) (lines reports : List (List ℕ)) (r : Reached)
+    → AreTakenFirst given lines reports r
     → IsKept given r.state
 kept_from_start given lines reports r taken =
     kept_lines given nothing_reached lines reports r taken (sound_beginning given) (kept_beginning given)

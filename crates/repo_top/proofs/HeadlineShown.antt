@@ -1,17 +1,16 @@
 -- What the text of a script that is done shows for its `catalogue` lines.
-use Rattle.std.proofs.Common.{◌≡◌, ◌∙◌, ℕ, ◌+◌, Bool, true, false, not, ◌&&◌, List, [], ◌∷◌, ◌++◌, append_assoc, refl, sym}
-use Rattle.std.proofs.Common.{ap, subst, Option, Some, None, Result, Ok, Err, arith}
+use Rattle.std.proofs.Common.{◌≡◌, ◌∙◌, ℕ, ◌+◌, true, not, List, [], ◌∷◌, ◌++◌, append_assoc, refl}
+use Rattle.std.proofs.Common.{sym}
+use Rattle.std.proofs.Common.{ap, subst, Option, Some, None, Result, Ok, Err}
 use Rattle.std.specs.List.{concat, list_all}
 use Rattle.std.proofs.lemmas.Bool.{and_from}
 use Rattle.std.proofs.lemmas.List.{append-nil}
 use Rattle.std.proofs.lemmas.List.Folds.{concat-append}
-use Rattle.group_model.specs.Publications.{join_of}
-use Rattle.group_model.specs.World.{World, catalogue_at, logs}
 use Rattle.group_model.specs.Laws.{AllJoined, NothingHidden}
 use Rattle.script_lang.specs.declared.line_fault.LineFault.{LineFault}
 use Rattle.script_lang.specs.declared.verb.Verb.{Verb}
 use Rattle.script_lang.specs.declared.verb.Verb.TheVariants as verb
-use Rattle.script_lang.specs.Kinds.{Text, Number}
+use Rattle.script_lang.specs.Kinds.{Number}
 use Rattle.script_lang.specs.Forms.{Stated, said}
 use Rattle.script_lang.specs.Lines.{line_of}
 use Rattle.script_lang.proofs.Conditions.{and_left, and_right}
@@ -20,11 +19,11 @@ use Rattle.repo_top.specs.declared.ending.Ending.TheVariants.{Done}
 use Rattle.repo_top.specs.Lines.{lines}
 use Rattle.repo_top.specs.Judging.{Given, Verdict, says, foreign, unjudged}
 use Rattle.repo_top.specs.Judging as verdict
-use Rattle.repo_top.specs.Story.{Reached, Story, judged_next, nothing_reached, story_from, story_of}
+use Rattle.repo_top.specs.Story.{Reached, Story, judged_next, nothing_reached, story_of}
 use Rattle.repo_top.specs.Headline.{LinesAreTaken, AreTakenFirst, EndsBy, EndsWith, IsCatalogueLine, IsJoined}
-use Rattle.repo_top.specs.Headline.{IsSameGroup, IsTakenAmid, IsToldBy, Says, changes_nothing, deletes, deletes_nothing}
-use Rattle.repo_top.specs.Headline.{group_at, labels_at, only_tells}
-use Rattle.repo_top.specs.ShownCatalogues.{CatalogueLinesShow, SettleLinesShow, ShowsCatalogue, ShowsJoin}
+use Rattle.repo_top.specs.Headline.{IsSameGroup, IsToldBy, Says, changes_nothing, deletes, deletes_nothing}
+use Rattle.repo_top.specs.Headline.{group_at, only_tells}
+use Rattle.repo_top.specs.ShownCatalogues.{CatalogueLinesShow, SettleLinesShow, ShowsCatalogue}
 use Rattle.repo_top.proofs.HeadlineLines.{each_is_taken, told_by}
 use Rattle.repo_top.proofs.HeadlineCatalogues.{prints_catalogues}
 use Rattle.repo_top.proofs.HeadlineDeletions.{hides_by_deletion_alone}
@@ -40,7 +39,8 @@ record AllTaken (given : Given) (script : List (List ℕ)) (text : List ℕ) : T
   taken : AreTakenFirst given script reports last
   text_is : text ≡ concat reports
 
-not_done : (number : ℕ) (v : Verdict) (text : List ℕ) (ending : Ending) → EndsBy number v text ending → ending ≡ Done → ⊥
+not_done : (number : ℕ) (v : Verdict) (text : List ℕ) (ending : Ending) → EndsBy number v text ending → ending ≡ Done
+    → ⊥
 not_done number (says report next) text ending ends done = ends
 not_done number (verdict.refused why) text ending ends done = let one = sym ends.1 ∙ done in cc
 not_done number foreign text ending ends done = let one = sym ends.1 ∙ done in cc

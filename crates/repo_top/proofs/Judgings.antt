@@ -1,6 +1,7 @@
 -- What lines come to, case by case.
-use Rattle.std.proofs.Common.{◌≡◌, ◌∙◌, ℕ, ◌<◌, Bool, true, false, not, ◌&&◌, ◌||◌, List, [], ◌∷◌, ◌++◌, length, map, Option}
-use Rattle.std.proofs.Common.{Some, None, Ok, Err, ◌⊎◌, inl, inr, nat_le, ◌+◌, refl, sym, ap, subst, arith}
+use Rattle.std.proofs.Common.{◌≡◌, ◌∙◌, ℕ, ◌<◌, Bool, true, false, not, ◌&&◌, ◌||◌, List, [], ◌∷◌, ◌++◌, length, map}
+use Rattle.std.proofs.Common.{Option}
+use Rattle.std.proofs.Common.{Some, None, Ok, Err, ◌⊎◌, inl, inr, nat_le, refl, sym, ap, subst, arith}
 use Rattle.std.proofs.Common.{if◌then◌else◌}
 use Rattle.std.specs.List.{list_any}
 use Rattle.std.specs.Option.{option_map}
@@ -32,10 +33,9 @@ use Rattle.group_model.specs.Refusals as group
 use Rattle.repo_member.specs.Groups.{GroupKeys, is_name_taken}
 use Rattle.repo_member.proofs.PublicLaws.{same_name, none_found}
 use Rattle.bench_world.specs.EventValues.{EventValue, group_event, telling}
-use Rattle.repo_top.specs.declared.refusal.Refusal.TheVariants as refusal
 use Rattle.repo_top.specs.SaidEvents.{said_event}
 use Rattle.repo_top.specs.ToldTexts.{told_text}
-use Rattle.repo_top.specs.Judging.{Given, State, says, refused, acted, acted_by, found_world, group_named, judged}
+use Rattle.repo_top.specs.Judging.{Given, State, says, acted, acted_by, found_world, group_named, judged}
 use Rattle.repo_top.specs.Judging.{judged_line, line_taken, outside_of, read, stepped, with_client_too, with_member_too}
 use Rattle.repo_top.specs.declared.stop.Stop.{Stop}
 use Rattle.repo_top.specs.declared.stop.Stop.TheVariants as stop

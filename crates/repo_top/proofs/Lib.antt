@@ -8,6 +8,7 @@ pub mod Fitting
 pub mod Sayings
 pub mod HeadlineLines
 pub mod HeadlineGroups
+pub mod HeadlineNames
 pub mod HeadlineCatalogues
 pub mod HeadlineSettles
 pub mod HeadlineDeletions
@@ -21,6 +22,7 @@ pub mod LineLaws
 pub mod Readings
 pub mod Stories
 pub mod Runs
+pub mod KnownRuns
 pub mod Stops
 pub mod Labels
 pub mod Judgings

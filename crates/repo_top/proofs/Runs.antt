@@ -3,7 +3,6 @@ use Rattle.std.proofs.Common.{◌≡◌, ◌≢◌, ℕ, zero, suc, ◌+◌, ◌
 use Rattle.std.proofs.Common.{length, take, drop, Option, Some, None, IfSome, refl, sym, ap, subst, ◌∙◌, append_assoc}
 use Rattle.std.proofs.Common.{length-append, arith, ◌⊎◌, inl, inr}
 use Rattle.std.specs.List.{concat, filter}
-use Rattle.std.specs.Io.KnownBytes.{IsAtEnd, Keeps, prepend_known}
 use Rattle.std.proofs.KnownBytes.{Appends-trans}
 use Rattle.std.proofs.lemmas.Bool.{or_from, or_left, or_right, le-ltb, lt-ltb}
 use Rattle.std.proofs.lemmas.Bool.Decides.{leb_tells}
@@ -24,7 +23,7 @@ use Rattle.repo_top.specs.Story.{Reached, Story, reached_behind, behind_text, en
 use Rattle.repo_top.specs.Story.{story_from, story_of}
 use Rattle.repo_top.specs.Taken.{FallsShortNear, IsTakenNear, LacksText, can_be_judged, end_of_line, lines_so_far}
 use Rattle.repo_top.specs.Taken.{lines_taken, report_of, report_through, taken}
-use Rattle.repo_top.specs.Carrying.{Carried, EndsIn, Finishes, IsStopping, Known, Ran, Stops, StatusTells, Took}
+use Rattle.repo_top.specs.Carrying.{Carried, EndsIn, Finishes, IsStopping, Ran, Stops, StatusTells, Took}
 use Rattle.repo_top.proofs.LineLaws.{open_line, whole_first}
 use Rattle.repo_top.proofs.Outputs.{front_behind, front_so_far, front_whole, nothing_gained}
 use Rattle.repo_top.proofs.Stories.{behind_behind, first_line_story, goes_on, long_refused, no_lines, refused_story}
@@ -481,62 +480,3 @@ module _ (given : Given) (r next : Reached) (a b : Option (List ℕ)) (last : Li
         read = λ e. never ReadFault (λ x. x) e;
         last = λ e. absurd (never Done (λ x. x) e);
       }
-
--- ---- what is known
-
-known_map : (P Q : List ℕ → List ℕ → Type 0) → ((input rest : List ℕ) → P input rest → Q input rest)
-    → (before now : Option (List ℕ)) → Known before now P → Known before now Q
-known_map P Q f None now h = tt
-known_map P Q f (Some input) None h = absurd h
-known_map P Q f (Some input) (Some rest) h = f input rest h
-
-module _ (given : Given) (a : Option (List ℕ)) where
-  pub known_read : (held held' : List ℕ) (r : Reached) (b before now now' : Option (List ℕ))
-      → Keeps (prepend_known held now) (prepend_known held' now') → Known before now (Carried given held r a b)
-      → Known before now' (Carried given held' r a b)
-  known_read held held' r b None now now' k h = tt
-  known_read held held' r b (Some input) None now' k h = absurd h
-  known_read held held' r b (Some input) (Some rest) None k h = absurd k
-  known_read held held' r b (Some input) (Some rest) (Some rest') k h =
-      carried_read given held r a b input rest h held' rest' k
-
-  module _ (held : List ℕ) (r next : Reached) (b d before now : Option (List ℕ)) (count : ℕ) where
-    pub known_line : HasLine count held → Took given r (take count held) next b d
-        → Known before now (Carried given held r a b) → Known before now (Carried given (drop count held) next a d)
-    known_line h took = known_map (Carried given held r a b) (Carried given (drop count held) next a d)
-        (λ input rest so_far. carried_line given held r next a b d input rest count so_far took h) before now
-
-    pub known_stopped : (Last : Story → Type 0) (status : Status) → HasLine count held → length held ≤ 65536
-        → Stops given r (take count held) b d status → Known before now (Carried given held r a b)
-        → Known before now (Ran given a d status Last)
-    known_stopped Last status h few stops = known_map (Carried given held r a b) (Ran given a d status Last)
-        (λ input rest so_far. ran_stopped given held r next a b d input rest count status so_far h few stops Last)
-        before now
-
-  pub known_unread : (Last : Story → Type 0) (held : List ℕ) (r : Reached) (b before now : Option (List ℕ))
-      → LineIsBegun held → Known before now (Carried given held r a b) → Known before now (Ran given a b ReadFault Last)
-  known_unread Last held r b before now begun = known_map (Carried given held r a b) (Ran given a b ReadFault Last)
-      (λ input rest so_far. ran_unread Last given held r a b input rest so_far begun) before now
-
-  pub known_finished : (held : List ℕ) (r next : Reached) (b d before now : Option (List ℕ)) (status : Status)
-      → IsAtEnd now → length held ≤ 65536 → Finishes given r (lines held) next b d status
-      → Known before now (Carried given held r a b) → Known before now (Ran given a d status (EndsIn next.state))
-  known_finished held r next b d None now status end few f h = tt
-  known_finished held r next b d (Some input) None status end few f h = absurd h
-  known_finished held r next b d (Some input) (Some rest) status end few f h =
-      ran_finished given held r next a b d input rest status h end few f
-
--- what is said of the story's end may be said otherwise
-pub ran_as : (given : Given) (a b : Option (List ℕ)) (status : Status) (P Q : Story → Type 0)
-    → (status ≡ Done → (s : Story) → P s → Q s) → (before now : Option (List ℕ))
-    → Known before now (Ran given a b status P) → Known before now (Ran given a b status Q)
-ran_as given a b status P Q f before now = known_map (Ran given a b status P) (Ran given a b status Q)
-    (λ input rest ran. record {
-      tells = ran.tells;
-      read_to_end = ran.read_to_end;
-      front_of_taken = ran.front_of_taken;
-      near_line = ran.near_line;
-      near_fault = ran.near_fault;
-      exact = ran.exact;
-      last = λ e. f e (story_of given input) (ran.last e);
-    }) before now

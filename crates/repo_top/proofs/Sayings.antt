@@ -1,11 +1,9 @@
 -- Each line is judged, and only those that the grammar refuses are told as Syntax.
-use Rattle.std.proofs.Common.{◌≡◌, ◌∙◌, ◌⊎◌, inl, inr, ℕ, Bool, true, false, not, nat_le, List, [], ◌∷◌, length, Option}
-use Rattle.std.proofs.Common.{Some, None, Result, Ok, Err, refl, sym, ap, subst, if◌then◌else◌}
+use Rattle.std.proofs.Common.{◌≡◌, ◌∙◌, ◌⊎◌, inl, inr, ℕ, List, [], ◌∷◌, Option}
+use Rattle.std.proofs.Common.{Some, None, Result, Ok, Err, refl, sym, ap, subst}
 use Rattle.std.specs.Prelude.{◌≢◌, IfErr}
 use Rattle.ndn_name.specs.Names.{Component}
-use Rattle.group_model.specs.World.{World, Outside}
 use Rattle.group_model.specs.Refusals as group
-use Rattle.repo_member.specs.Groups.{GroupKeys}
 use Rattle.script_lang.specs.declared.check_fault.CheckFault.{CheckFault}
 use Rattle.script_lang.specs.declared.check_fault.CheckFault.TheVariants as check_fault
 use Rattle.script_lang.specs.declared.line_fault.LineFault.{LineFault}
@@ -15,12 +13,12 @@ use Rattle.script_lang.specs.declared.verb.Verb.TheVariants as verb
 use Rattle.script_lang.specs.Kinds.{Kind, LABEL, N, URI, HEX, CONTENT, Value, Text, Number, Named, Octets}
 use Rattle.script_lang.specs.Forms.{Stated, form, said}
 use Rattle.script_lang.specs.Lines.{line_of}
-use Rattle.script_lang.specs.Texts.{AreOf, IsOfKind, IsLineText}
+use Rattle.script_lang.specs.Texts.{AreOf, IsLineText}
 use Rattle.script_lang.specs.Checking.{Declared, after_line}
 use Rattle.script_lang.proofs.LineTexts.{line_texts}
 use Rattle.script_lang.proofs.RefusalLemmas.{checked_for_a_cause, read_for_a_cause}
+use Rattle.script_lang.proofs.StatedForms.{read_in_its_form}
 use Rattle.bench_world.specs.EventValues.{EventValue, group_event}
-use Rattle.repo_top.specs.declared.refusal.Refusal.{Refusal}
 use Rattle.repo_top.specs.declared.refusal.Refusal.TheVariants as refusal
 use Rattle.repo_top.specs.Judging.{EachLineIsJudged, Given, State, SyntaxIsOfTheGrammar, Verdict, acted, acted_by}
 use Rattle.repo_top.specs.Judging.{checked, check_refused, event_refused, foreign, found_world, judged, judged_line}
@@ -127,14 +125,15 @@ check_beyond check_fault.NoMemory cause = absurd (cause refl)
 line_beyond : (given : Given) (s : State) (octets : List ℕ) (line : Stated) → line_of octets ≡ Ok (Some line)
     → IsBeyondGrammar (judged_line given s line)
 unfolding judged_line
-line_beyond given s octets line is = go (after_line s.declared line) (checked_for_a_cause s.declared line) where
-  text : IsLineText line octets
-  text = (line_texts line octets).0 is
+line_beyond given s octets line is =
+    go (after_line s.declared line) (checked_for_a_cause s.declared line (read_in_its_form octets line is)) where
+      text : IsLineText line octets
+      text = (line_texts line octets).0 is
 
-  go : (r : Result Declared CheckFault) → IfErr r (λ f. f ≢ check_fault.NoMemory)
-      → IsBeyondGrammar (checked given s line r)
-  go (Ok d) cause = taken_beyond given s d line.verb line.values text.ranges
-  go (Err fault) cause = check_beyond fault cause
+      go : (r : Result Declared CheckFault) → IfErr r (λ f. f ≢ check_fault.NoMemory)
+          → IsBeyondGrammar (checked given s line r)
+      go (Ok d) cause = taken_beyond given s d line.verb line.values text.ranges
+      go (Err fault) cause = check_beyond fault cause
 
 -- ---- any line
 

@@ -1,26 +1,23 @@
 -- The number of workers makes no difference to a story.
-use Rattle.std.proofs.Common.{◌≡◌, ◌∙◌, ℕ, ◌+◌, ◌≤◌, Bool, true, nat_le, nat_lt, ◌&&◌, List, [], ◌∷◌, ◌++◌, length, map}
-use Rattle.std.proofs.Common.{length-append, Option, Some, None, Result, Ok, Err, refl, sym, ap, subst, arith}
+use Rattle.std.proofs.Common.{◌≡◌, ◌∙◌, ℕ, ◌+◌, ◌≤◌, Bool, true, nat_le, nat_lt, ◌&&◌, List, [], ◌∷◌, length}
+use Rattle.std.proofs.Common.{length-append, Option, Some, None, Result, Ok, Err, refl, sym, ap, arith}
 use Rattle.std.proofs.Common.{if◌then◌else◌}
 use Rattle.std.specs.List.{concat}
-use Rattle.script_lang.specs.declared.check_fault.CheckFault.{CheckFault}
 use Rattle.script_lang.specs.declared.line_fault.LineFault.{LineFault}
-use Rattle.script_lang.specs.declared.line_fault.LineFault.TheVariants as line_fault
 use Rattle.script_lang.specs.declared.verb.Verb.{Verb}
 use Rattle.script_lang.specs.declared.verb.Verb.TheVariants as verb
 use Rattle.script_lang.specs.Kinds.{Value, Text, Number}
 use Rattle.script_lang.specs.Forms.{Stated, said}
 use Rattle.script_lang.specs.Lines.{line_of}
 use Rattle.script_lang.specs.Limits.{script_lines}
-use Rattle.script_lang.specs.Checking.{Declared, after_line}
 use Rattle.script_lang.proofs.Conditions.{le_test}
 use Rattle.repo_top.specs.declared.refusal.Refusal.TheVariants.{Limit}
 use Rattle.repo_top.specs.Lines.{lines}
 use Rattle.repo_top.specs.Judging.{Given, State, Verdict, acted, acted_by, checked, foreign, judged, judged_line}
 use Rattle.repo_top.specs.Judging.{line_taken, opening_state, read, says, unjudged}
 use Rattle.repo_top.specs.Judging as verdict
-use Rattle.repo_top.specs.Story.{Reached, Story, behind_text, is_within_script, judged_next, nothing_reached}
-use Rattle.repo_top.specs.Story.{reached_behind, story_from, story_of_line, within_report}
+use Rattle.repo_top.specs.Story.{Reached, behind_text, is_within_script, judged_next}
+use Rattle.repo_top.specs.Story.{story_from, story_of_line, within_report}
 use Rattle.repo_top.specs.Workers.{DifferInWorkers, WorkersMakeNoDifference, but_for_workers, with_one_worker}
 use Rattle.repo_top.proofs.LineLaws.{lines_joined}
 

@@ -71,6 +71,7 @@ pub record TellsOfDumped (g : GroupKeys) (w : World) (m : ℕ) (e : Entry) : Typ
 
 -- So does each entry of every catalogue, whatever lines are taken.
 abbrev pub EntriesTellOfDumped : Type 0
-EntriesTellOfDumped = (given : Given) (lines reports : List (List ℕ)) (r : Reached) → AreTakenFirst given lines reports r
+EntriesTellOfDumped = (given : Given) (lines reports : List (List ℕ)) (r : Reached)
+    → AreTakenFirst given lines reports r
     → (m : ℕ) → m < length (group_at given r).members
     → All (TellsOfDumped r.state.keys (group_at given r) m) (catalogue_at (group_at given r) m)

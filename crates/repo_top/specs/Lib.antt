@@ -19,6 +19,7 @@ pub mod Generator
 pub mod Forms
 pub mod Answers
 pub mod Headline
+pub mod ToldMembers
 pub mod HeldPackets
 pub mod ShownCatalogues
 pub mod Workers

@@ -1,6 +1,6 @@
 -- How a report writes why octets were refused: the refusal's word, with the offset, type, field, label or number that
 -- it has.
-use Rattle.std.specs.Prelude.{ℕ, List, ◌++◌, codes}
+use Rattle.std.specs.Prelude.{ℕ, List, [], ◌++◌, codes}
 use Rattle.std.specs.Fmt.{decimal}
 use Rattle.ndn_tlv.specs.declared.tlv_fault.TlvFault.{TlvFault}
 use Rattle.ndn_tlv.specs.declared.tlv_fault.TlvFault.TheVariants as tlv
@@ -50,12 +50,12 @@ packet_fault_text (packet.Critical typ at) = codes "Critical " ++ (decimal typ +
 packet_fault_text (packet.Missing named) = codes "Missing " ++ field_word named
 packet_fault_text (packet.BadField named at) = codes "BadField " ++ (field_word named ++ (codes " " ++ decimal at))
 
--- A member is told by its label.
+-- A member is told by its label. No octets are refused for want of memory, and no report has a text for it.
 abbrev pub vector_fault_text : List (List ℕ) → VectorFault → List ℕ
 vector_fault_text labels (vector.BadVector at) = codes "BadVector " ++ decimal at
 vector_fault_text labels (vector.NumberTooLarge m number) =
     codes "NumberTooLarge " ++ (label_at labels m ++ (codes " " ++ decimal number))
-vector_fault_text labels vector.NoMemory = codes "NoMemory"
+vector_fault_text labels vector.NoMemory = []
 
 abbrev pub sync_refusal_text : List (List ℕ) → SyncRefusal → List ℕ
 sync_refusal_text labels (sync.Packet fault) = packet_fault_text fault
@@ -65,12 +65,12 @@ sync_refusal_text labels sync.ParamsDigest = codes "ParamsDigest"
 sync_refusal_text labels sync.UnknownKey = codes "UnknownKey"
 sync_refusal_text labels sync.BadSignature = codes "BadSignature"
 sync_refusal_text labels (sync.Vector fault) = vector_fault_text labels fault
-sync_refusal_text labels sync.NoMemory = codes "NoMemory"
+sync_refusal_text labels sync.NoMemory = []
 
 abbrev pub hear_refusal_text : List (List ℕ) → HearRefusal → List ℕ
 hear_refusal_text labels (hear.Sync refusal) = sync_refusal_text labels refusal
 hear_refusal_text labels (hear.OwnNumberAhead own told) = codes "OwnNumberAhead"
-hear_refusal_text labels hear.NoMemory = codes "NoMemory"
+hear_refusal_text labels hear.NoMemory = []
 
 abbrev pub part_refusal_text : PartRefusal → List ℕ
 part_refusal_text (part.Packet fault) = packet_fault_text fault

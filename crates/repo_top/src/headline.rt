@@ -3,9 +3,11 @@ ghost use Rattle.repo_top.specs.Headline.{BeginsWithReports, EachIsTaken, HidesB
 ghost use Rattle.repo_top.specs.Headline.{PrintsCatalogues, ReachSoundGroups, SettlesJoin, TellingChangesNothing};
 ghost use Rattle.repo_top.specs.HeldPackets.{EntriesTellOfDumped, MembersHoldChecked};
 ghost use Rattle.repo_top.specs.Judging.{Given};
+ghost use Rattle.repo_top.specs.Labels.{MembersHaveLabels};
 ghost use Rattle.repo_top.specs.Lines.{lines};
 ghost use Rattle.repo_top.specs.ShownCatalogues.{CatalogueLinesShow, SettleLinesShow};
 ghost use Rattle.repo_top.specs.Story.{nothing_reached, story_of};
+ghost use Rattle.repo_top.specs.ToldMembers.{ReportsTellOfMembers};
 ghost use Rattle.repo_top.specs.Workers.{WorkersMakeNoDifference};
 
 /// The story of an input is told by its lines: the first of them are taken one after the other, their reports are its
@@ -29,6 +31,13 @@ pub fn lines_reach_sound_groups()
 /// deleted, each once under its publisher and number, in order, with what it tells of the object.
 pub fn printed_catalogues_list_what_is_held()
     ensures { PrintsCatalogues }
+{}
+
+/// In every story each number of a member that a report is made of is that of a member that a line declared, whose label
+/// is printed.
+pub fn printed_labels_are_declared()
+    ensures reports { ReportsTellOfMembers }
+    ensures labels { MembersHaveLabels }
 {}
 
 /// Right after a `settle` line, where nothing is deleted, every member's catalogue is the join of all publications, and

@@ -13,7 +13,8 @@ ghost use Rattle.bench_world.specs.Worlds.{drawing, world_of};
 ghost use Rattle.repo_top.specs.ToldTexts.{told_text};
 ghost use Rattle.repo_top.specs.Judging.{acted, acted_by, given_by, group_named, judged, judged_line, line_taken};
 ghost use Rattle.repo_top.specs.Judging.{opening_state, says, with_client_too, with_member_too};
-ghost use Rattle.repo_top.specs.Progressing.{IsEventLine, NamesAreDeclared, LineIsChecked, IsLine, IsProgress, IsStop, IsStopOf};
+ghost use Rattle.repo_top.specs.Progressing.{IsEventLine, NamesAreDeclared, LineIsChecked, IsLine, IsProgress, IsStop};
+ghost use Rattle.repo_top.specs.Progressing.{IsStopOf};
 ghost use Rattle.repo_top.specs.Progressing.{StatesFit, has_group, has_world, standing_keys, progress_state, steps};
 ghost use Rattle.repo_top.specs.Progressing.{steps_in, world_in};
 

@@ -1,4 +1,5 @@
-ghost use Rattle.std.specs.Prelude.{◌≡◌, map, length, string_bytes, IfOk};
+ghost use Rattle.std.specs.Prelude.{◌≡◌, ◌<◌, map, length, string_bytes, IfOk};
+ghost use Rattle.std.specs.List.{All};
 ghost use Rattle.script_report.specs.Pieces.{Appends};
 ghost use Rattle.bench_world.specs.EventValues.{told_value};
 ghost use Rattle.bench_world.specs.Steps.{NamesAll};
@@ -191,14 +192,12 @@ pub(crate) fn put_happened(
     }
 }
 
-// The label of a member. What stands for nobody's is no label.
+// The label of a member.
 pub(crate) fn label(labels: &[String], m: u32) -> &str
+    requires { m < length labels.now }
     ensures { result.now ≡ label_at (map string_bytes labels.now) m }
 {
-    match labels.get(m as usize) {
-        Some(label) => label.as_str(),
-        None => "?",
-    }
+    labels[m as usize].as_str()
 }
 
 // The labels of the entries' publishers.
@@ -207,6 +206,7 @@ fn publishers(
     labels: &[String],
     entries: &[Entry],
 ) -> Result<Vec<String>, AllocError>
+    requires { All (λ entry. entry.publisher < length labels.now) entries.now }
     ensures { IfOk result (λ named. map string_bytes named.items
         ≡ map (publisher_label (map string_bytes labels.now)) entries.now) }
 {

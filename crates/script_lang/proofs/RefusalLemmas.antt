@@ -1,6 +1,6 @@
 -- No line is refused for want of memory.
 use Rattle.std.proofs.Common.{ℕ, Bool, true, false, cond, not, ◌&&◌, List, [], ◌∷◌, length, Option, Some, None, Result}
-use Rattle.std.proofs.Common.{Ok, Err}
+use Rattle.std.proofs.Common.{◌≡◌, Ok, Err, refl}
 use Rattle.std.specs.Prelude.{IfErr, ◌≢◌, nat_le, codes, replicate}
 use Rattle.std.specs.List.{list_all}
 use Rattle.std.specs.Str.Parse.{digits_value}
@@ -17,13 +17,15 @@ use Rattle.script_lang.specs.declared.verb.Verb.TheVariants.{Group, Member, Clie
 use Rattle.script_lang.specs.Kinds.{Kind, LABEL, N, URI, HEX, CONTENT, Value, Text, Number, Named, Octets, label_of}
 use Rattle.script_lang.specs.Kinds.{is_label, is_numeral, numeral_of, octets_within, decoded_within, hex_of, filled}
 use Rattle.script_lang.specs.Kinds.{filled_of, content_by, content_of, name_within, uri_of, mapped, word_of}
-use Rattle.script_lang.specs.Forms.{Stated, form, said}
+use Rattle.script_lang.specs.Forms.{AreShaped, Stated, form, said}
 use Rattle.script_lang.specs.Lines.{with_value, without_value, word_then, values_of, are_within, stated_of}
 use Rattle.script_lang.specs.Lines.{line_by, line_in_words, verb_of_word, spaced_words, says_nothing, is_printable}
 use Rattle.script_lang.specs.Lines.{mapped_line, line_in, line_within, ends_with, line_of, without_last_octet}
 use Rattle.script_lang.specs.Lines.{without_return}
-use Rattle.script_lang.specs.Checking.{Declared, Party, after_group, after_event, after_by, after_line, may_declare}
-use Rattle.script_lang.specs.Checking.{declared_then, is_there, are_known, adds, are_within_limits, with_totals, party}
+use Rattle.script_lang.specs.Checking.{Declared, Party, after_group, after_declaration, after_event, after_by}
+use Rattle.script_lang.specs.Checking.{after_line}
+use Rattle.script_lang.specs.Checking.{may_declare, declared_then, is_there, are_known, adds, are_within_limits}
+use Rattle.script_lang.specs.Checking.{with_totals, party}
 
 -- ---- the text of a line
 
@@ -197,15 +199,45 @@ event_err d s =
     (λ e. absurd cc) (refused (not (are_within_limits (with_totals d.totals (adds s.verb s.values)))) refusal.TooLarge _
     (λ e. absurd cc) tt))
 
-by_others : (d : Declared) (s : Stated) (verb : Verb) (values : List Value) → IfErr (after_by d s verb values) IsOfOthers
-by_others d s Group values = group_err d
-by_others d s Member (Text label ∷ Named node ∷ key ∷ []) =
-    declared_err (may_declare d (party label node) (length d.members)) _
-    (may_err d (party label node) (length d.members))
-by_others d s Client (Text label ∷ Named node ∷ key ∷ []) =
-    declared_err (may_declare d (party label node) (length d.clients)) _
-    (may_err d (party label node) (length d.clients))
-by_others d s verb values = event_err d s
+-- What a member's or a client's line states.
+record StatesParty (values : List Value) : Type 0 where
+  label : List ℕ
+  node : List Component
+  key : Value
+  is : values ≡ Text label ∷ Named node ∷ key ∷ []
 
-pub checked_for_a_cause : (d : Declared) (s : Stated) → IfErr (after_line d s) (λ r. r ≢ refusal.NoMemory)
-checked_for_a_cause d s = by_others d s s.verb s.values
+states_party : (values : List Value) → AreShaped (LABEL ∷ URI 200 ∷ HEX 128 ∷ []) values → StatesParty values
+states_party (Text label ∷ Named node ∷ key ∷ []) h = record { label = label; node = node; key = key; is = refl }
+states_party (Text label ∷ Named node ∷ key ∷ other ∷ values) h = absurd h.1.1.1
+states_party (Text label ∷ Named node ∷ []) h = absurd h.1.1
+states_party (Text label ∷ Text other ∷ values) h = absurd h.1.0
+states_party (Text label ∷ Number n ∷ values) h = absurd h.1.0
+states_party (Text label ∷ Octets octets ∷ values) h = absurd h.1.0
+states_party (Text label ∷ []) h = absurd h.1
+states_party (Number n ∷ values) h = absurd h.0
+states_party (Named name ∷ values) h = absurd h.0
+states_party (Octets octets ∷ values) h = absurd h.0
+states_party [] h = absurd h
+
+member_err : (d : Declared) (values : List Value) → StatesParty values
+    → IfErr (after_declaration d Member values) IsOfOthers
+member_err d values h =
+    rw h.is (declared_err (may_declare d (party h.label h.node) (length d.members)) _
+    (may_err d (party h.label h.node) (length d.members)))
+
+client_err : (d : Declared) (values : List Value) → StatesParty values
+    → IfErr (after_declaration d Client values) IsOfOthers
+client_err d values h =
+    rw h.is (declared_err (may_declare d (party h.label h.node) (length d.clients)) _
+    (may_err d (party h.label h.node) (length d.clients)))
+
+by_others : (d : Declared) (s : Stated) (verb : Verb) (values : List Value) → AreShaped (form verb).kinds values
+    → IfErr (after_by d s verb values) IsOfOthers
+by_others d s Group values h = group_err d
+by_others d s Member values h = member_err d values (states_party values h)
+by_others d s Client values h = client_err d values (states_party values h)
+by_others d s verb values h = event_err d s
+
+pub checked_for_a_cause : (d : Declared) (s : Stated) → AreShaped (form s.verb).kinds s.values
+    → IfErr (after_line d s) (λ r. r ≢ refusal.NoMemory)
+checked_for_a_cause d s h = by_others d s s.verb s.values h

@@ -1,7 +1,12 @@
 -- What a line states has the shape of its form.
+use Rattle.std.proofs.Common.{◌≡◌, ℕ, List, [], ◌∷◌, Some, Ok}
+use Rattle.script_lang.specs.Kinds.{Kind, LABEL, N, URI, HEX, CONTENT, Value, Text, Number, Named, Octets}
+use Rattle.script_lang.specs.Lines.{line_of}
+use Rattle.script_lang.specs.Texts.{AreOf, IsLineText, IsOfKind}
+use Rattle.script_lang.proofs.LineTexts.{line_texts}
 use Rattle.script_lang.specs.declared.line.Line.{Line}
 use Rattle.script_lang.specs.declared.line.Line.TheVariants as line
-use Rattle.script_lang.specs.Forms.{form, stated, AreShaped}
+use Rattle.script_lang.specs.Forms.{Stated, form, stated, AreShaped, IsShaped}
 
 pub states_its_form : (l : Line) → AreShaped (form (stated l).verb).kinds (stated l).values
 states_its_form (line.Group _) = (tt, tt)
@@ -31,3 +36,24 @@ states_its_form (line.Delete _ _ _) = (tt, (tt, (tt, tt)))
 states_its_form (line.Insert _ _ _ _ _) = (tt, (tt, (tt, (tt, (tt, tt)))))
 states_its_form line.Summary = tt
 states_its_form line.Traffic = tt
+
+-- ---- octets
+
+kind_is_shaped : (kind : Kind) (value : Value) → IsOfKind kind value → IsShaped kind value
+kind_is_shaped LABEL (Text label) h = tt
+kind_is_shaped (N least most) (Number n) h = tt
+kind_is_shaped (URI most) (Named name) h = tt
+kind_is_shaped (HEX most) (Octets octets) h = tt
+kind_is_shaped (CONTENT least most) (Octets octets) h = tt
+kind_is_shaped kind value h = absurd h
+
+are_shaped : (kinds : List Kind) (values : List Value) → AreOf kinds values → AreShaped kinds values
+are_shaped [] [] h = tt
+are_shaped (kind ∷ kinds) (value ∷ values) h = (kind_is_shaped kind value h.0, are_shaped kinds values h.1)
+are_shaped [] (value ∷ values) h = absurd h
+are_shaped (kind ∷ kinds) [] h = absurd h
+
+pub read_in_its_form : (octets : List ℕ) (s : Stated) → line_of octets ≡ Ok (Some s)
+    → AreShaped (form s.verb).kinds s.values
+read_in_its_form octets s h =
+    let text : IsLineText s octets = (line_texts s octets).0 h in are_shaped (form s.verb).kinds s.values text.ranges

@@ -9,10 +9,12 @@ use Rattle.script_lang.specs.declared.declaration.Declaration.{Declaration}
 use Rattle.ndn_name.specs.Names.{Component, encoding}
 use Rattle.script_lang.specs.declared.check_fault.CheckFault.{CheckFault}
 use Rattle.script_lang.specs.declared.check_fault.CheckFault.TheVariants.{NoGroup, Late, UnknownLabel, Duplicate, Limit}
-use Rattle.script_lang.specs.declared.check_fault.CheckFault.TheVariants.{TooLarge}
+use Rattle.script_lang.specs.declared.check_fault.CheckFault.TheVariants.{TooLarge, NoMemory}
 use Rattle.script_lang.specs.declared.verb.Verb.{Verb}
-use Rattle.script_lang.specs.declared.verb.Verb.TheVariants.{Group, Member, Client, Publish, Deliver, Sync, Claim, Lose}
-use Rattle.script_lang.specs.declared.verb.Verb.TheVariants.{Answer, Feed, Order, Insert, Block, Status, Delete, Settle}
+use Rattle.script_lang.specs.declared.verb.Verb.TheVariants.{Group, Member, Client, Publish, Deliver, Sync, Advance}
+use Rattle.script_lang.specs.declared.verb.Verb.TheVariants.{Fire, Restart, Vector, Catalogue, Claim, Lose, Answer}
+use Rattle.script_lang.specs.declared.verb.Verb.TheVariants.{Fetch, Settle, Dump, Hear, Order, Ask, Feed, Insert, Block}
+use Rattle.script_lang.specs.declared.verb.Verb.TheVariants.{Status, Delete, Summary, Traffic}
 use Rattle.script_lang.specs.Kinds.{Value, Text, Number, Named, Octets}
 use Rattle.script_lang.specs.Forms.{Stated}
 use Rattle.script_lang.specs.Limits.{members_limit, contents_limit, parts_limit, settles_limit}
@@ -76,39 +78,106 @@ are_those d (m ∷ clients) = has_label m d.members && are_clients d clients
 abbrev pub are_members : Declared → List (List ℕ) → Bool
 are_members d labels = list_all (λ label. has_label label d.members) labels
 
+-- What a form is: it declares the group, a member or a client; it is an event whose labels are members'; or it is an
+-- event by a client's command, with the client's label behind the member's.
+pub data Sort : Type 0 where
+  declaration : Sort
+  event : Sort
+  command : Sort
+
+abbrev pub sort_of : Verb → Sort
+sort_of Group = declaration
+sort_of Member = declaration
+sort_of Client = declaration
+sort_of Publish = event
+sort_of Deliver = event
+sort_of Sync = event
+sort_of Advance = event
+sort_of Fire = event
+sort_of Restart = event
+sort_of Vector = event
+sort_of Catalogue = event
+sort_of Claim = event
+sort_of Lose = event
+sort_of Answer = event
+sort_of Fetch = event
+sort_of Settle = event
+sort_of Dump = event
+sort_of Hear = event
+sort_of Order = event
+sort_of Ask = event
+sort_of Feed = event
+sort_of Insert = command
+sort_of Block = event
+sort_of Status = command
+sort_of Delete = command
+sort_of Summary = event
+sort_of Traffic = event
+
+-- The label of a declaration is new, and not asked for.
+abbrev pub are_known_of : Sort → Declared → List (List ℕ) → Bool
+are_known_of declaration d labels = false
+are_known_of event d labels = are_members d labels
+are_known_of command d labels = are_those d labels
+
 abbrev pub are_known_by : Verb → Declared → List (List ℕ) → Bool
-are_known_by Insert d labels = are_those d labels
-are_known_by Status d labels = are_those d labels
-are_known_by Delete d labels = are_those d labels
-are_known_by verb d labels = are_members d labels
+are_known_by verb d labels = are_known_of (sort_of verb) d labels
 
 abbrev pub are_known : Declared → Stated → Bool
 are_known d s = are_known_by s.verb d (labels_in s.values)
 
--- The forms that declare the group, a member or a client. All others are events.
+-- All lines but declarations are events.
+abbrev pub is_declaration : Sort → Bool
+is_declaration declaration = true
+is_declaration event = false
+is_declaration command = false
+
 abbrev pub declares : Verb → Bool
-declares Group = true
-declares Member = true
-declares Client = true
-declares verb = false
+declares verb = is_declaration (sort_of verb)
 
 -- How many segments of this size a content has.
 abbrev pub segments : ℕ → ℕ → ℕ
 segments len size = (len + size - 1) / size
 
+abbrev pub nothing_added : LineTotals
+nothing_added = record { contents = 0; parts = 0; settles = 0 }
+
 -- What a line adds to the totals.
 abbrev pub adds : Verb → List Value → LineTotals
+adds Group values = nothing_added
+adds Member values = nothing_added
+adds Client values = nothing_added
 adds Publish (m ∷ name ∷ Number size ∷ Octets content ∷ []) = record {
   contents = length content;
   parts = 1 + segments (length content) size;
   settles = 0;
 }
+adds Publish _ = nothing_added
+adds Deliver values = nothing_added
+adds Sync values = nothing_added
+adds Advance values = nothing_added
+adds Fire values = nothing_added
+adds Restart values = nothing_added
+adds Vector values = nothing_added
+adds Catalogue values = nothing_added
+adds Claim values = nothing_added
+adds Lose values = nothing_added
+adds Answer values = nothing_added
+adds Fetch values = nothing_added
+adds Settle values = record { contents = 0; parts = 0; settles = 1 }
+adds Dump values = nothing_added
+adds Hear values = nothing_added
+adds Order values = record { contents = 0; parts = 1; settles = 0 }
+adds Ask values = nothing_added
+adds Feed values = nothing_added
+adds Insert values = record { contents = 0; parts = 1; settles = 0 }
 adds Block (m ∷ process ∷ index ∷ Octets content ∷ []) =
     record { contents = length content; parts = 1; settles = 0 }
-adds Insert values = record { contents = 0; parts = 1; settles = 0 }
-adds Order values = record { contents = 0; parts = 1; settles = 0 }
-adds Settle values = record { contents = 0; parts = 0; settles = 1 }
-adds verb values = record { contents = 0; parts = 0; settles = 0 }
+adds Block _ = nothing_added
+adds Status values = nothing_added
+adds Delete values = nothing_added
+adds Summary values = nothing_added
+adds Traffic values = nothing_added
 
 abbrev pub with_totals : LineTotals → LineTotals → LineTotals
 with_totals a b = record {
@@ -158,15 +227,25 @@ after_event d s =
 abbrev pub party : List ℕ → List Component → Party
 party label node = record { label = label; node = node }
 
-abbrev pub after_by : Declared → Stated → Verb → List Value → Result Declared CheckFault
-after_by d s Group values = after_group d
-after_by d s Member (Text label ∷ Named node ∷ key ∷ []) =
+-- No line states another declaration than these: it would have no cause, and is told as want of memory, which no line
+-- gets.
+abbrev pub after_declaration : Declared → Verb → List Value → Result Declared CheckFault
+after_declaration d Group values = after_group d
+after_declaration d Member (Text label ∷ Named node ∷ key ∷ []) =
     declared_then (may_declare d (party label node) (length d.members))
     (record d { members = d.members ++ party label node ∷ [] })
-after_by d s Client (Text label ∷ Named node ∷ key ∷ []) =
+after_declaration d Client (Text label ∷ Named node ∷ key ∷ []) =
     declared_then (may_declare d (party label node) (length d.clients))
     (record d { clients = d.clients ++ party label node ∷ [] })
-after_by d s verb values = after_event d s
+after_declaration d verb values = Err NoMemory
+
+abbrev pub after_sort : Sort → Declared → Stated → Verb → List Value → Result Declared CheckFault
+after_sort declaration d s verb values = after_declaration d verb values
+after_sort event d s verb values = after_event d s
+after_sort command d s verb values = after_event d s
+
+abbrev pub after_by : Declared → Stated → Verb → List Value → Result Declared CheckFault
+after_by d s verb values = after_sort (sort_of verb) d s verb values
 
 -- What is declared after a line, or the first refusal of it.
 abbrev pub after_line : Declared → Stated → Result Declared CheckFault
@@ -178,15 +257,35 @@ nothing_declared = record {
   members = [];
   clients = [];
   events = false;
-  totals = record { contents = 0; parts = 0; settles = 0 };
+  totals = nothing_added;
 }
 
 -- The forms that name a packet's number or a fetcher: these may be refused for what the world lacks.
 abbrev pub names_packet_or_fetcher : Verb → Bool
+names_packet_or_fetcher Group = false
+names_packet_or_fetcher Member = false
+names_packet_or_fetcher Client = false
+names_packet_or_fetcher Publish = false
 names_packet_or_fetcher Deliver = true
 names_packet_or_fetcher Sync = true
+names_packet_or_fetcher Advance = false
+names_packet_or_fetcher Fire = false
+names_packet_or_fetcher Restart = false
+names_packet_or_fetcher Vector = false
+names_packet_or_fetcher Catalogue = false
 names_packet_or_fetcher Claim = true
 names_packet_or_fetcher Lose = true
 names_packet_or_fetcher Answer = true
+names_packet_or_fetcher Fetch = false
+names_packet_or_fetcher Settle = false
+names_packet_or_fetcher Dump = false
+names_packet_or_fetcher Hear = false
+names_packet_or_fetcher Order = false
+names_packet_or_fetcher Ask = false
 names_packet_or_fetcher Feed = true
-names_packet_or_fetcher verb = false
+names_packet_or_fetcher Insert = false
+names_packet_or_fetcher Block = false
+names_packet_or_fetcher Status = false
+names_packet_or_fetcher Delete = false
+names_packet_or_fetcher Summary = false
+names_packet_or_fetcher Traffic = false

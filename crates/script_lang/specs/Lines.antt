@@ -1,6 +1,7 @@
 -- What octets are as a line: its verb and the values of its words; nothing; or why they are no line. A line that is
 -- too long is told first, then what isn't in the grammar, then what leaves a range.
-use Rattle.std.specs.Prelude.{ℕ, ◌-◌, ◌*◌, Bool, true, not, ◌&&◌, List, [], ◌∷◌, length, take, map, Option, Some, None}
+use Rattle.std.specs.Prelude.{ℕ, ◌-◌, ◌*◌, Bool, true, false, not, ◌&&◌, List, [], ◌∷◌, length, take, map, Option, Some}
+use Rattle.std.specs.Prelude.{None}
 use Rattle.std.specs.Prelude.{Result, Ok, Err, nat_le, nat_lt, ◌==◌, if◌then◌else◌, filter, slice_index}
 use Rattle.std.specs.List.{list_all, slice_split, find}
 use Rattle.std.specs.Str.{bytes_eq}
@@ -43,13 +44,39 @@ values_of (kind ∷ kinds) (word ∷ words) = word_then (word_of kind word) (val
 -- ---- the line
 
 -- What is asked of the values together: a publication has at most 200 segments, an insertion at most
--- 200 blocks.
+-- 200 blocks, and of the others nothing is asked.
 abbrev pub are_within : Verb → List Value → Bool
+are_within Group values = true
+are_within Member values = true
+are_within Client values = true
 are_within Publish (m ∷ name ∷ Number size ∷ Octets content ∷ []) =
     nat_le (length content) (200 * size)
+are_within Publish _ = false
+are_within Deliver values = true
+are_within Sync values = true
+are_within Advance values = true
+are_within Fire values = true
+are_within Restart values = true
+are_within Vector values = true
+are_within Catalogue values = true
+are_within Claim values = true
+are_within Lose values = true
+are_within Answer values = true
+are_within Fetch values = true
+are_within Settle values = true
+are_within Dump values = true
+are_within Hear values = true
+are_within Order values = true
+are_within Ask values = true
+are_within Feed values = true
 are_within Insert (m ∷ client ∷ name ∷ Number first ∷ Number last ∷ []) =
     nat_le first last && nat_lt (last - first) 200
-are_within _ _ = true
+are_within Insert _ = false
+are_within Block values = true
+are_within Status values = true
+are_within Delete values = true
+are_within Summary values = true
+are_within Traffic values = true
 
 abbrev pub stated_of : Verb → Result (List Value) LineFault → Result Stated LineFault
 stated_of verb (Ok values) =

@@ -89,12 +89,14 @@ pub record IsLineText (s : Stated) (octets : List ℕ) : Type 0 where
 
 -- ---- the text that is printed
 
+-- A value of another kind than the word's has no text.
 abbrev pub word_text : Kind → Value → List ℕ
+word_text LABEL (Text text) = text
+word_text (N least most) (Number n) = decimal n
+word_text (URI most) (Named name) = uri name
+word_text (HEX most) (Octets octets) = encode_lower octets
 word_text (CONTENT least most) (Octets octets) = codes "hex:" ++ encode_lower octets
-word_text kind (Octets octets) = encode_lower octets
-word_text kind (Text text) = text
-word_text kind (Number n) = decimal n
-word_text kind (Named name) = uri name
+word_text kind value = []
 
 -- A space and a word, for each value.
 abbrev pub words_text : List Kind → List Value → List ℕ

@@ -53,12 +53,15 @@ pub fn printed_lines_are_read()
 /// A refusal that a line gets is told by it and the lines before it, and is never want of memory.
 pub fn refusals_are_of_the_lines()
     ensures read { (octets : List ℕ) → IfErr (line_of octets) (λ f. f ≢ fault.NoMemory) }
-    ensures checked { (d : Declared) (s : Stated) → IfErr (after_line d s) (λ r. r ≢ refusal.NoMemory) }
+    ensures checked { (d : Declared) (s : Stated) → AreShaped (form s.verb).kinds s.values
+        → IfErr (after_line d s) (λ r. r ≢ refusal.NoMemory) }
 {}
 
-/// What a line states has the values that its form has, so that what definitions say of other values is said of no line.
+/// What a line states has the values of its form, so that what definitions say of other values is said of no line.
 pub fn lines_state_their_forms()
-    ensures { (line : Line) → AreShaped (form (stated line).verb).kinds (stated line).values }
+    ensures lines { (line : Line) → AreShaped (form (stated line).verb).kinds (stated line).values }
+    ensures octets { (octets : List ℕ) (s : Stated) → line_of octets ≡ Ok (Some s)
+        → AreShaped (form s.verb).kinds s.values }
 {}
 
 /// A line that names a packet's number or a fetcher passes no total, so it is all the same whether a

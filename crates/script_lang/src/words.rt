@@ -1,4 +1,5 @@
-ghost use Rattle.std.specs.Prelude.{◌≡◌, ◌<◌, ◌⊎◌, false, map, length, slice_get, IfErr, IfSome, OnOk, OnErr, Ok, Err, Some};
+ghost use Rattle.std.specs.Prelude.{◌≡◌, ◌<◌, ◌⊎◌, false, map, length, slice_get, IfErr, IfSome, OnOk, OnErr, Ok, Err};
+ghost use Rattle.std.specs.Prelude.{Some};
 ghost use Rattle.script_lang.specs.Forms.{stated};
 ghost use Rattle.script_lang.specs.Checking.{Declared, after_event, after_line, declares, party_label, may_declare};
 ghost use Rattle.script_lang.specs.Checking.{nothing_declared, party, party_place};

@@ -72,15 +72,6 @@ vector_or (Err fault) = Err (Vector fault)
 abbrev pub is_sync_name : List Component → List Component → Bool
 is_sync_name group name = has_same_octets (without_last name) (sync_name group) && ends_in_digest name
 
--- The number of the key that signed a sync Interest of the group; or the first refusal of what is tested before the
--- vector is read.
-abbrev pub signed_interest_verdict : List Component → List NamedKey → Interest → Result ℕ SyncRefusal
-signed_interest_verdict group ring i =
-    ensured (is_sync_name group i.name) WrongGroup >>= λ _. signed_or (signer_of ring i)
-
-abbrev pub signer_verdict : List Component → List NamedKey → List ℕ → Result ℕ SyncRefusal
-signer_verdict group ring octets = packet_or (interest_of octets) >>= signed_interest_verdict group ring
-
 -- The number of the key that signed an Interest, and the vector that it tells; or the first refusal.
 abbrev pub sync_interest_verdict : List Component → List (List Component) → List NamedKey → Interest
     → Result (ℕ × List ℕ) SyncRefusal

@@ -6,7 +6,8 @@ ghost use Rattle.svs_vector.specs.Rosters.{IsRoster};
 ghost use Rattle.svs_sync.specs.Suppression.{SyncEvent, SyncMember, after_sync_events, fires, mode_of};
 ghost use Rattle.ndn_tlv.specs.Types as types;
 ghost use Rattle.svs_sync.specs.SyncInterest.{sync_interest, sync_verdict, is_sync_name, IsNodeName, IsKeyName};
-ghost use Rattle.svs_sync.specs.declared.sync_refusal.SyncRefusal.TheVariants.{NoMemory};
+ghost use Rattle.svs_sync.specs.declared.sync_refusal.SyncRefusal.TheVariants.{NoMemory, Vector};
+ghost use Rattle.svs_vector.specs.declared.vector_fault.VectorFault.TheVariants as vector;
 ghost use Rattle.std.specs.Prelude.{◌≢◌, IfErr};
 ghost use Rattle.svs_sync.specs.KeptVector.{kept, after_all_kept, fires_kept};
 
@@ -51,8 +52,9 @@ pub fn told_vectors_have_all_members()
         → sync_verdict group roster ring octets ≡ Ok told → length told.1 ≡ length roster }
 {}
 
-/// A refusal that octets get is told by them, and is never want of memory.
+/// A refusal that octets get is told by them, and is never want of memory, nor is the fault of its vector.
 pub fn sync_refusals_are_of_the_octets()
     ensures { (group : List Component) (roster : List (List Component)) (ring : List NamedKey)
-        (octets : List ℕ) → IfErr (sync_verdict group roster ring octets) (λ refusal. refusal ≢ NoMemory) }
+        (octets : List ℕ) → IfErr (sync_verdict group roster ring octets)
+        (λ refusal. (refusal ≢ NoMemory) × (refusal ≢ Vector vector.NoMemory)) }
 {}

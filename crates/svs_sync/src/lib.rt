@@ -17,5 +17,5 @@ pub use laws::{
 };
 pub use machine::Machine;
 pub use mode::Mode;
-pub use sync_interest::{check_sync, make_sync};
+pub use sync_interest::{check_sync, check_told, make_sync};
 pub use sync_refusal::SyncRefusal;

@@ -1,8 +1,9 @@
 ghost use Rattle.std.specs.Prelude.{◌≡◌, ◌≤◌, ◌⊎◌, IfOk, IsTrue, MatchResult, Ok, Err, Some, length, slice_get};
-ghost use Rattle.std.specs.Prelude.{◌≢◌, is_some, IfErr, IsOk};
+ghost use Rattle.std.specs.Prelude.{◌≢◌, is_some, IsOk};
 ghost use Rattle.std.specs.List.{All};
+ghost use Rattle.svs_vector.specs.declared.vector_fault.VectorFault.TheVariants as fault;
 ghost use Rattle.svs_sync.specs.SyncInterest.{sync_name, sync_interest, sync_verdict, is_sync_name, IsNodeName};
-ghost use Rattle.svs_sync.specs.SyncInterest.{IsKeyName, signer_verdict};
+ghost use Rattle.svs_sync.specs.SyncInterest.{IsKeyName};
 
 use crate::sync_refusal::SyncRefusal;
 use ndn_interest::{InterestView, signer_of, write_signed};
@@ -10,7 +11,7 @@ use ndn_name::{Name, NameFault, NameView, PacketWriteFault};
 use ndn_sign::KeyRing;
 use ndn_tlv::types;
 use std::alloc::{AllocError, Global};
-use svs_vector::{Roster, Vector, VectorFault};
+use svs_vector::{Roster, ToldNumbers, Vector};
 
 // What stands behind the group's name in that of its sync Interests: the component of version 2,
 // and the head of the parameters digest's component.
@@ -67,9 +68,7 @@ fn sync_name(alloc: Global, group: &Name) -> Result<Name, AllocError>
 /// Checks the octets of a sync Interest of the group, and gives the number of the key in the ring
 /// that signed it, and the vector that it tells.
 ///
-/// The signer is known by its key alone, whatever the vector tells. What follows the state vector
-/// in the parameters is passed over. Only the vector takes memory, so want of it is told where all that is tested before
-/// the vector has passed.
+/// Only the vector takes memory, and that comes last: it is checked as [`check_told`] checks it.
 pub fn check_sync(
     alloc: Global,
     octets: &[u8],
@@ -81,9 +80,32 @@ pub fn check_sync(
         (λ told. sync_verdict group.now roster.now ring.now octets.now ≡ Ok (told.0, told.1))
         (λ refusal. (sync_verdict group.now roster.now ring.now octets.now ≡ Err refusal)
         ⊎ (refusal ≡ SyncRefusal.NoMemory)) }
-    ensures memory { IfErr result (λ refusal. refusal ≡ SyncRefusal.NoMemory
-        → IsOk (signer_verdict group.now ring.now octets.now)) }
-    ensures vector { result ≢ Err (SyncRefusal.Vector VectorFault.NoMemory) }
+    ensures memory { result ≡ Err SyncRefusal.NoMemory
+        → IsOk (sync_verdict group.now roster.now ring.now octets.now) }
+    ensures vector { result ≢ Err (SyncRefusal.Vector fault.NoMemory) }
+    ensures width { IfOk result (λ told. length told.1 ≡ length roster.now) }
+{
+    let (signer, told) = check_told(octets, group, roster, ring)?;
+    match told.to_vector(alloc) {
+        Ok(vector) => Ok((signer, vector)),
+        Err(_) => Err(SyncRefusal::NoMemory),
+    }
+}
+
+/// Checks the octets of a sync Interest of the group, and gives the number of the key in the ring
+/// that signed it, and the numbers that it tells. It takes no memory.
+///
+/// The signer is known by its key alone, whatever the numbers tell. What follows the state vector
+/// in the parameters is passed over.
+pub fn check_told(
+    octets: &[u8],
+    group: &Name,
+    roster: &Roster,
+    ring: &KeyRing,
+) -> Result<(u32, ToldNumbers), SyncRefusal>
+    ensures verdict { MatchResult result
+        (λ told. sync_verdict group.now roster.now ring.now octets.now ≡ Ok (told.0, told.1))
+        (λ refusal. sync_verdict group.now roster.now ring.now octets.now ≡ Err refusal) }
     ensures width { IfOk result (λ told. length told.1 ≡ length roster.now) }
 {
     let interest = InterestView::read(octets)?;
@@ -91,9 +113,8 @@ pub fn check_sync(
         return Err(SyncRefusal::WrongGroup);
     }
     let signer = signer_of(&interest, ring)?;
-    match Vector::read(alloc, interest.parameters.unwrap_or(&[]), roster) {
-        Ok(vector) => Ok((signer, vector)),
-        Err(VectorFault::NoMemory) => Err(SyncRefusal::NoMemory),
+    match ToldNumbers::read(interest.parameters.unwrap_or(&[]), roster) {
+        Ok(told) => Ok((signer, told)),
         Err(fault) => Err(SyncRefusal::Vector(fault)),
     }
 }

@@ -1,7 +1,8 @@
--- What holds of the faults of octets that are no state vector: where a number is too large, it is a member's.
+-- What holds of the faults of octets that are no state vector: where a number is too large, it is a member's, and none
+-- is want of memory.
 use Rattle.std.proofs.Common.{◌≡◌, ℕ, max, ◌==◌, ◌<◌, Bool, true, false, cond, List, [], ◌∷◌, length, Option, Some}
 use Rattle.std.proofs.Common.{None, refl}
-use Rattle.std.specs.Prelude.{Result, Ok, Err, IfErr, nat_lt, slice_index, slice_set}
+use Rattle.std.specs.Prelude.{◌≢◌, Result, Ok, Err, IfErr, nat_lt, slice_index, slice_set}
 use Rattle.std.proofs.lemmas.List.Quantifiers.{position-Some}
 use Rattle.ndn_tlv.specs.declared.order_table.FieldFault.{FieldFault}
 use Rattle.ndn_tlv.specs.declared.order_table.FieldFault.TheVariants.{Tlv, Critical}
@@ -11,7 +12,7 @@ use Rattle.ndn_tlv.specs.NumberField.{number_of}
 use Rattle.ndn_name.specs.declared.name_fault.NameFault.{NameFault}
 use Rattle.ndn_name.specs.Names.{Component, name_of}
 use Rattle.svs_vector.specs.declared.vector_fault.VectorFault.{VectorFault}
-use Rattle.svs_vector.specs.declared.vector_fault.VectorFault.TheVariants.{BadVector, NumberTooLarge}
+use Rattle.svs_vector.specs.declared.vector_fault.VectorFault.TheVariants.{BadVector, NumberTooLarge, NoMemory}
 use Rattle.svs_vector.specs.declared.entry.EntryField.{EntryField}
 use Rattle.svs_vector.specs.declared.entry.EntryField.TheVariants as entry_field
 use Rattle.svs_vector.specs.declared.read.VectorField.{VectorField}
@@ -98,3 +99,9 @@ module _ (roster : List (List Component)) (P : VectorFault → Type 0) (bad : (a
   of_vector octets =
       err_of_two P (vector_among (elements 0 octets).items) (vector_in roster) (of_first (elements 0 octets).items)
       (λ e. err_of_all P (with_vector_entry roster) (fault_in e) of_vector_entry (of_fields e) _ _ _)
+
+-- No fault of octets is want of memory.
+pub faults_of_octets : (roster : List (List Component)) (octets : List ℕ)
+    → IfErr (vector_of roster octets) (λ fault. fault ≢ NoMemory)
+faults_of_octets roster octets =
+    of_vector roster (λ fault. fault ≢ NoMemory) (λ at e. absurd cc) (λ m n there e. absurd cc) octets

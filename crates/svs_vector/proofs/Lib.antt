@@ -3,7 +3,7 @@ pub mod RosterLemmas
 pub mod NumberLemmas
 pub mod OrderLemmas
 pub mod ToldLemmas
+pub mod FaultLemmas
 pub mod SortedLemmas
 pub mod LengthLemmas
 pub mod ReadBackLemmas
-pub mod FaultLemmas

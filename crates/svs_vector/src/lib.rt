@@ -7,6 +7,7 @@ mod laws;
 mod read;
 mod roster;
 mod roster_fault;
+mod told_numbers;
 mod types;
 mod vector;
 mod vector_fault;
@@ -20,10 +21,11 @@ pub use laws::{
 };
 pub use roster::{MEMBER_LIMIT, Roster};
 pub use roster_fault::RosterFault;
+pub use told_numbers::ToldNumbers;
 pub use vector::Vector;
 pub use vector_fault::VectorFault;
 pub use vector_laws::{
     constants_are_the_formats, entries_are_written_in_canonical_order,
     entries_tell_the_same_in_any_order, state_vectors_tell_their_entries,
-    written_vectors_are_read_back,
+    vector_faults_are_of_the_octets, written_vectors_are_read_back,
 };

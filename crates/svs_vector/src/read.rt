@@ -1,10 +1,11 @@
 ghost use Rattle.std.specs.Prelude.{◌≡◌, ◌+◌, ◌^◌, ◌<◌, ◌⊎◌, length, replicate, MatchResult, IfOk, IfErr, OnOk, Ok};
-ghost use Rattle.std.specs.Prelude.{Err};
+ghost use Rattle.std.specs.Prelude.{Err, IsOk};
 ghost use Rattle.ndn_tlv.specs.Elements.{item, elements};
 ghost use Rattle.svs_vector.specs.StateVector.{with_vector_entry, vector_in, vector_among, vector_of};
 
 use crate::entry::{entry_in, fault_in};
-use crate::roster::Roster;
+use crate::roster::{MEMBER_LIMIT, Roster};
+use crate::told_numbers::ToldNumbers;
 use crate::types;
 use crate::vector::Vector;
 use crate::vector_fault::VectorFault;
@@ -23,73 +24,86 @@ pub(crate) const VECTOR_PLACES: [Place<VectorField>; 1] = [Place {
 }];
 
 impl Vector {
-    /// The state vector that the octets begin with, of the members of a roster.
-    ///
-    /// Entries come in any order, and a node's greatest number counts. Nodes that are no members
-    /// are passed over.
+    /// The state vector that the octets begin with, of the members of a roster, as
+    /// [`ToldNumbers::read`] reads it.
     pub fn read(alloc: Global, octets: &[u8], roster: &Roster) -> Result<Vector, VectorFault>
         ensures ok { IfOk result (λ vector. vector_of roster.now octets.now ≡ Ok vector) }
         ensures width { IfOk result (λ vector. length vector ≡ length roster.now) }
         ensures fault { IfErr result (λ fault.
             (vector_of roster.now octets.now ≡ Err fault) ⊎ (fault ≡ VectorFault.NoMemory)) }
+        ensures memory { result ≡ Err VectorFault.NoMemory → IsOk (vector_of roster.now octets.now) }
     {
-        let element = match vector_element(octets) {
-            Ok(element) => element,
-            Err(fault) => return Err(fault),
-        };
-        let mut vector = match Vector::new(alloc, roster.len()) {
-            Ok(vector) => vector,
-            Err(_) => return Err(VectorFault::NoMemory),
-        };
-        match vector.take_entries(element, roster) {
-            Ok(()) => Ok(vector),
-            Err(fault) => Err(fault),
+        let told = ToldNumbers::read(octets, roster)?;
+        Ok(told.to_vector(alloc)?)
+    }
+}
+
+impl ToldNumbers {
+    /// The numbers of the state vector that the octets begin with, of the members of a roster. It
+    /// takes no memory.
+    ///
+    /// Entries come in any order, and a node's greatest number counts. Nodes that are no members
+    /// are passed over.
+    pub fn read(octets: &[u8], roster: &Roster) -> Result<ToldNumbers, VectorFault>
+        ensures told { MatchResult result
+            (λ told. vector_of roster.now octets.now ≡ Ok told)
+            (λ fault. vector_of roster.now octets.now ≡ Err fault) }
+        ensures width { IfOk result (λ told. length told ≡ length roster.now) }
+    {
+        let element = vector_element(octets)?;
+        let mut numbers = [0; MEMBER_LIMIT];
+        let members = roster.len();
+        let (told, _) = numbers.split_at_mut(members);
+        take_entries(told, element, roster)?;
+        Ok(ToldNumbers::new(numbers, members))
+    }
+}
+
+// Takes the entries of a state vector into numbers of which nothing is known.
+fn take_entries(
+    numbers: &mut [u16],
+    element: Element<'_>,
+    roster: &Roster,
+) -> Result<(), VectorFault>
+    requires fits { element.value_start + length element.value.now < 2 ^ 64 }
+    requires empty { numbers.old ≡ replicate (length roster.now) 0 }
+    ensures { MatchResult result
+        (λ _. vector_in roster.now (item element.entry) ≡ Ok numbers.new)
+        (λ fault. vector_in roster.now (item element.entry) ≡ Err fault) }
+{
+    let elements = Reader::new(element.value, element.value_start);
+    let mut fields = FieldReader::new(elements, &VECTOR_PLACES);
+    loop {
+        match fields.next() {
+            Ok(Some(next)) => take_entry(numbers, next.0, next.1, roster)?,
+            Ok(None) => return Ok(()),
+            Err(fault) => return Err(fault_in(element, fault)),
         }
     }
+}
 
-    // Takes the entries of a state vector into one that knows nothing.
-    fn take_entries(&mut self, element: Element<'_>, roster: &Roster) -> Result<(), VectorFault>
-        requires fits { element.value_start + length element.value.now < 2 ^ 64 }
-        requires empty { self.old ≡ replicate (length roster.now) 0 }
-        ensures taken { MatchResult result
-            (λ _. vector_in roster.now (item element.entry) ≡ Ok self.new)
-            (λ fault. vector_in roster.now (item element.entry) ≡ Err fault) }
-        ensures width { OnOk result (length self.new ≡ length roster.now) }
-    {
-        let elements = Reader::new(element.value, element.value_start);
-        let mut fields = FieldReader::new(elements, &VECTOR_PLACES);
-        loop {
-            match fields.next() {
-                Ok(Some(next)) => self.take_entry(next.0, next.1, roster)?,
-                Ok(None) => return Ok(()),
-                Err(fault) => return Err(fault_in(element, fault)),
-            }
-        }
-    }
-
-    fn take_entry(
-        &mut self,
-        field: VectorField,
-        element: Element<'_>,
-        roster: &Roster,
-    ) -> Result<(), VectorFault>
-        requires fits { element.value_start + length element.value.now < 2 ^ 64 }
-        requires width { length self.old ≡ length roster.now }
-        ensures taken { MatchResult result
-            (λ _. with_vector_entry roster.now self.old (field, item element.entry) ≡ Ok self.new)
-            (λ fault. with_vector_entry roster.now self.old (field, item element.entry) ≡ Err fault) }
-        ensures width { length self.new ≡ length self.old }
-    {
-        let (name, number) = entry_in(element)?;
-        let Some(member) = roster.find(&name) else {
-            return Ok(());
-        };
-        let Ok(n) = u16::try_from(number) else {
-            return Err(VectorFault::NumberTooLarge { member, number });
-        };
-        self.raise(member, n);
-        Ok(())
-    }
+fn take_entry(
+    numbers: &mut [u16],
+    field: VectorField,
+    element: Element<'_>,
+    roster: &Roster,
+) -> Result<(), VectorFault>
+    requires fits { element.value_start + length element.value.now < 2 ^ 64 }
+    requires width { length numbers.old ≡ length roster.now }
+    ensures { MatchResult result
+        (λ _. with_vector_entry roster.now numbers.old (field, item element.entry) ≡ Ok numbers.new)
+        (λ fault. with_vector_entry roster.now numbers.old (field, item element.entry) ≡ Err fault) }
+{
+    let (name, number) = entry_in(element)?;
+    let Some(member) = roster.find(&name) else {
+        return Ok(());
+    };
+    let Ok(n) = u16::try_from(number) else {
+        return Err(VectorFault::NumberTooLarge { member, number });
+    };
+    let known = &mut numbers[member as usize];
+    *known = (*known).max(n);
+    Ok(())
 }
 
 // The element of a state vector that the octets begin with.

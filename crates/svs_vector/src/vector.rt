@@ -35,12 +35,19 @@ impl Vector {
         })
     }
 
+    // The vector of these numbers.
+    pub(crate) fn of(alloc: Global, numbers: &[u16]) -> Result<Vector, AllocError>
+        ensures { IfOk result (λ v. v ≡ numbers.now) }
+    {
+        Ok(Vector {
+            numbers: numbers.to_vec(alloc)?,
+        })
+    }
+
     pub fn copy(&self, alloc: Global) -> Result<Vector, AllocError>
         ensures { IfOk result (λ v. v ≡ self.now) }
     {
-        Ok(Vector {
-            numbers: self.numbers.to_vec(alloc)?,
-        })
+        Vector::of(alloc, &self.numbers)
     }
 
     /// Takes the other's numbers for its own. It takes no memory.

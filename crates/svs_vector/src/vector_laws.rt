@@ -1,10 +1,11 @@
-ghost use Rattle.std.specs.Prelude.{◌≡◌, ◌^◌, ◌<◌, ℕ, List, Ok, Err, length};
+ghost use Rattle.std.specs.Prelude.{◌≡◌, ◌≢◌, ◌^◌, ◌<◌, ℕ, List, Ok, Err, IfErr, length};
 ghost use Rattle.std.specs.List.{All};
 ghost use Rattle.std.specs.List.Sorted.{IsPermutation, IsStrictlySortedBy};
 ghost use Rattle.std.specs.Map.{keys_of};
 ghost use Rattle.ndn_name.specs.Names.{Component};
 ghost use Rattle.ndn_name.specs.CanonicalOrder.{canonical_cmp};
 ghost use Rattle.svs_vector.specs.declared.vector_fault.VectorFault.{VectorFault};
+ghost use Rattle.svs_vector.specs.declared.vector_fault.VectorFault.TheVariants.{NoMemory};
 ghost use Rattle.svs_vector.specs.Rosters.{IsRoster};
 ghost use Rattle.svs_vector.specs.Format as format;
 ghost use Rattle.svs_vector.specs.StateVector.{Entry, vector_of};
@@ -33,6 +34,12 @@ pub fn state_vectors_tell_their_entries()
         → vector_of roster octets ≡ Ok vector → IsVector roster octets vector }
     ensures fault { (roster : List (List Component)) (octets : List ℕ) (fault : VectorFault)
         → vector_of roster octets ≡ Err fault → IsFault roster octets fault }
+{}
+
+/// A fault that octets have is told by them, and is never want of memory.
+pub fn vector_faults_are_of_the_octets()
+    ensures { (roster : List (List Component)) (octets : List ℕ)
+        → IfErr (vector_of roster octets) (λ fault. fault ≢ NoMemory) }
 {}
 
 /// The entries that are written are those of the members of whom something is known, and their

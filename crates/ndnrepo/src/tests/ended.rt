@@ -16,6 +16,13 @@ const FIRST: &str = "group /g\n\
     catalogue alice\n\
     catalogue bob\n";
 
+const LATER: &str = "group /g\n\
+    member alice /alice 6b31\n\
+    member bob /bob 6b32\n\
+    publish alice /doc 10 text:abc\n\
+    settle 2\n\
+    advance 5\n";
+
 // Runs on an input from a slice, and leaves the world.
 fn run_slice<R: Threads + Sync + AllocGlobal + Abort>(
     rt: &R,
@@ -46,6 +53,28 @@ fn the_last_world_is_left(rt: HostRuntime) {
     let mut end = None;
     assert!(rt; run_slice(&rt, "run", FIRST, &mut end) == Status::Done);
     assert!(rt; end.as_ref().and_then(entries) == Some((1, 1)));
+}
+
+// What the world tells of its members and of itself.
+fn tells_of_one_publication(rt: &impl Abort, world: &World) {
+    if world.members() != 2 {
+        panic!(rt; "two members");
+    }
+    assert_eq!(rt; (world.published(0), world.published(1)), (1, 0));
+    assert_eq!(rt; world.now(), 5);
+    let tally = world.tally();
+    assert_eq!(rt; (tally.syncs, tally.delivered, tally.attempts), (3, 2, 0));
+    assert_eq!(rt; (tally.parts, tally.octets), (2, 197));
+}
+
+#[test]
+fn the_last_world_tells_what_came_of_it(rt: HostRuntime) {
+    let mut end = None;
+    assert!(rt; run_slice(&rt, "run", LATER, &mut end) == Status::Done);
+    match end.as_ref() {
+        Some(world) => tells_of_one_publication(&rt, world),
+        None => panic!(rt; "a world"),
+    }
 }
 
 // What is answered. No world is left.

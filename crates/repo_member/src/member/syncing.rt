@@ -3,7 +3,6 @@ ghost use Rattle.std.specs.Prelude.{◌≢◌, length, slice_index, IsOk};
 ghost use Rattle.svs_vector.specs.Vectors.{join};
 ghost use Rattle.svs_sync.specs.Suppression.{mode_of};
 ghost use Rattle.svs_sync.specs.KeptVector.{fires_kept};
-ghost use Rattle.svs_sync.specs.SyncInterest.{signer_verdict};
 ghost use Rattle.repo_member.specs.Groups.{node_limit};
 ghost use Rattle.repo_member.specs.Alone.{IsOfGroup, alone_learns, alone_hears, alone_fires};
 ghost use Rattle.repo_member.specs.Verdicts.{sync_of, vector_verdict, hear_verdict};
@@ -47,13 +46,12 @@ impl Member {
         ensures mode { IfOk result (λ mode. mode ≡ mode_of self.new.machine.heard) }
         ensures refused { IfErr result (λ refusal. (refusal ≡ HearRefusal.NoMemory)
             ⊎ (hear_verdict g.now self.old octets.now ≡ Err refusal)) }
-        ensures memory { IfErr result (λ refusal. refusal ≡ HearRefusal.NoMemory
-            → IsOk (signer_verdict g.now.name g.now.members.ring octets.now)) }
+        ensures memory { result ≡ Err HearRefusal.NoMemory → IsOk (hear_verdict g.now self.old octets.now) }
         ensures sync { result ≢ Err (HearRefusal.Sync SyncRefusal.NoMemory) }
         ensures err { OnErr result (self.new ≡ self.old) }
     {
         let told = self.told(g, octets)?;
-        self.hear_vector(&told, now, draw)
+        Ok(self.hears(&told, now, draw))
     }
 
     /// The member hears the vector of a sync Interest that the caller has checked, as `hear` does. It takes no memory.
@@ -68,10 +66,8 @@ impl Member {
         ensures refused { IfErr result (λ refusal. vector_verdict self.old told.now ≡ Err refusal) }
         ensures err { OnErr result (self.new ≡ self.old) }
     {
-        self.not_ahead(told)?;
-        let mode = self.machine.heard(now, told, &self.vector, draw);
-        learn(&mut self.vector, &mut self.held, told);
-        Ok(mode)
+        self.not_ahead(told.get(self.number))?;
+        Ok(self.hears(told, now, draw))
     }
 
     /// The member learns what a sync Interest tells, as `hear` does, and its machine isn't told of it.
@@ -84,13 +80,12 @@ impl Member {
         ensures changed { IfOk result (λ changed. IsFalse changed ↔ (self.new.known ≡ self.old.known)) }
         ensures refused { IfErr result (λ refusal. (refusal ≡ HearRefusal.NoMemory)
             ⊎ (hear_verdict g.now self.old octets.now ≡ Err refusal)) }
-        ensures memory { IfErr result (λ refusal. refusal ≡ HearRefusal.NoMemory
-            → IsOk (signer_verdict g.now.name g.now.members.ring octets.now)) }
+        ensures memory { result ≡ Err HearRefusal.NoMemory → IsOk (hear_verdict g.now self.old octets.now) }
         ensures sync { result ≢ Err (HearRefusal.Sync SyncRefusal.NoMemory) }
         ensures err { OnErr result (self.new ≡ self.old) }
     {
         let told = self.told(g, octets)?;
-        self.join_vector(&told)
+        Ok(self.learns(&told))
     }
 
     /// The member learns the vector of a sync Interest that the caller has checked, as `join_from` does. It takes no
@@ -104,8 +99,8 @@ impl Member {
         ensures refused { IfErr result (λ refusal. vector_verdict self.old told.now ≡ Err refusal) }
         ensures err { OnErr result (self.new ≡ self.old) }
     {
-        self.not_ahead(told)?;
-        Ok(learn(&mut self.vector, &mut self.held, told))
+        self.not_ahead(told.get(self.number))?;
+        Ok(self.learns(told))
     }
 
     /// The member's timer fires.
@@ -135,42 +130,67 @@ impl Member {
         sync_of(alloc, g, self.number, &self.vector)
     }
 
-    // The vector that octets tell, if they are a sync Interest of the group.
+    // The vector that octets tell, if they are a sync Interest of the group and tell of no more publications of this
+    // member than it made. Memory is taken for it last.
     fn told(&self, g: &Group, octets: &[u8]) -> Result<Vector, HearRefusal>
         requires { IsOfGroup g.now self.now }
-        ensures told { IfOk result (λ told.
-            hear_verdict g.now self.now octets.now ≡ vector_verdict self.now told) }
+        ensures told { IfOk result (λ told. hear_verdict g.now self.now octets.now ≡ Ok told) }
+        ensures own { IfOk result (λ told. slice_index told self.now.number ≤ length self.now.log) }
         ensures width { IfOk result (λ told. length told ≡ length self.now.known) }
         ensures members { IfOk result (λ told. length told ≤ node_limit) }
         ensures refused { IfErr result (λ refusal. (refusal ≡ HearRefusal.NoMemory)
             ⊎ (hear_verdict g.now self.now octets.now ≡ Err refusal)) }
-        ensures memory { IfErr result (λ refusal. refusal ≡ HearRefusal.NoMemory
-            → IsOk (signer_verdict g.now.name g.now.members.ring octets.now)) }
+        ensures memory { result ≡ Err HearRefusal.NoMemory → IsOk (hear_verdict g.now self.now octets.now) }
         ensures sync { result ≢ Err (HearRefusal.Sync SyncRefusal.NoMemory) }
     {
-        match g.check_sync(*self.log.allocator(), octets) {
-            Ok((_, told)) => Ok(told),
-            Err(SyncRefusal::NoMemory) => Err(HearRefusal::NoMemory),
-            Err(refusal) => Err(HearRefusal::Sync(refusal)),
-        }
+        let told = match g.check_told(octets) {
+            Ok((_, told)) => told,
+            Err(refusal) => return Err(HearRefusal::Sync(refusal)),
+        };
+        self.not_ahead(told.get(self.number))?;
+        Ok(told.to_vector(*self.log.allocator())?)
     }
 
-    // The vector tells of no more publications of this member than it made.
-    fn not_ahead(&self, told: &Vector) -> Result<(), HearRefusal>
-        requires { length told.now ≡ length self.now.known }
-        ensures ok { OnOk result (vector_verdict self.now told.now ≡ Ok told.now) }
-        ensures own { OnOk result (slice_index told.now self.now.number ≤ length self.now.log) }
-        ensures refused { IfErr result (λ refusal. vector_verdict self.now told.now ≡ Err refusal) }
+    // No more publications of this member are told of than it made.
+    fn not_ahead(&self, told: u16) -> Result<(), HearRefusal>
+        ensures ok { OnOk result (told ≤ length self.now.log) }
+        ensures ahead { IfErr result (λ refusal.
+            (refusal ≡ HearRefusal.OwnNumberAhead (length self.now.log) told) × (length self.now.log < told)) }
     {
         let own = self.vector.get(self.number);
-        let ahead = told.get(self.number);
-        if ahead > own {
+        if told > own {
             return Err(HearRefusal::OwnNumberAhead {
                 own: u32::from(own),
-                told: u32::from(ahead),
+                told: u32::from(told),
             });
         }
         Ok(())
+    }
+
+    // What is told is heard: it is known from now on, and the machine is told of it.
+    fn hears(&mut self, told: &Vector, now: u64, draw: u32) -> Mode
+        requires width { length told.now ≡ length self.old.known }
+        requires members { length told.now ≤ node_limit }
+        requires own { slice_index told.now self.old.number ≤ length self.old.log }
+        requires early { now < 2 ^ 62 }
+        requires few { self.old.machine.draws < 2 ^ 62 }
+        ensures new { self.new ≡ alone_hears told.now now draw self.old }
+        ensures mode { result ≡ mode_of self.new.machine.heard }
+    {
+        let mode = self.machine.heard(now, told, &self.vector, draw);
+        learn(&mut self.vector, &mut self.held, told);
+        mode
+    }
+
+    // What is told is known from now on. The answer is whether more is known than before.
+    fn learns(&mut self, told: &Vector) -> bool
+        requires width { length told.now ≡ length self.old.known }
+        requires members { length told.now ≤ node_limit }
+        requires own { slice_index told.now self.old.number ≤ length self.old.log }
+        ensures new { self.new ≡ alone_learns told.now self.old }
+        ensures changed { IsFalse result ↔ (self.new.known ≡ self.old.known) }
+    {
+        learn(&mut self.vector, &mut self.held, told)
     }
 }
 

@@ -1,4 +1,5 @@
-ghost use Rattle.std.specs.Prelude.{◌≡◌, map, string_bytes, IfOk};
+ghost use Rattle.std.specs.Prelude.{◌≡◌, length, map, string_bytes, IfOk};
+ghost use Rattle.bench_world.specs.Steps.{FaultNamesMember, HearNamesMember, SyncNamesMember};
 ghost use Rattle.repo_top.specs.RefusalTexts.{field_word, hear_refusal_text, packet_fault_text, part_refusal_text};
 ghost use Rattle.repo_top.specs.RefusalTexts.{sync_refusal_text, tlv_fault_text, vector_fault_text};
 
@@ -18,12 +19,13 @@ pub(crate) fn hear_refusal(
     labels: &[String],
     refusal: &HearRefusal,
 ) -> Result<String, AllocError>
+    requires { HearNamesMember (length labels.now) refusal.now }
     ensures { IfOk result (λ text. string_bytes text ≡ hear_refusal_text (map string_bytes labels.now) refusal.now) }
 {
     match refusal {
         HearRefusal::Sync(refusal) => sync_refusal(alloc, labels, refusal),
         HearRefusal::OwnNumberAhead { .. } => "OwnNumberAhead".to_string(alloc),
-        HearRefusal::NoMemory => "NoMemory".to_string(alloc),
+        HearRefusal::NoMemory => unreachable!(),
     }
 }
 
@@ -32,6 +34,7 @@ fn sync_refusal(
     labels: &[String],
     refusal: &SyncRefusal,
 ) -> Result<String, AllocError>
+    requires { SyncNamesMember (length labels.now) refusal.now }
     ensures { IfOk result (λ text. string_bytes text ≡ sync_refusal_text (map string_bytes labels.now) refusal.now) }
 {
     match refusal {
@@ -42,11 +45,12 @@ fn sync_refusal(
         SyncRefusal::UnknownKey => "UnknownKey".to_string(alloc),
         SyncRefusal::BadSignature => "BadSignature".to_string(alloc),
         SyncRefusal::Vector(fault) => vector_fault(alloc, labels, fault),
-        SyncRefusal::NoMemory => "NoMemory".to_string(alloc),
+        SyncRefusal::NoMemory => unreachable!(),
     }
 }
 
 fn vector_fault(alloc: Global, labels: &[String], fault: &VectorFault) -> Result<String, AllocError>
+    requires { FaultNamesMember (length labels.now) fault.now }
     ensures { IfOk result (λ text. string_bytes text ≡ vector_fault_text (map string_bytes labels.now) fault.now) }
 {
     match fault {
@@ -55,7 +59,7 @@ fn vector_fault(alloc: Global, labels: &[String], fault: &VectorFault) -> Result
             let label = label(labels, *member);
             format!(in alloc; "NumberTooLarge {label} {number}")
         }
-        VectorFault::NoMemory => "NoMemory".to_string(alloc),
+        VectorFault::NoMemory => unreachable!(),
     }
 }
 

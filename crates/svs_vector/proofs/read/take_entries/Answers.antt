@@ -10,12 +10,12 @@ use Rattle.svs_vector.specs.declared.vector_fault.VectorFault.{VectorFault}
 use Rattle.svs_vector.specs.declared.read.VectorField.{VectorField}
 use Rattle.svs_vector.specs.Format.{state_vector_table}
 use Rattle.svs_vector.specs.StateVector.{fault_in, with_vector_entry, vector_in}
-use Rattle.svs_vector.proofs.vector.Vector.take_entries.Goals as goal
+use Rattle.svs_vector.proofs.read.take_entries.Goals as goal
 
 pub loop-next-init : goal.loop-next-init
 loop-next-init c = record {
   so_far =
-      ap (gathered (with_vector_entry c.args.roster.now) (fault_in (item c.args.element)) c.args.self.now)
+      ap (gathered (with_vector_entry c.args.roster.now) (fault_in (item c.args.element)) c.args.numbers.now)
       (c.new-fields.ensures.fields ∙ ap (fields state_vector_table) c.new-elements.ensures.elements)
       ∙ ap (λ (v : List ℕ). gathered (with_vector_entry c.args.roster.now) (fault_in (item c.args.element)) v
       (fields state_vector_table (elements c.args.element.value_start c.args.element.value.now))) c.requires.empty;
@@ -26,23 +26,23 @@ loop-next-init c = record {
   width = ap length c.requires.empty ∙ length-replicate (length c.args.roster.now) 0;
 }
 
-pub returns-in-Err-clause-taken : goal.returns-in-Err-clause-taken
-returns-in-Err-clause-taken c =
+pub returns-in-Err : goal.returns-in-Err
+returns-in-Err c =
     let err : VectorFault → Result (List ℕ) VectorFault = λ f. Err f in
-    ends_at_fault (with_vector_entry c.args.roster.now) (fault_in (item c.args.element)) c.loop-next.self
+    ends_at_fault (with_vector_entry c.args.roster.now) (fault_in (item c.args.element)) c.loop-next.numbers
     c.loop-next.fields (vector_in c.args.roster.now (item c.args.element)) c.loop-next.invariant.so_far c.in-Err.fault
     c.in-Err.ensures.fault
     ∙ ap err (sym c.fault_in.ensures)
 
-pub returns-in_err-take_entry-in-Ok-Some-clause-taken : goal.returns-in_err-take_entry-in-Ok-Some-clause-taken
-returns-in_err-take_entry-in-Ok-Some-clause-taken c =
+pub returns-in_err-take_entry-in-Ok-Some : goal.returns-in_err-take_entry-in-Ok-Some
+returns-in_err-take_entry-in-Ok-Some c =
     let p = err_from_is_err_and c.from_residual.result c.from_residual.ensures.1 in
     let seen = rw c.in-Ok-Some.field-0-is at c.in-Ok-Some.ensures.ok in
     rw (p.1, p.2)
-    (ends_at_step (with_vector_entry c.args.roster.now) (fault_in (item c.args.element)) c.loop-next.self
+    (ends_at_step (with_vector_entry c.args.roster.now) (fault_in (item c.args.element)) c.loop-next.numbers
     c.loop-next.fields (vector_in c.args.roster.now (item c.args.element)) c.loop-next.invariant.so_far
     (c.in-Ok-Some.next.0, item c.in-Ok-Some.next.1) c.next.new.self c.in_err-take_entry-in-Ok-Some.field-0.0 seen
-    c.in_err-take_entry-in-Ok-Some.ensures.taken)
+    c.in_err-take_entry-in-Ok-Some.ensures)
 
 pub loop-next-preserved : goal.loop-next-preserved
 loop-next-preserved c =
@@ -53,17 +53,17 @@ loop-next-preserved c =
     let within = subst P seen c.loop-next.invariant.within in
     record {
       so_far =
-          goes_on (with_vector_entry c.args.roster.now) (fault_in (item c.args.element)) c.loop-next.self
+          goes_on (with_vector_entry c.args.roster.now) (fault_in (item c.args.element)) c.loop-next.numbers
           c.loop-next.fields (vector_in c.args.roster.now (item c.args.element)) c.loop-next.invariant.so_far
-          (c.in-Ok-Some.next.0, item c.in-Ok-Some.next.1) c.next.new.self c.take_entry.new.self seen
-          c.in_ok-take_entry-in-Ok-Some.ensures.taken;
+          (c.in-Ok-Some.next.0, item c.in-Ok-Some.next.1) c.next.new.self c.take_entry.new.numbers seen
+          c.in_ok-take_entry-in-Ok-Some.ensures;
       low = c.in-Ok-Some.next.1.end;
       within = within.3;
-      width = c.take_entry.ensures.width ∙ c.loop-next.invariant.width;
+      width = c.take_entry.auto.numbers ∙ c.loop-next.invariant.width;
     }
 
-pub returns-in-Ok-None-clause-taken : goal.returns-in-Ok-None-clause-taken
-returns-in-Ok-None-clause-taken c =
+pub returns-in-Ok-None : goal.returns-in-Ok-None
+returns-in-Ok-None c =
     let seen = rw c.in-Ok-None.field-0-is at c.in-Ok-None.ensures.ok in
-    all_gathered (with_vector_entry c.args.roster.now) (fault_in (item c.args.element)) c.loop-next.self
+    all_gathered (with_vector_entry c.args.roster.now) (fault_in (item c.args.element)) c.loop-next.numbers
     c.loop-next.fields (vector_in c.args.roster.now (item c.args.element)) c.loop-next.invariant.so_far seen.0
