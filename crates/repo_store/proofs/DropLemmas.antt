@@ -36,9 +36,6 @@ pub record Dropping (pair : Pair) (old now : KeptState) : Type 0 where
   pub same : AreSame old now
   pub spare : now.spare ≡ old.spare
 
-pub dropping_none : (pair : Pair) (k : KeptState) → Dropping pair k k
-dropping_none pair k = record { outside = refl; same = λ h i. refl; spare = refl }
-
 -- a part of the publication goes, and what is outside of it stays
 outside_without : (pair : Pair) (t : Part) (held : List Held) → is_in pair t ≡ true
     → held_outside pair (without_key part_cmp t held) ≡ held_outside pair held

@@ -30,7 +30,6 @@ use Rattle.repo_store.specs.Served.{asks_for_read, satisfies, first_served, serv
 use Rattle.repo_store.specs.Answers.{AnswersWith}
 use Rattle.repo_store.proofs.NameLemmas.{asks_for-Decides}
 use Rattle.repo_store.proofs.ServedLemmas.{entry_fresh, entry_found}
-use Rattle.repo_store.proofs.StoreLemmas.{sound_more}
 
 abbrev Stores : Type 0
 Stores = List (Part × List ℕ)
@@ -94,14 +93,6 @@ keys_put part octets packets r = go (contains part_cmp (keys packets) part) refl
       → keys (cond c packets (with_value part_cmp part octets packets)) ≡ insert_key part_cmp part (keys packets)
   go true h = sym (insert_there exact_parts part (keys packets) r (in_contains exact_parts (keys packets) part h))
   go false h = keys-with_value exact_parts part octets packets
-
--- a store stays one
-pub sound_put : (part : Part) (octets : List ℕ) (packets : Stores) → IsOk (data_of octets) → StoreIsSound packets
-    → StoreIsSound (with_packet part octets packets)
-sound_put part octets packets reads s = go (contains part_cmp (keys packets) part) where
-  go : (c : Bool) → StoreIsSound (cond c packets (with_value part_cmp part octets packets))
-  go true = s
-  go false = sound_more part octets packets reads s
 
 pub keys_outside : (pair : Pair) (packets : Stores)
     → keys (packets_outside pair packets) ≡ filter (λ t. not (is_in pair t)) (keys packets)

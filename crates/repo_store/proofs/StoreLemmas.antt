@@ -8,13 +8,12 @@ use Rattle.std.proofs.lemmas.List.Filters.{length-filter_both}
 use Rattle.ndn_data.specs.Data.{data_of}
 use Rattle.sorted_lists.specs.SortedList.{keys, Rises, contains, with_value}
 use Rattle.sorted_lists.specs.Members.{In}
-use Rattle.sorted_lists.proofs.Sets.{rises_with_value, from_map}
+use Rattle.sorted_lists.proofs.Sets.{from_map}
 use Rattle.sorted_lists.proofs.Members.{all_in, map_same, filter-filter}
-use Rattle.sorted_lists.proofs.Lookups.{all_with, keys-revalued}
+use Rattle.sorted_lists.proofs.Lookups.{keys-revalued}
 use Rattle.repo_plan.specs.declared.part.Part.{Part}
 use Rattle.repo_plan.specs.Parts.{Pair, part_cmp}
 use Rattle.repo_plan.specs.Plan.{is_in}
-use Rattle.repo_plan.proofs.Orders.{exact_parts}
 use Rattle.repo_store.specs.StoreList.{packets_in, packets_outside, is_in_any, packets_in_any, packets_outside_all}
 use Rattle.repo_store.specs.StoreList.{with_packet, StoreIsSound}
 use Rattle.repo_store.specs.Kept.{Slots, at, octets_at, Held, entries_of, KeptState}
@@ -33,13 +32,6 @@ entries_same old new held same =
     (λ h i. ap (λ (o : Option (List ℕ)). (h.0, unwrap_or o [])) (same h i))
 
 -- ---- a packet more
-
-pub sound_more : (part : Part) (octets : List ℕ) (packets : Packets) → IsOk (data_of octets) → StoreIsSound packets
-    → StoreIsSound (with_value part_cmp part octets packets)
-sound_more part octets packets reads s = record {
-  in_order = rises_with_value exact_parts part octets packets s.in_order;
-  are_data = all_with exact_parts (λ e. IsOk (data_of e.1)) part octets packets s.in_order reads s.are_data;
-}
 
 -- of a part that is there nothing is put
 pub put_there : (part : Part) (octets : List ℕ) (packets : Packets) → contains part_cmp (keys packets) part ≡ true

@@ -3,7 +3,6 @@ use Rattle.std.proofs.Common.{◌≡◌, Bool, true, false, ◌+◌, not, cond, 
 use Rattle.std.proofs.Common.{refl, sym, ap, ◌∙◌, arith}
 use Rattle.std.specs.List.{filter, AllByRecursion, IsDistinct}
 use Rattle.std.specs.Map.{lookup, keys_of}
-use Rattle.std.proofs.lemmas.Map.Entries.{lookup-filter-keys}
 use Rattle.std.specs.Ordering.{eq_by_cmp, is_eq}
 use Rattle.std.specs.declared.cmp.Ordering.{Ordering}
 use Rattle.std.specs.declared.cmp.Ordering.TheVariants.{Less, Equal, Greater}
@@ -138,14 +137,3 @@ module _ {K V : Type 0} {R : K → K → Ordering} (e : Exact R) where
     length-in_order (x ∷ xs) distinct =
         let none = value_in_order eq ties xs x.0 ∙ lookup_none x.0 xs distinct.0 in
         omega (arith, length-added x.0 x.1 (in_order R xs) none, length-in_order xs distinct.1)
-
-  pub filter_in_order : (p : K → Bool) (es : List (K × V))
-      → in_order R (filter (λ x. p x.0) es) ≡ filter (λ x. p x.0) (in_order R es)
-  filter_in_order p es =
-      let left = filter (λ (x : K × V). p x.0) es in
-      same_maps (in_order R left) (filter (λ x. p x.0) (in_order R es)) (order_rises left)
-      (rises_keys_filter e p (in_order R es) (order_rises es)) (λ q.
-      value_in_order (eq_by_cmp R) (λ x y. refl) left q
-      ∙ lookup-filter-keys (eq_by_cmp R q) p (p q) (λ k t. ap p (sym (eq_same e q k t))) es
-      ∙ ap (λ (o : Option V). cond (p q) o None) (sym (value_in_order (eq_by_cmp R) (λ x y. refl) es q))
-      ∙ sym (value_of-filter e p (in_order R es) q))

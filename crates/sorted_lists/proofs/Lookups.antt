@@ -2,7 +2,7 @@
 use Rattle.std.proofs.Common.{◌≡◌, ◌⊎◌, inl, inr, Bool, true, false, cond, List, [], ◌∷◌, map, Option, Some, None}
 use Rattle.std.proofs.Common.{◌++◌, option_map, length, suc, refl, sym, ap, subst, ◌∙◌}
 use Rattle.std.specs.Prelude.{is_some}
-use Rattle.std.specs.List.{All, filter, find}
+use Rattle.std.specs.List.{filter, find}
 use Rattle.std.specs.Ordering.{eq_by_cmp}
 use Rattle.std.specs.declared.cmp.Ordering.{Ordering}
 use Rattle.std.specs.declared.cmp.Ordering.TheVariants.{Less, Equal, Greater}
@@ -17,7 +17,7 @@ use Rattle.sorted_lists.proofs.Sets.{in_contains, in_map, from_map, keys-with_va
 use Rattle.sorted_lists.proofs.Sets.{rises_insert_keys}
 use Rattle.sorted_lists.proofs.RunOrder.{in_with, with_has, with_in, in_without, without_in, unique, both_ways}
 use Rattle.sorted_lists.proofs.SameSets.{same_sets}
-use Rattle.sorted_lists.proofs.Members.{same_itself, same_is, same_back, same_then, same_more, all_in, in_all}
+use Rattle.sorted_lists.proofs.Members.{same_itself, same_is, same_back, same_then, same_more}
 
 -- ---- sets
 
@@ -137,15 +137,6 @@ module _ {K V : Type 0} {R : K → K → Ordering} (e : Exact R) where
       subst (λ (z : K). In z (keys (without_key R k es))) (sym from.2)
       (in_map (λ (y : K × V). y.0) (without_key R k es) from.0
       (without_in e k es from.0 from.1 (λ same. other (from.2 ∙ same))))
-
-  -- ---- what holds of all entries
-
-  pub all_with : (P : K × V → Type 0) (k : K) (v : V) (es : List (K × V)) → Rises R (keys es) → P (k, v) → All P es
-      → All P (with_value R k v es)
-  all_with P k v es r p all = all_in P (with_value R k v es) (λ y i. elim (in_with e k v es r y i) [
-    | inl own ↦ subst P (sym own) p
-    | inr j ↦ in_all P es y all j.0
-  ])
 
 -- ---- a map with other values under the same keys
 

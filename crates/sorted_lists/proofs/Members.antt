@@ -1,5 +1,5 @@
 -- Which elements the parts of a list have, and lists that have the same.
-use Rattle.std.proofs.Common.{◌≡◌, ◌⊎◌, inl, inr, ℕ, zero, suc, ◌+◌, ◌<◌, ◌≤◌, Bool, true, false, cond, ◌&&◌, List, []}
+use Rattle.std.proofs.Common.{◌≡◌, inl, inr, ℕ, zero, suc, ◌+◌, ◌<◌, ◌≤◌, Bool, true, false, cond, ◌&&◌, List, []}
 use Rattle.std.proofs.Common.{◌∷◌, ◌++◌, map, length, get_or, take, drop, Some, None, refl, sym, ap, subst, ◌∙◌, arith}
 use Rattle.std.proofs.Common.{append_assoc}
 use Rattle.std.specs.Prelude.{slice_get}
@@ -15,12 +15,6 @@ use Rattle.sorted_lists.proofs.Sets.{In, in_filter, in_append, append_left, appe
 -- ---- parts
 
 module _ {A : Type 0} where
-  pub in_split : (n : ℕ) (xs : List A) (x : A) → In x xs → In x (take n xs) ⊎ In x (drop n xs)
-  in_split n xs x i = in_append (take n xs) (drop n xs) x (subst (In x) (sym (take-append-drop n xs)) i)
-
-  pub in_take : (n : ℕ) (xs : List A) (x : A) → In x (take n xs) → In x xs
-  in_take n xs x i = subst (In x) (take-append-drop n xs) (append_left (take n xs) (drop n xs) x i)
-
   pub in_drop : (n : ℕ) (xs : List A) (x : A) → In x (drop n xs) → In x xs
   in_drop n xs x i = subst (In x) (take-append-drop n xs) (append_right (take n xs) (drop n xs) x i)
 
