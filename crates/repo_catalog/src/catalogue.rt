@@ -100,9 +100,9 @@ impl Catalogue {
         true
     }
 
-    /// Adds many entries as `add_reserved` does, in any order, in the room that was made for them. They are moved out of
-    /// `fresh`, which keeps its capacity. It takes no memory, and goes over them and over what stands behind the least of
-    /// them once.
+    /// Adds many entries as `add_reserved` does, in any order, in the room that was made for them. They are moved out
+    /// of `fresh`, which keeps its capacity. It takes no memory, and goes over them and over what stands behind the
+    /// least of them once.
     pub fn add_all_reserved(&mut self, fresh: &mut Vec<Entry>)
         requires room { length fresh.old.items ≤ self.old.spare }
         requires apart { AreApart fresh.old.items }

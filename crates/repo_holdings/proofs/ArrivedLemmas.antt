@@ -1,5 +1,6 @@
 -- Packets that are stored once all that came is taken, and the contents of what becomes whole by them.
-use Rattle.std.proofs.Common.{◌≡◌, ◌<◌, ◌+◌, ◌++◌, take, ℕ, zero, suc, Bor, Bool, true, false, cond, List, [], ◌∷◌, map, length, get_or}
+use Rattle.std.proofs.Common.{◌≡◌, ◌<◌, ◌+◌, ◌++◌, take, ℕ, zero, suc, Bor, Bool, true, false, cond, List, [], ◌∷◌}
+use Rattle.std.proofs.Common.{map, length, get_or}
 use Rattle.std.proofs.Common.{refl, sym, ap, ◌∙◌, subst, Option, Some, None, option_map, is_some, arith}
 use Rattle.std.specs.Prelude.{IfSome}
 use Rattle.std.specs.Option.{option_and_then}
@@ -43,7 +44,8 @@ missing_apart packets u octets q other none = go (contains part_cmp (keys packet
       ∙ ap (λ (b : Bool). cond b (Some octets) (value_of part_cmp packets q)) other
       ∙ none
 
-other_at : (xs : List Tried) (u : Part) (i : ℕ) (d : Tried) → contains part_cmp (map (λ (x : Tried). x.part) xs) u ≡ false
+other_at : (xs : List Tried) (u : Part) (i : ℕ) (d : Tried)
+    → contains part_cmp (map (λ (x : Tried). x.part) xs) u ≡ false
     → i < length xs → eq_by_cmp part_cmp u (get_or xs i d).part ≡ false
 other_at [] u i d h low = absurd (omega (arith, low))
 other_at (x ∷ xs) u zero d h low = (or_parts (eq_by_cmp part_cmp u x.part) _ h).0

@@ -82,7 +82,9 @@ listed_gained plan packets after t octets fresh now entries o tied asked missing
 
       go : (o : Option Entry) → o ≡ entry_at after (pair_of t) → AreListedWith (option_after fresh o) entries after
       go None none = record {
-        listed = is.listed ∙ sym (relisted ∙ ap (λ (x : Option Entry). with_listed x (alone_catalogue packets)) (sym none));
+        listed =
+            is.listed
+            ∙ sym (relisted ∙ ap (λ (x : Option Entry). with_listed x (alone_catalogue packets)) (sym none));
         apart = is.apart;
         in_order = is.in_order;
       }

@@ -146,8 +146,8 @@ fn take_one(
     came
 }
 
-// A part that is asked for is held from now on, where room was made. The entry of its publication goes to `fresh`, where
-// no part of it is missing any more.
+// A part that is asked for is held from now on, where room was made. The entry of its publication goes to `fresh`,
+// where no part of it is missing any more.
 fn gain_fresh(
     plan: &mut Plan,
     store: &mut Store,

@@ -87,8 +87,8 @@ impl Holdings {
         Ok(whole)
     }
 
-    // Whether a publication misses so many parts, beside those that are claimed. This takes a time that goes by this
-    // number, and not by how many parts there are.
+    // Whether a publication misses so many parts, one at least, beside those that are claimed. This takes a time that
+    // goes by this number, and not by how many parts there are.
     fn misses_only(
         &self,
         alloc: Global,
@@ -96,6 +96,9 @@ impl Holdings {
         seq: u16,
         came: usize,
     ) -> Result<bool, AllocError> {
+        if came == 0 {
+            return Ok(false);
+        }
         let record = Part {
             publisher,
             seq,
@@ -104,7 +107,7 @@ impl Holdings {
         let most = came.saturating_add(1);
         let missing = self.plan.wanted_after(alloc, Some(record), most)?;
         let is_of = |part: &&Part| (part.publisher, part.seq) == (publisher, seq);
-        Ok(came > 0 && missing.iter().filter(is_of).count() == came)
+        Ok(missing.iter().filter(is_of).count() == came)
     }
 
     // The contents of a publication's segments, as they are stored or came, or none where one is missing.

@@ -185,7 +185,8 @@ impl Member {
         Ok(answered)
     }
 
-    // The catalogued publications of the objects of a name, in order. Their parts are held, so that no fetcher claims one.
+    // The catalogued publications of the objects of a name, in order. Their parts are held, so that no fetcher claims
+    // one.
     fn found(&self, name: &Name) -> Result<Found, AllocError>
         ensures publications { IfOk result (λ found. found.publications.items ≡ catalogued_named name.now self.now) }
         ensures in_order { IfOk result (λ found. Rises pair_cmp found.publications.items) }

@@ -29,7 +29,8 @@ nothing_waits m is = record {
 
 pub add_all_reserved-requires-clause-apart : goal.add_all_reserved-requires-clause-apart
 add_all_reserved-requires-clause-apart c =
-    (c.take_all-taken.ensures.listed c.self.inside.catalogue.entries (nothing_waits c.self.inside c.self.invariant)).apart
+    let waits = nothing_waits c.self.inside c.self.invariant in
+    (c.take_all-taken.ensures.listed c.self.inside.catalogue.entries waits).apart
 
 pub invariant_of-self : goal.invariant_of-self
 invariant_of-self c =

@@ -15,8 +15,9 @@ take-parts-requires-clause-takable c =
 
 pub take-parts-requires-clause-digests : goal.take-parts-requires-clause-digests
 take-parts-requires-clause-digests c =
+    let all = map came c.args.all.items in
     subst
-    (λ (stored : List Packet). All (IsDigestIn (with_all_fetched (map came c.args.all.items) stored)) c.args.digests.now)
+    (λ (stored : List Packet). All (IsDigestIn (with_all_fetched all stored)) c.args.digests.now)
     (sym (ap (λ (h : HoldingsState). h.store) c.in_ok-reserve.ensures.ok
     ∙ ap (λ (a : Alone). a.store) c.self.view_is))
     c.requires.digests
