@@ -12,6 +12,7 @@ ghost use Rattle.bench_world.specs.Fetching.{fetched_all};
 
 use crate::gather::PHASE_LIMIT;
 use crate::lending::MemberLink;
+use crate::taking::take_outcome;
 use bench_net::Net;
 use fetch_work::phase;
 use repo_member::{Group, Kept, Member};
@@ -55,7 +56,16 @@ pub(crate) fn fetch<N: Net + Sync, R: Threads + Sync>(
 {
     let jobs = member.plan(alloc, g, None, PHASE_LIMIT)?;
     let outcome = phase(rt, alloc, &*link, &jobs, g.members(), tries, workers)?;
-    let kept = member.take_outcome(g, &jobs, &outcome.parts, &outcome.attempts)?;
+    let kept = take_outcome(
+        rt,
+        alloc,
+        g,
+        workers,
+        member,
+        &jobs,
+        &outcome.parts,
+        &outcome.attempts,
+    )?;
     Ok(FetchCounts {
         planned: jobs.len(),
         kept,

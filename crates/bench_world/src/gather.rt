@@ -10,6 +10,7 @@ ghost use Rattle.bench_world.specs.Gathering.{next_parts, lent_all, one_each, Co
 ghost use Rattle.bench_world.specs.Gathering.{NothingLeft};
 
 use crate::lending::MemberLink;
+use crate::taking::take_outcome;
 use bench_net::Net;
 use fetch_work::phase;
 use repo_member::{Group, Kept, Member};
@@ -55,7 +56,16 @@ fn gain_phase<N: Net + Sync, R: Threads + Sync>(
     let outcome = phase(rt, alloc, &*link, &jobs, g.members(), 1, workers)?;
     // A settle counts no attempt.
     let attempts = vec![in alloc; 0; jobs.len()]?;
-    let kept = member.take_outcome(g, &jobs, &outcome.parts, &attempts)?;
+    let kept = take_outcome(
+        rt,
+        alloc,
+        g,
+        workers,
+        member,
+        &jobs,
+        &outcome.parts,
+        &attempts,
+    )?;
     Ok((Some(place), kept))
 }
 

@@ -17,6 +17,7 @@ mod numbers;
 mod others;
 mod settling;
 mod step;
+mod taking;
 mod telling;
 mod world;
 
