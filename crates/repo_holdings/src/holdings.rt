@@ -113,8 +113,8 @@ impl Holdings {
         self.store.get(part)
     }
 
-    /// Puts what waits in order of the packets' names, so that it is found faster. Nothing that is held changes. It takes
-    /// no memory.
+    /// Puts what waits in order of the packets' names, so that it is found faster. Nothing that is held changes. It
+    /// takes no memory.
     pub fn order_names(&mut self)
         ensures { self.new ≡ self.old }
     {

@@ -5,7 +5,8 @@ use Rattle.ndn_name.specs.Names.{Component, IsName, encoding}
 use Rattle.repo_object.specs.Objects.{is_object_name}
 use Rattle.repo_member.specs.Groups.{IsPlainNodeName}
 
-above_digests : (name : List Component) → IsTrue (list_all (λ c. ltb 2 c.0) name) → All (λ (c : Component). 2 < c.0) name
+above_digests : (name : List Component) → IsTrue (list_all (λ c. ltb 2 c.0) name)
+    → All (λ (c : Component). 2 < c.0) name
 above_digests [] h k d lt = absurd (omega arith)
 above_digests (c ∷ cs) h zero d lt = ltb-true 2 c.0 (and_parts (ltb 2 c.0) (list_all (λ x. ltb 2 x.0) cs) h).0
 above_digests (c ∷ cs) h (suc k) d lt =

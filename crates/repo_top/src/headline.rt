@@ -33,8 +33,8 @@ pub fn printed_catalogues_list_what_is_held()
     ensures { PrintsCatalogues }
 {}
 
-/// In every story each number of a member that a report is made of is that of a member that a line declared, whose label
-/// is printed.
+/// In every story each number of a member that a report is made of is that of a member that a line declared, whose
+/// label is printed.
 pub fn printed_labels_are_declared()
     ensures reports { ReportsTellOfMembers }
     ensures labels { MembersHaveLabels }
