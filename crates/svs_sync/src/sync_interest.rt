@@ -1,5 +1,4 @@
-ghost use Rattle.std.specs.Prelude.{◌≡◌, ◌≤◌, ◌⊎◌, IfOk, IsTrue, MatchResult, Ok, Err, Some, length, slice_get};
-ghost use Rattle.std.specs.Prelude.{◌≢◌, is_some, IsOk};
+ghost use Rattle.std.specs.Prelude.{◌≡◌, ◌≢◌, ◌⊎◌, IfOk, IsOk, MatchResult, Ok, Err, Some, length};
 ghost use Rattle.std.specs.List.{All};
 ghost use Rattle.svs_vector.specs.declared.vector_fault.VectorFault.TheVariants as fault;
 ghost use Rattle.svs_sync.specs.SyncInterest.{sync_name, sync_interest, sync_verdict, is_sync_name, IsNodeName};
