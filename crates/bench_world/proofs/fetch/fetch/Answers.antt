@@ -22,7 +22,7 @@ phase-requires-clause-jobs g c κs within =
     c.members.result.now c.members.ensures.ring c.args.tries c.requires.1.1.1.1.tries.1
 
 pub take_outcome-requires-clause-outcome : goal.take_outcome-requires-clause-outcome
-take_outcome-requires-clause-outcome g c =
+take_outcome-requires-clause-outcome g c κs within =
     fetch_outcome (g.N.Net.passes c.args.link.now.net.now) c.args.g.now g.logs c.args.member.now
     c.args.link.now.others.now c.args.link.now.asker c.args.link.now.loss c.requires.1.1.1.1.logs.are
     c.requires.1.1.1.1.truly c.requires.1.1.1.1.others

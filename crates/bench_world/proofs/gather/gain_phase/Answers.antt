@@ -24,7 +24,7 @@ phase-requires-clause-jobs g c κs within =
     c.members.result.now c.members.ensures.ring 1 (omega arith)
 
 pub take_outcome-requires-clause-outcome : goal.take_outcome-requires-clause-outcome
-take_outcome-requires-clause-outcome g c =
+take_outcome-requires-clause-outcome g c κs within =
     let long : length c.deref-3.result.now ≡ c.len.result = c.deref-3.ensures.len ∙ sym c.len.ensures in
     gain_outcome (g.N.Net.passes c.args.link.now.net.now) c.args.g.now g.logs c.args.member.now
     c.args.link.now.others.now c.args.link.now.asker c.args.link.now.loss c.requires.1.1.1.1.logs.are
