@@ -1,5 +1,7 @@
 // Digests over the contents of publications, made in threads.
-ghost use Rattle.std.specs.Prelude.{◌≡◌, ◌≤◌, List, length, IfOk};
+ghost use Rattle.std.specs.Prelude.{ℕ, ◌≡◌, ◌≤◌, ◌<◌, List, length, slice_index_or, IfOk};
+ghost use Rattle.repo_holdings.specs.declared.contents.ContentsDigest.{ContentsDigest};
+ghost use Rattle.repo_holdings.specs.declared.holdings.whole.Whole.{Whole};
 ghost use Rattle.std.specs.List.{All};
 ghost use Rattle.repo_holdings.specs.Records.{Packet};
 ghost use Rattle.repo_holdings.specs.Contents.{IsDigestIn};
@@ -23,6 +25,10 @@ pub fn digests<R: Threads + Sync>(
 ) -> Result<Vec<ContentsDigest>, AllocError>
     requires workers { (1 ≤ workers) × (workers ≤ 16) }
     ensures count { IfOk result (λ digests. length digests.items ≡ length whole.now) }
+    ensures publishers { IfOk result (λ digests. (k : ℕ) (d : ContentsDigest) (w : Whole) → k < length whole.now
+        → (slice_index_or digests.items k d).publisher ≡ (slice_index_or whole.now k w).publisher) }
+    ensures numbers { IfOk result (λ digests. (k : ℕ) (d : ContentsDigest) (w : Whole) → k < length whole.now
+        → (slice_index_or digests.items k d).seq ≡ (slice_index_or whole.now k w).seq) }
     ensures told { IfOk result (λ digests. (packets : List Packet) → All (IsWholeIn packets) whole.now
         → All (IsDigestIn packets) digests.items) }
 {
