@@ -159,7 +159,7 @@ def deliver_one(n):
 def deliver_each(n):
     yield from heads(2)
     for i in range(n):
-        yield f"publish m1 /o 1 text:"
+        yield "publish m1 /o 1 text:"
     for i in range(n, 0, -1):
         yield f"deliver {i} m2"
 
@@ -367,7 +367,7 @@ def settle_news(n):
         yield "settle 1"
 
 
-@kind("settle 1,000 times, 16 members that want 33 records each which nobody has any more", 1_000)
+@kind("settle 1,000 times, where 16 members want 33,000 records each that nobody has any more", 1_000)
 def settle_deleted(n):
     yield from heads(16, 1)
     for i in range(33 * n):
@@ -510,7 +510,7 @@ def delete_fetched(n):
     for i in range(0, n, 2):
         yield f"delete m2 c1 /o/{i}"
     for i in range(n // 2):
-        yield f"claim m2 1"
+        yield "claim m2 1"
 
 
 @kind("delete names that nothing has", 49_000)
@@ -556,13 +556,23 @@ def ask_prefix_turns(n):
         yield f"ask m1 {octets}"
 
 
-@kind("ask by a full name, publish and ask in turn", 49_000)
-def ask_full_turns(n):
+@kind("ask by a name, publish and ask in turn, names falling", 49_000)
+def ask_turns(n):
     yield from heads(1)
-    octets = fuzz.interest(fuzz.text_name("/n/1/g") + [(1, hashlib.sha256(b"").digest())]).hex()
+    octets = fuzz.interest(fuzz.text_name("/o")).hex()
     for i in range(n):
-        yield f"publish m1 /o/{i} 1 text:"
+        yield f"publish m1 /o/{n - i:06d} 1 text:a"
         yield f"ask m1 {octets}"
+
+
+@kind("ask by full names that nothing has", 49_000)
+def ask_full(n):
+    yield from heads(1)
+    for i in range(n):
+        yield "publish m1 /o 1 text:"
+    for i in range(n):
+        name = fuzz.text_name("/n/1/g") + [(fuzz.SEQUENCE, b"\x01"), (1, hashlib.sha256(b"%d" % i).digest())]
+        yield f"ask m1 {fuzz.interest(name).hex()}"
 
 
 @kind("ask by the one name of many segments", 33_000)

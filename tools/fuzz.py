@@ -199,7 +199,7 @@ def changed(draw, octets):
         octets[at:at] = draw.choice([b"\xf0\x00", b"\xf1\x00", b"\x00", b"\xff"])
     elif how == 3:
         octets += draw.choice([b"\xf0\x00", b"\x00", b"\x06\x00"])
-    elif how == 4 and len(octets) < 254:
+    elif how == 4 and 1 < len(octets) < 254:
         octets = bytearray(octets[:1] + bytes([(octets[1] + 2) % 253]) + octets[2:] + b"\xf0\x00")
     elif how == 5:
         del octets[at:at + draw.randint(1, 4)]
@@ -527,7 +527,7 @@ class Script:
         told = self.put("order", self.label(m if self.draw.random() < 0.9 else self.member()), octets.hex())
         if "process" in told:
             # The command was as it was issued, but for what is passed over.
-            found = dict(elements(b"".join(fields)))
+            found = dict(reversed(elements(b"".join(fields))))
             name, first, last = found[7], int.from_bytes(found[204], "big"), int.from_bytes(found[205], "big")
             self.insertions[self.number_of(told[1]), int(told[-1])] = self.uri(name), {i: None for i in range(first, last + 1)}
 
@@ -572,7 +572,7 @@ def inspection(draw):
     group.log[m].append((draw.choice(NAMES), [b"x" * draw.choice([1, 300])] * draw.randint(0, 3)))
     octets = draw.choice(group.packets(m, 1) + [group.sync(m, [1] * len(group.members)), bytes(draw.randrange(9) for _ in range(60))])
     for _ in range(draw.randint(0, 4)):
-        octets = changed(draw, octets) if draw.random() < 0.3 else rebuilt(draw, octets)
+        octets = (changed(draw, octets) if draw.random() < 0.3 else rebuilt(draw, octets)) or b"\x07"
     if draw.random() < 0.05:
         octets = element(7, octets) * draw.choice([1, 100])
     digits = draw.choice([octets.hex(), octets.hex().upper(), octets.hex(" "), octets.hex("\n", 30) + "\r\n\t"])

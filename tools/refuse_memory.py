@@ -6,20 +6,24 @@
 Runs `ndnrepo run` on each script with the first request of a kind refused, then with the second alone, and so on up to the
 run that makes no more. The kinds, all of them unless some are named:
 
-    memory    no memory is given. The run ends with 5 (out of memory) and has written a front of the report, or it ends as
-              without the refusal.
-    threads   no thread is started. The run ends as without the refusal: who wanted the thread does its work.
-    reads     the input can't be read behind some octets, by pieces of 20 octets. The run ends with 3, and has written the
-              report of the lines that were read whole.
-    writes    the output can't be written behind some octets, by pieces of 8 octets. The run ends with 4, and has written the
-              report's octets before.
-    signals   a read or a write is interrupted by a signal. The run ends as without.
+    memory    no memory is given once. The run ends with 5 (out of memory) and has written a front of the report, or it
+              ends as without the refusal: where a list then asks for less, and where no thread could be started.
+    shortage  no memory is given from here on. The run ends in the same ways.
+    threads   no thread is started. The run ends as without the refusal: who wanted the thread does its work. One more run
+              has all threads refused.
+    reads     the input, which comes by pieces of 20 octets, can't be read from here on. The run ends with 3, and has
+              written the report of the lines that were read whole.
+    writes    the output, which goes by pieces of 8 octets, can't be written from here on. The run ends with 4, and has
+              written a front of the report, and not all.
+    signals   a signal interrupts one read or write. The run ends as without it, or with 3 or 4 and a front of the report.
 
-Without scripts it takes those that stand below and tools/every_line.script, which has every kind of line. A line tells of each
-script how many requests were refused and how the runs ended; the status is 1 where one of them ended otherwise. It wants Linux, a C
-compiler (`cc`) and a program that was built (`cd crates/ndnrepo && rt run`). On one processor all takes about a minute.
+Without scripts it takes three short ones and tools/every_line.script, which has every kind of line. A row tells of each kind
+and script how many requests there were, how many were refused, and how those runs ended; the status of this program is 1
+where one of them ended otherwise. It wants Linux, a C compiler (`cc`), and a program that was built (`cd crates/ndnrepo &&
+rt run`). All takes about ten seconds on one processor.
 """
 import argparse
+import itertools
 import os
 import pathlib
 import struct
@@ -100,33 +104,34 @@ __attribute__((constructor)) static void begin(void) {
     close(file);
 }
 
-/* Whether this call is of the kind, and its number is the one, or behind it where all from there on are refused. */
+/* Whether this call is of the kind, and its number is the refused one, or behind it where those are refused too. */
 static int refuses(const char *of, int and_behind) {
     if (!made || strcmp(of, kind)) return 0;
     long number = atomic_fetch_add(made, 1) + 1;
     return number == refused || (and_behind && refused > 0 && number > refused);
 }
+static int refuses_memory(void) { return refuses("memory", 0) || refuses("shortage", 1); }
 
 #define REAL(name) static __typeof__(&name) real; if (!real) real = (__typeof__(&name))dlsym(RTLD_NEXT, #name)
 
 void *malloc(size_t n) {
     REAL(malloc);
-    if (refuses("memory", 0)) { errno = ENOMEM; return NULL; }
+    if (refuses_memory()) { errno = ENOMEM; return NULL; }
     return real(n);
 }
 void *realloc(void *at, size_t n) {
     REAL(realloc);
-    if (refuses("memory", 0)) { errno = ENOMEM; return NULL; }
+    if (refuses_memory()) { errno = ENOMEM; return NULL; }
     return real(at, n);
 }
 void *aligned_alloc(size_t align, size_t n) {
     REAL(aligned_alloc);
-    if (refuses("memory", 0)) { errno = ENOMEM; return NULL; }
+    if (refuses_memory()) { errno = ENOMEM; return NULL; }
     return real(align, n);
 }
 int posix_memalign(void **at, size_t align, size_t n) {
     REAL(posix_memalign);
-    return refuses("memory", 0) ? ENOMEM : real(at, align, n);
+    return refuses_memory() ? ENOMEM : real(at, align, n);
 }
 int pthread_create(pthread_t *thread, const pthread_attr_t *how, void *(*start)(void *), void *given) {
     REAL(pthread_create);
@@ -166,8 +171,8 @@ class Trial:
         how = {"LD_PRELOAD": str(self.shim), "COUNTS": str(self.counts), "KIND": kind, "REFUSED": str(refused), **dict(more)}
         if kind in PIECES:
             how["PIECE"] = str(PIECES[kind])
-        ran = subprocess.run([self.program, "run"], input=script, stdout=subprocess.PIPE, stderr=subprocess.DEVNULL, env=how,
-                             timeout=60)
+        ran = subprocess.run([self.program, "run"], input=script, stdout=subprocess.PIPE, stderr=subprocess.DEVNULL,
+                             env=how, timeout=60)
         return ran.returncode, ran.stdout, struct.unpack("l", self.counts.read_bytes())[0]
 
     def plain(self, script):
@@ -177,30 +182,31 @@ class Trial:
     def is_well(self, kind, script, plain, refused, said, wrote):
         """Whether a run may end so, of which one call was refused."""
         status, report = plain
-        if kind == "memory" and said == NO_MEMORY:
+        if kind in ("memory", "shortage") and said == NO_MEMORY:
             return report.startswith(wrote)
         if kind == "reads":
             whole = script[: PIECES[kind] * (refused - 1)].rpartition(b"\n")[0]
             whole = whole + b"\n" if whole else b""
             return said == READ_FAULT and (0, wrote) == self.plain(whole)
         if kind == "writes":
-            return said == WRITE_FAULT and wrote == report[: len(wrote)] and len(wrote) < len(report)
+            return said == WRITE_FAULT and report.startswith(wrote) and len(wrote) < len(report)
+        if kind == "signals" and said in (READ_FAULT, WRITE_FAULT):
+            return report.startswith(wrote)
         return (said, wrote) == (status, report)
 
     def refuse_each(self, kind, name, script):
         plain = self.plain(script)
         _, _, made = self.run(kind, script, -1)
         ends, wrong = {}, 0
-        refused = 0
-        while True:
-            refused += 1
+        for refused in itertools.count(1):
             said, wrote, calls = self.run(kind, script, refused)
             if calls < refused:
                 break
             ends[said] = ends.get(said, 0) + 1
             if not self.is_well(kind, script, plain, refused, said, wrote):
                 wrong += 1
-                print(f"{name}: with request {refused} refused ({kind}) it ended with {said} and wrote {len(wrote)} octets", flush=True)
+                print(f"{kind} {name}: without request {refused} it ended with {said} and wrote {len(wrote)} octets",
+                      flush=True)
         told = ", ".join(f"{count} ended with {end}" for end, count in sorted(ends.items()))
         print(f"{kind:8} {name:12} {made} requests, {sum(ends.values())} refused in turn: {told or 'none'}; {wrong} wrong",
               flush=True)
@@ -217,7 +223,7 @@ class Trial:
 def main():
     asked = argparse.ArgumentParser(description=__doc__, formatter_class=argparse.RawDescriptionHelpFormatter)
     asked.add_argument("--program", default=TOP / "crates/ndnrepo/out/ndnrepo")
-    kinds = ["memory", "threads", "reads", "writes", "signals"]
+    kinds = ["memory", "shortage", "threads", "reads", "writes", "signals"]
     asked.add_argument("--calls", action="append", choices=kinds, help="what is refused")
     asked.add_argument("scripts", nargs="*", type=pathlib.Path)
     given = asked.parse_args()
