@@ -7,10 +7,11 @@
 For each kind it writes the costliest script that the limits allow, and one of a quarter of its size, and runs the program
 on both. A row tells how often the kind's line stands in the script, the user and system time, the greatest memory, the octets
 read and written, and how many times the time of the quarter that is: what is linear takes 4 times as much, and what goes by
-the square 16 times. Where the quarter takes more than N/20 seconds (N is 120 by default), the whole is not run, and the row, which
-then begins with `*`, tells of the quarter beside its own quarter. A run must end with the status that its kind has. With --write
-the script of a kind is written, of the size that is named, and nothing is run. It wants Linux, and a program that was built
-(`cd crates/ndnrepo && rt run`). All kinds take about five minutes on one processor.
+the square 16 times. Where the quarter takes more than N/25 seconds (N is 100 by default), the whole is not run, and the
+row, which then begins with `*`, tells of the quarter beside its own quarter. A run must end with the status that its kind
+has, and is stopped after N seconds. With --write the script of a kind is written, of the size that is named, and nothing
+is run. It wants Linux, and a program that was built (`cd crates/ndnrepo && rt run`). All kinds take about five minutes on one
+processor.
 """
 import argparse
 import hashlib
@@ -107,13 +108,15 @@ def publish_components(n):
         yield f"publish m1 {front}/{i:05d} 1 text:a"
 
 
-@kind("16 members with nodes of 200 octets publish and tell each time", 99_900)
+@kind("16 members with nodes of 200 octets, each of which knows all, publish and tell each time", 99_900)
 def publish_long_nodes(n):
     yield f"group /{'g' * 198}"
     for j in range(16):
         yield f"member m{j} /{'n' * 196}{j:02d} 6b"
     for i in range(n):
         yield f"publish m{i % 16} /o 1 text:"
+        if i == 15:
+            yield "settle 1"
 
 
 @kind("publish, then show the catalogue of 100 objects again and again", 20_000)
@@ -513,6 +516,18 @@ def delete_fetched(n):
         yield "claim m2 1"
 
 
+@kind("claim and fetch behind every second publication deleted", 48_000)
+def claim_holes(n):
+    yield from heads(2, 1)
+    for i in range(n):
+        yield f"publish m1 /{i % 2} 1 text:"
+    yield "settle 1"
+    yield "delete m2 c1 /0"
+    for i in range(n // 2):
+        yield "claim m2 1"
+        yield "fetch m2 1 1 0"
+
+
 @kind("delete names that nothing has", 49_000)
 def delete_none(n):
     yield from heads(1, 1)
@@ -701,7 +716,7 @@ def measure(name, program, seconds, room):
         return sum(ran[n][:2])
 
     quarter = time_of(size // 4)
-    is_whole = quarter < seconds / 20
+    is_whole = quarter < seconds / 25
     n, least = (size, quarter) if is_whole else (size // 4, time_of(size // 16))
     grows = (time_of(n) if is_whole else quarter) / max(least, 0.001)
     user, system, memory, read, written = ran[n]
@@ -712,7 +727,7 @@ def measure(name, program, seconds, room):
 def main():
     asked = argparse.ArgumentParser(description=__doc__, formatter_class=argparse.RawDescriptionHelpFormatter)
     asked.add_argument("--program", default=str(TOP / "crates/ndnrepo/out/ndnrepo"))
-    asked.add_argument("--seconds", type=float, default=120)
+    asked.add_argument("--seconds", type=float, default=100)
     asked.add_argument("--list", action="store_true", help="name the kinds")
     asked.add_argument("--write", type=int, metavar="N", help="write the script of one kind, of this size")
     asked.add_argument("kinds", nargs="*")

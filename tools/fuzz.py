@@ -12,7 +12,7 @@ Commands that were issued come again as octets, written in other ways; sync Inte
 their vectors. Now and then lines themselves are damaged. Where status or output differ, the script stays in FOLDER (by
 default the current one) under its seed, and the status of this program is 1. Without --against only how the program ends is
 looked at: by status 0, 2 or 6, and by nothing on standard error where the status is 0. 100 scripts of 60 lines take about
-half a minute. --words tells how often each answer was given, so that what is never reached is seen. With --inspect inputs
+15 seconds. --words tells how often each answer was given, so that what is never reached is seen. With --inspect inputs
 of an inspector are drawn: the digits of packets that were changed.
 """
 import argparse
@@ -84,15 +84,29 @@ def mac(key, signed):
     return hmac.new(key, signed, hashlib.sha256).digest()
 
 
-def same(octets):
-    return octets
+class Bend:
+    """What is done to octets before they are signed, and to the mac: nothing, unless something is drawn."""
+
+    def __init__(self, draw=None):
+        self.draw = draw
+        self.breaks_mac = draw is not None and draw.random() < 0.2
+
+    def __call__(self, octets):
+        return rebuilt(self.draw, octets) if self.draw and not self.breaks_mac else octets
+
+    def mac(self, key, signed):
+        right = mac(key, signed)
+        return self.draw.choice([right[1:], bytes(32), right + b"\x00"]) if self.breaks_mac else right
+
+
+same = Bend()
 
 
 def data(name, last, content, node, key, bend=same):
     """A Data packet. What is signed is bent before."""
     meta = element(20, element(26, element(*last))) if last else b""
     signed = bend(name_element(name) + meta + element(21, content) + signature_info(22, key_name(node)))
-    return element(6, signed + element(23, mac(key, signed)))
+    return element(6, signed + element(23, bend.mac(key, signed)))
 
 
 def interest(name, can_be_prefix=False):
@@ -103,7 +117,7 @@ def signed_interest(name, parameters, node, key, bend=same):
     """A signed Interest, whose last name component is the digest of its parameters. What is signed is bent before."""
     rest = bend(element(36, parameters) + signature_info(44, key_name(node)))
     inside = b"".join(element(kind, value) for kind, value in name)
-    rest += element(46, mac(key, inside + rest))
+    rest += element(46, bend.mac(key, inside + rest))
     whole = name + [(2, hashlib.sha256(rest).digest())]
     return element(5, name_element(whole) + rest)
 
@@ -329,7 +343,7 @@ class Script:
 
     def bend(self):
         """What is done to octets before they are signed: mostly nothing."""
-        return (lambda octets: rebuilt(self.draw, octets)) if self.draw.random() < 0.3 else same
+        return Bend(self.draw) if self.draw.random() < 0.3 else same
 
     def published(self, m, name, contents):
         self.group.log[m].append((name, contents))
