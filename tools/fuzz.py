@@ -184,7 +184,6 @@ class Group:
         return [data(self.record_name(p, seq), None, bend_listing(listing), node, key, bend)] + segments
 
     def sync(self, signer, vector, bend=same):
-        _, node, key = self.members[signer]
         entries = b"".join(
             element(202, name_element(text_name(m[1])) + element(204, natural(n)))
             for m, n in sorted(zip(self.members, vector), key=lambda e: (len(e[0][1]), e[0][1])) if n)

@@ -24,7 +24,6 @@ rt run`). All takes about ten seconds on one processor.
 """
 import argparse
 import itertools
-import os
 import pathlib
 import struct
 import subprocess
