@@ -1,260 +1,38 @@
 #!/usr/bin/env python3
 """Draws scripts at random, runs a program over them, and compares what it prints with what another program prints.
 
-    python3 tools/fuzz.py --program 'out/ndnrepo run' --against 'other run' [--seed 1] [--count 100] [--lines 60]
+    python3 tools/fuzz.py [--program 'FILE run'] [--against 'OTHER run'] [--seed 1] [--count 100] [--lines 60]
                           [--keep FOLDER] [--words]
-    python3 tools/fuzz.py --inspect --program 'out/ndnrepo inspect' --against 'other inspect' [--seed 1] [--count 100] ..
+    python3 tools/fuzz.py --inspect [--program 'FILE inspect'] [--against 'OTHER inspect'] [--seed 1] ..
 
-Both programs read the script from standard input. A script has all event lines, with packets that members would send, and
-with packets that were changed: a bit flipped, octets cut off or put in, elements taken out, doubled, moved or put in at
-any depth with all lengths made anew, before or behind the signing; a wrong key, a wrong name, a number out of its range.
-Commands that were issued come again as octets, written in other ways; sync Interests that were sent come again with more in
-their vectors. Now and then lines themselves are damaged. Where status or output differ, the script stays in FOLDER (by
-default the current one) under its seed, and the status of this program is 1. Without --against only how the program ends is
-looked at: by status 0, 2 or 6, and by nothing on standard error where the status is 0. 100 scripts of 60 lines take about
-15 seconds. --words tells how often each answer was given, so that what is never reached is seen. With --inspect inputs
-of an inspector are drawn: the digits of packets that were changed.
+Both programs read the script from standard input. A script has all event lines, with packets that members would send,
+and with packets that were changed: a bit flipped, octets cut off or put in, elements taken out, doubled, moved or put
+in at any depth with all lengths made anew, before or behind the signing; a wrong key, a wrong name, a number out of
+its range. Commands that were issued come again as octets, written in other ways; sync Interests that were sent come
+again with more in their vectors. Now and then lines themselves are damaged. Where status or output differ, the script
+stays in FOLDER (by default the current one) under its seed, and the status of this program is 1. Without --against
+only how the program ends is looked at: by status 0, 2 or 6, and by nothing on standard error where the status is 0.
+100 scripts of 60 lines take about 15 seconds. --words tells how often each answer was given, so that what is never
+reached is seen. With --inspect inputs of an inspector are drawn: the digits of packets that were changed.
 """
 import argparse
 import hashlib
-import hmac
 import os
 import random
 import re
 import shlex
 import subprocess
 import sys
-import urllib.parse
 
-GENERIC, KEYWORD_KEY, SEGMENT, VERSION, SEQUENCE = 8, "KEY", 50, 54, 58
-
-
-# ---- octets
-
-def number(n):
-    """The shortest spelling of a type or a length."""
-    if n < 253:
-        return bytes([n])
-    if n < 2 ** 16:
-        return b"\xfd" + n.to_bytes(2, "big")
-    return b"\xfe" + n.to_bytes(4, "big")
+sys.dont_write_bytecode = True
+from packets import (
+    SEGMENT, Bend, Group, changed, element, elements, interest, name_element, natural, rebuilt, same, spelled,
+    text_name,
+)
 
 
-def element(kind, value):
-    return number(kind) + number(len(value)) + value
-
-
-def natural(n):
-    """The octets of a number field."""
-    width = next(w for w in (1, 2, 4, 8) if n < 256 ** w)
-    return n.to_bytes(width, "big")
-
-
-HINTS = {"seg": SEGMENT, "v": VERSION, "seq": SEQUENCE}
-
-
-def text_component(word):
-    """The component of a text that is one, as a pair of type and octets."""
-    form, equals, text = word.partition("=")
-    if form in HINTS and equals:
-        return HINTS[form], natural(int(text))
-    kind = int(form) if equals else GENERIC
-    octets = urllib.parse.unquote_to_bytes(text if equals else word)
-    return kind, octets[3:] if octets and not octets.strip(b".") else octets
-
-
-def text_name(uri):
-    """A name of a text that is one, as pairs of type and octets."""
-    return [text_component(word) for word in uri.strip("/").split("/") if word]
-
-
-def name_element(name):
-    return element(7, b"".join(element(kind, value) for kind, value in name))
-
-
-def signature_info(kind, key_name):
-    return element(kind, element(27, b"\x04") + element(28, name_element(key_name)))
-
-
-def key_name(node):
-    return text_name(node) + [(GENERIC, KEYWORD_KEY.encode())]
-
-
-def mac(key, signed):
-    return hmac.new(key, signed, hashlib.sha256).digest()
-
-
-class Bend:
-    """What is done to octets before they are signed, and to the mac: nothing, unless something is drawn."""
-
-    def __init__(self, draw=None):
-        self.draw = draw
-        self.breaks_mac = draw is not None and draw.random() < 0.2
-
-    def __call__(self, octets):
-        return rebuilt(self.draw, octets) if self.draw and not self.breaks_mac else octets
-
-    def mac(self, key, signed):
-        right = mac(key, signed)
-        return self.draw.choice([right[1:], bytes(32), right + b"\x00"]) if self.breaks_mac else right
-
-
-same = Bend()
-
-
-def data(name, last, content, node, key, bend=same):
-    """A Data packet. What is signed is bent before."""
-    meta = element(20, element(26, element(*last))) if last else b""
-    signed = bend(name_element(name) + meta + element(21, content) + signature_info(22, key_name(node)))
-    return element(6, signed + element(23, bend.mac(key, signed)))
-
-
-def interest(name, can_be_prefix=False):
-    return element(5, name_element(name) + (element(33, b"") if can_be_prefix else b""))
-
-
-def signed_interest(name, parameters, node, key, bend=same):
-    """A signed Interest, whose last name component is the digest of its parameters. What is signed is bent before."""
-    rest = bend(element(36, parameters) + signature_info(44, key_name(node)))
-    inside = b"".join(element(kind, value) for kind, value in name)
-    rest += element(46, bend.mac(key, inside + rest))
-    whole = name + [(2, hashlib.sha256(rest).digest())]
-    return element(5, name_element(whole) + rest)
-
-
-def number_at(octets, at):
-    """A type or a length, and the place behind it."""
-    width = {253: 2, 254: 4, 255: 8}.get(octets[at], 0)
-    if not width:
-        return octets[at], at + 1
-    return int.from_bytes(octets[at + 1:at + 1 + width], "big"), at + 1 + width
-
-
-def elements(octets):
-    """The elements that octets are, as pairs of type and value, or None where they are none."""
-    found, at = [], 0
-    try:
-        while at < len(octets):
-            kind, at = number_at(octets, at)
-            length, at = number_at(octets, at)
-            if at + length > len(octets) or kind == 0:
-                return None
-            found.append((kind, octets[at:at + length]))
-            at += length
-    except IndexError:
-        return None
-    return found
-
-
-def spelled(found):
-    return b"".join(element(kind, value) for kind, value in found)
-
-
-# ---- what a group sends
-
-class Group:
-    """A group with the publications that were drawn so far: enough to make the packets that its members would send."""
-
-    def __init__(self, draw):
-        self.draw = draw
-        self.name = draw.choice(["/g", "/site/docs", "/a/b/c", "/%00", "/seg=1", "/n/0"])
-        self.members = []
-        self.clients = []
-        self.sent = 0
-        for j in range(draw.randint(1, 5)):
-            self.members.append((f"m{j}", draw.choice([f"/n/{j}", f"/v={j}", f"/n/{'n' * (j + 1)}"]),
-                                 bytes([65 + j]) * draw.choice([1, 2, 20, 64, 65, 100])))
-        for j in range(draw.randint(0, 2)):
-            self.clients.append((f"c{j}", f"/c/{j}", bytes([97 + j]) * draw.choice([1, 2, 70])))
-        self.log = {j: [] for j in range(len(self.members))}
-        self.issued = []
-
-    def record_name(self, p, seq):
-        return text_name(self.members[p][1]) + text_name(self.name) + [(SEQUENCE, natural(seq))]
-
-    def packets(self, p, seq, bend=same, bend_listing=same):
-        """The record and the segments of a publication. What is signed is bent before, and what the record lists too."""
-        name, contents = self.log[p][seq - 1]
-        _, node, key = self.members[p]
-        last = (SEGMENT, natural(len(contents) - 1)) if contents else None
-        front = text_name(name)
-        segments = [data(front + [(SEGMENT, natural(i))], last, c, node, key, bend) for i, c in enumerate(contents)]
-        digests = b"".join(element(131, hashlib.sha256(s).digest()) for s in segments)
-        listing = name_element(front) + element(129, natural(len(contents))) + digests
-        return [data(self.record_name(p, seq), None, bend_listing(listing), node, key, bend)] + segments
-
-    def sync(self, signer, vector, bend=same):
-        entries = b"".join(
-            element(202, name_element(text_name(m[1])) + element(204, natural(n)))
-            for m, n in sorted(zip(self.members, vector), key=lambda e: (len(e[0][1]), e[0][1])) if n)
-        return self.sync_of(signer, element(201, entries), bend)
-
-    def sync_of(self, signer, parameters, bend=same):
-        _, node, key = self.members[signer]
-        return signed_interest(text_name(self.name) + [(VERSION, b"\x02")], parameters, node, key, bend)
-
-    def command(self, member, client, verb, fields, bend=same):
-        _, node, key = self.clients[client]
-        name = text_name(self.members[member][1]) + [(GENERIC, verb.encode())]
-        return signed_interest(name, element(201, fields), node, key, bend)
-
-
-def changed(draw, octets):
-    """The octets with one change, or none."""
-    octets = bytearray(octets)
-    at = draw.randrange(len(octets))
-    how = draw.randrange(7)
-    if how == 0:
-        octets[at] ^= 1 << draw.randrange(8)
-    elif how == 1:
-        del octets[at:]
-    elif how == 2:
-        octets[at:at] = draw.choice([b"\xf0\x00", b"\xf1\x00", b"\x00", b"\xff"])
-    elif how == 3:
-        octets += draw.choice([b"\xf0\x00", b"\x00", b"\x06\x00"])
-    elif how == 4 and 1 < len(octets) < 254:
-        octets = bytearray(octets[:1] + bytes([(octets[1] + 2) % 253]) + octets[2:] + b"\xf0\x00")
-    elif how == 5:
-        del octets[at:at + draw.randint(1, 4)]
-    return bytes(octets) or b"\x05"
-
-
-def rebuilt(draw, octets):
-    """The octets with one of their elements, at any depth, taken out, doubled, moved or changed, and with true lengths."""
-    found = elements(octets)
-    if not found:
-        return octets
-    i = draw.randrange(len(found))
-    kind, value = found[i]
-    if elements(value) and draw.random() < 0.7:
-        found[i] = kind, rebuilt(draw, value)
-        return spelled(found)
-    how = draw.randrange(9)
-    if how == 0:
-        del found[i]
-    elif how == 1:
-        found.insert(i, found[i])
-    elif how == 2:
-        found.append(found.pop(i))
-    elif how == 3:
-        found.insert(i, (draw.choice([240, 241, 30, 32, 1000, 65537, 20, 36, 44]), draw.choice([b"", b"\x00", b"\x08\x00"])))
-    elif how == 4:
-        found[i] = draw.choice([kind + 1, kind ^ 2, 240, 7, 8, 1, 2]), value
-    elif how == 5:
-        found[i] = kind, value + draw.choice([b"\x00", b"\xf0\x00", b"\x07\x00"])
-    elif how == 6:
-        found[i] = kind, value[:-1]
-    elif how == 7:
-        found[i] = kind, b"\x00" + value
-    else:
-        found[i] = kind, bytes(len(value))
-    return spelled(found)
-
-
-# ---- scripts
-
-NAMES = ["/doc", "/doc", "/doc", "/a", "/a/b", "/in", "/doc/seg=0", "/seg=1", "/v=2/t", "/%00", "/...", "/....", "/a%2Fb%3D",
-         "/65535=z", "/32=...", "/seg=18446744073709551615", "/n/0/g", "/n/0/g/seq=1", "/" + "l" * 396]
+NAMES = ["/doc", "/doc", "/doc", "/a", "/a/b", "/in", "/doc/seg=0", "/seg=1", "/v=2/t", "/%00", "/...", "/....",
+         "/a%2Fb%3D", "/65535=z", "/32=...", "/seg=18446744073709551615", "/n/0/g", "/n/0/g/seq=1", "/" + "l" * 396]
 
 
 def content(draw):
@@ -285,9 +63,9 @@ class Script:
         self.ending = draw.choice([0, 0, 0, 0.01, 0.2])
         self.printed = 0
         self.is_over = False
-        makers = [(5, self.publish), (6, self.deliver), (7, self.claim), (7, self.answer), (2, self.lose), (5, self.feed),
-                  (2, self.fetch), (1, self.settle), (2, self.show), (2, self.time), (4, self.hear), (3, self.ask),
-                  (1, self.restart), (1, self.spaces), (0.3, self.anything)]
+        makers = [(5, self.publish), (6, self.deliver), (7, self.claim), (7, self.answer), (2, self.lose),
+                  (5, self.feed), (2, self.fetch), (1, self.settle), (2, self.show), (2, self.time), (4, self.hear),
+                  (3, self.ask), (1, self.restart), (1, self.spaces), (0.3, self.anything)]
         if self.group.clients:
             makers += [(2, self.insert), (4, self.block), (1, self.status), (2, self.delete), (3, self.order)]
         while len(self.lines) < lines and not self.is_over:
@@ -447,7 +225,8 @@ class Script:
         more = self.draw.choice(entries) if entries else (240, b"")
         unknown = (202, name_element(text_name("/x")) + element(204, natural(self.draw.choice([1, 2 ** 32]))))
         zero = (202, name_element(text_name(self.group.members[self.member()][1])) + element(204, b"\x00\x00"))
-        for it in self.draw.choices([more, unknown, zero, (240, b""), (203, b"")], [3, 3, 3, 2, 1], k=self.draw.randint(0, 3)):
+        many = self.draw.randint(0, 3)
+        for it in self.draw.choices([more, unknown, zero, (240, b""), (203, b"")], [3, 3, 3, 2, 1], k=many):
             entries.insert(self.draw.randint(0, len(entries)), it)
         if self.draw.random() < 0.2:
             self.draw.shuffle(entries)
@@ -482,7 +261,8 @@ class Script:
         name = name[:self.draw.randint(1, len(name))] if self.draw.random() < 0.4 else name
         octets = interest(name, self.draw.random() < 0.5)
         if self.draw.random() < 0.1:
-            octets = element(5, octets[2:] + self.draw.choice([element(18, b""), element(10, bytes(4)), element(34, b"\x01")]))
+            field = self.draw.choice([element(18, b""), element(10, bytes(4)), element(34, b"\x01")])
+            octets = element(5, octets[2:] + field)
         self.put("ask", m, self.mangled(octets).hex())
 
     def insert(self):
@@ -526,15 +306,15 @@ class Script:
 
     def order(self):
         m, c, verb = self.member(), self.client(), self.draw.choice(["insert", "check", "delete", "other"])
-        fields = [name_element(text_name(self.draw.choice(NAMES[:6]))), element(204, natural(1)), element(205, natural(2)),
-                  element(206, natural(1))]
+        fields = [name_element(text_name(self.draw.choice(NAMES[:6]))), element(204, natural(1)),
+                  element(205, natural(2)), element(206, natural(1))]
         fields = [f for f in fields if self.draw.random() < 0.8]
         if self.group.issued and self.draw.random() < 0.8:
             m, c, verb, fields = self.draw.choice(self.group.issued)
             fields = list(fields)
         if self.draw.random() < 0.4:
-            more = self.draw.choice([b"\xf0\x00", b"\xf1\x00", element(206, b"\x00\x01"), element(204, b"\x01"), name_element([]),
-                                     element(205, b"\x00\x00\x00")])
+            more = self.draw.choice([b"\xf0\x00", b"\xf1\x00", element(206, b"\x00\x01"), element(204, b"\x01"),
+                                     name_element([]), element(205, b"\x00\x00\x00")])
             fields.insert(self.draw.randint(0, len(fields)), more)
         octets = self.mangled(self.group.command(m, c, verb, b"".join(fields), self.bend()))
         told = self.put("order", self.label(m if self.draw.random() < 0.9 else self.member()), octets.hex())
@@ -542,7 +322,7 @@ class Script:
             # The command was as it was issued, but for what is passed over.
             found = dict(reversed(elements(b"".join(fields))))
             name, first, last = found[7], int.from_bytes(found[204], "big"), int.from_bytes(found[205], "big")
-            self.insertions[self.number_of(told[1]), int(told[-1])] = self.uri(name), {i: None for i in range(first, last + 1)}
+            self.begun(self.number_of(told[1]), told, self.uri(name), first, last)
 
     def uri(self, value):
         """The text among those drawn whose name has this value."""
@@ -571,9 +351,9 @@ class Script:
             line = " ".join(words[:len(words) // 2] + other[len(other) // 2:])
         elif words:
             i = self.draw.randrange(len(words))
-            words[i] = self.draw.choice(["0", "01", "99999999999999999999", "999999999999999999", "m0", "-1", "65536", "text:", "/",
-                                         "/..", "/a/", "ndn:/a", "/seg=01", "/1=" + "a" * 32, "fill:1600001:0", "fill:201:256",
-                                         "hex:0", "text:" + "x" * 32_760, "17", "201"])
+            words[i] = self.draw.choice(["0", "01", "99999999999999999999", "999999999999999999", "m0", "-1", "65536",
+                                         "text:", "/", "/..", "/a/", "ndn:/a", "/seg=01", "/1=" + "a" * 32, "17", "201",
+                                         "fill:1600001:0", "fill:201:256", "hex:0", "text:" + "x" * 32_760])
             line = " ".join(words)
         self.lines[at] = line
 
@@ -583,7 +363,8 @@ def inspection(draw):
     group = Group(draw)
     m = draw.randrange(len(group.members))
     group.log[m].append((draw.choice(NAMES), [b"x" * draw.choice([1, 300])] * draw.randint(0, 3)))
-    octets = draw.choice(group.packets(m, 1) + [group.sync(m, [1] * len(group.members)), bytes(draw.randrange(9) for _ in range(60))])
+    sync, any_octets = group.sync(m, [1] * len(group.members)), bytes(draw.randrange(9) for _ in range(60))
+    octets = draw.choice(group.packets(m, 1) + [sync, any_octets])
     for _ in range(draw.randint(0, 4)):
         octets = (changed(draw, octets) if draw.random() < 0.3 else rebuilt(draw, octets)) or b"\x07"
     if draw.random() < 0.05:
@@ -614,7 +395,7 @@ def form(line):
 
 def main():
     asked = argparse.ArgumentParser(description=__doc__, formatter_class=argparse.RawDescriptionHelpFormatter)
-    asked.add_argument("--program", required=True)
+    asked.add_argument("--program", help="by default what `rt run` has built")
     asked.add_argument("--against")
     asked.add_argument("--seed", type=int, default=1)
     asked.add_argument("--count", type=int, default=100)
@@ -623,7 +404,8 @@ def main():
     asked.add_argument("--inspect", action="store_true", help="draw inputs of an inspector in place of scripts")
     asked.add_argument("--words", action="store_true", help="tell how often each answer was given")
     given = asked.parse_args()
-    program = shlex.split(given.program)
+    built = os.path.join(os.path.dirname(os.path.dirname(os.path.abspath(__file__))), "crates/ndnrepo/out/ndnrepo")
+    program = shlex.split(given.program) if given.program else [built, "inspect" if given.inspect else "run"]
     against = shlex.split(given.against) if given.against else None
     wrong, ends, answers = 0, {}, {}
     for seed in range(given.seed, given.seed + given.count):

@@ -3,24 +3,25 @@
 
     python3 tools/refuse_memory.py [--program FILE] [--calls KIND ..] [SCRIPT ..]
 
-Runs `ndnrepo run` on each script with the first request of a kind refused, then with the second alone, and so on up to the
-run that makes no more. The kinds, all of them unless some are named:
+Runs `ndnrepo run` on each script with the first request of a kind refused, then with the second alone, and so on up
+to the run that makes no more. The kinds, all of them unless some are named:
 
-    memory    no memory is given once. The run ends with 5 (out of memory) and has written a front of the report, or it
-              ends as without the refusal: where a list then asks for less, and where no thread could be started.
+    memory    no memory is given once. The run ends with 5 (out of memory) and has written a front of the report, or
+              it ends as without the refusal: where a list then asks for less, and where no thread could be started.
     shortage  no memory is given from here on. The run ends in the same ways.
-    threads   no thread is started. The run ends as without the refusal: who wanted the thread does its work. One more run
-              has all threads refused.
+    threads   no thread is started. The run ends as without the refusal: who wanted the thread does its work. One more
+              run has all threads refused.
     reads     the input, which comes by pieces of 20 octets, can't be read from here on. The run ends with 3, and has
               written the report of the lines that were read whole.
-    writes    the output, which goes by pieces of 8 octets, can't be written from here on. The run ends with 4, and has
-              written a front of the report, and not all.
-    signals   a signal interrupts one read or write. The run ends as without it, or with 3 or 4 and a front of the report.
+    writes    the output, which goes by pieces of 8 octets, can't be written from here on. The run ends with 4, and
+              has written a front of the report, and not all.
+    signals   a signal interrupts one read or write. The run ends as without it, or with 3 or 4 and a front of the
+              report.
 
-Without scripts it takes three short ones and tools/every_line.script, which has every kind of line. A row tells of each kind
-and script how many requests there were, how many were refused, and how those runs ended; the status of this program is 1
-where one of them ended otherwise. It wants Linux, a C compiler (`cc`), and a program that was built (`cd crates/ndnrepo &&
-rt run`). All takes about ten seconds on one processor.
+Without scripts it takes three short ones and tools/every_line.script, which has every kind of line. A row tells of
+each kind and script how many requests there were, how many were refused, and how those runs ended; the status of this
+program is 1 where one of them ended otherwise. It wants Linux, a C compiler (`cc`), and a program that was built (`cd
+crates/ndnrepo && rt run`). All takes about ten seconds on one processor.
 """
 import argparse
 import itertools
@@ -167,7 +168,8 @@ class Trial:
     def run(self, kind, script, refused, more=()):
         """How the run ended, what it wrote, and how many calls of the kind it made."""
         self.counts.write_bytes(bytes(8))
-        how = {"LD_PRELOAD": str(self.shim), "COUNTS": str(self.counts), "KIND": kind, "REFUSED": str(refused), **dict(more)}
+        how = {"LD_PRELOAD": str(self.shim), "COUNTS": str(self.counts), "KIND": kind, "REFUSED": str(refused)}
+        how.update(more)
         if kind in PIECES:
             how["PIECE"] = str(PIECES[kind])
         ran = subprocess.run([self.program, "run"], input=script, stdout=subprocess.PIPE, stderr=subprocess.DEVNULL,
@@ -207,15 +209,15 @@ class Trial:
                 print(f"{kind} {name}: without request {refused} it ended with {said} and wrote {len(wrote)} octets",
                       flush=True)
         told = ", ".join(f"{count} ended with {end}" for end, count in sorted(ends.items()))
-        print(f"{kind:8} {name:12} {made} requests, {sum(ends.values())} refused in turn: {told or 'none'}; {wrong} wrong",
-              flush=True)
+        print(f"{kind:8} {name:12} {made} requests, {sum(ends.values())} refused in turn: {told or 'none'}; "
+              f"{wrong} wrong", flush=True)
         return wrong
 
     def refuse_all_threads(self, name, script):
         said, wrote, made = self.run("threads", script, 1, [("ALL", "1")])
         is_well = (said, wrote) == self.plain(script)
-        print(f"{'threads':8} {name:12} {made} requests, all refused in one run: ended with {said}; {int(not is_well)} wrong",
-              flush=True)
+        print(f"{'threads':8} {name:12} {made} requests, all refused in one run: ended with {said}; "
+              f"{int(not is_well)} wrong", flush=True)
         return int(not is_well)
 
 
