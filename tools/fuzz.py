@@ -1,155 +1,42 @@
 #!/usr/bin/env python3
 """Draws scripts at random, runs a program over them, and compares what it prints with what another program prints.
 
-    python3 tools/fuzz.py --program 'out/ndnrepo run' --against 'other run' [--seed 1] [--count 100] [--lines 60]
-                          [--keep FOLDER]
+    python3 tools/fuzz.py [--program 'FILE run'] [--against 'OTHER run'] [--seed 1] [--count 100] [--lines 60]
+                          [--keep FOLDER] [--words]
+    python3 tools/fuzz.py --inspect [--program 'FILE inspect'] [--against 'OTHER inspect'] [--seed 1] ..
 
 Both programs read the script from standard input. A script has all event lines, with packets that members would send,
-and with packets that were changed: a bit flipped, octets cut off or put in, elements that are passed over, a wrong key, a
-wrong name, a number out of its range. Now and then a line itself is damaged. Where status or output differ, the script
-stays in FOLDER (by default the current one) under its seed, and the status of this program is 1. Without --against only
-how the program ends is looked at: by status 0, 2 or 6, and by nothing on standard error where the status is 0.
+and with packets that were changed: a bit flipped, octets cut off or put in, elements taken out, doubled, moved or put
+in at any depth with all lengths made anew, before or behind the signing; a wrong key, a wrong name, a number out of
+its range. Commands that were issued come again as octets, written in other ways; sync Interests that were sent come
+again with more in their vectors. Now and then lines themselves are damaged. Where status or output differ, the script
+stays in FOLDER (by default the current one) under its seed, and the status of this program is 1. Without --against
+only how the program ends is looked at: by status 0, 2 or 6, and by nothing on standard error where the status is 0.
+100 scripts of 60 lines take about 15 seconds. --words tells how often each answer was given, so that what is never
+reached is seen. With --inspect inputs of an inspector are drawn: the digits of packets that were changed.
 """
 import argparse
 import hashlib
-import hmac
 import os
 import random
+import re
 import shlex
 import subprocess
 import sys
 
-GENERIC, KEYWORD_KEY, SEGMENT, SEQUENCE = 8, "KEY", 50, 58
+sys.dont_write_bytecode = True
+from packets import (
+    SEGMENT, Bend, Group, changed, element, elements, interest, name_element, natural, rebuilt, same, spelled,
+    text_name,
+)
 
 
-# ---- octets
-
-def number(n):
-    """The shortest spelling of a type or a length."""
-    if n < 253:
-        return bytes([n])
-    if n < 2 ** 16:
-        return b"\xfd" + n.to_bytes(2, "big")
-    return b"\xfe" + n.to_bytes(4, "big")
-
-
-def element(kind, value):
-    return number(kind) + number(len(value)) + value
-
-
-def natural(n):
-    """The octets of a number field."""
-    width = next(w for w in (1, 2, 4, 8) if n < 256 ** w)
-    return n.to_bytes(width, "big")
-
-
-def text_name(uri):
-    """A name of generic components, as pairs of type and octets."""
-    return [(GENERIC, word.encode()) for word in uri.strip("/").split("/") if word]
-
-
-def name_element(name):
-    return element(7, b"".join(element(kind, value) for kind, value in name))
-
-
-def signature_info(kind, key_name):
-    return element(kind, element(27, b"\x04") + element(28, name_element(key_name)))
-
-
-def key_name(node):
-    return text_name(node) + [(GENERIC, KEYWORD_KEY.encode())]
-
-
-def data(name, last, content, node, key):
-    meta = element(20, element(26, element(*last))) if last else b""
-    signed = name_element(name) + meta + element(21, content) + signature_info(22, key_name(node))
-    return element(6, signed + element(23, hmac.new(key, signed, hashlib.sha256).digest()))
-
-
-def interest(name, can_be_prefix=False):
-    return element(5, name_element(name) + (element(33, b"") if can_be_prefix else b""))
-
-
-def signed_interest(name, parameters, node, key):
-    """A signed Interest, whose last name component is the digest of its parameters."""
-    rest = element(36, parameters) + signature_info(44, key_name(node))
-    inside = b"".join(element(kind, value) for kind, value in name)
-    rest += element(46, hmac.new(key, inside + rest, hashlib.sha256).digest())
-    whole = name + [(2, hashlib.sha256(rest).digest())]
-    return element(5, name_element(whole) + rest)
-
-
-# ---- what a group sends
-
-class Group:
-    """A group with the publications that were drawn so far: enough to make the packets that its members would send."""
-
-    def __init__(self, draw):
-        self.draw = draw
-        self.name = draw.choice(["/g", "/site/docs", "/a/b/c"])
-        self.members = []
-        self.clients = []
-        self.sent = 0
-        for j in range(draw.randint(1, 5)):
-            self.members.append((f"m{j}", f"/n/{j}", bytes([65 + j]) * draw.choice([1, 2, 20, 64, 65, 100])))
-        for j in range(draw.randint(0, 2)):
-            self.clients.append((f"c{j}", f"/c/{j}", bytes([97 + j]) * draw.choice([1, 2, 70])))
-        self.log = {j: [] for j in range(len(self.members))}
-
-    def record_name(self, p, seq):
-        return text_name(self.members[p][1]) + text_name(self.name) + [(SEQUENCE, natural(seq))]
-
-    def packets(self, p, seq):
-        """The record and the segments of a publication."""
-        name, contents = self.log[p][seq - 1]
-        _, node, key = self.members[p]
-        at = self.record_name(p, seq)
-        last = (SEGMENT, natural(len(contents) - 1)) if contents else None
-        segments = [data(at + [(SEGMENT, natural(i))], last, c, node, key) for i, c in enumerate(contents)]
-        digests = b"".join(element(131, hashlib.sha256(s).digest()) for s in segments)
-        listing = name_element(text_name(name)) + element(129, natural(len(contents))) + digests
-        return [data(at, None, listing, node, key)] + segments
-
-    def sync(self, signer, vector):
-        _, node, key = self.members[signer]
-        entries = b"".join(
-            element(202, name_element(text_name(m[1])) + element(204, natural(n)))
-            for m, n in sorted(zip(self.members, vector), key=lambda e: (len(e[0][1]), e[0][1])) if n)
-        return signed_interest(text_name(self.name) + [(SEGMENT + 4, b"\x02")], element(201, entries), node, key)
-
-    def command(self, member, client, verb, fields):
-        _, node, key = self.clients[client]
-        name = text_name(self.members[member][1]) + [(GENERIC, verb.encode())]
-        return signed_interest(name, element(201, fields), node, key)
-
-
-def changed(draw, octets):
-    """The octets with one change, or none."""
-    octets = bytearray(octets)
-    at = draw.randrange(len(octets))
-    how = draw.randrange(7)
-    if how == 0:
-        octets[at] ^= 1 << draw.randrange(8)
-    elif how == 1:
-        del octets[at:]
-    elif how == 2:
-        octets[at:at] = draw.choice([b"\xf0\x00", b"\xf1\x00", b"\x00", b"\xff"])
-    elif how == 3:
-        octets += draw.choice([b"\xf0\x00", b"\x00", b"\x06\x00"])
-    elif how == 4 and len(octets) < 254:
-        octets = bytearray(octets[:1] + bytes([(octets[1] + 2) % 253]) + octets[2:] + b"\xf0\x00")
-    elif how == 5:
-        del octets[at:at + draw.randint(1, 4)]
-    return bytes(octets) or b"\x05"
-
-
-# ---- scripts
-
-NAMES = ["/doc", "/a", "/a/b", "/in", "/x/seg=1", "/v=2/t", "/%00", "/..."]
+NAMES = ["/doc", "/doc", "/doc", "/a", "/a/b", "/in", "/doc/seg=0", "/seg=1", "/v=2/t", "/%00", "/...", "/....",
+         "/a%2Fb%3D", "/65535=z", "/32=...", "/seg=18446744073709551615", "/n/0/g", "/n/0/g/seq=1", "/" + "l" * 396]
 
 
 def content(draw):
-    n = draw.choice([0, 1, 1, 3, 10, 25])
+    n = draw.choice([0, 1, 1, 3, 3, 10, 25, 200, 201])
     if draw.random() < 0.3:
         octet = draw.randrange(256)
         return f"fill:{n}:{octet}", bytes([octet]) * n
@@ -171,20 +58,24 @@ class Script:
         self.lines += [f"member {label} {node} {key.hex()}" for label, node, key in self.group.members]
         self.lines += [f"client {label} {node} {key.hex()}" for label, node, key in self.group.clients]
         self.claims = {}
+        self.insertions = {}
+        # How often a line stays that ends the script.
+        self.ending = draw.choice([0, 0, 0, 0.01, 0.2])
         self.printed = 0
         self.is_over = False
-        makers = [(5, self.publish), (6, self.deliver), (7, self.claim), (7, self.answer), (2, self.lose), (2, self.feed),
-                  (2, self.fetch), (1, self.settle), (2, self.show), (2, self.time), (2, self.hear), (2, self.ask),
-                  (1, self.restart), (1, self.spaces)]
+        makers = [(5, self.publish), (6, self.deliver), (7, self.claim), (7, self.answer), (2, self.lose),
+                  (5, self.feed), (2, self.fetch), (1, self.settle), (2, self.show), (2, self.time), (4, self.hear),
+                  (3, self.ask), (1, self.restart), (1, self.spaces), (0.3, self.anything)]
         if self.group.clients:
-            makers += [(2, self.insert), (3, self.block), (1, self.status), (1, self.delete), (1, self.order)]
+            makers += [(2, self.insert), (4, self.block), (1, self.status), (2, self.delete), (3, self.order)]
         while len(self.lines) < lines and not self.is_over:
             draw.choices([m for _, m in makers], [w for w, _ in makers])[0]()
-        if draw.random() < 0.1:
-            self.damage()
+        if draw.random() < 0.15:
+            for _ in range(draw.randint(1, 2)):
+                self.damage()
         elif not self.is_over:
             for label, _, _ in self.group.members:
-                self.lines += [f"catalogue {label}", f"vector {label}"]
+                self.lines += [f"catalogue {label}", f"vector {label}", f"fetch {label} 1 1 1000", f"claim {label} 7"]
             self.lines += ["summary", "traffic"]
 
     def text(self):
@@ -196,7 +87,7 @@ class Script:
         status, out, _ = run(self.program, self.text())
         told = out.decode("latin-1").split("\n")[:-1]
         fresh, self.printed = told[self.printed:], len(told)
-        if status and self.draw.random() < 0.95:
+        if status and self.draw.random() >= self.ending:
             # Most lines that end the script are taken back.
             self.lines.pop()
             self.printed -= len(fresh)
@@ -214,18 +105,32 @@ class Script:
     def label(self, m):
         return self.group.members[m][0]
 
+    def client(self):
+        return self.draw.randrange(len(self.group.clients))
+
     def number_of(self, label):
         return next(j for j, m in enumerate(self.group.members) if m[0] == label)
 
     def mangled(self, octets):
-        return changed(self.draw, octets) if self.draw.random() < 0.5 else octets
+        """The octets as they are, in one of two cases, or changed."""
+        how = self.draw.random()
+        if how < 0.5:
+            return octets
+        return changed(self.draw, octets) if how < 0.75 else rebuilt(self.draw, octets) or b"\x05"
+
+    def bend(self):
+        """What is done to octets before they are signed: mostly nothing."""
+        return Bend(self.draw) if self.draw.random() < 0.3 else same
+
+    def published(self, m, name, contents):
+        self.group.log[m].append((name, contents))
 
     def publish(self):
-        m, name = self.member(), self.draw.choice(NAMES[:4])
+        m, name = self.member(), self.draw.choice(NAMES)
         size = self.draw.choice([1, 2, 5, 8000])
         word, octets = content(self.draw)
         if self.put("publish", self.label(m), name, size, word):
-            self.group.log[m].append((name, [octets[i:i + size] for i in range(0, len(octets), size)]))
+            self.published(m, name, [octets[i:i + size] for i in range(0, len(octets), size)])
 
     def deliver(self):
         if self.group.sent:
@@ -246,7 +151,7 @@ class Script:
         held = self.held_claim()
         if held:
             m, f = held
-            q = self.claims[held][0] if self.draw.random() < 0.7 else self.member()
+            q = self.claims[held][0] if self.draw.random() < 0.6 else self.member()
             if "kept" in self.put("answer", self.label(m), f, self.label(q)):
                 del self.claims[held]
 
@@ -259,8 +164,10 @@ class Script:
         held = self.held_claim()
         if held:
             p, seq, part = self.claims[held]
+            if self.draw.random() < 0.1:
+                seq, part = self.draw.randint(1, 3), self.draw.randint(0, 3)
             known = self.group.log[p]
-            packets = self.group.packets(p, seq) if seq <= len(known) else []
+            packets = self.group.packets(p, seq, self.bend(), self.bend()) if seq <= len(known) else []
             octets = packets[part] if part < len(packets) else b"\x06\x00"
             if "kept" in self.put("feed", self.label(held[0]), held[1], self.mangled(octets).hex()):
                 del self.claims[held]
@@ -278,6 +185,7 @@ class Script:
         m = self.member()
         if self.put("restart", self.label(m)):
             self.claims = {held: part for held, part in self.claims.items() if held[0] != m}
+            self.insertions = {it: what for it, what in self.insertions.items() if it[0] != m}
 
     def show(self):
         m, p = self.label(self.member()), self.member()
@@ -299,73 +207,173 @@ class Script:
     def spaces(self):
         self.lines.append(self.draw.choice(["", "   ", "# a comment", "  #x"]))
 
+    def anything(self):
+        """Octets that are no packet, or far from one."""
+        octets = self.draw.choice([b"\x05\x00", b"\x06\x00", b"\x05", b"\x00", b"\x05" * 8801, b"\x05\xfd\x00\x01\x00",
+                                   b"\x05\x02\xf0\x00" * 3, element(5, b"\x07\x00"), element(6, b"\xf0\x00" * 300)])
+        word = self.draw.choice(["hear", "ask", "order", "feed"])
+        held = self.held_claim()
+        if word != "feed":
+            self.put(word, self.label(self.member()), octets.hex())
+        elif held:
+            self.put("feed", self.label(held[0]), held[1], octets.hex())
+
+    def vector_again(self, octets):
+        """The vector of a sync Interest that was sent, and its signer, with more of what is passed over or doubled."""
+        parameters = next(value for kind, value in elements(elements(octets)[0][1]) if kind == 36)
+        entries = elements(elements(parameters)[0][1])
+        more = self.draw.choice(entries) if entries else (240, b"")
+        unknown = (202, name_element(text_name("/x")) + element(204, natural(self.draw.choice([1, 2 ** 32]))))
+        zero = (202, name_element(text_name(self.group.members[self.member()][1])) + element(204, b"\x00\x00"))
+        many = self.draw.randint(0, 3)
+        for it in self.draw.choices([more, unknown, zero, (240, b""), (203, b"")], [3, 3, 3, 2, 1], k=many):
+            entries.insert(self.draw.randint(0, len(entries)), it)
+        if self.draw.random() < 0.2:
+            self.draw.shuffle(entries)
+        return element(201, spelled(entries)) + self.draw.choice([b"", b"", b"\xf1\x00", b"\xff"])
+
     def hear(self):
-        if self.group.sent and self.draw.random() < 0.7:
+        how = self.draw.random()
+        if self.group.sent and how < 0.75:
             told = self.put("sync", self.draw.randint(1, self.group.sent))
             octets = bytes.fromhex(told[-1]) if told else b"\x05\x00"
+            if told and how < 0.35:
+                octets = self.group.sync_of(self.member(), self.vector_again(octets), self.bend())
         else:
             counts = [len(self.group.log[m]) for m in range(len(self.group.members))]
-            octets = self.group.sync(self.member(), [self.draw.choice([n, n + 1, 0, 70000]) for n in counts])
+            vector = [self.draw.choice([n, n, n + 1, 0, 70000]) for n in counts]
+            octets = self.group.sync(self.member(), vector, self.bend())
         self.put("hear", self.label(self.member()), self.mangled(octets).hex())
 
     def ask(self):
         m, p = self.label(self.member()), self.member()
         name = self.group.record_name(p, self.draw.randint(1, 3))
-        if self.draw.random() < 0.5:
-            name.append((SEGMENT, natural(self.draw.randint(0, 3))))
-        if self.group.log[p] and self.draw.random() < 0.3:
+        if self.group.log[p] and self.draw.random() < 0.7:
             seq = self.draw.randint(1, len(self.group.log[p]))
             packets = self.group.packets(p, seq)
             x = self.draw.randrange(len(packets))
-            name = self.group.record_name(p, seq) + ([(SEGMENT, natural(x - 1))] if x else [])
-            name.append((1, hashlib.sha256(packets[x]).digest()))
-        name = name[:self.draw.randint(1, len(name))] if self.draw.random() < 0.3 else name
-        self.put("ask", m, self.mangled(interest(name, self.draw.random() < 0.5)).hex())
+            if x:
+                name = text_name(self.group.log[p][seq - 1][0]) + [(SEGMENT, natural(x - 1))]
+            else:
+                name = self.group.record_name(p, seq)
+            if self.draw.random() < 0.5:
+                name.append((1, hashlib.sha256(packets[x]).digest()))
+        name = name[:self.draw.randint(1, len(name))] if self.draw.random() < 0.4 else name
+        octets = interest(name, self.draw.random() < 0.5)
+        if self.draw.random() < 0.1:
+            field = self.draw.choice([element(18, b""), element(10, bytes(4)), element(34, b"\x01")])
+            octets = element(5, octets[2:] + field)
+        self.put("ask", m, self.mangled(octets).hex())
 
     def insert(self):
-        first = self.draw.choice([0, 1, 5])
-        self.put("insert", self.label(self.member()), self.draw.choice(self.group.clients)[0],
-                 self.draw.choice(NAMES[:4]), first, first + self.draw.randint(0, 2))
+        m, c, name, first = self.member(), self.client(), self.draw.choice(NAMES), self.draw.choice([0, 1, 5])
+        last = first + self.draw.randint(0, 2)
+        told = self.put("insert", self.label(m), self.group.clients[c][0], name, first, last)
+        self.group.issued.append((m, c, "insert", [name_element(text_name(name)), element(204, natural(first)),
+                                                   element(205, natural(last))]))
+        self.begun(m, told, name, first, last)
+
+    def begun(self, m, told, name, first, last):
+        if "process" in told:
+            self.insertions[m, int(told[-1])] = name, {i: None for i in range(first, last + 1)}
 
     def block(self):
         word, octets = content(self.draw)
-        if octets:
-            self.put("block", self.label(self.member()), self.draw.randint(1, 3), self.draw.choice([0, 1, 2, 5, 6]), word)
+        if not octets:
+            return
+        m, number, index = self.member(), self.draw.randint(1, 3), self.draw.choice([0, 1, 2, 5, 6])
+        if self.insertions and self.draw.random() < 0.8:
+            m, number = self.draw.choice(sorted(self.insertions))
+            index = self.draw.choice(sorted(self.insertions[m, number][1]))
+        told = self.put("block", self.label(m), number, index, word)
+        name, blocks = self.insertions.get((m, number), ("", {}))
+        if told and index in blocks and blocks[index] is None:
+            blocks[index] = octets
+        if "published" in told:
+            self.published(m, name, [blocks[i] for i in sorted(blocks)])
 
     def status(self):
-        self.put("status", self.label(self.member()), self.draw.choice(self.group.clients)[0], self.draw.randint(1, 4))
+        m, c, number = self.member(), self.client(), self.draw.randint(1, 4)
+        self.put("status", self.label(m), self.group.clients[c][0], number)
+        self.group.issued.append((m, c, "check", [element(206, natural(number))]))
 
     def delete(self):
-        self.put("delete", self.label(self.member()), self.draw.choice(self.group.clients)[0],
-                 self.draw.choice(NAMES[:4]))
+        m, c, name = self.member(), self.client(), self.draw.choice(NAMES)
+        if self.group.log[m] and self.draw.random() < 0.7:
+            name = self.draw.choice(self.group.log[self.member()] or self.group.log[m])[0]
+        self.put("delete", self.label(m), self.group.clients[c][0], name)
+        self.group.issued.append((m, c, "delete", [name_element(text_name(name))]))
 
     def order(self):
-        m, c = self.member(), self.draw.randrange(len(self.group.clients))
-        verb = self.draw.choice(["insert", "check", "delete", "other"])
-        fields = [name_element(text_name(self.draw.choice(NAMES[:3]))), element(204, natural(1)), element(205, natural(2)),
-                  element(206, natural(1))]
-        fields = b"".join(f for f in fields if self.draw.random() < 0.8)
-        octets = self.group.command(m, c, verb, fields)
-        self.put("order", self.label(m), self.mangled(octets).hex())
+        m, c, verb = self.member(), self.client(), self.draw.choice(["insert", "check", "delete", "other"])
+        fields = [name_element(text_name(self.draw.choice(NAMES[:6]))), element(204, natural(1)),
+                  element(205, natural(2)), element(206, natural(1))]
+        fields = [f for f in fields if self.draw.random() < 0.8]
+        if self.group.issued and self.draw.random() < 0.8:
+            m, c, verb, fields = self.draw.choice(self.group.issued)
+            fields = list(fields)
+        if self.draw.random() < 0.4:
+            more = self.draw.choice([b"\xf0\x00", b"\xf1\x00", element(206, b"\x00\x01"), element(204, b"\x01"),
+                                     name_element([]), element(205, b"\x00\x00\x00")])
+            fields.insert(self.draw.randint(0, len(fields)), more)
+        octets = self.mangled(self.group.command(m, c, verb, b"".join(fields), self.bend()))
+        told = self.put("order", self.label(m if self.draw.random() < 0.9 else self.member()), octets.hex())
+        if "process" in told:
+            # The command was as it was issued, but for what is passed over.
+            found = dict(reversed(elements(b"".join(fields))))
+            name, first, last = found[7], int.from_bytes(found[204], "big"), int.from_bytes(found[205], "big")
+            self.begun(self.number_of(told[1]), told, self.uri(name), first, last)
+
+    def uri(self, value):
+        """The text among those drawn whose name has this value."""
+        return next((it for it in NAMES if spelled(text_name(it)) == value), "/doc")
 
     def damage(self):
         """Damages a line of the script."""
         at = self.draw.randrange(len(self.lines))
         line = self.lines[at]
         words = line.split()
-        how = self.draw.randrange(4)
+        how = self.draw.randrange(8)
         if how == 0 and line:
             i = self.draw.randrange(len(line))
-            line = line[:i] + self.draw.choice("az09 /:=%~\t\r") + line[i + 1:]
+            line = line[:i] + self.draw.choice("az09 /:=%~\t\r.") + line[i + 1:]
         elif how == 1:
             line += self.draw.choice([" 1", " x", "\r", "\r\r", " \r"])
         elif how == 2:
             line = " ".join(words[:-1])
+        elif how == 3:
+            self.lines[at:at] = [line]
+        elif how == 4:
+            del self.lines[at]
+            return
+        elif how == 5:
+            other = self.draw.choice(self.lines).split() or ["#"]
+            line = " ".join(words[:len(words) // 2] + other[len(other) // 2:])
         elif words:
             i = self.draw.randrange(len(words))
-            words[i] = self.draw.choice(["0", "01", "99999999999999999999", "m0", "-1", "65536", "text:"])
+            words[i] = self.draw.choice(["0", "01", "99999999999999999999", "999999999999999999", "m0", "-1", "65536",
+                                         "text:", "/", "/..", "/a/", "ndn:/a", "/seg=01", "/1=" + "a" * 32, "17", "201",
+                                         "fill:1600001:0", "fill:201:256", "hex:0", "text:" + "x" * 32_760])
             line = " ".join(words)
         self.lines[at] = line
+
+
+def inspection(draw):
+    """Digits of a packet that was changed several times, for the inspector."""
+    group = Group(draw)
+    m = draw.randrange(len(group.members))
+    group.log[m].append((draw.choice(NAMES), [b"x" * draw.choice([1, 300])] * draw.randint(0, 3)))
+    sync, any_octets = group.sync(m, [1] * len(group.members)), bytes(draw.randrange(9) for _ in range(60))
+    octets = draw.choice(group.packets(m, 1) + [sync, any_octets])
+    for _ in range(draw.randint(0, 4)):
+        octets = (changed(draw, octets) if draw.random() < 0.3 else rebuilt(draw, octets)) or b"\x07"
+    if draw.random() < 0.05:
+        octets = element(7, octets) * draw.choice([1, 100])
+    digits = draw.choice([octets.hex(), octets.hex().upper(), octets.hex(" "), octets.hex("\n", 30) + "\r\n\t"])
+    if draw.random() < 0.1 and digits:
+        at = draw.randrange(len(digits))
+        digits = digits[:at] + draw.choice(["", "g", " ", "\0", "0"]) + digits[at + 1:]
+    return digits.encode()
 
 
 # ---- runs
@@ -375,22 +383,41 @@ def run(words, script):
     return ran.returncode, ran.stdout, ran.stderr
 
 
+def form(line):
+    """A line of the report without what differs from run to run: numbers, labels, names and octets."""
+    words = line.split()
+    if words[0] == "vector":
+        return "vector"
+    codes = words[0] in ("insert", "block", "status", "delete", "order")
+    return " ".join(word if codes and i == 2 else re.sub(r"^[0-9a-f]{8,}$|^[mc]?\d+$|^/.*", "_", word)
+                    for i, word in enumerate(words))
+
+
 def main():
     asked = argparse.ArgumentParser(description=__doc__, formatter_class=argparse.RawDescriptionHelpFormatter)
-    asked.add_argument("--program", required=True)
+    asked.add_argument("--program", help="by default what `rt run` has built")
     asked.add_argument("--against")
     asked.add_argument("--seed", type=int, default=1)
     asked.add_argument("--count", type=int, default=100)
     asked.add_argument("--lines", type=int, default=60)
     asked.add_argument("--keep", default=".")
+    asked.add_argument("--inspect", action="store_true", help="draw inputs of an inspector in place of scripts")
+    asked.add_argument("--words", action="store_true", help="tell how often each answer was given")
     given = asked.parse_args()
-    program = shlex.split(given.program)
+    built = os.path.join(os.path.dirname(os.path.dirname(os.path.abspath(__file__))), "crates/ndnrepo/out/ndnrepo")
+    program = shlex.split(given.program) if given.program else [built, "inspect" if given.inspect else "run"]
     against = shlex.split(given.against) if given.against else None
-    wrong, ends = 0, {}
+    wrong, ends, answers = 0, {}, {}
     for seed in range(given.seed, given.seed + given.count):
-        script = Script(random.Random(seed), given.lines, program).text()
+        if given.inspect:
+            script = inspection(random.Random(seed))
+        else:
+            script = Script(random.Random(seed), given.lines, program).text()
         status, out, err = run(program, script)
         ends[status] = ends.get(status, 0) + 1
+        for line in out.decode("latin-1").splitlines():
+            told = form(line)
+            answers[told] = answers.get(told, 0) + 1
         if against:
             other, wanted, _ = run(against, script)
             is_well = (status, out) == (other, wanted)
@@ -402,6 +429,9 @@ def main():
                 it.write(script)
             print(f"seed {seed}: differs", flush=True)
     print(f"{given.count} scripts, {wrong} differ; ends by status: {dict(sorted(ends.items()))}")
+    if given.words:
+        for told, count in sorted(answers.items()):
+            print(f"{count:8} {told}")
     return 1 if wrong else 0
 
 
